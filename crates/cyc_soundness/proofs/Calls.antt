@@ -23,11 +23,11 @@ use Rattle.cyc_meaning.specs.Parts.{wrong, inside, region_end, declared}
 use Rattle.cyc_meaning.specs.Exceptions.{catches, step_catching}
 use Rattle.cyc_meaning.specs.Nesting.{ends_of, IsNested}
 use Rattle.cyc_meaning.specs.Step.{called, values_of, prints, reads, step_calling, step_entering, step_binding}
-use Rattle.cyc_soundness.specs.Lives.{RunTy, RunValue, Value, read}
+use Rattle.cyc_soundness.specs.Lives.{RunTy, RunValue, Value}
 use Rattle.cyc_soundness.specs.Lives as lives
 use Rattle.cyc_soundness.specs.Worlds.{Typing, HasType, AreOperands, IsTyped, Grows}
-use Rattle.cyc_soundness.specs.Frames.{InScope, Variable, Level, IsScope, AreBelow, IsBound, AreVariables, LiveIn, Within, itself, older, AreSet, Holds, Implies, Exits, loop_of, around, AreBreaks, IsContext, KnowsProgram}
-use Rattle.cyc_soundness.specs.Classes.{InItems, InClauses}
+use Rattle.cyc_soundness.specs.Frames.{InScope, Variable, Level, IsScope, AreBelow, IsBound, AreVariables, LiveIn, Within, itself, older, AreSet, Holds, Implies, Exits, loop_of, around, AreBreaks, IsContext, KnowsProgram, lives_in, read, read_value, IsThere}
+use Rattle.cyc_soundness.specs.Classes.{InItems, InClauses, Source}
 use Rattle.cyc_soundness.specs.Stacks.{Continues, Catches, IsAccepted, Val, Go, turned, IsCalled, IsBlocked, AreFull, IsBody, IsStack, IsWell}
 use Rattle.cyc_soundness.proofs.TypeLemmas.{is_kind_same, kind_meant}
 use Rattle.cyc_soundness.proofs.FlowLemmas.{implies_self, implies_after, meet_second}
@@ -48,7 +48,7 @@ turned_length (a ∷ as') bs =
     let r : length (turned as' (a ∷ bs)) ≡ suc (length as') + length bs = omega (arith, e) in
     r
 
-operands_count : (g : Typing) (ts : List Ty) (vs : List Operand) → AreOperands g (map read ts) vs → length vs ≡ length ts
+operands_count : (g : Typing) (ts : List Ty) (vs : List Operand) → AreOperands g (map (read bs) ts) vs → length vs ≡ length ts
 operands_count g [] [] are = refl
 operands_count g [] (v ∷ vs) are = absurd are
 operands_count g (t ∷ ts) [] are = absurd are
@@ -68,11 +68,11 @@ full_grown g h grows [] are = tt
 full_grown g h grows (Variable b ∷ bs) (is, are) = (grows.filled b.object 1 is, full_grown g h grows bs are)
 full_grown g h grows (Level l ∷ bs) (is, are) = (tt, full_grown g h grows bs are)
 
-module _ (p : Program) (accepted : AreAccepted p) where
+module _ (p : Source) (accepted : AreAccepted p) where
   module _ (g : Typing) (x : Exits) (bs : List InScope) (e : Environment) (w : World) (typed : IsTyped g w.regions w.objects) (globals : KnowsProgram g p) (bound : IsBound e.locals e.counters bs) (variables : AreVariables g bs) where
     -- ---- calls
 
-    printed_on : (ts : List RunTy) (vs : List Operand) (k : List Entry) (f : flow.State) → LiveIn (ends_of k) bs → Holds g f bs → turned ts [] ≡ lives.Int ∷ [] → AreOperands g ts vs
+    printed_on : (ts : List RunTy) (vs : List Operand) (k : List Entry) (f : flow.State) → LiveIn k bs → Holds g f bs → turned ts [] ≡ lives.Int ∷ [] → AreOperands g ts vs
         → IsStack p g x bs (Val (Value lives.Int) f) k → IsWell p (prints (values_of vs) k e w)
     printed_on [] vs k f live holds same are stack = absurd (let z : [] ≡ lives.Int ∷ [] = same in cc)
     printed_on (t ∷ []) [] k f live holds same are stack = absurd are
@@ -88,7 +88,7 @@ module _ (p : Program) (accepted : AreAccepted p) where
             (Given (record { kind = kinds.Int; value = values.Int (word % 256) })) k live (Value lives.Int, f, holds, (refl, tt), stack)
         go value has = absurd has
 
-    read_on : (ts : List RunTy) (vs : List Operand) (k : List Entry) (f : flow.State) → LiveIn (ends_of k) bs → Holds g f bs → turned ts [] ≡ [] → AreOperands g ts vs
+    read_on : (ts : List RunTy) (vs : List Operand) (k : List Entry) (f : flow.State) → LiveIn k bs → Holds g f bs → turned ts [] ≡ [] → AreOperands g ts vs
         → IsStack p g x bs (Val (Value lives.Int) f) k → IsWell p (reads (values_of vs) k e w)
     read_on [] [] k f live holds same are stack =
         running p g x bs e _ typed globals bound variables (Given _) k live (Value lives.Int, f, holds, (refl, tt), stack)
@@ -96,13 +96,13 @@ module _ (p : Program) (accepted : AreAccepted p) where
     read_on (t ∷ ts) vs k f live holds same are stack =
         let e1 : length (turned ts (t ∷ [])) ≡ length ts + 1 = turned_length ts (t ∷ []) in let e2 : length (turned ts (t ∷ [])) ≡ 0 = ap length same in absurd (omega (arith, e1, e2))
 
-    pub call : (callee : Callee) (vs : List Operand) (k : List Entry) (ts : List RunTy) (r : RunValue) (f : flow.State) → LiveIn (ends_of k) bs → Holds g f bs → IsCalled p callee (turned ts []) r → AreOperands g ts vs
+    pub call : (callee : Callee) (vs : List Operand) (k : List Entry) (ts : List RunTy) (r : RunValue) (f : flow.State) → LiveIn k bs → Holds g f bs → IsCalled p callee (turned ts []) r → AreOperands g ts vs
         → IsStack p g x bs (Val r f) k → IsWell p (step_calling p callee vs k e w)
     call callees.Putchar vs k ts r f live holds (types_is, result_is) are stack = printed_on ts vs k f live holds types_is are (subst (λ z. IsStack p g x bs (Val z f) k) result_is stack)
     call callees.Getchar vs k ts r f live holds (types_is, result_is) are stack = read_on ts vs k f live holds types_is are (subst (λ z. IsStack p g x bs (Val z f) k) result_is stack)
     call (callees.Function n) vs k ts r f live holds (h, at, types_is, result_is) are stack =
         let (end, ok) = accepted n h at in
-        let arguments : AreOperands g (map read h.parameters) (reverse vs) = subst (λ us. AreOperands g us (reverse vs)) types_is (operands_reversed g ts vs are) in
+        let arguments : AreOperands g (map (read bs) h.parameters) (reverse vs) = subst (λ us. AreOperands g us (reverse vs)) types_is (operands_reversed g ts vs are) in
         let y : Exits = record { loop = None; result = h.result } in
         subst (λ o. IsWell p (called o (reverse vs) (Caller e ∷ k) w)) (sym at)
         (subst (λ (b : Bool). IsWell p (if b then Running (Entering h (reverse vs)) (Caller e ∷ k) no_locals w else wrong w)) (sym (eq-eqb (length (reverse vs)) (length h.parameters) (operands_count g h.parameters (reverse vs) arguments)))
@@ -115,19 +115,19 @@ module _ (p : Program) (accepted : AreAccepted p) where
           (x, bs, f, refl, blocked_of h.result end ok.ends, bound, variables, live, holds, subst (λ z. IsStack p g x bs (Val z f) k) result_is stack),
         )))
 
-    pub enter : (h : Function) (vs : List Operand) (k : List Entry) (end : flow.State) → IsAccepted p h end → IsBody x h → bs ≡ [] → AreOperands g (map read h.parameters) vs → IsStack p g x bs (Go end) k
+    pub enter : (h : Function) (vs : List Operand) (k : List Entry) (end : flow.State) → IsAccepted p h end → IsBody x h → bs ≡ [] → AreOperands g (map (read bs) h.parameters) vs → IsStack p g x bs (Go end) k
         → IsWell p (step_entering h vs k e w)
     enter h vs k end ok body none are stack =
         let count : 0 + length h.parameters ≡ length h.parameters = omega arith in
         running p g x [] (inside e w) (opened w) (opened_typed g w.regions (new_region Stack ∷ []) w.objects typed) globals tt tt (Binding 0 h.parameters vs h.body) (region_end e w ∷ k) tt
         (h, end, [], [], itself [], ok, body, refl, refl, count, are, refl, tt, tt, (end, implies_self end, tt, subst (λ cs. IsStack p g x cs (Go end) k) none stack))
 
-    begin : (h : Function) (number : ℕ) (js : Items) (k : List Entry) (end : flow.State) (vs : List LocalInScope) (cs : List InScope) → LiveIn (ends_of k) bs → Within cs bs → IsAccepted p h end → IsBody x h → js ≡ h.body
+    begin : (h : Function) (number : ℕ) (js : Items) (k : List Entry) (end : flow.State) (vs : List LocalInScope) (cs : List InScope) → LiveIn k bs → Within cs bs → IsAccepted p h end → IsBody x h → js ≡ h.body
         → vs ≡ parameters_in_scope h.parameters 0 [] → number + 0 ≡ length h.parameters → IsScope vs bs → AreBelow number bs → AreFull g bs → IsStack p g x cs (Go end) k
         → IsWell p (Running Proceeding (Rest js ∷ k) e w)
     begin h number js k end vs cs live within ok (loop, result) body scope_is count scope below full stack =
         let flows = subst (λ o. Derives (rule_items (record { loop = loop_of o; locks = [] }) h.body (record { now = start_of h; breaks = Unreached })) (record { now = end; breaks = ok.breaks })) (sym loop) ok.flows in
-        let rest : Continues x (body_context p h) h.body (start_of h) end =
+        let rest : Continues p.reading x (body_context p h) h.body (start_of h) end =
         record { before = Unreached; behind = ok.breaks; typed = ok.typed.body; flows = flows; breaks = subst (λ o. AreBreaks o ok.breaks) (sym loop) tt; kept = ok.kept } in
         let last : number ≤ length h.parameters = omega (arith, count) in
         let stands : IsContext p x bs (body_context p h) = record {
@@ -144,18 +144,18 @@ module _ (p : Program) (accepted : AreAccepted p) where
         (running p g x bs e w typed globals bound variables Proceeding (Rest h.body ∷ k) live
         (start_of h, (refl, all_set g (start_of h) bs full), (cs, body_context p h, end, within, stands, rest, stack)))
 
-    pub bind : (number : ℕ) (ts : List Ty) (arguments : List Operand) (js : Items) (k : List Entry) (h : Function) (end : flow.State) (vs : List LocalInScope) (cs : List InScope) → IsNested k e w → LiveIn (ends_of k) bs
+    pub bind : (number : ℕ) (ts : List Ty) (arguments : List Operand) (js : Items) (k : List Entry) (h : Function) (end : flow.State) (vs : List LocalInScope) (cs : List InScope) → IsNested k e w → LiveIn k bs
         → Within cs bs → IsAccepted p h end → IsBody x h → js ≡ h.body → parameters_in_scope ts number vs ≡ parameters_in_scope h.parameters 0 [] → number + length ts ≡ length h.parameters
-        → AreOperands g (map read ts) arguments → IsScope vs bs → AreBelow number bs → AreFull g bs → IsStack p g x cs (Go end) k → IsWell p (step_binding number ts arguments js k e w)
+        → AreOperands g (map (read bs) ts) arguments → IsScope vs bs → AreBelow number bs → AreFull g bs → IsStack p g x cs (Go end) k → IsWell p (step_binding number ts arguments js k e w)
     bind number [] [] js k h end vs cs nests live within ok body body_is scope_is count are scope below full stack = begin h number js k end vs cs live within ok body body_is scope_is count scope below full stack
     bind number [] (v ∷ arguments) js k h end vs cs nests live within ok body body_is scope_is count are scope below full stack = absurd are
     bind number (t ∷ ts) [] js k h end vs cs nests live within ok body body_is scope_is count are scope below full stack = absurd are
     bind number (t ∷ ts) (v ∷ arguments) js k h end vs cs nests live within ok body body_is scope_is count (is, are) scope below full stack =
         let more : suc number + length ts ≡ length h.parameters = omega (arith, count) in
         subst (λ (b : Bool). IsWell p (if b then declared (region_at w e.home) (Binding (suc number) ts arguments js) number (values.kind_of t) (Some v.value) k e w else wrong w))
-        (sym (is_kind_same v.kind (values.kind_of t) (is.0 ∙ kind_meant t)))
+        (sym (is_kind_same v.kind (values.kind_of t) (is.0 ∙ kind_meant (lives_in bs) t)))
         (declares p g x bs e w typed globals bound variables number (values.kind_of t) t (Some v.value) 1 (Binding (suc number) ts arguments js) k nests live below
-        (λ grows. ((sym (kind_meant t), type_grown g _ grows (read t) v.value is.1), tt))
+        (λ grows. ((sym (kind_meant (lives_in bs) t), type_grown g _ grows (read bs t) v.value is.1), tt))
         (λ grows filled. (
           h,
           end,
@@ -167,7 +167,7 @@ module _ (p : Program) (accepted : AreAccepted p) where
           body_is,
           scope_is,
           more,
-          operands_grown g _ grows (map read ts) arguments are,
+          operands_grown g _ grows (map (read bs) ts) arguments are,
           (vs, (_, refl, refl, refl), scope),
           ((let less : number < suc number = omega arith in less), below_more number (suc number) bs (let le : number ≤ suc number = omega arith in le) below),
           (filled, full_grown g _ grows bs full),
@@ -176,25 +176,25 @@ module _ (p : Program) (accepted : AreAccepted p) where
 
     -- ---- clauses
 
-    begin_clause : (js : Items) (k : List Entry) (c : Context) (start h before : flow.State) (l : Known) → LiveIn (ends_of k) bs → IsContext p x bs c → Holds g start bs → WellTypedItems (in_block c) js
+    begin_clause : (js : Items) (k : List Entry) (c : Context) (start h before : flow.State) (l : Known) → LiveIn k bs → IsContext p x bs c → Holds g start bs → WellTypedItems (in_block c) js
         → Derives (rule_items (around x) js (record { now = start; breaks = before })) l → AreBreaks x.loop l.breaks → InItems js → Implies l.now h → IsStack p g x bs (Go h) k
         → IsWell p (Running Proceeding (Rest js ∷ region_end e w ∷ k) (inside e w) (opened w))
     begin_clause js k c start h before l live stands holds well flows are kept implies stack =
-        let rest : Continues x (in_block c) js start l.now = record { before = before; behind = l.breaks; typed = well; flows = flows; breaks = are; kept = kept } in
+        let rest : Continues p.reading x (in_block c) js start l.now = record { before = before; behind = l.breaks; typed = well; flows = flows; breaks = are; kept = kept } in
         running p g x bs (inside e w) (opened w) (opened_typed g w.regions (new_region Stack ∷ []) w.objects typed) globals bound variables Proceeding (Rest js ∷ region_end e w ∷ k) (live_more _ (ends_of k) bs live)
         (start, holds, (bs, in_block c, l.now, itself bs, context_inside p x bs c stands, rest, (h, implies, live, stack)))
 
-    caught : (value : ℕ) (v : Option ℕ) (js : Items) (k : List Entry) (c : Context) (start h before : flow.State) (has : Bool) (l : Known) → LiveIn (ends_of k) bs → IsContext p x bs c → Holds g start bs → IsCaught c has v
+    caught : (value : ℕ) (v : Option ℕ) (js : Items) (k : List Entry) (c : Context) (start h before : flow.State) (has : Bool) (l : Known) → LiveIn k bs → IsContext p x bs c → Holds g start bs → IsCaught c has v
         → WellTypedItems (with_caught v (in_block c)) js → Derives (rule_items (around x) js (record { now = statements.with_caught v start; breaks = before })) l → AreBreaks x.loop l.breaks → InItems js → Implies l.now h
         → IsStack p g x bs (Go h) k → IsWell p (catches value v js k e w)
     caught value None js k c start h before has l live stands holds is well flows are kept implies stack = begin_clause js k c start h before l live stands holds well flows are kept implies stack
     caught value (Some n) js k c start h before false l live stands holds is well flows are kept implies stack = absurd is
     caught value (Some n) js k c start h before true l live stands holds (number, there) well flows are kept implies stack =
-        let rest : Continues x (with_local true types.Int (in_block c)) js (with_fullness Full start n) l.now = record { before = before; behind = l.breaks; typed = well; flows = flows; breaks = are; kept = kept } in
+        let rest : Continues p.reading x (with_local true types.Int (in_block c)) js (with_fullness Full start n) l.now = record { before = before; behind = l.breaks; typed = well; flows = flows; breaks = are; kept = kept } in
         running p g x bs (inside e w) (opened w) (opened_typed g w.regions (new_region Stack ∷ []) w.objects typed) globals bound variables (Naming n (record { kind = kinds.Int; value = values.Int value }) js) (region_end e w ∷ k) (live_more _ (ends_of k) bs live)
         (in_block c, types.Int, start, l.now, context_inside p x bs c stands, holds, number, (refl, tt), rest, (h, implies, live, stack))
 
-    pub catch : (tag value : ℕ) (ds : Clauses) (k : List Entry) (c : Context) (start f h before behind : flow.State) → LiveIn (ends_of k) bs → IsContext p x bs c → Holds g start bs → WellTypedClauses c ds
+    pub catch : (tag value : ℕ) (ds : Clauses) (k : List Entry) (c : Context) (start f h before behind : flow.State) → LiveIn k bs → IsContext p x bs c → Holds g start bs → WellTypedClauses c ds
         → Derives (rule_clauses (around x) start ds (record { now = f; breaks = before })) (record { now = h; breaks = behind }) → AreBreaks x.loop behind → InClauses ds → IsStack p g x bs (Go h) k
         → IsWell p (step_catching tag value ds k e w)
     catch tag value NoClauses k c start f h before behind live stands holds well flows are kept stack = running p g x bs e w typed globals bound variables (Throwing tag value) k live (Go h, stack)
@@ -228,7 +228,7 @@ module _ (p : Program) (accepted : AreAccepted p) where
           counters = stands.counters;
         }
 
-        next : Catches x (behind_clause c v js) start ds (or_clause f js l).now h
+        next : Catches p.reading x (behind_clause c v js) start ds (or_clause f js l).now h
         next = record { before = l.breaks; behind = behind; typed = later; flows = dlater; breaks = are; kept = kds }
 
         go : (b : Bool) → IsWell p (if b then catches value v js k e w else Running (Catching tag value ds) k e w)

@@ -16,16 +16,17 @@ use Rattle.cyc_meaning.specs.Nesting.{ends_of, AreOpen}
 use Rattle.cyc_soundness.specs.Lives.{Life, OfRegion, RunTy, Int, Pointer, Handle, Key, Struct, Value, kind_at}
 use Rattle.cyc_soundness.specs.Lives as lives
 use Rattle.cyc_soundness.specs.Worlds.{ObjectType, Typing, Outlasts, alike, heap as for_ever, globals as with_globals, IsFilled, IsPart, IsTarget, HasType, IsResult, IsOwner, IsTyped, Grows}
-use Rattle.cyc_soundness.specs.Frames.{InScope, IsBound, AreVariables, LiveIn, Holds, Exits, KnowsProgram}
+use Rattle.cyc_soundness.specs.Frames.{InScope, IsBound, AreVariables, LiveIn, Holds, Exits, KnowsProgram, lives_in, read, read_value, IsThere}
 use Rattle.cyc_soundness.specs.Stacks.{Val, IsStack, IsFocus, IsWell}
 use Rattle.cyc_soundness.proofs.Numbers.{slice_get-set_same, some_same}
 use Rattle.cyc_soundness.proofs.TypeLemmas.{is_kind_same}
 use Rattle.cyc_soundness.proofs.WorldLemmas.{cell_there, live_owner, risen, risen_past, with_filled, written_grows, cell_written, globals_grown, variables_grown}
 use Rattle.cyc_soundness.proofs.StackLemmas.{open_of, globals_among}
+use Rattle.cyc_soundness.specs.Classes.{Source}
 
 -- a typed state, by its parts
-pub running : (p : Program) (g : Typing) (x : Exits) (bs : List InScope) (e : Environment) (w : World) → IsTyped g w.regions w.objects → KnowsProgram g p → IsBound e.locals e.counters bs → AreVariables g bs
-    → (focus : Focus) (k : List Entry) → LiveIn (ends_of k) bs → IsFocus p g x bs focus k → IsWell p (Running focus k e w)
+pub running : (p : Source) (g : Typing) (x : Exits) (bs : List InScope) (e : Environment) (w : World) → IsTyped g w.regions w.objects → KnowsProgram g p → IsBound e.locals e.counters bs → AreVariables g bs
+    → (focus : Focus) (k : List Entry) → LiveIn k bs → IsFocus p g x bs focus k → IsWell p (Running focus k e w)
 running p g x bs e w typed globals bound variables focus k live stands =
     record { typing = g; exits = x; locals = bs; objects = typed; globals = globals; bound = bound; variables = variables; live = live; stands = stands }
 
@@ -66,7 +67,7 @@ module _ (g : Typing) (w : World) (typed : IsTyped g w.regions w.objects) where
       (y, ap (λ o. found_object w o) stands ∙ ap (λ (b : Bool). if b then Found y else Closed) (live_owner w region y.owner (subst (λ l. IsOwner l y.owner) life is.owner) open'))
 
 -- a place that holds a value, and no struct
-pub value_part : (g : Typing) (object : ℕ) (x : ObjectType) (t : Ty) (offset : ℕ) → is_struct t ≡ false → IsPart g object x (lives.read t) offset → (slice_get x.cells offset ≡ Some (lives.read t)) × IsFilled g object (suc offset)
+pub value_part : (g : Typing) (object : ℕ) (x : ObjectType) (t : Ty) (offset : ℕ) → is_struct t ≡ false → IsPart g object x (read bs t) offset → (slice_get x.cells offset ≡ Some (read bs t)) × IsFilled g object (suc offset)
 value_part g object x types.Int offset plain is = is
 value_part g object x (types.Pointer k t r) offset plain is = is
 value_part g object x (types.Handle r) offset plain is = is
@@ -82,9 +83,9 @@ stored_part g object x (Struct n ls) offset v has is = absurd has
 
 -- ---- reads and writes
 
-module _ (p : Program) (g : Typing) (x : Exits) (bs : List InScope) (e : Environment) (w : World) (typed : IsTyped g w.regions w.objects) (globals : KnowsProgram g p) (bound : IsBound e.locals e.counters bs) (variables : AreVariables g bs) where
+module _ (p : Source) (g : Typing) (x : Exits) (bs : List InScope) (e : Environment) (w : World) (typed : IsTyped g w.regions w.objects) (globals : KnowsProgram g p) (bound : IsBound e.locals e.counters bs) (variables : AreVariables g bs) where
   -- a cell is read
-  pub reads : (k : List Entry) (kind : Kind) (number offset region : ℕ) (t : RunTy) (y : ObjectType) (f : flow.State) → LiveIn (ends_of k) bs → Holds g f bs
+  pub reads : (k : List Entry) (kind : Kind) (number offset region : ℕ) (t : RunTy) (y : ObjectType) (f : flow.State) → LiveIn k bs → Holds g f bs
       → slice_get g.objects number ≡ Some y → slice_get y.cells offset ≡ Some t → y.life ≡ OfRegion region → is_open (slice_get w.regions region) ≡ true → IsFilled g number (suc offset) → kind_at t ≡ kind
       → IsStack p g x bs (Val (Value t) f) k → IsWell p (loaded kind (cell_at w number offset) k e w)
   reads k kind number offset region t y f live holds at cells life opens (m, flag, enough) same stack =
@@ -97,7 +98,7 @@ module _ (p : Program) (g : Typing) (x : Exits) (bs : List InScope) (e : Environ
       (running p g x bs e w typed globals bound variables (Given (record { kind = kind; value = v })) k live (Value t, f, holds, (sym same, has), stack))))
 
   -- a cell is written whose place is given, and then it is gone on, where more is known
-  pub writes : (v : Operand) (focus : Focus) (k : List Entry) (number offset region m : ℕ) (t : RunTy) (y : ObjectType) → LiveIn (ends_of k) bs
+  pub writes : (v : Operand) (focus : Focus) (k : List Entry) (number offset region m : ℕ) (t : RunTy) (y : ObjectType) → LiveIn k bs
       → slice_get g.objects number ≡ Some y → slice_get y.cells offset ≡ Some t → y.life ≡ OfRegion region → is_open (slice_get w.regions region) ≡ true → slice_get g.filled number ≡ Some m → offset ≤ m
       → IsResult g (Value t) v → (Grows g (with_filled g number (risen offset m)) → IsFilled (with_filled g number (risen offset m)) number (suc offset) → IsFocus p (with_filled g number (risen offset m)) x bs focus k)
       → IsWell p (stored (cell_at w number offset) number offset v focus k e w)
@@ -117,16 +118,16 @@ module _ (p : Program) (g : Typing) (x : Exits) (bs : List InScope) (e : Environ
       (cell_written g w number offset y t v.value typed at cells c few_too is.1) (globals_grown g h grows p globals) bound (variables_grown g h grows bs variables) focus k live (goes_on grows now)))
 
   -- a place that a pointer leads to is read
-  pub reads_target : (k : List Entry) (kind : Kind) (object offset : ℕ) (t : Ty) (f : flow.State) → AreOpen w.regions (ends_of k) → LiveIn (ends_of k) bs → Holds g f bs
-      → IsTarget g (lives.read t) (OfRegion 0) object offset → is_struct t ≡ false → kind_at (lives.read t) ≡ kind → IsStack p g x bs (Val (Value (lives.read t)) f) k
+  pub reads_target : (k : List Entry) (kind : Kind) (object offset : ℕ) (t : Ty) (f : flow.State) → AreOpen w.regions (ends_of k) → LiveIn k bs → Holds g f bs
+      → IsTarget g (read bs t) (OfRegion 0) object offset → is_struct t ≡ false → kind_at (read bs t) ≡ kind → IsStack p g x bs (Val (Value (read bs t)) f) k
       → IsWell p (loaded kind (cell_at w object offset) k e w)
   reads_target k kind object offset t f opens live holds (y, there, shown, outlasts, part) plain same stack =
       let (region, life, open') = life_of g w typed k y.life opens outlasts in
       let (cells, filled) = value_part g object y t offset plain part in
-      reads k kind object offset region (lives.read t) y f live holds there cells life open' filled same stack
+      reads k kind object offset region (read bs t) y f live holds there cells life open' filled same stack
 
   -- and is written
-  pub writes_target : (v : Operand) (k : List Entry) (object offset : ℕ) (t : RunTy) (focus : Focus) → AreOpen w.regions (ends_of k) → LiveIn (ends_of k) bs
+  pub writes_target : (v : Operand) (k : List Entry) (object offset : ℕ) (t : RunTy) (focus : Focus) → AreOpen w.regions (ends_of k) → LiveIn k bs
       → IsTarget g t (OfRegion 0) object offset → IsResult g (Value t) v → ((h : Typing) → Grows g h → IsFocus p h x bs focus k)
       → IsWell p (stored (cell_at w object offset) object offset v focus k e w)
   writes_target v k object offset t focus opens live (y, there, shown, outlasts, part) is goes =

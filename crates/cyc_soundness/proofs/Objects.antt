@@ -25,10 +25,10 @@ use Rattle.cyc_meaning.specs.Operators.{array_size}
 use Rattle.cyc_meaning.specs.Allocation.{writes_from, blanks_of, filled, makes_of, makes_plain, makes_fields, most_words, blanks, begun, makes_array, step_beginning, step_repeating, fills_element, makes}
 use Rattle.cyc_meaning.specs.Nesting.{ends_of}
 use Rattle.cyc_meaning.proofs.ListLemmas.{slice_get-end}
-use Rattle.cyc_soundness.specs.Lives.{Life, OfRegion, RunTy, Int, Pointer, Handle, Key, Struct, Value, kind_at, as_heap, read}
+use Rattle.cyc_soundness.specs.Lives.{Life, OfRegion, RunTy, Int, Pointer, Handle, Key, Struct, Value, kind_at, as_heap}
 use Rattle.cyc_soundness.specs.Worlds.{ObjectType, Typing, Outlasts, alike, IsFilled, IsPart, IsTarget, HasType, IsResult, AreOperands, AreCells, IsOwner, IsObject, IsTyped, Grows}
-use Rattle.cyc_soundness.specs.Frames.{IsAmong, first, later, InScope, Variable, Level, HasMeaning, IsBound, AreVariables, LiveIn, Within, itself, older, Holds, Implies, Exits, IsContext, KnowsProgram}
-use Rattle.cyc_soundness.specs.Classes.{InInitial, InArguments}
+use Rattle.cyc_soundness.specs.Frames.{IsAmong, first, later, InScope, Variable, Level, HasMeaning, IsBound, AreVariables, LiveIn, Within, itself, older, Holds, Implies, Exits, IsContext, KnowsProgram, lives_in, read, read_value, IsThere}
+use Rattle.cyc_soundness.specs.Classes.{InInitial, InArguments, Source}
 use Rattle.cyc_soundness.specs.Stacks.{Val, turned, AreFields, pointer, Repeats, AreNext, IsWhole, IsMaking, IsArray, IsStack, IsFocus, IsWell}
 use Rattle.cyc_soundness.specs.Stacks as stacks
 use Rattle.cyc_soundness.proofs.Numbers.{same_or_other, less_or_same, slice_get-set_same}
@@ -126,7 +126,7 @@ blanks_typed g zero kind t same = tt
 blanks_typed g (suc n) kind t same = ((same, refl), blanks_typed g n kind t same)
 
 -- inside an element, where the counter has a value
-context_counted : (p : Program) (x : Exits) (bs : List InScope) (c : Context) → IsContext p x bs c → IsContext p x (Level c.counters ∷ bs) (counting.with_counter c)
+context_counted : (p : Source) (x : Exits) (bs : List InScope) (c : Context) → IsContext p x bs c → IsContext p x (Level c.counters ∷ bs) (counting.with_counter c)
 context_counted p x bs c stands = record {
   globals = stands.globals;
   functions = stands.functions;
@@ -165,7 +165,7 @@ counter_more : (e : Environment) (level index : ℕ) (bs : List InScope) → IsB
 counter_more e level index [] are = tt
 counter_more e level index (b ∷ bs) (is, are) = (counter_still e level index b is, counter_more e level index bs are)
 
-module _ (p : Program) (g : Typing) (x : Exits) (bs : List InScope) (e : Environment) (w : World) (typed : IsTyped g w.regions w.objects) (globals : KnowsProgram g p) (bound : IsBound e.locals e.counters bs) (variables : AreVariables g bs) where
+module _ (p : Source) (g : Typing) (x : Exits) (bs : List InScope) (e : Environment) (w : World) (typed : IsTyped g w.regions w.objects) (globals : KnowsProgram g p) (bound : IsBound e.locals e.counters bs) (variables : AreVariables g bs) where
   -- ---- an object is made
 
   -- the world with an object more, whose cells hold nothing yet
@@ -181,7 +181,7 @@ module _ (p : Program) (g : Typing) (x : Exits) (bs : List InScope) (e : Environ
   created_in_heap (Unique true) cells owned = (made_unique w cells, refl, refl, typed.heap)
   created_in_heap (Unique false) cells owned = absurd (let z : false ≡ true = owned.1 in cc)
 
-  made_on : (owner : Owner) (new : World) (ts : List RunTy) (cells : List Cell) (focus : Focus) (k : List Entry) → LiveIn (ends_of k) bs → IsOwner (OfRegion 0) owner → ((h : Typing) → AreCells h ts cells 0)
+  made_on : (owner : Owner) (new : World) (ts : List RunTy) (cells : List Cell) (focus : Focus) (k : List Entry) → LiveIn k bs → IsOwner (OfRegion 0) owner → ((h : Typing) → AreCells h ts cells 0)
       → new.objects ≡ w.objects ++ record { owner = owner; cells = cells } ∷ [] → is_open (slice_get new.regions heap_number) ≡ true
       → (Grows g (with_object g (new_type ts) 0) → slice_get (with_object g (new_type ts) 0).objects (length w.objects) ≡ Some (new_type ts) → IsFilled (with_object g (new_type ts) 0) (length w.objects) 0
       → IsFocus p (with_object g (new_type ts) 0) x bs focus k)
@@ -197,7 +197,7 @@ module _ (p : Program) (g : Typing) (x : Exits) (bs : List InScope) (e : Environ
       running p h x bs e new (typed_beside h w.regions new.regions new.objects beside opens) (globals_grown g h grows p globals) bound (variables_grown g h grows bs variables) focus k live
       (goes grows there (0, flag, (let few : 0 ≤ 0 = omega arith in few)))
 
-  pub makes_these : (owner : Owner) (ts : List RunTy) (vs : List Operand) (t : RunTy) (k : List Entry) (f : flow.State) → LiveIn (ends_of k) bs → Holds g f bs → IsOwner (OfRegion 0) owner → AreOperands g ts vs
+  pub makes_these : (owner : Owner) (ts : List RunTy) (vs : List Operand) (t : RunTy) (k : List Entry) (f : flow.State) → LiveIn k bs → Holds g f bs → IsOwner (OfRegion 0) owner → AreOperands g ts vs
       → IsWhole g (new_type ts) t → IsStack p g x bs (Val (Value (pointer marks.NonNull t)) f) k → IsWell p (makes_of owner vs k e w)
   makes_these owner ts vs t k f live holds owned are whole stack =
       let (new, found, objects_are, opens) = created_in_heap owner (blanks_of vs) owned in
@@ -228,15 +228,15 @@ module _ (p : Program) (g : Typing) (x : Exits) (bs : List InScope) (e : Environ
 
   -- ---- an array is made, and its elements are evaluated one by one
 
-  pub begin_array : (owner : Owner) (count level : ℕ) (kind : Kind) (element : Expression) (k : List Entry) (c : Context) (t : Ty) (f : flow.State) → LiveIn (ends_of k) bs → IsContext p x bs c → Holds g f bs → IsOwner (OfRegion 0) owner
-      → Repeats c level kind element t f → IsStack p g x bs (Val (Value (pointer marks.Fat (read t))) f) k → IsWell p (step_beginning owner count level kind element k e w)
+  pub begin_array : (owner : Owner) (count level : ℕ) (kind : Kind) (element : Expression) (k : List Entry) (c : Context) (t : Ty) (f : flow.State) → LiveIn k bs → IsContext p x bs c → Holds g f bs → IsOwner (OfRegion 0) owner
+      → Repeats p.reading c level kind element t f → IsStack p g x bs (Val (Value (pointer marks.Fat (read bs t))) f) k → IsWell p (step_beginning owner count level kind element k e w)
   begin_array owner count level kind element k c t f live stands holds owned repeats stack =
       let (new, found, objects_are, opens) = created_in_heap owner (blanks count kind) owned in
-      let ts = repeated count (read t) in
+      let ts = repeated count (read bs t) in
       let h = with_object g (new_type ts) 0 in
       subst (λ a. IsWell p (begun a (length w.objects) count level kind element k e w)) (sym found)
       (made_on owner new ts (blanks count kind) (Repeating (length w.objects) count 0 level kind element) k live owned
-      (λ h. blanks_typed h count kind (read t) (repeats.kind_is ∙ sym (kind_read t))) objects_are opens
+      (λ h. blanks_typed h count kind (read bs t) (repeats.kind_is ∙ sym (kind_read (lives_in bs) t))) objects_are opens
       (λ grows there none. (
         c,
         t,
@@ -244,8 +244,8 @@ module _ (p : Program) (g : Typing) (x : Exits) (bs : List InScope) (e : Environ
         stands,
         holds_grown g h grows f bs holds,
         repeats,
-        (new_type ts, there, refl, refl, repeated_at count (read t), none, (let few : 0 ≤ count = omega arith in few)),
-        stack_grown p g h grows x bs (Val (Value (pointer marks.Fat (read t))) f) k stack,
+        (new_type ts, there, refl, refl, repeated_at count (read bs t), none, (let few : 0 ≤ count = omega arith in few)),
+        stack_grown p g h grows x bs (Val (Value (pointer marks.Fat (read bs t))) f) k stack,
       )))
 
   last : (t : RunTy) (object count index : ℕ) → IsArray g t object count index → index ≤ count
@@ -259,8 +259,8 @@ module _ (p : Program) (g : Typing) (x : Exits) (bs : List InScope) (e : Environ
       subst (λ n. IsTarget g t (OfRegion 0) object n) same
       (y, there, shown, subst (λ l. Outlasts l (OfRegion 0)) (sym life) (alike (OfRegion 0)), part_at g w typed object y t i 0 there (cells i less) life typed.heap some)
 
-  pub repeat_on : (object count index level : ℕ) (kind : Kind) (element : Expression) (k : List Entry) (c : Context) (t : Ty) (f : flow.State) → LiveIn (ends_of k) bs → IsContext p x bs c → Holds g f bs
-      → Repeats c level kind element t f → IsArray g (read t) object count index → IsStack p g x bs (Val (Value (pointer marks.Fat (read t))) f) k
+  pub repeat_on : (object count index level : ℕ) (kind : Kind) (element : Expression) (k : List Entry) (c : Context) (t : Ty) (f : flow.State) → LiveIn k bs → IsContext p x bs c → Holds g f bs
+      → Repeats p.reading c level kind element t f → IsArray g (read bs t) object count index → IsStack p g x bs (Val (Value (pointer marks.Fat (read bs t))) f) k
       → IsWell p (step_repeating object count index level kind element k e w)
   repeat_on object count index level kind element k c t f live stands holds repeats array stack = go (index == count) refl
     where
@@ -269,10 +269,10 @@ module _ (p : Program) (g : Typing) (x : Exits) (bs : List InScope) (e : Environ
           else Running (Evaluating element) (Needs (FillElement object count index level kind element) ∷ k) (with_counter e level index) w)
       go true same =
           running p g x bs e w typed globals bound variables (Given (record { kind = kinds.Fat; value = values.Fat object 0 count 0 })) k live (
-            Value (pointer marks.Fat (read t)),
+            Value (pointer marks.Fat (read bs t)),
             f,
             holds,
-            (refl, array_whole (read t) object count (subst (λ n. IsArray g (read t) object count n) (eqb-true index count same) array)),
+            (refl, array_whole (read bs t) object count (subst (λ n. IsArray g (read bs t) object count n) (eqb-true index count same) array)),
             stack,
           )
       go false other =
@@ -285,27 +285,27 @@ module _ (p : Program) (g : Typing) (x : Exits) (bs : List InScope) (e : Environ
             subst (λ l. IsContext p x (Level l ∷ bs) (counting.with_counter c)) (sym repeats.level_is) (context_counted p x bs c stands),
             (holds.0, (tt, holds.1)),
             repeats.each,
-            (read t ∷ [], bs, Val (Value (pointer marks.Fat (read t))) f, stacks.fills bs c t f repeats.now (older (Level level) bs bs (itself bs)) stands repeats repeats.back, (unfinished index count (last (read t) object count index array) other, array), stack),
+            (read bs t ∷ [], bs, Val (Value (pointer marks.Fat (read bs t))) f, stacks.fills bs c t f repeats.now (older (Level level) bs bs (itself bs)) stands repeats repeats.back, (unfinished index count (last (read bs t) object count index array) other, array), stack),
           )
 
-  pub array_on : (owner : Owner) (level : ℕ) (kind : Kind) (element : Expression) (v : values.Value) (k : List Entry) (c : Context) (t : Ty) (f : flow.State) → LiveIn (ends_of k) bs → IsContext p x bs c → Holds g f bs → IsOwner (OfRegion 0) owner
-      → Repeats c level kind element t f → HasType g Int v → IsStack p g x bs (Val (Value (pointer marks.Fat (read t))) f) k → IsWell p (makes_array owner level kind element v k e w)
+  pub array_on : (owner : Owner) (level : ℕ) (kind : Kind) (element : Expression) (v : values.Value) (k : List Entry) (c : Context) (t : Ty) (f : flow.State) → LiveIn k bs → IsContext p x bs c → Holds g f bs → IsOwner (OfRegion 0) owner
+      → Repeats p.reading c level kind element t f → HasType g Int v → IsStack p g x bs (Val (Value (pointer marks.Fat (read bs t))) f) k → IsWell p (makes_array owner level kind element v k e w)
   array_on owner level kind element (values.Int count) k c t f live stands holds owned repeats is stack = go (nat_le (count * values.words_of_kind kind) most_words)
     where
       go : (b : Bool) → IsWell p (if b then Running (Beginning owner count level kind element) k e w else Running (Throwing array_size 0) k e w)
       go true = running p g x bs e w typed globals bound variables (Beginning owner count level kind element) k live (c, t, f, stands, holds, owned, repeats, stack)
-      go false = running p g x bs e w typed globals bound variables (Throwing array_size 0) k live (Val (Value (pointer marks.Fat (read t))) f, stack)
+      go false = running p g x bs e w typed globals bound variables (Throwing array_size 0) k live (Val (Value (pointer marks.Fat (read bs t))) f, stack)
   array_on owner level kind element v k c t f live stands holds owned repeats is stack = absurd is
 
   -- the next element gets its value, and the counter is out of scope
-  pub fill_on : (object count index level : ℕ) (kind : Kind) (element : Expression) (v : Operand) (k : List Entry) (cs : List InScope) (c : Context) (t : Ty) (f h : flow.State) → LiveIn (ends_of k) bs → Within cs bs → IsContext p x cs c → Holds g h bs
-      → Repeats c level kind element t f → Implies h f → index < count → IsArray g (read t) object count index → IsResult g (Value (read t)) v → IsStack p g x cs (Val (Value (pointer marks.Fat (read t))) f) k
+  pub fill_on : (object count index level : ℕ) (kind : Kind) (element : Expression) (v : Operand) (k : List Entry) (cs : List InScope) (c : Context) (t : Ty) (f h : flow.State) → LiveIn k bs → Within cs bs → IsContext p x cs c → Holds g h bs
+      → Repeats p.reading c level kind element t f → Implies h f → index < count → IsArray g (read bs t) object count index → IsResult g (Value (read bs t)) v → IsStack p g x cs (Val (Value (pointer marks.Fat (read bs t))) f) k
       → IsWell p (fills_element object count index level kind element v k e w)
   fill_on object count index level kind element v k cs c t f h live within stands holds repeats back less (y, there, shown, life, cells, (m, flag, enough), few) is stack =
       let u = with_filled g object (risen index m) in
       subst (λ (b : Bool). IsWell p (if b then stored (cell_at w object index) object index v (Repeating object count (suc index) level kind element) k e w else wrong w))
-      (sym (is_kind_same v.kind kind (is.0 ∙ kind_read t ∙ sym repeats.kind_is)))
-      (writes p g x cs e w typed globals (within_bound e cs bs within bound) (within_variables g cs bs within variables) v (Repeating object count (suc index) level kind element) k object index 0 m (read t) y
+      (sym (is_kind_same v.kind kind (is.0 ∙ kind_read (lives_in bs) t ∙ sym repeats.kind_is)))
+      (writes p g x cs e w typed globals (within_bound e cs bs within bound) (within_variables g cs bs within variables) v (Repeating object count (suc index) level kind element) k object index 0 m (read bs t) y
       (within_live (ends_of k) cs bs within live) there (cells index less) life typed.heap flag enough is
       (λ grows now. (
         c,
@@ -315,12 +315,12 @@ module _ (p : Program) (g : Typing) (x : Exits) (bs : List InScope) (e : Environ
         holds_grown g u grows f cs (holds_implied g h f cs back (within_holds g h cs bs within holds)),
         repeats,
         (y, there, shown, life, cells, now, (let e : suc index ≤ count = omega (arith, less) in e)),
-        stack_grown p g u grows x cs (Val (Value (pointer marks.Fat (read t))) f) k stack,
+        stack_grown p g u grows x cs (Val (Value (pointer marks.Fat (read bs t))) f) k stack,
       )))
 
   -- ---- its cells are written
 
-  write_from : (object offset : ℕ) (vs : List Operand) (y : ObjectType) (t : RunTy) (k : List Entry) (f : flow.State) → LiveIn (ends_of k) bs → Holds g f bs → slice_get g.objects object ≡ Some y → y.is_hidden ≡ false → y.life ≡ OfRegion 0
+  write_from : (object offset : ℕ) (vs : List Operand) (y : ObjectType) (t : RunTy) (k : List Entry) (f : flow.State) → LiveIn k bs → Holds g f bs → slice_get g.objects object ≡ Some y → y.is_hidden ≡ false → y.life ≡ OfRegion 0
       → IsFilled g object offset → AreNext g offset y.cells vs → IsWhole g y t → IsStack p g x bs (Val (Value (pointer marks.NonNull t)) f) k
       → IsWell p (step_writing (writes_from object offset vs) (Some (record { kind = kinds.NonNull; value = values.Thin object 0 })) k e w)
   write_from object offset [] y t k f live holds there shown life full rest whole stack =
@@ -358,7 +358,7 @@ module _ (p : Program) (g : Typing) (x : Exits) (bs : List InScope) (e : Environ
         stack_grown p g h grows x bs (Val (Value (pointer marks.NonNull t)) f) k stack,
       ))
 
-  pub write_on : (these : List Write) (v : Operand) (t : RunTy) (k : List Entry) (f : flow.State) → LiveIn (ends_of k) bs → Holds g f bs → IsMaking g these v t → IsStack p g x bs (Val (Value (pointer marks.NonNull t)) f) k
+  pub write_on : (these : List Write) (v : Operand) (t : RunTy) (k : List Entry) (f : flow.State) → LiveIn k bs → Holds g f bs → IsMaking g these v t → IsStack p g x bs (Val (Value (pointer marks.NonNull t)) f) k
       → IsWell p (step_writing these (Some v) k e w)
   write_on these v t k f live holds m stack =
       subst (λ ws. IsWell p (step_writing ws (Some v) k e w)) (sym m.these)
@@ -367,15 +367,15 @@ module _ (p : Program) (g : Typing) (x : Exits) (bs : List InScope) (e : Environ
 
   -- ---- all forms
 
-  pub plain_on : (owner : Owner) (kind : Kind) (v : Operand) (t : Ty) (k : List Entry) (f : flow.State) → LiveIn (ends_of k) bs → Holds g f bs → IsOwner (OfRegion 0) owner → kind ≡ tests.kind_of t
-      → IsResult g (Value (read t)) v → IsStack p g x bs (Val (Value (pointer marks.NonNull (read t))) f) k → IsWell p (makes_plain owner kind v k e w)
+  pub plain_on : (owner : Owner) (kind : Kind) (v : Operand) (t : Ty) (k : List Entry) (f : flow.State) → LiveIn k bs → Holds g f bs → IsOwner (OfRegion 0) owner → kind ≡ tests.kind_of t
+      → IsResult g (Value (read bs t)) v → IsStack p g x bs (Val (Value (pointer marks.NonNull (read bs t))) f) k → IsWell p (makes_plain owner kind v k e w)
   plain_on owner kind v t k f live holds owned kind_is is stack =
-      subst (λ (b : Bool). IsWell p (if b then makes_of owner (v ∷ []) k e w else wrong w)) (sym (is_kind_same v.kind kind (is.0 ∙ kind_read t ∙ sym kind_is)))
-      (makes_these owner (read t ∷ []) (v ∷ []) (read t) k f live holds owned (is, tt) (whole_of g (read t) v.value is.1) stack)
+      subst (λ (b : Bool). IsWell p (if b then makes_of owner (v ∷ []) k e w else wrong w)) (sym (is_kind_same v.kind kind (is.0 ∙ kind_read (lives_in bs) t ∙ sym kind_is)))
+      (makes_these owner (read bs t ∷ []) (v ∷ []) (read bs t) k f live holds owned (is, tt) (whole_of g (read bs t) v.value is.1) stack)
 
   pub fields_on : (k : List Entry) (owner : Owner) (before : List Operand) (done : List RunTy) (as' : Arguments) (ts : List Ty) (c : Context) (n : ℕ) (ls : List Life) (f h : flow.State) (q : List ℕ)
-      → LiveIn (ends_of k) bs → IsContext p x bs c → Holds g f bs → IsOwner (OfRegion 0) owner → ArePassed c ts as' → Derives (rule_arguments q as' f) h → InArguments as' → AreOperands g done before
-      → AreFields p n (turned done (map read ts)) → IsStack p g x bs (Val (Value (pointer marks.NonNull (Struct n ls))) h) k → IsWell p (makes_fields owner before as' k e w)
+      → LiveIn k bs → IsContext p x bs c → Holds g f bs → IsOwner (OfRegion 0) owner → ArePassed c ts as' → Derives (rule_arguments q as' f) h → InArguments p.reading as' → AreOperands g done before
+      → AreFields p n (turned done (map (read bs) ts)) → IsStack p g x bs (Val (Value (pointer marks.NonNull (Struct n ls))) h) k → IsWell p (makes_fields owner before as' k e w)
   fields_on k owner before done NoArguments [] c n ls f h q live stands holds owned passed (u, same) kept operands (s, at, fields) stack =
       makes_these owner (turned done []) (reverse before) (Struct n ls) k h live (subst (λ z. Holds g z bs) (sym same) holds) owned (operands_reversed g done before operands)
       (globals.structs n s ls at ∙ ap (λ us. Some us) (sym fields)) stack
@@ -393,7 +393,7 @@ module _ (p : Program) (g : Typing) (x : Exits) (bs : List InScope) (e : Environ
         (
           [],
           bs,
-          Val (Value (read t)) f1,
+          Val (Value (read bs t)) f1,
           stacks.converts c v t f1 conv from_is to_is (target_typed c a v (inl well)),
           tt,
           (
@@ -407,8 +407,8 @@ module _ (p : Program) (g : Typing) (x : Exits) (bs : List InScope) (e : Environ
         ),
       )
 
-  pub makes_on : (i : Initial) (owner : Owner) (k : List Entry) (c : Context) (m : PointerKind) (t : Ty) (f h : flow.State) (q : List ℕ) → LiveIn (ends_of k) bs → IsContext p x bs c → Holds g f bs → IsOwner (OfRegion 0) owner
-      → IsMade c i m t → Derives (rule_initial q i f) h → InInitial i → IsStack p g x bs (Val (Value (pointer m (read t))) h) k → IsWell p (makes owner i k e w)
+  pub makes_on : (i : Initial) (owner : Owner) (k : List Entry) (c : Context) (m : PointerKind) (t : Ty) (f h : flow.State) (q : List ℕ) → LiveIn k bs → IsContext p x bs c → Holds g f bs → IsOwner (OfRegion 0) owner
+      → IsMade c i m t → Derives (rule_initial q i f) h → InInitial p.reading i → IsStack p g x bs (Val (Value (pointer m (read bs t))) h) k → IsWell p (makes owner i k e w)
   makes_on (Plain kind a) owner k c m t f h q live stands holds owned (well, keyless, kind_is, mark) flows kept stack =
       running p g x bs e w typed globals bound variables (Evaluating a) (Needs (MakePlain owner kind) ∷ k) live (
         c,
@@ -421,18 +421,18 @@ module _ (p : Program) (g : Typing) (x : Exits) (bs : List InScope) (e : Environ
         (
           [],
           bs,
-          Val (Value (pointer marks.NonNull (read t))) h,
+          Val (Value (pointer marks.NonNull (read bs t))) h,
           stacks.makes_plain t h owned kind_is,
           tt,
-          subst (λ z. IsStack p g x bs (Val (Value (pointer z (read t))) h) k) mark stack,
+          subst (λ z. IsStack p g x bs (Val (Value (pointer z (read bs t))) h) k) mark stack,
         ),
       )
   makes_on (Fields as') owner k c m t f h q live stands holds owned (n, rs, s, at, count, passed, t_is, mark) flows kept stack =
-      let there : slice_get p.structs n ≡ Some s = ap (λ ss. slice_get ss n) (sym stands.structs) ∙ at in
+      let there : slice_get p.program.structs n ≡ Some s = ap (λ ss. slice_get ss n) (sym stands.structs) ∙ at in
       fields_on k owner [] [] as' (map (substituted_ty rs) s.fields) c n (map as_heap rs) f h q live stands holds owned passed flows kept tt (s, there, instances_read rs s.fields)
-      (subst (λ z. IsStack p g x bs (Val (Value (pointer z (Struct n (map as_heap rs)))) h) k) mark (subst (λ z. IsStack p g x bs (Val (Value (pointer m (read z))) h) k) t_is stack))
+      (subst (λ z. IsStack p g x bs (Val (Value (pointer z (Struct n (map as_heap rs)))) h) k) mark (subst (λ z. IsStack p g x bs (Val (Value (pointer m (read bs z))) h) k) t_is stack))
   makes_on (Array place level count kind element) owner k c m t f h q live stands holds owned (level_is, well, each, keyless, kind_is, mark) (f1, d, (f2, de, (demands, known))) (kn, ke) stack =
-      let repeats : Repeats c level kind element t f1 = record {
+      let repeats : Repeats p.reading c level kind element t f1 = record {
         now = f2;
         level_is = level_is;
         kind_is = kind_is;
@@ -450,9 +450,9 @@ module _ (p : Program) (g : Typing) (x : Exits) (bs : List InScope) (e : Environ
         (
           [],
           bs,
-          Val (Value (pointer marks.Fat (read t))) f1,
+          Val (Value (pointer marks.Fat (read bs t))) f1,
           stacks.makes_array c t f1 owned stands repeats,
           tt,
-          subst (λ z. IsStack p g x bs (Val (Value (pointer marks.Fat (read t))) z) k) known (subst (λ z. IsStack p g x bs (Val (Value (pointer z (read t))) h) k) mark stack),
+          subst (λ z. IsStack p g x bs (Val (Value (pointer marks.Fat (read bs t))) z) k) known (subst (λ z. IsStack p g x bs (Val (Value (pointer z (read bs t))) h) k) mark stack),
         ),
       )

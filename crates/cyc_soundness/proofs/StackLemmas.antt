@@ -15,11 +15,11 @@ use Rattle.cyc_meaning.specs.Values as values
 use Rattle.cyc_meaning.specs.State.{Region, Access, Found, Closed, Missing, found_region, is_open, heap_number, globals_number, World, FillElement, AwaitingPlace, SwapRight, Write, Environment, with_local, Awaiting, Entry, Needs, NeedsPlace, Discard, Rest, Join, Loop, CloseRegion, CloseLexical, Handler, Caller, Main}
 use Rattle.cyc_meaning.specs.Nesting.{ends_of, IsFound, AreOpen, IsHome, IsNested}
 use Rattle.cyc_meaning.specs.Nesting as nesting
-use Rattle.cyc_soundness.specs.Lives.{RunTy, RunValue, Void, Null, Value, read, read_value}
+use Rattle.cyc_soundness.specs.Lives.{RunTy, RunValue, Void, Null, Value}
 use Rattle.cyc_soundness.specs.Lives as lives
 use Rattle.cyc_soundness.specs.Worlds.{Typing, IsFull, variable_type, Grows}
-use Rattle.cyc_soundness.specs.Frames.{IsAmong, first, later, Bound, InScope, Variable, Level, IsScope, AreBelow, IsBound, AreVariables, LiveIn, Within, itself, older, IsSet, AreSet, Holds, Exits}
-use Rattle.cyc_soundness.specs.Classes.{InOperations}
+use Rattle.cyc_soundness.specs.Frames.{IsAmong, first, later, Bound, InScope, Variable, Level, IsScope, AreBelow, IsBound, AreVariables, LiveIn, Within, itself, older, IsSet, AreSet, Holds, Exits, lives_in, read, read_value, IsThere}
+use Rattle.cyc_soundness.specs.Classes.{InOperations, Source}
 use Rattle.cyc_soundness.specs.Stacks.{IsAccepted, Want, Nothing, Val, PlaceOf, Go, held, Waits, IsArrayOf, Keeps, IsSpot, of_local, of_global, of_cell, KeepsPlace, AreSwapped, IsStack}
 use Rattle.cyc_soundness.specs.Stacks as stacks
 use Rattle.cyc_soundness.proofs.Numbers.{same_or_other}
@@ -28,11 +28,11 @@ use Rattle.cyc_soundness.proofs.WorldLemmas.{type_grown, result_grown, operands_
 
 -- the functions of a program, each of which the rules accept
 abbrev pub AreAccepted : Program → Type 0
-AreAccepted p = (number : ℕ) (h : Function) → slice_get p.functions number ≡ Some h → (end : flow.State) × IsAccepted p h end
+AreAccepted p = (number : ℕ) (h : Function) → slice_get p.program.functions number ≡ Some h → (end : flow.State) × IsAccepted p h end
 
 -- ---- growth
 
-module _ (p : Program) (g h : Typing) (grows : Grows g h) where
+module _ (p : Source) (g h : Typing) (grows : Grows g h) where
   array_grown : (ts : List RunTy) (object count index : ℕ) → IsArrayOf g ts object count index → IsArrayOf h ts object count index
   array_grown [] object count index is = is
   array_grown (t ∷ []) object count index (less, (y, there, shown, life, cells, filled, few)) = (less, (y, grows.objects object y there, shown, life, cells, grows.filled object index filled, few))
@@ -45,7 +45,7 @@ module _ (p : Program) (g h : Typing) (grows : Grows g h) where
   pub spot_grown : (bs : List InScope) (t : Ty) (f : flow.State) (v : values.Value) → IsSpot p g bs t f v → IsSpot p h bs t f v
   spot_grown bs t f v (of_local b among of_type is) = of_local b among of_type is
   spot_grown bs t f v (of_global number there) = of_global number there
-  spot_grown bs t f v (of_cell place has) = of_cell place (type_grown g h grows (stacks.pointer marks.NonNull (read t)) place has)
+  spot_grown bs t f v (of_cell place has) = of_cell place (type_grown g h grows (stacks.pointer marks.NonNull (read bs t)) place has)
 
   keeps_place_grown : (bs : List InScope) (a : AwaitingPlace) (r : RunTy) (f : flow.State) → KeepsPlace p g bs a r f → KeepsPlace p h bs a r f
   keeps_place_grown bs (SwapRight kind peek left) r f (t, same, plain, spot) = (t, same, plain, spot_grown bs t f left spot)
@@ -53,7 +53,7 @@ module _ (p : Program) (g h : Typing) (grows : Grows g h) where
 
   pub swapped_grown : (bs : List InScope) (f : flow.State) (ws : List Write) → AreSwapped p g bs f ws → AreSwapped p h bs f ws
   swapped_grown bs f [] are = tt
-  swapped_grown bs f (w ∷ ws) ((t, plain, spot, is), are) = ((t, plain, spot_grown bs t f w.place spot, result_grown g h grows (Value (read t)) w.operand is), swapped_grown bs f ws are)
+  swapped_grown bs f (w ∷ ws) ((t, plain, spot, is), are) = ((t, plain, spot_grown bs t f w.place spot, result_grown g h grows (Value (read bs t)) w.operand is), swapped_grown bs f ws are)
 
   pub stack_grown : (x : Exits) (bs : List InScope) (w : Want) (k : List Entry) → IsStack p g x bs w k → IsStack p h x bs w k
   stack_grown x bs Nothing [] is = tt
@@ -77,17 +77,17 @@ module _ (p : Program) (g h : Typing) (grows : Grows g h) where
     variables_grown g h grows cs variables,
     live,
     holds_grown g h grows end cs holds,
-    stack_grown y cs (Val (read_value (result_type x.result)) end) k rest,
+    stack_grown y cs (Val (read_value bs (result_type x.result)) end) k rest,
   )
   stack_grown x bs (Go f) (Main ∷ k) (loop, int, blocked, rest) = (loop, int, blocked, stack_grown x bs Nothing k rest)
   stack_grown x bs w k is = absurd is
 
 -- ---- what has no value is only dropped
 
-void_read : (v : ValueType) → read_value v ≡ Void → v ≡ types.Void
+void_read : (v : ValueType) → read_value bs v ≡ Void → v ≡ types.Void
 void_read types.Void e = refl
 void_read types.Null e = absurd (let k : Null ≡ Void = e in cc)
-void_read (types.Value t) e = absurd (let k : Value (read t) ≡ Void = e in cc)
+void_read (types.Value t) e = absurd (let k : Value (read bs t) ≡ Void = e in cc)
 
 void_converts : (c : Context) (t : Ty) → Converts c types.Void t → ⊥
 void_converts c types.Int conv = conv
@@ -115,7 +115,7 @@ value_void t e = let k : Value t ≡ Void = e in absurd (cc)
 null_void : Null ≡ Void → ⊥
 null_void e = cc
 
-pointer_right : {c : Context} {o : PointerOperator} {u v w : ValueType} → PointerOperation c o u v w → read_value v ≡ Void → ⊥
+pointer_right : {c : Context} {o : PointerOperator} {u v w : ValueType} → PointerOperation c o u v w → read_value bs v ≡ Void → ⊥
 pointer_right (adds t r other) e = value_void lives.Int e
 pointer_right (subtracts t r other) e = value_void lives.Int e
 pointer_right (equals k l t r s one two here there) e = value_void (read (types.Pointer l t s)) e
@@ -127,14 +127,14 @@ pointer_right (fat_there k t r fat) e = null_void e
 pointer_right (null_is k t r) e = value_void (read (types.Pointer k t r)) e
 pointer_right (null_is_not k t r) e = value_void (read (types.Pointer k t r)) e
 
-void_chain : (c : Context) (os : Operations) (t : Ty) → IsChain c types.Void os t → InOperations os → ⊥
+void_chain : (c : Context) (os : Operations) (t : Ty) → IsChain c types.Void os t → InOperations p.reading os → ⊥
 void_chain c NoOperations t e kept = absurd (let k : types.Void ≡ types.Value t = e in cc)
 void_chain c (ThenCompute o a os) t (e, well, chain) kept = absurd (let k : types.Void ≡ types.Value types.Int = e in cc)
 void_chain c (ThenTest o a os) t (e, well, chain) kept = absurd (let k : false ≡ true = e in cc)
 void_chain c (ThenPointer o a os) t (v, w, well, op, chain) kept = pointer_left op refl
 void_chain c (ThenPointerPeek n o a os) t (v, w, well, op, chain) kept = pointer_left op refl
 
-void_tested : (v : ValueType) → read_value v ≡ Void → is_tested v ≡ true → ⊥
+void_tested : (v : ValueType) → read_value bs v ≡ Void → is_tested v ≡ true → ⊥
 void_tested v e tested = let k : false ≡ true = subst (λ z. is_tested z ≡ true) (void_read v e) tested in absurd (cc)
 
 void_waits : {p : Program} {x : Exits} {bs cs : List InScope} {a : Awaiting} {ts : List RunTy} {r : RunValue} {f : flow.State} {next : Want} → Waits p x bs a ts r f cs next → r ≡ Void → ⊥
@@ -145,39 +145,39 @@ void_waits (stacks.denies v f tested) e = void_tested v e tested
 void_waits (stacks.chains {os} c v t f h stands computes) e = void_chain c os t (subst (λ z. IsChain c z os t) (void_read v e) computes.typed) computes.kept
 void_waits (stacks.applies f) e = value_void lives.Int e
 void_waits (stacks.decides v f h tested i) e = void_tested v e tested
-void_waits (stacks.stores_local b t f among same) e = value_void (read t) e
-void_waits (stacks.stores_global number t f there) e = value_void (read t) e
+void_waits (stacks.stores_local b t f among same) e = value_void (read bs t) e
+void_waits (stacks.stores_global number t f there) e = value_void (read bs t) e
 void_waits (stacks.points c t v w f op) e = pointer_right op e
 void_waits (stacks.null_points c v w f op) e = pointer_right op e
-void_waits (stacks.stores_cell t f) e = value_void (read t) e
-void_waits (stacks.follows m t f kind target) e = value_void (stacks.pointer m (read t)) e
+void_waits (stacks.stores_cell t f) e = value_void (read bs t) e
+void_waits (stacks.follows m t f kind target) e = value_void (stacks.pointer m (read bs t)) e
 void_waits (stacks.follows_member m n ls s t f kind struct fields field) e = value_void (stacks.pointer m (lives.Struct n ls)) e
-void_waits (stacks.indexes c t f h stands evaluates target) e = value_void (stacks.pointer marks.Fat (read t)) e
+void_waits (stacks.indexes c t f h stands evaluates target) e = value_void (stacks.pointer marks.Fat (read bs t)) e
 void_waits (stacks.advances t f target) e = value_void lives.Int e
-void_waits (stacks.counts_elements t f) e = value_void (stacks.pointer marks.Fat (read t)) e
+void_waits (stacks.counts_elements t f) e = value_void (stacks.pointer marks.Fat (read bs t)) e
 void_waits (stacks.places_by c m t f h stands makes) e = value_void (lives.Handle (lives.OfRegion 0)) e
-void_waits (stacks.makes_plain t f owner kind) e = value_void (read t) e
-void_waits (stacks.makes_fields c done t ts n ls f h owner stands passes fields) e = value_void (read t) e
+void_waits (stacks.makes_plain t f owner kind) e = value_void (read bs t) e
+void_waits (stacks.makes_fields c done t ts n ls f h owner stands passes fields) e = value_void (read bs t) e
 void_waits (stacks.makes_array c t f owner stands repeats) e = value_void lives.Int e
-void_waits (stacks.fills cs c t f h within stands repeats i) e = value_void (read t) e
-void_waits (stacks.passes c done t ts r f h stands passes called) e = value_void (read t) e
-void_waits (stacks.initialises cs c t f h within stands number kind continues) e = value_void (read t) e
+void_waits (stacks.fills cs c t f h within stands repeats i) e = value_void (read bs t) e
+void_waits (stacks.passes c done t ts r f h stands passes called) e = value_void (read bs t) e
+void_waits (stacks.initialises cs c t f h within stands number kind continues) e = value_void (read bs t) e
 void_waits (stacks.chooses c d v f g h i tested first_stands second_stands one two j k) e = void_tested v e tested
 void_waits (stacks.tests l v f h loop) e = void_tested v e loop.tested
-void_waits (stacks.returns t f h result) e = value_void (read t) e
+void_waits (stacks.returns t f h result) e = value_void (read bs t) e
 void_waits (stacks.throws f h) e = value_void lives.Int e
 
-pub void_goes : (p : Program) (g : Typing) (x : Exits) (bs : List InScope) (f : flow.State) (r : RunValue) (k : List Entry) → r ≡ Void → IsStack p g x bs (Val r f) k → IsStack p g x bs (Go f) k
+pub void_goes : (p : Source) (g : Typing) (x : Exits) (bs : List InScope) (f : flow.State) (r : RunValue) (k : List Entry) → r ≡ Void → IsStack p g x bs (Val r f) k → IsStack p g x bs (Go f) k
 void_goes p g x bs f r (Needs a ∷ k) e (ts, cs, next, waits, are, rest) = absurd (void_waits waits e)
 void_goes p g x bs f r (Discard ∷ k) e is = is
 void_goes p g x bs f r k e is = absurd is
 
 -- ---- locals
 
-pub bound_of : (vs : List LocalInScope) (bs : List InScope) (n : ℕ) (t : Ty) (r : ℕ) → IsScope vs bs → HasLocal vs n t r → (b : Bound) × IsAmong (Variable b) bs × (b.number ≡ n) × (b.of_type ≡ read t)
+pub bound_of : (vs : List LocalInScope) (bs : List InScope) (n : ℕ) (t : Ty) (r : ℕ) → IsScope vs bs → HasLocal vs n t r → (b : Bound) × IsAmong (Variable b) bs × (b.number ≡ n) × (b.of_type ≡ read bs t)
 bound_of vs [] n t r is has = absurd (subst (λ us. HasLocal us n t r) is has)
 bound_of vs (Variable b ∷ bs) n t r (rest, (v, vs_are, number, of_type), is) has = elim (subst (λ us. HasLocal us n t r) vs_are has) [
-  | inl here ↦ (b, first bs, sym number ∙ here.0, sym of_type ∙ ap read here.1)
+  | inl here ↦ (b, first bs, sym number ∙ here.0, sym of_type ∙ ap (read bs) here.1)
   | inr there ↦ (let (c, among, same, has_type) = bound_of rest bs n t r is there in (c, later (Variable b) bs among, same, has_type))
 ]
 bound_of vs (Level l ∷ bs) n t r (rest, vs_are, is) has =

@@ -24,10 +24,10 @@ use Rattle.cyc_meaning.specs.Nesting.{ends_of, IsNested}
 use Rattle.cyc_meaning.specs.Step.{chosen, looped, supplied}
 use Rattle.cyc_meaning.proofs.ListLemmas.{slice_get-end}
 use Rattle.cyc_meaning.proofs.NestingLemmas.{home_found}
-use Rattle.cyc_soundness.specs.Lives.{OfRegion, RunTy, RunValue, Value, kind_at, read}
+use Rattle.cyc_soundness.specs.Lives.{OfRegion, RunTy, RunValue, Value, kind_at}
 use Rattle.cyc_soundness.specs.Lives as lives
 use Rattle.cyc_soundness.specs.Worlds.{Typing, IsFilled, variable_type, HasType, IsResult, AreCells, IsObject, IsTyped, Grows}
-use Rattle.cyc_soundness.specs.Frames.{later, Bound, InScope, Variable, AreBelow, IsBound, AreVariables, LiveIn, Within, older, Holds, Implies, LoopExit, Exits, IsContext, KnowsProgram}
+use Rattle.cyc_soundness.specs.Frames.{later, Bound, InScope, Variable, AreBelow, IsBound, AreVariables, LiveIn, Within, older, Holds, Implies, LoopExit, Exits, IsContext, KnowsProgram, lives_in, read, read_value, IsThere}
 use Rattle.cyc_soundness.specs.Stacks.{Executes, Continues, IsLoop, Want, Val, Go, held, Keeps, pointer, inside, Waits, IsReturn, IsStack, IsFocus, IsWell}
 use Rattle.cyc_soundness.specs.Stacks as stacks
 use Rattle.cyc_soundness.proofs.TypeLemmas.{is_kind_same, kind_read}
@@ -35,14 +35,14 @@ use Rattle.cyc_soundness.proofs.FlowLemmas.{holds_implied, reached_with, vacant_
 use Rattle.cyc_soundness.proofs.WorldLemmas.{type_grown, with_object, object_grows, object_typed, globals_grown, variables_grown, set_grown}
 use Rattle.cyc_soundness.proofs.StackLemmas.{stack_grown, below_more, local_new, bound_more, set_more, home_among, found_is}
 use Rattle.cyc_soundness.proofs.ValueLemmas.{negated, complemented, combined, zero_is}
-use Rattle.cyc_soundness.specs.Classes.{InInitial}
+use Rattle.cyc_soundness.specs.Classes.{InInitial, Source}
 use Rattle.cyc_soundness.proofs.Cells.{running}
 use Rattle.cyc_soundness.proofs.Objects.{plain_on, fields_on, array_on, fill_on, makes_on}
 use Rattle.cyc_soundness.proofs.Places.{gives, follow_on, member_on, index_on, advance_on, count_on, cell_stored, point_on, null_point_on}
 use Rattle.cyc_soundness.proofs.Evaluation.{pass_on, chain_on, converted_on, denied_on, decided_on, writes_local, writes_global}
 
 -- a scope with one local more
-pub context_more : (p : Program) (x : Exits) (bs : List InScope) (c : Context) (t : Ty) (b : Bound) → IsContext p x bs c → b.number ≡ c.next_local → b.of_type ≡ read t → IsContext p x (Variable b ∷ bs) (with_local true t c)
+pub context_more : (p : Source) (x : Exits) (bs : List InScope) (c : Context) (t : Ty) (b : Bound) → IsContext p x bs c → b.number ≡ c.next_local → b.of_type ≡ read bs t → IsContext p x (Variable b ∷ bs) (with_local true t c)
 context_more p x bs c t b stands number of_type = record {
   globals = stands.globals;
   functions = stands.functions;
@@ -54,44 +54,44 @@ context_more p x bs c t b stands number of_type = record {
   counters = λ l less. later (Variable b) bs (stands.counters l less);
 }
 
-module _ (p : Program) (g : Typing) (x : Exits) (bs : List InScope) (e : Environment) (w : World) (typed : IsTyped g w.regions w.objects) (globals : KnowsProgram g p) (bound : IsBound e.locals e.counters bs) (variables : AreVariables g bs) where
-  on : (focus : Focus) (k : List Entry) → LiveIn (ends_of k) bs → IsFocus p g x bs focus k → IsWell p (Running focus k e w)
+module _ (p : Source) (g : Typing) (x : Exits) (bs : List InScope) (e : Environment) (w : World) (typed : IsTyped g w.regions w.objects) (globals : KnowsProgram g p) (bound : IsBound e.locals e.counters bs) (variables : AreVariables g bs) where
+  on : (focus : Focus) (k : List Entry) → LiveIn k bs → IsFocus p g x bs focus k → IsWell p (Running focus k e w)
   on focus k live stands = running p g x bs e w typed globals bound variables focus k live stands
 
   -- ---- a local is declared
 
   -- the local, with its new object
   abbrev new_local : (number : ℕ) → Ty → Bound
-  new_local number t = record { number = number; object = length w.objects; of_type = read t; region = e.home }
+  new_local number t = record { number = number; object = length w.objects; of_type = read bs t; region = e.home }
 
   abbrev new_typing : Ty → (filled : ℕ) → Typing
-  new_typing t n = with_object g (variable_type (read t) e.home) n
+  new_typing t n = with_object g (variable_type (read bs t) e.home) n
 
-  pub declares : (number : ℕ) (kind : Kind) (t : Ty) (content : Option values.Value) (n : ℕ) (focus : Focus) (stack : List Entry) → IsNested stack e w → LiveIn (ends_of stack) bs → AreBelow number bs
-      → (Grows g (new_typing t n) → AreCells (new_typing t n) (read t ∷ []) (record { kind = kind; content = content } ∷ []) n)
+  pub declares : (number : ℕ) (kind : Kind) (t : Ty) (content : Option values.Value) (n : ℕ) (focus : Focus) (stack : List Entry) → IsNested stack e w → LiveIn stack bs → AreBelow number bs
+      → (Grows g (new_typing t n) → AreCells (new_typing t n) (read bs t ∷ []) (record { kind = kind; content = content } ∷ []) n)
       → (Grows g (new_typing t n) → IsFilled (new_typing t n) (length w.objects) n → IsFocus p (new_typing t n) x (Variable (new_local number t) ∷ bs) focus stack)
       → IsWell p (declared (region_at w e.home) focus number kind content stack e w)
   declares number kind t content n focus stack nests live below cells goes =
       let h = new_typing t n in
-      let grows : Grows g h = object_grows g (variable_type (read t) e.home) n in
-      let is : IsObject h n (variable_type (read t) e.home) (variable e.home kind content) = record { owner = refl; cells = cells grows } in
+      let grows : Grows g h = object_grows g (variable_type (read bs t) e.home) n in
+      let is : IsObject h n (variable_type (read bs t) e.home) (variable e.home kind content) = record { owner = refl; cells = cells grows } in
       let (r, found) = found_is (region_at w e.home) (home_found w.regions e.home stack nests.2 nests.0) in
-      let there = subst (λ i. slice_get h.objects i ≡ Some (variable_type (read t) e.home)) (sym typed.count) (slice_get-end g.objects (variable_type (read t) e.home)) in
+      let there = subst (λ i. slice_get h.objects i ≡ Some (variable_type (read bs t) e.home)) (sym typed.count) (slice_get-end g.objects (variable_type (read bs t) e.home)) in
       let flag = subst (λ i. slice_get h.filled i ≡ Some n) (sym typed.counts) (slice_get-end g.filled n) in
       subst (λ a. IsWell p (declared a focus number kind content stack e w)) (sym found)
       (running p h x (Variable (new_local number t) ∷ bs) (state.with_local e number (length w.objects)) (made w (variable e.home kind content))
-      (object_typed g w.regions w.objects (variable_type (read t) e.home) n (variable e.home kind content) typed is) (globals_grown g h grows p globals)
+      (object_typed g w.regions w.objects (variable_type (read bs t) e.home) n (variable e.home kind content) typed is) (globals_grown g h grows p globals)
       (local_new e number (length w.objects), bound_more e number (length w.objects) bs below bound) (there, variables_grown g h grows bs variables)
       focus stack (home_among e.home stack nests.2, live)
       (goes grows (n, flag, (let most : n ≤ n = omega arith in most))))
 
   -- with a value, and the rest of its block goes on
-  pub declares_full : (number : ℕ) (kind : Kind) (v : values.Value) (t : Ty) (js : Items) (cs : List InScope) (c : Context) (f h : flow.State) (k : List Entry) → IsNested k e w → LiveIn (ends_of k) bs
-      → Within cs bs → IsContext p x bs c → Holds g f bs → number ≡ c.next_local → kind ≡ kind_at (read t) → HasType g (read t) v → Continues x (with_local true t c) js (with_fullness Full f number) h
+  pub declares_full : (number : ℕ) (kind : Kind) (v : values.Value) (t : Ty) (js : Items) (cs : List InScope) (c : Context) (f h : flow.State) (k : List Entry) → IsNested k e w → LiveIn k bs
+      → Within cs bs → IsContext p x bs c → Holds g f bs → number ≡ c.next_local → kind ≡ kind_at (read bs t) → HasType g (read bs t) v → Continues p.reading x (with_local true t c) js (with_fullness Full f number) h
       → IsStack p g x cs (Go h) k → IsWell p (declared (region_at w e.home) Proceeding number kind (Some v) (Rest js ∷ k) e w)
   declares_full number kind v t js cs c f h k nests live within stands (reached, are) number_is kind_is has continues stack =
       let below : AreBelow number bs = subst (λ n. AreBelow n bs) (sym number_is) stands.below in
-      declares number kind t (Some v) 1 Proceeding (Rest js ∷ k) nests live below (λ grows. ((kind_is, type_grown g (new_typing t 1) grows (read t) v has), tt))
+      declares number kind t (Some v) 1 Proceeding (Rest js ∷ k) nests live below (λ grows. ((kind_is, type_grown g (new_typing t 1) grows (read bs t) v has), tt))
       (λ grows full. (
         with_fullness Full f number,
         (reached_with Full f number reached, (λ s. full, set_more (new_typing t 1) Full f number bs below (set_grown g (new_typing t 1) grows f bs are))),
@@ -107,8 +107,8 @@ module _ (p : Program) (g : Typing) (x : Exits) (bs : List InScope) (e : Environ
       ))
 
   -- without one
-  pub declares_blank : (number : ℕ) (kind : Kind) (t : Ty) (js : Items) (cs : List InScope) (c : Context) (f h : flow.State) (k : List Entry) → IsNested k e w → LiveIn (ends_of k) bs
-      → Within cs bs → IsContext p x bs c → Holds g f bs → number ≡ c.next_local → kind ≡ kind_at (read t) → Continues x (with_local true t c) js (with_fullness Vacant f number) h
+  pub declares_blank : (number : ℕ) (kind : Kind) (t : Ty) (js : Items) (cs : List InScope) (c : Context) (f h : flow.State) (k : List Entry) → IsNested k e w → LiveIn k bs
+      → Within cs bs → IsContext p x bs c → Holds g f bs → number ≡ c.next_local → kind ≡ kind_at (read bs t) → Continues p.reading x (with_local true t c) js (with_fullness Vacant f number) h
       → IsStack p g x cs (Go h) k → IsWell p (declared (region_at w e.home) Proceeding number kind None (Rest js ∷ k) e w)
   declares_blank number kind t js cs c f h k nests live within stands (reached, are) number_is kind_is continues stack =
       let below : AreBelow number bs = subst (λ n. AreBelow n bs) (sym number_is) stands.below in
@@ -129,12 +129,12 @@ module _ (p : Program) (g : Typing) (x : Exits) (bs : List InScope) (e : Environ
 
   -- ---- branches and loops
 
-  chosen_on : (b : Bool) (first second : Statement) (k : List Entry) (c d : Context) (f i j l : flow.State) → LiveIn (ends_of k) bs → Holds g f bs → IsContext p x bs c → IsContext p x bs d
-      → Executes x c first f i → Executes x d second f j → Implies i l → Implies j l → IsStack p g x bs (Go l) k → IsWell p (chosen (Some b) first second k e w)
+  chosen_on : (b : Bool) (first second : Statement) (k : List Entry) (c d : Context) (f i j l : flow.State) → LiveIn k bs → Holds g f bs → IsContext p x bs c → IsContext p x bs d
+      → Executes p.reading x c first f i → Executes p.reading x d second f j → Implies i l → Implies j l → IsStack p g x bs (Go l) k → IsWell p (chosen (Some b) first second k e w)
   chosen_on true first second k c d f i j l live holds stands others one two m n stack = on (Executing second) (Join ∷ k) live (d, f, j, others, holds, two, (l, n, stack))
   chosen_on false first second k c d f i j l live holds stands others one two m n stack = on (Executing first) (Join ∷ k) live (c, f, i, stands, holds, one, (l, m, stack))
 
-  looped_on : (b : Bool) (condition : Expression) (body : Statement) (k : List Entry) (l : LoopExit) (v : ValueType) (f h : flow.State) → LiveIn (ends_of k) bs → Holds g f bs → IsLoop p x bs l condition body v f h
+  looped_on : (b : Bool) (condition : Expression) (body : Statement) (k : List Entry) (l : LoopExit) (v : ValueType) (f h : flow.State) → LiveIn k bs → Holds g f bs → IsLoop p x bs l condition body v f h
       → IsStack p g x bs (Go h) k → IsWell p (looped (Some b) condition body k e w)
   looped_on true condition body k l v f h live holds loop stack = on Proceeding k live (h, holds_implied g f h bs loop.fails holds, stack)
   looped_on false condition body k l v f h live holds loop stack =
@@ -157,13 +157,13 @@ module _ (p : Program) (g : Typing) (x : Exits) (bs : List InScope) (e : Environ
         (x, l, v, f, h, refl, loop, loop.back, stack),
       )
 
-  thrown_on : (tag : ℕ) (v : values.Value) (k : List Entry) (h : flow.State) → LiveIn (ends_of k) bs → HasType g lives.Int v → IsStack p g x bs (Go h) k → IsWell p (throws_value tag v k e w)
+  thrown_on : (tag : ℕ) (v : values.Value) (k : List Entry) (h : flow.State) → LiveIn k bs → HasType g lives.Int v → IsStack p g x bs (Go h) k → IsWell p (throws_value tag v k e w)
   thrown_on tag (values.Int word) k h live is stack = on (Throwing tag word) k live (Go h, stack)
   thrown_on tag v k h live is stack = absurd is
 
   -- by a handle of the heap
-  placed_by : (i : Initial) (v : values.Value) (k : List Entry) (c : Context) (m : PointerKind) (t : Ty) (f h : flow.State) (q : List ℕ) → LiveIn (ends_of k) bs → IsContext p x bs c → Holds g f bs → IsMade c i m t
-      → Derives (rule_initial q i f) h → InInitial i → HasType g (lives.Handle (OfRegion 0)) v → IsStack p g x bs (Val (Value (pointer m (read t))) h) k → IsWell p (makes_by i v k e w)
+  placed_by : (i : Initial) (v : values.Value) (k : List Entry) (c : Context) (m : PointerKind) (t : Ty) (f h : flow.State) (q : List ℕ) → LiveIn k bs → IsContext p x bs c → Holds g f bs → IsMade c i m t
+      → Derives (rule_initial q i f) h → InInitial p.reading i → HasType g (lives.Handle (OfRegion 0)) v → IsStack p g x bs (Val (Value (pointer m (read bs t))) h) k → IsWell p (makes_by i v k e w)
   placed_by i (values.Handle region) k c m t f h q live stands holds made flows kept has stack =
       let same : 0 ≡ region = (let z : OfRegion 0 ≡ OfRegion region = has in cc) in
       makes_on p g x bs e w typed globals bound variables i (InRegion region) k c m t f h q live stands holds same made flows kept stack
@@ -171,7 +171,7 @@ module _ (p : Program) (g : Typing) (x : Exits) (bs : List InScope) (e : Environ
 
   -- ---- all that waits
 
-  pub given : {a : Awaiting} {ts : List RunTy} {r : RunValue} {f : flow.State} {cs : List InScope} {next : Want} (v : Operand) (k : List Entry) → IsNested k e w → LiveIn (ends_of k) bs → Holds g f bs → IsResult g r v
+  pub given : {a : Awaiting} {ts : List RunTy} {r : RunValue} {f : flow.State} {cs : List InScope} {next : Want} (v : Operand) (k : List Entry) → IsNested k e w → LiveIn k bs → Holds g f bs → IsResult g r v
       → Waits p x bs a ts r f cs next → Keeps g a ts → IsStack p g x cs next k → IsWell p (supplied a v k e w)
   given v k nests live holds is (stacks.converts {from} {to} {target} c s t f conv from_is to_is same) are stack =
       converted_on p g x bs e w typed globals bound variables from to target v k c s t f live holds is conv from_is to_is same stack
@@ -204,22 +204,22 @@ module _ (p : Program) (g : Typing) (x : Exits) (bs : List InScope) (e : Environ
   given v k nests live holds is (stacks.places_by {i} c m t f h stands makes) are stack = placed_by i v.value k c m t f h makes.waiting live stands holds makes.typed makes.flows makes.kept is.1 stack
   given v k nests live holds is (stacks.makes_plain {owner} {kind} t f owned kind_is) are stack = plain_on p g x bs e w typed globals bound variables owner kind v t k f live holds owned kind_is is stack
   given v k nests live holds is (stacks.makes_fields {owner} {before} {rest} c done t ts n ls f h owned stands passes fields) are stack =
-      fields_on p g x bs e w typed globals bound variables k owner (v ∷ before) (read t ∷ done) rest ts c n ls f h passes.waiting live stands holds owned passes.typed passes.flows passes.kept (is, are) fields stack
+      fields_on p g x bs e w typed globals bound variables k owner (v ∷ before) (read bs t ∷ done) rest ts c n ls f h passes.waiting live stands holds owned passes.typed passes.flows passes.kept (is, are) fields stack
   given v k nests live holds is (stacks.makes_array {owner} {level} {kind} {element} c t f owned stands repeats) are stack =
       array_on p g x bs e w typed globals bound variables owner level kind element v.value k c t f live stands holds owned repeats is.1 stack
   given v k nests live holds is (stacks.fills {object} {count} {index} {level} {kind} {element} cs c t f h within stands repeats back) (less, array) stack =
       fill_on p g x bs e w typed globals bound variables object count index level kind element v k cs c t f h live within stands holds repeats back less array is stack
   given v k nests live holds is (stacks.passes {callee} {before} {rest} c done t ts r f h stands passes called) are stack =
-      pass_on p g x bs e w typed globals bound variables k callee (v ∷ before) (read t ∷ done) rest ts c r f h passes.waiting live stands holds passes.typed passes.flows passes.kept (is, are) called stack
+      pass_on p g x bs e w typed globals bound variables k callee (v ∷ before) (read bs t ∷ done) rest ts c r f h passes.waiting live stands holds passes.typed passes.flows passes.kept (is, are) called stack
   given v k nests live holds is (stacks.initialises {number} {kind} {js} cs c t f h within stands number_is kind_is continues) are stack =
-      let same : v.kind ≡ kind = is.0 ∙ kind_read t ∙ sym kind_is in
+      let same : v.kind ≡ kind = is.0 ∙ kind_read (lives_in bs) t ∙ sym kind_is in
       subst (λ (b : Bool). IsWell p (if b then declared (region_at w e.home) Proceeding number kind (Some v.value) (Rest js ∷ k) e w else wrong w)) (sym (is_kind_same v.kind kind same))
-      (declares_full number kind v.value t js cs c f h k nests live within stands holds number_is (kind_is ∙ sym (kind_read t)) is.1 continues stack)
+      (declares_full number kind v.value t js cs c f h k nests live within stands holds number_is (kind_is ∙ sym (kind_read (lives_in bs) t)) is.1 continues stack)
   given v k nests live holds is (stacks.chooses {first} {second} c d s f i j l tested stands others one two m n) are stack =
-      let (b, at_zero) = zero_is g s v tested is in
+      let (b, at_zero) = zero_is g (lives_in bs) s v tested is in
       subst (λ z. IsWell p (chosen z first second k e w)) (sym at_zero) (chosen_on b first second k c d f i j l live holds stands others one two m n stack)
   given v k nests live holds is (stacks.tests {condition} {body} l s f h loop) are stack =
-      let (b, at_zero) = zero_is g s v loop.tested is in
+      let (b, at_zero) = zero_is g (lives_in bs) s v loop.tested is in
       subst (λ z. IsWell p (looped z condition body k e w)) (sym at_zero) (looped_on b condition body k l s f h live holds loop stack)
   given v k nests live holds is (stacks.returns t f h result) are stack =
       on (Returning (Some v)) k live (h, subst (λ z. IsReturn g z (Some v)) (sym result) is, stack)

@@ -11,10 +11,10 @@ use Rattle.cyc_meaning.specs.State.{World, closed, region_at, Environment, Test,
 use Rattle.cyc_meaning.specs.Parts.{closing}
 use Rattle.cyc_meaning.specs.Nesting.{ends_of, IsNested}
 use Rattle.cyc_meaning.specs.Step.{step_proceeding, step_breaking, step_continuing, returned, main_returned, step_returning, step_throwing}
-use Rattle.cyc_soundness.specs.Lives.{Value, read, read_value}
+use Rattle.cyc_soundness.specs.Lives.{Value}
 use Rattle.cyc_soundness.specs.Lives as lives
 use Rattle.cyc_soundness.specs.Worlds.{Typing, HasType, IsTyped}
-use Rattle.cyc_soundness.specs.Frames.{InScope, IsBound, AreVariables, LiveIn, Holds, LoopExit, Exits, is_loop, KnowsProgram}
+use Rattle.cyc_soundness.specs.Frames.{InScope, IsBound, AreVariables, LiveIn, Holds, LoopExit, Exits, is_loop, KnowsProgram, lives_in, read, read_value, IsThere}
 use Rattle.cyc_soundness.specs.Stacks.{IsLoop, Want, Nothing, Val, PlaceOf, Go, IsBlocked, IsReturn, IsStack, IsFocus, IsWell}
 use Rattle.cyc_soundness.specs.Stacks as stacks
 use Rattle.cyc_soundness.proofs.Numbers.{some_same}
@@ -23,16 +23,17 @@ use Rattle.cyc_soundness.proofs.StackLemmas.{void_goes, not_heap, within_bound, 
 use Rattle.cyc_soundness.proofs.WorldLemmas.{closed_typed}
 use Rattle.cyc_soundness.proofs.Cells.{running}
 use Rattle.cyc_soundness.proofs.Execution.{continue_with}
+use Rattle.cyc_soundness.specs.Classes.{Source}
 
 never_loop : (o : Option LoopExit) (l : LoopExit) → is_loop o ≡ false → o ≡ Some l → ⊥
 never_loop o l none same = let z : true ≡ false = subst (λ u. is_loop u ≡ false) same none in absurd (cc)
 
-module _ (p : Program) (g : Typing) (e : Environment) (w : World) (typed : IsTyped g w.regions w.objects) (globals : KnowsProgram g p) where
+module _ (p : Source) (g : Typing) (e : Environment) (w : World) (typed : IsTyped g w.regions w.objects) (globals : KnowsProgram g p) where
   module _ (x : Exits) (bs : List InScope) (bound : IsBound e.locals e.counters bs) (variables : AreVariables g bs) where
-    on : (focus : Focus) (k : List Entry) → LiveIn (ends_of k) bs → IsFocus p g x bs focus k → IsWell p (Running focus k e w)
+    on : (focus : Focus) (k : List Entry) → LiveIn k bs → IsFocus p g x bs focus k → IsWell p (Running focus k e w)
     on focus k live stands = running p g x bs e w typed globals bound variables focus k live stands
 
-    closes : (focus : Focus) (region home : ℕ) (k : List Entry) → IsNested (CloseRegion region home ∷ k) e w → LiveIn (ends_of k) bs → IsFocus p g x bs focus k
+    closes : (focus : Focus) (region home : ℕ) (k : List Entry) → IsNested (CloseRegion region home ∷ k) e w → LiveIn k bs → IsFocus p g x bs focus k
         → IsWell p (closing (region_at w region) focus region home k e w)
     closes focus region home k nests live stands =
         let (r, found) = found_is (region_at w region) nests.0.0 in
@@ -40,7 +41,7 @@ module _ (p : Program) (g : Typing) (e : Environment) (w : World) (typed : IsTyp
         (running p g x bs (record e { home = home }) (closed w region r) (closed_typed g w.regions region (record r { is_open = false }) w.objects (not_heap region home k e w nests) typed) globals bound variables focus k live stands)
 
     -- a loop's condition is evaluated again
-    tests_again : (condition : Expression) (body : Statement) (k : List Entry) (y : Exits) (l : LoopExit) (v : ValueType) (u h : flow.State) → LiveIn (ends_of k) bs → IsLoop p y bs l condition body v u h → Holds g l.head bs → IsStack p g y bs (Go h) k
+    tests_again : (condition : Expression) (body : Statement) (k : List Entry) (y : Exits) (l : LoopExit) (v : ValueType) (u h : flow.State) → LiveIn k bs → IsLoop p y bs l condition body v u h → Holds g l.head bs → IsStack p g y bs (Go h) k
         → IsWell p (Running (Evaluating condition) (Needs (Test condition body) ∷ k) e w)
     tests_again condition body k y l v u h live loop holds stack =
         running p g y bs e w typed globals bound variables (Evaluating condition) (Needs (Test condition body) ∷ k) live
@@ -48,7 +49,7 @@ module _ (p : Program) (g : Typing) (e : Environment) (w : World) (typed : IsTyp
 
     -- ---- to the end of a call
 
-    pub proceed : (k : List Entry) (f : flow.State) → IsNested k e w → LiveIn (ends_of k) bs → Holds g f bs → IsStack p g x bs (Go f) k → IsWell p (step_proceeding k e w)
+    pub proceed : (k : List Entry) (f : flow.State) → IsNested k e w → LiveIn k bs → Holds g f bs → IsStack p g x bs (Go f) k → IsWell p (step_proceeding k e w)
     proceed (Discard ∷ k) f nests live holds stack = on Proceeding k live (f, holds, stack)
     proceed (Rest js ∷ k) f nests live holds (cs, c, h, within, stands, rest, stack) =
         continue_with p g x bs e w typed globals bound variables js k cs c f h rest.before rest.behind nests live within stands holds rest.typed rest.flows rest.breaks rest.kept stack
@@ -60,14 +61,14 @@ module _ (p : Program) (g : Typing) (e : Environment) (w : World) (typed : IsTyp
       where
         go : (o : Option Ty) → x.result ≡ o → IsWell p (Running Proceeding k outer w)
         go None same = running p g y cs outer w typed globals bound' variables' Proceeding k live'
-            (h, holds', void_goes p g y cs h (read_value (result_type x.result)) k (ap (λ z. read_value (result_type z)) same) stack)
+            (h, holds', void_goes p g y cs h (read_value bs (result_type x.result)) k (ap (λ z. read_value bs (result_type z)) same) stack)
         go (Some t) same = let blocked_is : is_reached f ≡ false = subst (λ z. IsBlocked z f) same blocked in let z : true ≡ false = sym holds.0 ∙ blocked_is in absurd (cc)
     proceed (Main ∷ k) f nests live holds (loop, int, blocked, stack) = let z : true ≡ false = sym holds.0 ∙ blocked in absurd (cc)
     proceed k f nests live holds stack = absurd stack
 
     -- ---- to the loop around
 
-    pub breaks : (k : List Entry) (l : LoopExit) (f : flow.State) → IsNested k e w → LiveIn (ends_of k) bs → x.loop ≡ Some l → Holds g l.breaks bs → IsStack p g x bs (Go f) k → IsWell p (step_breaking k e w)
+    pub breaks : (k : List Entry) (l : LoopExit) (f : flow.State) → IsNested k e w → LiveIn k bs → x.loop ≡ Some l → Holds g l.breaks bs → IsStack p g x bs (Go f) k → IsWell p (step_breaking k e w)
     breaks (Discard ∷ k) l f nests live same holds stack = on Breaking k live (l, f, same, holds, stack)
     breaks (Rest js ∷ k) l f nests live same holds (cs, c, h, within, stands, rest, stack) =
         running p g x cs e w typed globals (within_bound e cs bs within bound) (within_variables g cs bs within variables) Breaking k (within_live (ends_of k) cs bs within live)
@@ -82,7 +83,7 @@ module _ (p : Program) (g : Typing) (e : Environment) (w : World) (typed : IsTyp
     breaks (Main ∷ k) l f nests live same holds (loop, int, blocked, stack) = absurd (never_loop x.loop l loop same)
     breaks k l f nests live same holds stack = absurd stack
 
-    pub continues : (k : List Entry) (l : LoopExit) (f : flow.State) → IsNested k e w → LiveIn (ends_of k) bs → x.loop ≡ Some l → Holds g l.head bs → IsStack p g x bs (Go f) k → IsWell p (step_continuing k e w)
+    pub continues : (k : List Entry) (l : LoopExit) (f : flow.State) → IsNested k e w → LiveIn k bs → x.loop ≡ Some l → Holds g l.head bs → IsStack p g x bs (Go f) k → IsWell p (step_continuing k e w)
     continues (Discard ∷ k) l f nests live same holds stack = on Continuing k live (l, f, same, holds, stack)
     continues (Rest js ∷ k) l f nests live same holds (cs, c, h, within, stands, rest, stack) =
         running p g x cs e w typed globals (within_bound e cs bs within bound) (within_variables g cs bs within variables) Continuing k (within_live (ends_of k) cs bs within live)
@@ -107,7 +108,7 @@ module _ (p : Program) (g : Typing) (e : Environment) (w : World) (typed : IsTyp
         go (values.Int word) has = tt
         go value has = absurd has
 
-    pub returns_on : (k : List Entry) (v : Option Operand) (f : flow.State) → IsNested k e w → LiveIn (ends_of k) bs → IsReturn g x.result v → IsStack p g x bs (Go f) k → IsWell p (step_returning v k e w)
+    pub returns_on : (k : List Entry) (v : Option Operand) (f : flow.State) → IsNested k e w → LiveIn k bs → IsReturn g x.result v → IsStack p g x bs (Go f) k → IsWell p (step_returning v k e w)
     returns_on (Discard ∷ k) v f nests live is stack = on (Returning v) k live (f, is, stack)
     returns_on (Rest js ∷ k) v f nests live is (cs, c, h, within, stands, rest, stack) =
         running p g x cs e w typed globals (within_bound e cs bs within bound) (within_variables g cs bs within variables) (Returning v) k (within_live (ends_of k) cs bs within live) (h, is, stack)
@@ -120,17 +121,17 @@ module _ (p : Program) (g : Typing) (e : Environment) (w : World) (typed : IsTyp
       where
         go : (o : Option Ty) (v : Option Operand) → x.result ≡ o → IsReturn g o v → IsWell p (returned v k outer w)
         go None None same is = running p g y cs outer w typed globals bound' variables' Proceeding k live'
-            (h, holds', void_goes p g y cs h (read_value (result_type x.result)) k (ap (λ z. read_value (result_type z)) same) stack)
+            (h, holds', void_goes p g y cs h (read_value bs (result_type x.result)) k (ap (λ z. read_value bs (result_type z)) same) stack)
         go None (Some v) same is = absurd is
         go (Some t) None same is = absurd is
         go (Some t) (Some v) same is = running p g y cs outer w typed globals bound' variables' (Given v) k live'
-            (Value (read t), h, holds', is, subst (λ z. IsStack p g y cs (Val (read_value (result_type z)) h) k) same stack)
+            (Value (read bs t), h, holds', is, subst (λ z. IsStack p g y cs (Val (read_value bs (result_type z)) h) k) same stack)
     returns_on (Main ∷ k) v f nests live is (loop, int, blocked, stack) = main_on v (subst (λ z. IsReturn g z v) int is)
     returns_on k v f nests live is stack = absurd stack
 
     -- ---- to a `try`
 
-    pub throws_on : (k : List Entry) (tag value : ℕ) (want : Want) → IsNested k e w → LiveIn (ends_of k) bs → IsStack p g x bs want k → IsWell p (step_throwing tag value k e w)
+    pub throws_on : (k : List Entry) (tag value : ℕ) (want : Want) → IsNested k e w → LiveIn k bs → IsStack p g x bs want k → IsWell p (step_throwing tag value k e w)
     throws_on [] tag value want nests live stack = tt
     throws_on (Needs a ∷ k) tag value (Val r f) nests live (ts, cs, next, waits, are, stack) =
         let within = waits_within waits in
@@ -146,7 +147,7 @@ module _ (p : Program) (g : Typing) (e : Environment) (w : World) (typed : IsTyp
     throws_on (CloseRegion region home ∷ k) tag value (Go f) nests live (h, i, outer, stack) = closes (Throwing tag value) region home k nests outer (Go h, stack)
     throws_on (Handler cs ∷ k) tag value (Go f) nests live (c, start, h, stands, known, catches, i, stack) = on (Catching tag value cs) k live (c, start, f, h, stands, known, catches, stack)
     throws_on (Caller outer ∷ k) tag value (Go f) nests live (y, cs, h, loop, blocked, bound', variables', live', holds', stack) =
-        running p g y cs outer w typed globals bound' variables' (Throwing tag value) k live' (Val (read_value (result_type x.result)) h, stack)
+        running p g y cs outer w typed globals bound' variables' (Throwing tag value) k live' (Val (read_value bs (result_type x.result)) h, stack)
     throws_on (Main ∷ k) tag value (Go f) nests live (loop, int, blocked, stack) = on (Throwing tag value) k live (Nothing, stack)
     throws_on k tag value Nothing nests live stack = absurd stack
     throws_on k tag value (Val r f) nests live stack = absurd stack

@@ -25,10 +25,10 @@ use Rattle.cyc_meaning.specs.Places.{step_given_place}
 use Rattle.cyc_meaning.specs.Step.{called, step, stepped, step_given}
 use Rattle.cyc_meaning.specs.Run.{start, steps, run}
 use Rattle.cyc_meaning.proofs.Nested.{nests_step, nests_start}
-use Rattle.cyc_soundness.specs.Lives.{RunTy, RunValue, read}
+use Rattle.cyc_soundness.specs.Lives.{RunTy, RunValue}
 use Rattle.cyc_soundness.specs.Worlds.{ObjectType, Typing, global_type, HasType, IsResult, AreOperands, IsObject, IsTyped}
-use Rattle.cyc_soundness.specs.Frames.{InScope, IsBound, AreVariables, LiveIn, itself, Holds, Exits, KnowsProgram}
-use Rattle.cyc_soundness.specs.Classes.{InFunctions, IsOfTheHeap}
+use Rattle.cyc_soundness.specs.Frames.{InScope, IsBound, AreVariables, LiveIn, itself, Holds, Exits, KnowsProgram, lives_in, read, read_value, IsThere}
+use Rattle.cyc_soundness.specs.Classes.{InFunctions, IsOfTheHeap, Source}
 use Rattle.cyc_soundness.specs.Stacks.{IsAccepted, Val, PlaceOf, pointer, IsStack, IsFocus, IsWell}
 use Rattle.cyc_soundness.specs.Sound.{IsSound}
 use Rattle.cyc_soundness.proofs.Numbers.{some_same}
@@ -47,18 +47,18 @@ use Rattle.cyc_soundness.proofs.Unwinding.{proceed, breaks, continues, returns_o
 
 -- ---- a step
 
-module _ (p : Program) (accepted : AreAccepted p) (e : Environment) (w : World) (g : Typing) (x : Exits) (bs : List InScope) (objects : IsTyped g w.regions w.objects) (globals : KnowsProgram g p) (bound : IsBound e.locals e.counters bs) (variables : AreVariables g bs) where
-  given_on : (v : values.Operand) (k : List Entry) (r : RunValue) (f : flow.State) → IsNested k e w → LiveIn (ends_of k) bs → Holds g f bs → IsResult g r v → IsStack p g x bs (Val r f) k → IsWell p (step_given v k e w)
+module _ (p : Source) (accepted : AreAccepted p) (e : Environment) (w : World) (g : Typing) (x : Exits) (bs : List InScope) (objects : IsTyped g w.regions w.objects) (globals : KnowsProgram g p) (bound : IsBound e.locals e.counters bs) (variables : AreVariables g bs) where
+  given_on : (v : values.Operand) (k : List Entry) (r : RunValue) (f : flow.State) → IsNested k e w → LiveIn k bs → Holds g f bs → IsResult g r v → IsStack p g x bs (Val r f) k → IsWell p (step_given v k e w)
   given_on v (Needs a ∷ k) r f nests live holds is (ts, cs, next, waits, are, stack) = given p g x bs e w objects globals bound variables v k nests live holds is waits are stack
   given_on v (Discard ∷ k) r f nests live holds is stack = running p g x bs e w objects globals bound variables Proceeding k live (f, holds, stack)
   given_on v k r f nests live holds is stack = absurd stack
 
-  place_on : (place : values.Value) (k : List Entry) (t : RunTy) (f : flow.State) → IsNested k e w → LiveIn (ends_of k) bs → Holds g f bs → HasType g (pointer marks.NonNull t) place → IsStack p g x bs (PlaceOf t f) k
+  place_on : (place : values.Value) (k : List Entry) (t : RunTy) (f : flow.State) → IsNested k e w → LiveIn k bs → Holds g f bs → HasType g (pointer marks.NonNull t) place → IsStack p g x bs (PlaceOf t f) k
       → IsWell p (step_given_place place k e w)
   place_on place (NeedsPlace a ∷ k) t f nests live holds has (next, waits, keeps, stack) = place_given p g x bs e w objects globals bound variables place k nests.0 live holds has waits keeps stack
   place_on place k t f nests live holds has stack = absurd stack
 
-  step_well : (focus : Focus) (k : List Entry) → IsNested k e w → LiveIn (ends_of k) bs → IsFocus p g x bs focus k → IsWell p (stepped p focus k e w)
+  step_well : (focus : Focus) (k : List Entry) → IsNested k e w → LiveIn k bs → IsFocus p g x bs focus k → IsWell p (stepped p focus k e w)
   step_well (Evaluating a) k nests live (c, t, f, h, stands, holds, evaluates, stack) =
       evaluate p g x bs e w objects globals bound variables a k c t f h evaluates.waiting nests.0 live stands holds evaluates.typed evaluates.flows evaluates.kept stack
   step_well (Given v) k nests live (r, f, holds, is, stack) = given_on v k r f nests live holds is stack
@@ -89,18 +89,18 @@ module _ (p : Program) (accepted : AreAccepted p) (e : Environment) (w : World) 
   step_well (Catching tag value cs) k nests live (c, start', f, h, stands, holds, catches, stack) =
       catch p accepted g x bs e w objects globals bound variables tag value cs k c start' f h catches.before catches.behind live stands holds catches.typed catches.flows catches.breaks catches.kept stack
 
-pub well_step : (p : Program) (s : State) → AreAccepted p → Nests s → IsWell p s → IsWell p (step p s)
+pub well_step : (p : Source) (s : State) → AreAccepted p → Nests s → IsWell p s → IsWell p (step p s)
 well_step p (Running focus k e w) accepted nests well =
     step_well p accepted e w well.typing well.exits well.locals well.objects well.globals well.bound well.variables focus k nests well.live well.stands
 well_step p (Ended ending output input) accepted nests well = tt
 well_step p (Dead output input) accepted nests well = absurd well
 well_step p (Wrong output input) accepted nests well = absurd well
 
-pub well_steps : (p : Program) (n : ℕ) (s : State) → AreAccepted p → Nests s → IsWell p s → IsWell p (steps p n s)
+pub well_steps : (p : Source) (n : ℕ) (s : State) → AreAccepted p → Nests s → IsWell p s → IsWell p (steps p n s)
 well_steps p zero s accepted nests well = well
 well_steps p (suc n) s accepted nests well = well_steps p n (step p s) accepted (nests_step p s nests) (well_step p s accepted nests well)
 
-well_alive : (p : Program) (s : State) → IsWell p s → (status_of s ≢ IsDead) × (status_of s ≢ IsWrong)
+well_alive : (p : Source) (s : State) → IsWell p s → (status_of s ≢ IsDead) × (status_of s ≢ IsWrong)
 well_alive p (Running focus k e w) well = (λ d. (let z : GoesOn ≡ IsDead = d in absurd (cc)), λ d. (let z : GoesOn ≡ IsWrong = d in absurd (cc)))
 well_alive p (Ended ending output input) well = (λ d. (let z : HasEnded ending ≡ IsDead = d in absurd (cc)), λ d. (let z : HasEnded ending ≡ IsWrong = d in absurd (cc)))
 well_alive p (Dead output input) well = absurd well
@@ -111,7 +111,7 @@ well_alive p (Wrong output input) well = absurd well
 ends_are : (o : Option Ty) (place : Place) (f : flow.State) → AllKept (end_demanded o place f) → (t : Ty) → o ≡ Some t → is_reached f ≡ false
 ends_are o place f kept t same = let demands = subst (λ z. AllKept (end_demanded z place f)) same kept in not_true (is_reached f) demands.0
 
-accepted_among : (p : Program) (hs : List Function) → AreWellTypedFunctions p hs → Derives (rule_functions hs) tt → InFunctions hs → (n : ℕ) (h : Function) → slice_get hs n ≡ Some h → (end : flow.State) × IsAccepted p h end
+accepted_among : (p : Source) (hs : List Function) → AreWellTypedFunctions p hs → Derives (rule_functions hs) tt → InFunctions hs → (n : ℕ) (h : Function) → slice_get hs n ≡ Some h → (end : flow.State) × IsAccepted p h end
 accepted_among p [] well flows kept n h found = absurd (let z : None ≡ Some h = found in cc)
 accepted_among p (f ∷ hs) (one, well) (u, (k, d, (demands, same)), flows) (in_one, kept) zero h found =
     let f_is : f ≡ h = (let z : Some f ≡ Some h = found in cc) in
@@ -127,9 +127,9 @@ ones vs = map (λ (v : GlobalVariable). 1) vs
 
 abbrev globals_typed : List StructType → List GlobalVariable → Typing
 globals_typed ss vs = record {
-  objects = map (λ (v : GlobalVariable). global_type (read v.of_type)) vs;
+  objects = map (λ (v : GlobalVariable). global_type (read bs v.of_type)) vs;
   filled = ones vs;
-  fields = λ n ls. option_map (λ (s : StructType). map read s.fields) (slice_get ss n);
+  fields = λ n ls. option_map (λ (s : StructType). map (read bs) s.fields) (slice_get ss n);
 }
 
 null_typed : (g : Typing) (k : PointerKind) (t : Ty) (r : Region) → is_non_null (types.Pointer k t r) ≡ false → HasType g (read (types.Pointer k t r)) values.Null
@@ -137,65 +137,65 @@ null_typed g marks.Nullable t r is = tt
 null_typed g marks.NonNull t r is = absurd (let z : true ≡ false = is in cc)
 null_typed g marks.Fat t r is = tt
 
-value_typed : (g : Typing) (v : GlobalVariable) → IsWellTypedGlobal v → HasType g (read v.of_type) (constant_value v.value)
-value_typed g v (inl (int, (word, is))) = subst (λ z. HasType g (read v.of_type) (constant_value z)) (sym is) (subst (λ t. HasType g (read t) (values.Int word)) (sym int) tt)
+value_typed : (g : Typing) (v : GlobalVariable) → IsWellTypedGlobal v → HasType g (read bs v.of_type) (constant_value v.value)
+value_typed g v (inl (int, (word, is))) = subst (λ z. HasType g (read bs v.of_type) (constant_value z)) (sym is) (subst (λ t. HasType g (read bs t) (values.Int word)) (sym int) tt)
 value_typed g v (inr (k, t, r, pointer, null, is)) =
-    subst (λ z. HasType g (read v.of_type) (constant_value z)) (sym is)
-    (subst (λ u. HasType g (read u) values.Null) (sym pointer) (null_typed g k t r (subst (λ u. is_non_null u ≡ false) pointer null)))
+    subst (λ z. HasType g (read bs v.of_type) (constant_value z)) (sym is)
+    (subst (λ u. HasType g (read bs u) values.Null) (sym pointer) (null_typed g k t r (subst (λ u. is_non_null u ≡ false) pointer null)))
 
-global_is : (g : Typing) (v : GlobalVariable) → IsWellTypedGlobal v → IsObject g 1 (global_type (read v.of_type)) (global_object v)
-global_is g v has = record { owner = refl; cells = ((sym (kind_meant v.of_type), value_typed g v has), tt) }
+global_is : (g : Typing) (v : GlobalVariable) → IsWellTypedGlobal v → IsObject g 1 (global_type (read bs v.of_type)) (global_object v)
+global_is g v has = record { owner = refl; cells = ((sym (kind_meant (lives_in bs) v.of_type), value_typed g v has), tt) }
 
 mapped_length : {A B C : Type 0} (f : A → B) (h : A → C) (xs : List A) → length (map f xs) ≡ length (map h xs)
 mapped_length f h [] = refl
 mapped_length f h (x ∷ xs) = ap suc (mapped_length f h xs)
 
-globals_each : (g : Typing) (vs : List GlobalVariable) → AreWellTypedGlobals vs → (n : ℕ) (t : ObjectType) → slice_get (map (λ (v : GlobalVariable). global_type (read v.of_type)) vs) n ≡ Some t
+globals_each : (g : Typing) (vs : List GlobalVariable) → AreWellTypedGlobals vs → (n : ℕ) (t : ObjectType) → slice_get (map (λ (v : GlobalVariable). global_type (read bs v.of_type)) vs) n ≡ Some t
     → (x : Object) × (filled : ℕ) × (slice_get (map global_object vs) n ≡ Some x) × (slice_get (ones vs) n ≡ Some filled) × IsObject g filled t x
 globals_each g [] have n t found = absurd (let z : None ≡ Some t = found in cc)
 globals_each g (v ∷ vs) (has, have) zero t found =
-    let t_is : global_type (read v.of_type) ≡ t = some_same (global_type (read v.of_type)) t found in
+    let t_is : global_type (read bs v.of_type) ≡ t = some_same (global_type (read bs v.of_type)) t found in
     (global_object v, 1, refl, refl, subst (λ z. IsObject g 1 z (global_object v)) t_is (global_is g v has))
 globals_each g (v ∷ vs) (has, have) (suc n) t found = globals_each g vs have n t found
 
 all_globals : (vs : List GlobalVariable) (n : ℕ) (t : Ty) → slice_get (map (λ (v : GlobalVariable). v.of_type) vs) n ≡ Some t
-    → (slice_get (map (λ (v : GlobalVariable). global_type (read v.of_type)) vs) n ≡ Some (global_type (read t))) × (slice_get (ones vs) n ≡ Some 1)
+    → (slice_get (map (λ (v : GlobalVariable). global_type (read bs v.of_type)) vs) n ≡ Some (global_type (read bs t))) × (slice_get (ones vs) n ≡ Some 1)
 all_globals [] n t found = absurd (let z : None ≡ Some t = found in cc)
-all_globals (v ∷ vs) zero t found = (ap (λ u. Some (global_type (read u))) (some_same v.of_type t found), refl)
+all_globals (v ∷ vs) zero t found = (ap (λ u. Some (global_type (read bs u))) (some_same v.of_type t found), refl)
 all_globals (v ∷ vs) (suc n) t found = all_globals vs n t found
 
-well_start : (p : Program) (input : List ℕ) → AreAccepted p → IsWellTypedProgram p → IsWell p (start p input)
+well_start : (p : Source) (input : List ℕ) → AreAccepted p → IsWellTypedProgram p → IsWell p (start p input)
 well_start p input accepted well =
-    let (h, at, same) = of_map signature_of p.functions p.main (signature_of_ints []) well.main in
+    let (h, at, same) = of_map signature_of p.program.functions p.main (signature_of_ints []) well.main in
     let (end, ok) = accepted p.main h at in
     let none : h.parameters ≡ [] = ap (λ (s : Signature). s.parameters) same in
     let int : h.result ≡ Some types.Int = ap (λ (s : Signature). s.result) same in
     let w = first_world p input in
-    let g = globals_typed p.structs p.globals in
+    let g = globals_typed p.program.structs p.program.globals in
     let x : Exits = record { loop = None; result = h.result } in
     let objects : IsTyped g w.regions w.objects = record {
-      count = mapped_length global_object (λ (v : GlobalVariable). global_type (read v.of_type)) p.globals;
-      counts = mapped_length global_object (λ (v : GlobalVariable). 1) p.globals;
-      each = globals_each g p.globals well.globals;
+      count = mapped_length global_object (λ (v : GlobalVariable). global_type (read bs v.of_type)) p.program.globals;
+      counts = mapped_length global_object (λ (v : GlobalVariable). 1) p.program.globals;
+      each = globals_each g p.program.globals well.globals;
       heap = refl;
     } in
     let knows : KnowsProgram g p = record {
-      globals = λ n t there. (let (object, flag) = all_globals p.globals n t there in (object, (1, flag, (let one : 1 ≤ 1 = omega arith in one))));
-      structs = λ n s ls there. ap (λ o. option_map (λ (s : StructType). map read s.fields) o) there;
+      globals = λ n t there. (let (object, flag) = all_globals p.program.globals n t there in (object, (1, flag, (let one : 1 ≤ 1 = omega arith in one))));
+      structs = λ n s ls there. ap (λ o. option_map (λ (s : StructType). map (read bs) s.fields) o) there;
     } in
     let count : 0 ≡ length h.parameters = sym (ap length none) in
     subst (λ o. IsWell p (called o [] (Main ∷ []) w)) (sym at)
     (subst (λ (b : Bool). IsWell p (if b then Running (Entering h []) (Main ∷ []) no_locals w else wrong w)) (sym (eq-eqb 0 (length h.parameters) count))
     (running p g x [] no_locals w objects knows tt tt (Entering h []) (Main ∷ []) tt
-    (end, ok, (refl, refl), refl, subst (λ ts. AreOperands g (map read ts) []) (sym none) tt, (refl, int, ok.ends types.Int int, tt))))
+    (end, ok, (refl, refl), refl, subst (λ ts. AreOperands g (map (read bs) ts) []) (sym none) tt, (refl, int, ok.ends types.Int int, tt))))
 
 -- ---- the theorem
 
-pub heap_sound : (p : Program) → IsWellTypedProgram p → IsAllowedProgram p → IsOfTheHeap p → IsSound p
+pub heap_sound : (p : Source) → IsWellTypedProgram p → IsAllowedProgram p → IsOfTheHeap p → IsSound p
 heap_sound p well allowed kept input count =
-    let accepted : AreAccepted p = accepted_among p p.functions well.functions allowed kept in
+    let accepted : AreAccepted p = accepted_among p p.program.functions well.functions allowed kept in
     well_alive p (run p input count) (well_steps p count (start p input) accepted (nests_start p input) (well_start p input accepted well))
 
 -- what is built stands in this class
-pub built_sound : (p : Program) → IsWellTypedProgram p → IsAllowedProgram p → is_built p ≡ true → IsSound p
+pub built_sound : (p : Source) → IsWellTypedProgram p → IsAllowedProgram p → is_built p ≡ true → IsSound p
 built_sound p well allowed built = heap_sound p well allowed (built_kept p built)

@@ -15,14 +15,14 @@ ghost use Rattle.cyc_soundness.specs.Lives.{RunTy, Lives, at, value_at};
 ghost use Rattle.cyc_soundness.specs.Worlds.{Typing, AgreesWith, HasType, IsResult, Fits, Grows};
 ghost use Rattle.cyc_soundness.specs.Frames.{InScope, Exits};
 ghost use Rattle.cyc_soundness.specs.Stacks.{Want, IsStack};
-ghost use Rattle.cyc_soundness.specs.Classes.{IsOfTheHeap};
+ghost use Rattle.cyc_soundness.specs.Classes.{IsOfTheHeap, Source};
 ghost use Rattle.cyc_soundness.specs.Sound.{IsSound};
 
 /// What is known of a world only grows, and what was typed stays so: a value keeps its type for good, and so does a
 /// control stack.
 pub fn typings_stay()
     ensures values { (g h : Typing) → Grows g h → (t : RunTy) (v : Value) → HasType g t v → HasType h t v }
-    ensures stacks { (p : Program) (g h : Typing) → Grows g h → (x : Exits) (locals : List InScope) (want : Want) (stack : List Entry)
+    ensures stacks { (p : Source) (g h : Typing) → Grows g h → (x : Exits) (locals : List InScope) (want : Want) (stack : List Entry)
         → IsStack p g x locals want stack → IsStack p h x locals want stack }
 {}
 
