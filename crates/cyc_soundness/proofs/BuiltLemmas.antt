@@ -70,7 +70,7 @@ mutual
   items_kept n (MoreItems (Execute s) js) e =
       let both = both_true (is_built_statement s) (are_built_items js) e in
       (statement_kept n s both.0, items_kept (n + declared_regions s) js both.1)
-  items_kept n (MoreItems (Declare n t v) js) e =
+  items_kept n (MoreItems (Declare l t v) js) e =
       let whole = both_true (is_built_type t) (is_built_value v && are_built_items js) e in
       let both = both_true (is_built_value v) (are_built_items js) whole.1 in
       (tt, value_kept v both.0, items_kept n js both.1)

@@ -8,19 +8,21 @@ use Rattle.cyc_types.specs.declared.scope.Scope.{Scope}
 use Rattle.cyc_types.specs.declared.scope.ScopeKind.{ScopeKind}
 use Rattle.cyc_types.specs.declared.scope.ScopeKind.TheVariants as scopes
 use Rattle.cyc_types.specs.Outlives.{RegionContext, live_regions, is_outlived_by_live, IsLiveAtOpening, IsGiven}
-use Rattle.cyc_types.specs.Types.{Ty, ValueType, result_type}
+use Rattle.cyc_types.specs.Regions.{substituted_region}
+use Rattle.cyc_types.specs.TypedTrees.{StructType}
+use Rattle.cyc_types.specs.Types.{Ty, ValueType, result_type, substituted_ty}
 use Rattle.cyc_types.specs.Types as types
 use Rattle.cyc_types.specs.typing.Scopes.{with_scope}
 use Rattle.cyc_types.specs.typing.WellTyped.{LocalInScope, Context, IsLive, in_block, with_local, with_opened}
 use Rattle.cyc_meaning.specs.State as state
 use Rattle.cyc_meaning.specs.State.{is_open, heap_number, globals_number}
 use Rattle.cyc_meaning.specs.Nesting.{AreOpen}
-use Rattle.cyc_soundness.specs.Lives.{Life, OfRegion, OfObject, Never, Lives, at, heap_life, lives_of, Reading, AsHeap, ByScope, AllIn, AllInValue, IsKnown, IsOther}
+use Rattle.cyc_soundness.specs.Lives.{Life, OfRegion, OfObject, Never, Lives, at, heap_life, lives_of, as_heap, Reading, AsHeap, ByScope, AllIn, AllInValue, IsKnown, IsOther}
 use Rattle.cyc_soundness.specs.Worlds.{Outlasts, alike, heap as for_ever, globals as with_globals, encloses, IsEndOf, whole, behind, AgreesWith, IsNumber, IsOpenLife}
 use Rattle.cyc_soundness.specs.Classes.{IsDeclarable, Source}
-use Rattle.cyc_soundness.specs.Frames.{IsAmong, later, InScope, Variable, Level, Names, Instance, Home, life_named, is_live_named, lives_in, read_value, home_of, IsThereBy, IsThere, IsHomed, IsScope, IsLasting, IsLiveIn, AreLiveIn, Exits, AreNamed, StandBy, Stand, IsHome, AreKnownLocals, IsKnownBy, AreKnown, IsContext}
+use Rattle.cyc_soundness.specs.Frames.{IsAmong, later, InScope, Variable, Level, Names, Instance, Home, life_named, is_live_named, lives_in, read, read_value, home_of, lives_among, IsThereBy, IsThere, IsHomed, IsScope, IsLasting, IsLiveIn, AreLiveIn, Exits, AreNamed, StandBy, Stand, IsHome, AreKnownLocals, IsKnownBy, AreKnown, IsContext}
 use Rattle.cyc_soundness.specs.Stacks.{IsNew}
-use Rattle.cyc_soundness.proofs.TypeLemmas.{all_in, every_in, read_alike, value_alike}
+use Rattle.cyc_soundness.proofs.TypeLemmas.{all_in, every_in, read_alike, value_alike, lives_by, instance_by}
 use Rattle.cyc_soundness.proofs.ValueLemmas.{given_agree}
 
 -- ---- lists
@@ -391,3 +393,66 @@ module _ (p : Source) (x : Exits) (bs : List InScope) (c : Context) (stands : Is
       home = same_home p.reading c.next_region region region ns c bs stands.known refl alive stands.home;
     }
 
+
+-- ---- the fields of a struct
+
+pub mapped_count : {A B : Type 0} (f : A → B) (xs : List A) → length (map f xs) ≡ length xs
+mapped_count f [] = refl
+mapped_count f (x ∷ xs) = ap suc (mapped_count f xs)
+
+heap_among : (m : Lives) → ((r : Region) → m r ≡ heap_life) → (rs : List Region) (k : ℕ) → slice_index_or (map m rs) k heap_life ≡ heap_life
+heap_among m heap [] k = refl
+heap_among m heap (r ∷ rs) zero = heap r
+heap_among m heap (r ∷ rs) (suc k) = heap_among m heap rs k
+
+life_among : (m : Lives) (rs : List Region) (k : ℕ) (r : Region) → k < length rs → slice_index_or (map m rs) k heap_life ≡ m (slice_index_or rs k r)
+life_among m [] k r less = absurd (omega (arith, less))
+life_among m (a ∷ rs) zero r less = refl
+life_among m (a ∷ rs) (suc k) r less = life_among m rs k r (let e : k < length rs = omega (arith, less) in e)
+
+field_lives : (m : Lives) (rs : List Region) (r : Region) → m regions.Heap ≡ heap_life → m regions.Unique ≡ heap_life → IsKnown (length rs) r → lives_among (map m rs) r ≡ lives_by m rs r
+field_lives m rs regions.Heap heap unique known = sym heap
+field_lives m rs regions.Unique heap unique known = sym unique
+field_lives m rs (regions.Variable n) heap unique known = life_among m rs n (regions.Variable n) known
+
+field_heap : (m : Lives) (rs : List Region) → ((r : Region) → m r ≡ heap_life) → (r : Region) → lives_among (map m rs) r ≡ lives_by m rs r
+field_heap m rs heap regions.Heap = sym (heap regions.Heap)
+field_heap m rs heap regions.Unique = sym (heap regions.Unique)
+field_heap m rs heap (regions.Variable n) = heap_among m heap rs n ∙ sym (heap (substituted_region rs (regions.Variable n)))
+
+field_by : (m : Reading) (c : RegionContext) (bs : List InScope) (rs : List Region) (s : StructType) (t : Ty) → Stand m c bs → length rs ≡ s.parameters → IsDeclarable m s.parameters t
+    → at (lives_among (map (lives_in bs) rs)) t ≡ at (lives_by (lives_in bs) rs) t
+field_by AsHeap c bs rs s t stand count known = read_alike (lives_among (map (lives_in bs) rs)) (lives_by (lives_in bs) rs) t
+    (every_in (λ r. lives_among (map (lives_in bs) rs) r ≡ lives_by (lives_in bs) rs r) (field_heap (lives_in bs) rs (heap_lives (λ n. life_named bs n) (λ n. is_live_named bs n) stand)) t)
+field_by ByScope c bs rs s t stand count known = read_alike (lives_among (map (lives_in bs) rs)) (lives_by (lives_in bs) rs) t
+    (all_in (IsKnown s.parameters) (λ r. lives_among (map (lives_in bs) rs) r ≡ lives_by (lives_in bs) rs r)
+    (λ r is. field_lives (lives_in bs) rs r refl refl (subst (λ n. IsKnown n r) (sym count) is)) t known)
+
+-- a field's type, where the struct's parameters stand for what is put in their place
+pub field_means : (p : Source) (x : Exits) (bs : List InScope) (c : Context) → IsContext p x bs c → (rs : List Region) (s : StructType) (t : Ty) → length rs ≡ s.parameters → IsDeclarable p.reading s.parameters t
+    → at (lives_among (map (lives_in bs) rs)) t ≡ read bs (substituted_ty rs t)
+field_means p x bs c stands rs s t count known = field_by p.reading c.regions bs rs s t stands.regions count known ∙ sym (instance_by (lives_in bs) rs t)
+
+all_mean : (p : Source) (x : Exits) (bs : List InScope) (c : Context) → IsContext p x bs c → (rs : List Region) (s : StructType) (ts : List Ty) → length rs ≡ s.parameters
+    → ((field : ℕ) (t : Ty) → slice_get ts field ≡ Some t → IsDeclarable p.reading s.parameters t) → map (read bs) (map (substituted_ty rs) ts) ≡ map (at (lives_among (map (lives_in bs) rs))) ts
+all_mean p x bs c stands rs s [] count known = refl
+all_mean p x bs c stands rs s (t ∷ ts) count known =
+    ap (λ u. u ∷ map (read bs) (map (substituted_ty rs) ts)) (sym (field_means p x bs c stands rs s t count (known 0 t refl)))
+    ∙ ap (λ us. at (lives_among (map (lives_in bs) rs)) t ∷ us) (all_mean p x bs c stands rs s ts count (λ field u found. known (suc field) u found))
+
+pub fields_mean : (p : Source) (x : Exits) (bs : List InScope) (c : Context) → IsContext p x bs c → (rs : List Region) (s : StructType) → length rs ≡ s.parameters
+    → ((field : ℕ) (t : Ty) → slice_get s.fields field ≡ Some t → IsDeclarable p.reading s.parameters t) → map (read bs) (map (substituted_ty rs) s.fields) ≡ map (at (lives_among (map (lives_in bs) rs))) s.fields
+fields_mean p x bs c stands rs s count known = all_mean p x bs c stands rs s s.fields count known
+
+-- ---- globals
+
+-- the type of a global names no region variable, and so is read alike everywhere
+pub global_means : (m : Reading) (c : RegionContext) (bs : List InScope) (t : Ty) → Stand m c bs → IsDeclarable m 0 t → read bs t ≡ at as_heap t
+global_means AsHeap c bs t stand known =
+    read_alike (lives_in bs) as_heap t (every_in (λ r. lives_in bs r ≡ heap_life) (heap_lives (λ n. life_named bs n) (λ n. is_live_named bs n) stand) t)
+global_means ByScope c bs t stand known = read_alike (lives_in bs) as_heap t (all_in (IsKnown 0) (λ r. lives_in bs r ≡ heap_life) none t known)
+  where
+    none : (r : Region) → IsKnown 0 r → lives_in bs r ≡ heap_life
+    none regions.Heap is = refl
+    none regions.Unique is = refl
+    none (regions.Variable n) less = absurd (omega (arith, less))

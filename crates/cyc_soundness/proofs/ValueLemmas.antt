@@ -25,7 +25,7 @@ use Rattle.cyc_soundness.proofs.TypeLemmas.{kind_read}
 
 -- ---- what lasts as long
 
-ends_through : (ls ms : List ℕ) (n : ℕ) (ns : List ℕ) → IsEndOf ls ms → IsEndOf (n ∷ ms) ns → IsEndOf ls ns
+pub ends_through : (ls ms : List ℕ) (n : ℕ) (ns : List ℕ) → IsEndOf ls ms → IsEndOf (n ∷ ms) ns → IsEndOf ls ns
 ends_through ls ms n ns end whole = behind n ms end
 ends_through ls ms n ns end (behind o os later) = behind o os (ends_through ls ms n os end later)
 

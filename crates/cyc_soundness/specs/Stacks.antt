@@ -245,7 +245,7 @@ pub data Waits (p : Source) (x : Exits) (bs : List InScope) : Awaiting → List 
       → Executes p.reading x c first f g → Executes p.reading x d second f h → Implies g i → Implies h i → Waits p x bs (Choose first second) [] (read_value bs v) f bs (Go i)
   tests : {condition : Expression} {body : Statement} (l : LoopExit) (v : ValueType) (f h : flow.State) → IsLoop p x bs l condition body v f h
       → Waits p x bs (Test condition body) [] (read_value bs v) f bs (Go h)
-  returns : (t : Ty) (r : RunValue) (f h : flow.State) → x.result ≡ Some t → r ≡ x.gives → Waits p x bs Return [] r f bs (Go h)
+  returns : (t : Ty) (u : RunTy) (f h : flow.State) → x.result ≡ Some t → Value u ≡ x.gives → Waits p x bs Return [] (Value u) f bs (Go h)
   throws : {tag : ℕ} (f h : flow.State) → Waits p x bs (ThrowWith tag) [] (Value lives.Int) f bs (Go h)
 
 -- what waits for a place, of this type and there so long, and what goes on then
