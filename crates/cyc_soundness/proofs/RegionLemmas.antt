@@ -9,11 +9,11 @@ use Rattle.cyc_types.specs.declared.scope.ScopeKind.{ScopeKind}
 use Rattle.cyc_types.specs.declared.scope.ScopeKind.TheVariants as scopes
 use Rattle.cyc_types.specs.Outlives.{RegionContext, live_regions, is_outlived_by_live, IsLiveAtOpening, IsGiven}
 use Rattle.cyc_types.specs.Regions.{substituted_region}
-use Rattle.cyc_types.specs.TypedTrees.{StructType}
+use Rattle.cyc_types.specs.TypedTrees.{Dereference, Target, Member, Element, StructType}
 use Rattle.cyc_types.specs.Types.{Ty, ValueType, result_type, substituted_ty}
 use Rattle.cyc_types.specs.Types as types
 use Rattle.cyc_types.specs.typing.Scopes.{with_scope}
-use Rattle.cyc_types.specs.typing.WellTyped.{LocalInScope, Context, IsLive, in_block, with_local, with_opened}
+use Rattle.cyc_types.specs.typing.WellTyped.{LocalInScope, Context, IsLive, IsCell, in_block, with_local, with_opened}
 use Rattle.cyc_meaning.specs.State as state
 use Rattle.cyc_meaning.specs.State.{is_open, heap_number, globals_number}
 use Rattle.cyc_meaning.specs.Nesting.{AreOpen}
@@ -456,3 +456,9 @@ global_means ByScope c bs t stand known = read_alike (lives_in bs) as_heap t (al
     none regions.Heap is = refl
     none regions.Unique is = refl
     none (regions.Variable n) less = absurd (omega (arith, less))
+
+-- a place is in a live region
+pub cell_live : (c : Context) (d : Dereference) (t : Ty) (r : Region) → IsCell c d t r → IsLive c r
+cell_live c (Target k a u) t r (m, well, alive, kind, same) = alive
+cell_live c (Member k a n field u) t r (m, rs, s, v, well, thin, alive, kind, at, there, of, same) = alive
+cell_live c (Element a i u) t r (well, index, alive, same) = alive

@@ -45,7 +45,7 @@ module _ (p : Source) (g h : Typing) (grows : Grows g h) where
 
   pub spot_grown : (bs : List InScope) (t : Ty) (f : flow.State) (v : values.Value) → IsSpot p g bs t f v → IsSpot p h bs t f v
   spot_grown bs t f v (of_local b among of_type is) = of_local b among of_type is
-  spot_grown bs t f v (of_global number there) = of_global number there
+  spot_grown bs t f v (of_global number there same) = of_global number there same
   spot_grown bs t f v (of_cell place r alive has) = of_cell place r alive (type_grown g h grows (lives.Pointer marks.NonNull (read bs t) (lives_in bs r)) place has)
 
   keeps_place_grown : (bs : List InScope) (a : AwaitingPlace) (r : RunTy) (f : flow.State) → KeepsPlace p g bs a r f → KeepsPlace p h bs a r f
@@ -149,7 +149,7 @@ void_waits {p} {bs = bs} (stacks.chains {os} c v t f h stands computes) e = void
 void_waits (stacks.applies f) e = value_void e
 void_waits {bs = bs} (stacks.decides v f h tested i) e = void_tested (lives_in bs) v e tested
 void_waits (stacks.stores_local b t f among same) e = value_void e
-void_waits (stacks.stores_global number t f there) e = value_void e
+void_waits (stacks.stores_global number t f there same) e = value_void e
 void_waits {bs = bs} (stacks.points c t v w f stands op) e = pointer_right (lives_in bs) op e
 void_waits {bs = bs} (stacks.null_points c v w f op) e = pointer_right (lives_in bs) op e
 void_waits (stacks.stores_cell t r f alive) e = value_void e
@@ -393,7 +393,7 @@ waits_within {bs = bs} (stacks.chains c v t f h stands computes) = itself bs
 waits_within {bs = bs} (stacks.applies f) = itself bs
 waits_within {bs = bs} (stacks.decides v f h tested i) = itself bs
 waits_within {bs = bs} (stacks.stores_local b t f among same) = itself bs
-waits_within {bs = bs} (stacks.stores_global number t f there) = itself bs
+waits_within {bs = bs} (stacks.stores_global number t f there same) = itself bs
 waits_within {bs = bs} (stacks.points c t v w f stands op) = itself bs
 waits_within {bs = bs} (stacks.null_points c v w f op) = itself bs
 waits_within {bs = bs} (stacks.stores_cell t r f alive) = itself bs

@@ -30,7 +30,7 @@ use Rattle.cyc_meaning.specs.Values as values
 use Rattle.cyc_meaning.specs.State.{Owner, Awaiting, ConvertTo, Operate, Chain, Apply, ApplyPointer, Decide, Store, StoreCell, Pass, Follow, FollowMember, Index, Advance, CountElements, PlaceBy, MakePlain, MakeFields, MakeArray, FillElement, Initialise, Choose, Test, Return, ThrowWith, AwaitingPlace, LoadFrom, TakeAddress, StoreTo, SwapLeft, SwapRight, Write, Entry, Needs, NeedsPlace, Discard, Rest, Join, Loop, CloseRegion, CloseLexical, Handler, Caller, Main, Environment, World, Focus, Evaluating, Locating, Given, GivenPlace, Executing, Proceeding, Calling, Entering, Binding, Naming, Writing, Swapping, Beginning, Repeating, Breaking, Continuing, Returning, Throwing, Catching, State, Running, Ended, Dead, Wrong}
 use Rattle.cyc_meaning.specs.Allocation.{writes_from}
 use Rattle.cyc_meaning.specs.Parts.{target_of, target_of_value}
-use Rattle.cyc_soundness.specs.Lives.{Life, RunTy, RunValue, Value, at, value_at, heap_life, lives_of, Reading}
+use Rattle.cyc_soundness.specs.Lives.{Life, RunTy, RunValue, Value, at, value_at, heap_life, lives_of, as_heap, Reading}
 use Rattle.cyc_soundness.specs.Lives as lives
 use Rattle.cyc_soundness.specs.Worlds.{ObjectType, Typing, IsFilled, IsFull, HasType, IsResult, AreOperands, IsOwner, IsTyped}
 use Rattle.cyc_soundness.specs.Classes.{InExpression, InPlace, InSide, InInitial, InArguments, InOperations, InStatement, InItems, InClauses, IsDeclarable, Source}
@@ -205,7 +205,7 @@ pub data Waits (p : Source) (x : Exits) (bs : List InScope) : Awaiting → List 
   decides : (v : ValueType) (f h : flow.State) → is_tested v ≡ true → Implies f h → Waits p x bs Decide [] (read_value bs v) f bs (Val (Value lives.Int) h)
   stores_local : (b : Bound) (t : Ty) (f : flow.State) → IsAmong (Variable b) bs → b.of_type ≡ read bs t
       → Waits p x bs (Store (values.Thin b.object 0)) [] (Value (read bs t)) f bs (Val (read_value bs (assigned_type t)) (with_fullness Full f b.number))
-  stores_global : (number : ℕ) (t : Ty) (f : flow.State) → slice_get (map (λ (v : GlobalVariable). v.of_type) p.program.globals) number ≡ Some t
+  stores_global : (number : ℕ) (t : Ty) (f : flow.State) → slice_get (map (λ (v : GlobalVariable). v.of_type) p.program.globals) number ≡ Some t → read bs t ≡ at as_heap t
       → Waits p x bs (Store (values.Thin number 0)) [] (Value (read bs t)) f bs (Val (read_value bs (assigned_type t)) f)
   points : {peek : Option ℕ} {o : PointerOperator} {left : Operand} (c : Context) (t : Ty) (v w : ValueType) (f : flow.State) → IsContext p x bs c → PointerOperation c o (types.Value t) v w
       → Waits p x bs (ApplyPointer peek o left) (read bs t ∷ []) (read_value bs v) f bs (Val (read_value bs w) f)
@@ -283,7 +283,8 @@ Keeps g a ts = AreOperands g ts (held a)
 -- A side of a swap whose place is found: a variable that holds something where this is known, or a cell that a pointer leads to.
 pub data IsSpot (p : Source) (g : Typing) (bs : List InScope) (t : Ty) (f : flow.State) : values.Value → Type 0 where
   of_local : (b : Bound) → IsAmong (Variable b) bs → b.of_type ≡ read bs t → IsSet f b.number → IsSpot p g bs t f (values.Thin b.object 0)
-  of_global : (number : ℕ) → slice_get (map (λ (v : GlobalVariable). v.of_type) p.program.globals) number ≡ Some t → IsSpot p g bs t f (values.Thin number 0)
+  of_global : (number : ℕ) → slice_get (map (λ (v : GlobalVariable). v.of_type) p.program.globals) number ≡ Some t → read bs t ≡ at as_heap t
+      → IsSpot p g bs t f (values.Thin number 0)
   of_cell : (place : values.Value) (r : Region) → IsThere bs r → HasType g (lives.Pointer marks.NonNull (read bs t) (lives_in bs r)) place → IsSpot p g bs t f place
 
 -- the left place of a swap that waits for the right one, of this type
