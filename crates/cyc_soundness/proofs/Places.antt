@@ -96,17 +96,17 @@ fat_kind marks.NonNull fat = absurd (let e : true ≡ false = fat in cc)
 fat_kind marks.Fat fat = refl
 
 -- an operator takes its left operand
-pub takes : (g : Typing) {c : Context} {o : PointerOperator} {u v w : ValueType} (left : Operand) → PointerOperation c o u v w → IsResult g (read_value bs u) left → takes_kind o left.kind ≡ true
-takes g left (adds t r other) is = is_kind_same left.kind kinds.Fat is.0
-takes g left (subtracts t r other) is = is_kind_same left.kind kinds.Fat is.0
-takes g left (equals k l t r s one two here there) is = ap is_thin is.0 ∙ thin_kind k one
-takes g left (differs k l t r s one two here there) is = ap is_thin is.0 ∙ thin_kind k one
-takes g left (thin_null k t r thin) is = ap is_thin is.0 ∙ thin_kind k thin
-takes g left (thin_there k t r thin) is = ap is_thin is.0 ∙ thin_kind k thin
-takes g left (fat_null k t r fat) is = is_kind_same left.kind kinds.Fat (is.0 ∙ fat_kind k fat)
-takes g left (fat_there k t r fat) is = is_kind_same left.kind kinds.Fat (is.0 ∙ fat_kind k fat)
-takes g left (null_is k t r) is = ap is_thin is.0
-takes g left (null_is_not k t r) is = ap is_thin is.0
+pub takes : (n : Lives) (g : Typing) {c : Context} {o : PointerOperator} {u v w : ValueType} (left : Operand) → PointerOperation c o u v w → IsResult g (value_at n u) left → takes_kind o left.kind ≡ true
+takes n g left (adds t r other) is = is_kind_same left.kind kinds.Fat is.0
+takes n g left (subtracts t r other) is = is_kind_same left.kind kinds.Fat is.0
+takes n g left (equals k l t r s one two here there) is = ap is_thin is.0 ∙ thin_kind k one
+takes n g left (differs k l t r s one two here there) is = ap is_thin is.0 ∙ thin_kind k one
+takes n g left (thin_null k t r thin) is = ap is_thin is.0 ∙ thin_kind k thin
+takes n g left (thin_there k t r thin) is = ap is_thin is.0 ∙ thin_kind k thin
+takes n g left (fat_null k t r fat) is = is_kind_same left.kind kinds.Fat (is.0 ∙ fat_kind k fat)
+takes n g left (fat_there k t r fat) is = is_kind_same left.kind kinds.Fat (is.0 ∙ fat_kind k fat)
+takes n g left (null_is k t r) is = ap is_thin is.0
+takes n g left (null_is_not k t r) is = ap is_thin is.0
 
 -- ---- structs
 
@@ -128,8 +128,8 @@ module _ (g : Typing) (w : World) (typed : IsTyped g w.regions w.objects) where
   -- a cell of the type that the tree says
   value_there : (l : Lives) (y : ObjectType) (t : Ty) (offset : ℕ) (z : Object) (n : ℕ) → IsObject g n y z → slice_get y.cells offset ≡ Some (at l t)
       → is_target (Some (values.kind_of t)) offset (slice_get z.cells offset) ≡ true
-  value_there l y t offset z n is at =
-      let c = typed_cell g y.cells z.cells n offset (at l t) is.cells at in
+  value_there l y t offset z n is here =
+      let c = typed_cell g y.cells z.cells n offset (at l t) is.cells here in
       ap (λ o. is_target (Some (values.kind_of t)) offset o) c.at ∙ is_kind_same c.cell.kind (values.kind_of t) (c.kind ∙ kind_meant l t)
 
   part_there : (l : Lives) (object : ℕ) (y : ObjectType) (t : Ty) (offset : ℕ) (z : Object) (n : ℕ) → IsPart g object y (at l t) offset → IsObject g n y z → is_target (target_of t) offset (slice_get z.cells offset) ≡ true
@@ -192,7 +192,7 @@ module _ (p : Source) (g : Typing) (x : Exits) (bs : List InScope) (e : Environm
   -- ---- a place is found
 
   pub locate : (d : Dereference) (k : List Entry) (c : Context) (t : Ty) (f h : flow.State) (q : List ℕ) (r : Named) → LiveIn k bs → IsContext p x bs c → Holds g f bs → IsCell c d t r → Derives (rule_place q d f) h → InPlace p.reading d
-      → IsStack p g x bs (PlaceOf (read bs t) (lives_in bs r) h) k → IsWell p (step_locating p d k e w)
+      → IsStack p g x bs (PlaceOf (read bs t) (lives_in bs r) h) k → IsWell p (step_locating p.program d k e w)
   locate (Target pk a u) k c t f h q r live stands holds (m, well, alive, kind, same) flows kept stack =
       on (Evaluating a) (Needs (Follow pk (target_of u)) ∷ k) live (
         c,
@@ -211,8 +211,8 @@ module _ (p : Source) (g : Typing) (x : Exits) (bs : List InScope) (e : Environm
           subst (λ z. IsStack p g x bs (PlaceOf (read bs z) (lives_in bs r) h) k) same stack,
         ),
       )
-  locate (Member pk a n field u) k c t f h q r live stands holds (m, rs, s, v, well, thin, alive, kind, at, there, of, same) flows kept stack =
-      let struct : slice_get p.program.structs n ≡ Some s = ap (λ ss. slice_get ss n) (sym stands.structs) ∙ at in
+  locate (Member pk a n field u) k c t f h q r live stands holds (m, rs, s, v, well, thin, alive, kind, found, there, of, same) flows kept stack =
+      let struct : slice_get p.program.structs n ≡ Some s = ap (λ ss. slice_get ss n) (sym stands.structs) ∙ found in
       let ls = map (lives_in bs) rs in
       let means = λ (enough : length ls ≡ s.parameters). field_means p x bs c stands rs s v (sym (mapped_count (lives_in bs) rs) ∙ enough) (globals.fields n s struct field v there) in
       subst (λ o. IsWell p (locates_member o pk a field k e w)) (sym struct)

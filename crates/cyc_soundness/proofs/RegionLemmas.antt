@@ -1,28 +1,28 @@
 -- What region variables stand for: where more of them are named, where a region is opened, and where a function is called.
 use Rattle.std.proofs.Common.{◌≡◌, ◌≢◌, ◌⊎◌, inl, inr, ℕ, zero, suc, ◌≤◌, ◌<◌, Bool, true, false, List, [], ◌∷◌, ◌++◌, length, map, Some, slice_get, eqb, refl, sym, ap, subst, ◌∙◌, arith}
-use Rattle.std.specs.Prelude.{Option, if◌then◌else◌, ◌==◌, Contains, slice_index_or}
+use Rattle.std.specs.Prelude.{Option, option_map, if◌then◌else◌, ◌==◌, Contains, slice_index_or}
 use Rattle.std.proofs.lemmas.Bool.{eqb-true, eq-eqb, false_from_ne_true}
 use Rattle.cyc_types.specs.declared.region.Region.{Region}
 use Rattle.cyc_types.specs.declared.region.Region.TheVariants as regions
 use Rattle.cyc_types.specs.declared.scope.Scope.{Scope}
 use Rattle.cyc_types.specs.declared.scope.ScopeKind.{ScopeKind}
 use Rattle.cyc_types.specs.declared.scope.ScopeKind.TheVariants as scopes
-use Rattle.cyc_types.specs.Outlives.{RegionContext, live_regions, is_outlived_by_live, IsLiveAtOpening, IsGiven}
+use Rattle.cyc_types.specs.Outlives.{RegionContext, live_regions, is_outlived_by_live, IsLiveAtOpening, IsGiven, OutlivesIn}
 use Rattle.cyc_types.specs.Regions.{substituted_region}
-use Rattle.cyc_types.specs.TypedTrees.{Dereference, Target, Member, Element, StructType}
+use Rattle.cyc_types.specs.TypedTrees.{Dereference, Target, Member, Element, StructType, Function}
 use Rattle.cyc_types.specs.Types.{Ty, ValueType, result_type, substituted_ty}
 use Rattle.cyc_types.specs.Types as types
 use Rattle.cyc_types.specs.typing.Scopes.{with_scope}
-use Rattle.cyc_types.specs.typing.WellTyped.{LocalInScope, Context, IsLive, IsCell, in_block, with_local, with_opened}
+use Rattle.cyc_types.specs.typing.WellTyped.{LocalInScope, Context, IsLive, AreLive, AreOutliving, IsCell, in_block, with_local, with_opened}
 use Rattle.cyc_meaning.specs.State as state
 use Rattle.cyc_meaning.specs.State.{is_open, heap_number, globals_number}
 use Rattle.cyc_meaning.specs.Nesting.{AreOpen}
-use Rattle.cyc_soundness.specs.Lives.{Life, OfRegion, OfObject, Never, Lives, at, heap_life, lives_of, as_heap, Reading, AsHeap, ByScope, AllIn, AllInValue, IsKnown, IsOther}
+use Rattle.cyc_soundness.specs.Lives.{Life, OfRegion, OfObject, Never, Lives, at, value_at, heap_life, lives_of, as_heap, Reading, AsHeap, ByScope, AllIn, AllInValue, IsKnown, IsOther}
 use Rattle.cyc_soundness.specs.Worlds.{Outlasts, alike, heap as for_ever, globals as with_globals, encloses, IsEndOf, whole, behind, AgreesWith, IsNumber, IsOpenLife}
 use Rattle.cyc_soundness.specs.Classes.{IsDeclarable, Source}
 use Rattle.cyc_soundness.specs.Frames.{IsAmong, later, InScope, Variable, Level, Names, Instance, Home, life_named, is_live_named, lives_in, read, read_value, home_of, lives_among, IsThereBy, IsThere, IsHomed, IsScope, IsLasting, IsLiveIn, AreLiveIn, Exits, AreNamed, StandBy, Stand, IsHome, AreKnownLocals, IsKnownBy, AreKnown, IsContext}
-use Rattle.cyc_soundness.specs.Stacks.{IsNew}
-use Rattle.cyc_soundness.proofs.TypeLemmas.{all_in, every_in, read_alike, value_alike, lives_by, instance_by}
+use Rattle.cyc_soundness.specs.Stacks.{IsNew, regions_at_call, IsInstance}
+use Rattle.cyc_soundness.proofs.TypeLemmas.{all_in, every_in, read_alike, value_alike, lives_by, instance_by, result_by}
 use Rattle.cyc_soundness.proofs.ValueLemmas.{given_agree}
 
 -- ---- lists
@@ -462,3 +462,102 @@ pub cell_live : (c : Context) (d : Dereference) (t : Ty) (r : Region) → IsCell
 cell_live c (Target k a u) t r (m, well, alive, kind, same) = alive
 cell_live c (Member k a n field u) t r (m, rs, s, v, well, thin, alive, kind, at, there, of, same) = alive
 cell_live c (Element a i u) t r (well, index, alive, same) = alive
+
+-- ---- calls
+
+-- what the region variables of a callee stand for
+abbrev pub these_by : Lives → List Region → ℕ → Life
+these_by n m k = n (substituted_region m (regions.Variable k))
+
+abbrev is_among : ℕ → List Region → Bool
+is_among n [] = false
+is_among n (regions.Variable k ∷ rs) = if n == k then true else is_among n rs
+is_among n (r ∷ rs) = is_among n rs
+
+-- and which of that is live there
+abbrev pub live_by : Reading → List Region → ℕ → Bool
+live_by AsHeap effect k = true
+live_by ByScope effect k = is_among k effect
+
+-- where region variables are put in their place
+abbrev IsBase : Lives → Type 0
+IsBase n = (n regions.Heap ≡ heap_life) × (n regions.Unique ≡ heap_life)
+
+these_are : (n : Lives) (m : List Region) → IsBase n → (r : Region) → lives_by n m r ≡ lives_of (these_by n m) r
+these_are n m (heap, unique) regions.Heap = heap
+these_are n m (heap, unique) regions.Unique = unique
+these_are n m base (regions.Variable k) = refl
+
+pub parameters_mean : (n : Lives) → n regions.Heap ≡ heap_life → n regions.Unique ≡ heap_life → (m : List Region) (ts : List Ty) → map (at n) (map (substituted_ty m) ts) ≡ map (at (lives_of (these_by n m))) ts
+parameters_mean n heap unique m [] = refl
+parameters_mean n heap unique m (t ∷ ts) =
+    let same : at n (substituted_ty m t) ≡ at (lives_of (these_by n m)) t =
+    instance_by n m t ∙ read_alike (lives_by n m) (lives_of (these_by n m)) t (every_in (λ r. lives_by n m r ≡ lives_of (these_by n m) r) (these_are n m (heap, unique)) t) in
+    ap (λ u. u ∷ map (at n) (map (substituted_ty m) ts)) same ∙ ap (λ us. at (lives_of (these_by n m)) t ∷ us) (parameters_mean n heap unique m ts)
+
+pub result_means : (n : Lives) → n regions.Heap ≡ heap_life → n regions.Unique ≡ heap_life → (m : List Region) (t : Option Ty)
+    → value_at n (result_type (option_map (substituted_ty m) t)) ≡ value_at (lives_of (these_by n m)) (result_type t)
+result_means n heap unique m t =
+    result_by n m t ∙ value_alike (lives_by n m) (lives_of (these_by n m)) (result_type t) (every_value (λ r. lives_by n m r ≡ lives_of (these_by n m) r) (these_are n m (heap, unique)) (result_type t))
+
+contained : (rs : List Region) (n : ℕ) → Contains rs (regions.Variable n) → is_among n rs ≡ true
+contained [] n has = contains_none (regions.Variable n) has
+contained (regions.Heap ∷ rs) n has = elim (contains_later regions.Heap (regions.Variable n) rs has) [ inl e ↦ (let z : regions.Heap ≡ regions.Variable n = e in absurd (cc)) | inr old ↦ contained rs n old ]
+contained (regions.Unique ∷ rs) n has = elim (contains_later regions.Unique (regions.Variable n) rs has) [ inl e ↦ (let z : regions.Unique ≡ regions.Variable n = e in absurd (cc)) | inr old ↦ contained rs n old ]
+contained (regions.Variable k ∷ rs) n has = elim (contains_later (regions.Variable k) (regions.Variable n) rs has) [
+  | inl e ↦ (let z : regions.Variable k ≡ regions.Variable n = e in let same : n ≡ k = cc in ap (λ (b : Bool). if b then true else is_among n rs) (eq-eqb n k same))
+  | inr old ↦ either (n == k) (is_among n rs) (contained rs n old)
+]
+  where
+    either : (b c : Bool) → c ≡ true → (if b then true else c) ≡ true
+    either true c e = refl
+    either false c e = e
+
+among_live : (c : Context) (m rs : List Region) (n : ℕ) → AreLive c (map (substituted_region m) rs) → is_among n rs ≡ true → IsLive c (substituted_region m (regions.Variable n))
+among_live c m [] n are e = absurd (let k : false ≡ true = e in cc)
+among_live c m (regions.Heap ∷ rs) n (is, are) e = among_live c m rs n are e
+among_live c m (regions.Unique ∷ rs) n (is, are) e = among_live c m rs n are e
+among_live c m (regions.Variable k ∷ rs) n (is, are) e = among_either (n == k) refl e (among_live c m rs n are)
+  where
+    among_either : (b : Bool) → (n == k) ≡ b → (if b then true else is_among n rs) ≡ true → (is_among n rs ≡ true → IsLive c (substituted_region m (regions.Variable n)))
+        → IsLive c (substituted_region m (regions.Variable n))
+    among_either true same e later' = subst (λ i. IsLive c (substituted_region m (regions.Variable i))) (sym (eqb-true n k same)) is
+    among_either false other e later' = later' e
+
+outliving : (c : Context) (m : List Region) (ps : List (Region × Region)) (a b : Region)
+    → AreOutliving c (map (λ (p : Region × Region). (substituted_region m p.0, substituted_region m p.1)) ps) → Contains ps (a, b) → OutlivesIn c.regions (substituted_region m a) (substituted_region m b)
+outliving c m [] a b are has = contains_none (a, b) has
+outliving c m (q ∷ ps) a b (is, are) has = elim (contains_later q (a, b) ps has) [
+  | inl same ↦ subst (λ (z : Region × Region). OutlivesIn c.regions (substituted_region m z.0) (substituted_region m z.1)) same is
+  | inr old ↦ outliving c m ps a b are old
+]
+
+module _ (p : Source) (x : Exits) (bs : List InScope) (c : Context) (stands : IsContext p x bs c) (h : Function) (m : List Region) (alive : AreLive c (map (substituted_region m) h.effect))
+    (outlive : AreOutliving c (map (λ (p : Region × Region). (substituted_region m p.0, substituted_region m p.1)) h.constraints)) where
+  instance_by_scope : AreNamed (regions_at_call h) (these_by (lives_in bs) m) (λ k. is_among k h.effect)
+  instance_by_scope = record { there = there; agrees = agrees }
+    where
+      there : (r : Region) → Contains (regions.Heap ∷ regions.Unique ∷ h.effect) r → IsThereBy (λ k. is_among k h.effect) r
+      there regions.Heap has = tt
+      there regions.Unique has = tt
+      there (regions.Variable n) has = contained (regions.Heap ∷ regions.Unique ∷ h.effect) n has
+
+      agrees : (a b : Region) → IsGiven (regions_at_call h) a b → Outlasts (lives_of (these_by (lives_in bs) m) a) (lives_of (these_by (lives_in bs) m) b)
+      agrees a b (inl (heap, plain)) =
+          subst (λ z. Outlasts (lives_of (these_by (lives_in bs) m) z) (lives_of (these_by (lives_in bs) m) b)) (sym heap) (for_ever (lives_of (these_by (lives_in bs) m) b))
+      agrees a b (inr (inl written)) =
+          subst (λ l. Outlasts l (lives_of (these_by (lives_in bs) m) b)) (these_are (lives_in bs) m (refl, refl) a)
+          (subst (λ l. Outlasts (lives_by (lives_in bs) m a) l) (these_are (lives_in bs) m (refl, refl) b)
+          (agrees_of p x bs c stands (substituted_region m a) (substituted_region m b) (outliving c m h.constraints a b outlive written)))
+      agrees a b (inr (inr old)) = absurd old
+
+  stand_by : (r : Reading) → Stand r c.regions bs → StandBy r (regions_at_call h) (these_by (lives_in bs) m) (live_by r h.effect)
+  stand_by AsHeap stand = λ n. (heap_lives (λ n. life_named bs n) (λ n. is_live_named bs n) stand (substituted_region m (regions.Variable n)), refl)
+  stand_by ByScope stand = instance_by_scope
+
+  lasting_by : (r : Reading) → Stand r c.regions bs → (n : ℕ) → live_by r h.effect n ≡ true → (s : Region) × IsThere bs s × (lives_in bs s ≡ these_by (lives_in bs) m n)
+  lasting_by AsHeap stand n live = (substituted_region m (regions.Variable n), heap_there (λ n. life_named bs n) (λ n. is_live_named bs n) stand (substituted_region m (regions.Variable n)), refl)
+  lasting_by ByScope stand n live = (substituted_region m (regions.Variable n), there_of p x bs c stands (substituted_region m (regions.Variable n)) (among_live c m h.effect n alive live), refl)
+
+  pub instance_is : IsInstance p bs h (these_by (lives_in bs) m) (live_by p.reading h.effect)
+  instance_is = record { stand = stand_by p.reading stands.regions; lasting = lasting_by p.reading stands.regions }
