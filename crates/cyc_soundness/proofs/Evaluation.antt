@@ -44,7 +44,7 @@ use Rattle.cyc_soundness.proofs.FlowLemmas.{implies_self, meet_first, meet_secon
 use Rattle.cyc_soundness.proofs.WorldLemmas.{risen, with_filled, result_grown, holds_grown}
 use Rattle.cyc_soundness.proofs.StackLemmas.{stack_grown, pointer_left, bound_of, bound_to, lasting_open, place_local, among_bound, among_variable, among_live, among_level, among_set, set_stored, open_of, globals_among}
 use Rattle.cyc_soundness.proofs.ValueLemmas.{zero_is, converted_by, kind_given}
-use Rattle.cyc_soundness.proofs.RegionLemmas.{there_of, cell_live, global_means, these_by, live_by, instance_is, parameters_mean, result_means}
+use Rattle.cyc_soundness.proofs.RegionLemmas.{agrees_of, there_of, cell_live, global_means, these_by, live_by, instance_is, parameters_mean, result_means}
 use Rattle.cyc_soundness.proofs.Cells.{running, part_at, reads, writes}
 use Rattle.cyc_soundness.proofs.Objects.{makes_on}
 use Rattle.cyc_soundness.proofs.Places.{takes, gives, converted_leads}
@@ -152,7 +152,7 @@ module _ (p : Source) where
             [],
             bs,
             Val (Value (read bs t)) f1,
-            stacks.converts c v t f1 conv from_is to_is (target_typed c a v (inl well)),
+            stacks.converts c v t f1 (agrees_of p x bs c stands) conv from_is to_is (target_typed c a v (inl well)),
             tt,
             (done, bs, Val (read_value bs r) h, stacks.passes c done t ts r f1 h stands (record { waiting = q; typed = passed; flows = ds; kept = kept }) called, operands, stack),
           ),
@@ -251,7 +251,7 @@ module _ (p : Source) where
             [],
             bs,
             Val (Value (read bs v)) f1,
-            stacks.converts c s v f1 conv from_is to_is (target_typed c a s (inl well)),
+            stacks.converts c s v f1 (agrees_of p x bs c stands) conv from_is to_is (target_typed c a s (inl well)),
             tt,
             (
               [],
@@ -276,7 +276,7 @@ module _ (p : Source) where
             [],
             bs,
             Val (Value (read bs v)) f1,
-            stacks.converts c s v f1 conv from_is to_is (target_typed c a s (inl well)),
+            stacks.converts c s v f1 (agrees_of p x bs c stands) conv from_is to_is (target_typed c a s (inl well)),
             tt,
             (
               [],

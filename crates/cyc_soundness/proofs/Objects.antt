@@ -37,7 +37,7 @@ use Rattle.cyc_soundness.proofs.FlowLemmas.{at_least_implies, holds_implied}
 use Rattle.cyc_soundness.proofs.TypeLemmas.{target_typed, is_kind_same, kind_read}
 use Rattle.cyc_soundness.proofs.WorldLemmas.{operands_grown, variables_grown, holds_grown, globals_grown, with_object, object_grows, object_typed, typed_beside, open_region, risen, with_filled}
 use Rattle.cyc_soundness.proofs.StackLemmas.{stack_grown, lasting_open}
-use Rattle.cyc_soundness.proofs.RegionLemmas.{there_lasting, mapped_count, fields_mean}
+use Rattle.cyc_soundness.proofs.RegionLemmas.{agrees_of, there_lasting, mapped_count, fields_mean}
 use Rattle.cyc_soundness.proofs.Cells.{running, part_at, writes}
 
 -- ---- lists of operands
@@ -435,7 +435,7 @@ module _ (p : Source) (g : Typing) (x : Exits) (bs : List InScope) (e : Environm
           [],
           bs,
           Val (Value (read bs t)) f1,
-          stacks.converts c v t f1 conv from_is to_is (target_typed c a v (inl well)),
+          stacks.converts c v t f1 (agrees_of p x bs c stands) conv from_is to_is (target_typed c a v (inl well)),
           tt,
           (
             done,

@@ -41,7 +41,7 @@ use Rattle.cyc_soundness.proofs.Numbers.{some_same, inside, mapped, both}
 use Rattle.cyc_soundness.proofs.TypeLemmas.{target_typed, is_kind_same, mark_kinds, kind_meant}
 use Rattle.cyc_soundness.proofs.WorldLemmas.{holds_grown, result_grown, typed_cell}
 use Rattle.cyc_soundness.proofs.StackLemmas.{stack_grown}
-use Rattle.cyc_soundness.proofs.RegionLemmas.{there_lasting, there_of, mapped_count, field_means}
+use Rattle.cyc_soundness.proofs.RegionLemmas.{agrees_of, there_lasting, there_of, mapped_count, field_means}
 use Rattle.cyc_soundness.proofs.Swapping.{finds_right_on, both_on}
 use Rattle.cyc_soundness.proofs.Cells.{running, part_at, life_of, target_live, reads_target, writes_target}
 
@@ -356,7 +356,7 @@ module _ (p : Source) (g : Typing) (x : Exits) (bs : List InScope) (e : Environm
           [],
           bs,
           Val (Value (read bs t)) h,
-          stacks.converts c v t h conv from_is to_is (target_typed c a v evaluates.typed),
+          stacks.converts c v t h (agrees_of p x bs c stands) conv from_is to_is (target_typed c a v evaluates.typed),
           tt,
           (lives.Pointer marks.NonNull (read bs t) (lives_in bs r) ∷ [], bs, Val (read_value bs (assigned_type t)) h, stacks.stores_cell t r h alive, ((refl, has), tt), stack),
         ),
@@ -412,9 +412,11 @@ module _ (p : Source) (g : Typing) (x : Exits) (bs : List InScope) (e : Environm
   point_on {c} left right k f opens live holds stands (adds t r other) is too stack = gives k kinds.Fat (lives.Pointer marks.Fat (read bs t) (lives_in bs r)) f (pointer_result operators.AddFat left.value right.value) live holds refl (added g (read bs t) (lives_in bs r) left.value right.value is.1 too.1) stack
   point_on {c} left right k f opens live holds stands (subtracts t r other) is too stack = gives k kinds.Fat (lives.Pointer marks.Fat (read bs t) (lives_in bs r)) f (pointer_result operators.SubtractFat left.value right.value) live holds refl (subtracted g (read bs t) (lives_in bs r) left.value right.value is.1 too.1) stack
   point_on {c} left right k f opens live holds stands (equals m l t r s one two here there) is too stack =
-      compared_on false (read bs t) (read bs t) left.value right.value k f opens live holds (thin_value g m (read bs t) left.value one is.1) (thin_value g l (read bs t) right.value two too.1) stack
+      compared_on false (read bs t) (read bs t) (lives_in bs r) (lives_in bs s) left.value right.value k f opens live (lasts c r k stands live here) (lasts c s k stands live there) holds
+      (thin_value g m (read bs t) (lives_in bs r) left.value one is.1) (thin_value g l (read bs t) (lives_in bs s) right.value two too.1) stack
   point_on {c} left right k f opens live holds stands (differs m l t r s one two here there) is too stack =
-      compared_on true (read bs t) (read bs t) left.value right.value k f opens live holds (thin_value g m (read bs t) left.value one is.1) (thin_value g l (read bs t) right.value two too.1) stack
+      compared_on true (read bs t) (read bs t) (lives_in bs r) (lives_in bs s) left.value right.value k f opens live (lasts c r k stands live here) (lasts c s k stands live there) holds
+      (thin_value g m (read bs t) (lives_in bs r) left.value one is.1) (thin_value g l (read bs t) (lives_in bs s) right.value two too.1) stack
   point_on {c} left right k f opens live holds stands (thin_null m t r thin) is too stack =
       subst (λ z. IsWell p (applies_pointer operators.ThinIsNull left.value z k e w)) (sym too.1) (gives k kinds.Int lives.Int f (null_test false left.value) live holds refl (null_tested g false m (read bs t) (lives_in bs r) left.value is.1) stack)
   point_on {c} left right k f opens live holds stands (thin_there m t r thin) is too stack =

@@ -1,6 +1,6 @@
 -- What region variables stand for: where more of them are named, where a region is opened, and where a function is called.
 use Rattle.std.proofs.Common.{◌≡◌, ◌≢◌, ◌⊎◌, inl, inr, ℕ, zero, suc, ◌≤◌, ◌<◌, Bool, true, false, List, [], ◌∷◌, ◌++◌, length, map, Some, slice_get, eqb, refl, sym, ap, subst, ◌∙◌, arith}
-use Rattle.std.specs.Prelude.{Option, option_map, if◌then◌else◌, ◌==◌, Contains, slice_index_or}
+use Rattle.std.specs.Prelude.{Option, None, option_map, if◌then◌else◌, ◌==◌, Contains, slice_index_or}
 use Rattle.std.proofs.lemmas.Bool.{eqb-true, eq-eqb, false_from_ne_true}
 use Rattle.cyc_types.specs.declared.region.Region.{Region}
 use Rattle.cyc_types.specs.declared.region.Region.TheVariants as regions
@@ -9,15 +9,15 @@ use Rattle.cyc_types.specs.declared.scope.ScopeKind.{ScopeKind}
 use Rattle.cyc_types.specs.declared.scope.ScopeKind.TheVariants as scopes
 use Rattle.cyc_types.specs.Outlives.{RegionContext, live_regions, is_outlived_by_live, IsLiveAtOpening, IsGiven, OutlivesIn}
 use Rattle.cyc_types.specs.Regions.{substituted_region}
-use Rattle.cyc_types.specs.TypedTrees.{Dereference, Target, Member, Element, StructType, Function}
+use Rattle.cyc_types.specs.TypedTrees.{Dereference, Target, Member, Element, StructType, Function, Program}
 use Rattle.cyc_types.specs.Types.{Ty, ValueType, result_type, substituted_ty}
 use Rattle.cyc_types.specs.Types as types
 use Rattle.cyc_types.specs.typing.Scopes.{with_scope}
-use Rattle.cyc_types.specs.typing.WellTyped.{LocalInScope, Context, IsLive, AreLive, AreOutliving, IsCell, in_block, with_local, with_opened}
+use Rattle.cyc_types.specs.typing.WellTyped.{LocalInScope, Context, IsLive, AreLive, AreOutliving, IsCell, body_context, parameters_in_scope, IsNamed, AreNamed as AreNamedRegions, IsNamedIn, AreNamedIn, IsNamedResult, AreConstraints, IsWellTypedFunction, in_block, with_local, with_opened}
 use Rattle.cyc_meaning.specs.State as state
 use Rattle.cyc_meaning.specs.State.{is_open, heap_number, globals_number}
 use Rattle.cyc_meaning.specs.Nesting.{AreOpen}
-use Rattle.cyc_soundness.specs.Lives.{Life, OfRegion, OfObject, Never, Lives, at, value_at, heap_life, lives_of, as_heap, Reading, AsHeap, ByScope, AllIn, AllInValue, IsKnown, IsOther}
+use Rattle.cyc_soundness.specs.Lives.{Life, OfRegion, OfObject, Never, Lives, at, value_at, heap_life, lives_of, as_heap, Reading, AsHeap, ByScope, AllOf, AllIn, AllInValue, IsKnown, IsOther}
 use Rattle.cyc_soundness.specs.Worlds.{Outlasts, alike, heap as for_ever, globals as with_globals, encloses, IsEndOf, whole, behind, AgreesWith, IsNumber, IsOpenLife}
 use Rattle.cyc_soundness.specs.Classes.{IsDeclarable, Source}
 use Rattle.cyc_soundness.specs.Frames.{IsAmong, later, InScope, Variable, Level, Names, Instance, Home, life_named, is_live_named, lives_in, read, read_value, home_of, lives_among, IsThereBy, IsThere, IsHomed, IsScope, IsLasting, IsLiveIn, AreLiveIn, Exits, AreNamed, StandBy, Stand, IsHome, AreKnownLocals, IsKnownBy, AreKnown, IsContext}
@@ -88,7 +88,7 @@ with_name these number l k = if k == number then l else these k
 other_name : {A : Type 0} (number k : ℕ) (a b : A) → k ≢ number → (if k == number then a else b) ≡ b
 other_name number k a b apart = ap (λ (z : Bool). if z then a else b) (false_from_ne_true (eqb k number) (λ h. apart (eqb-true k number h)))
 
-same_name : {A : Type 0} (number : ℕ) (a b : A) → (if number == number then a else b) ≡ a
+pub same_name : {A : Type 0} (number : ℕ) (a b : A) → (if number == number then a else b) ≡ a
 same_name number a b = ap (λ (z : Bool). if z then a else b) (eq-eqb number number refl)
 
 pub known_other : (n : ℕ) (r : Region) → IsKnown n r → IsOther n r
@@ -189,7 +189,7 @@ agrees_by ByScope c these live are = given_agree c (lives_of these) are.agrees
 -- ---- what is known of other regions
 
 -- other regions stand for the same; read as the heap, all do
-abbrev IsOtherBy : Reading → ℕ → Region → Type 0
+abbrev pub IsOtherBy : Reading → ℕ → Region → Type 0
 IsOtherBy AsHeap n r = Unit {0}
 IsOtherBy ByScope n r = IsOther n r
 
@@ -300,7 +300,7 @@ known_local ByScope c b t known (declared, live) = record {
 
 -- ---- a region is opened in a context
 
-stand_opened : (m : Reading) (kind : ScopeKind) (number region : ℕ) (ns : List ℕ) (c : RegionContext) (bs : List InScope) → is_outlived_by_live kind ≡ true → AreLiveIn ns bs
+pub stand_opened : (m : Reading) (kind : ScopeKind) (number region : ℕ) (ns : List ℕ) (c : RegionContext) (bs : List InScope) → is_outlived_by_live kind ≡ true → AreLiveIn ns bs
     → ((r : Region) → Contains (live_regions c.live c.opened) r → IsOtherBy m number r) → ((a b : Region) → Contains c.written (a, b) → IsOtherBy m number a × IsOtherBy m number b)
     → Stand m c bs → Stand m (with_scope kind (regions.Variable number) c) (Names number (opened_life m region ns) true ∷ bs)
 stand_opened AsHeap kind number region ns c bs outlived live others pairs stand = named_heap number (λ n. life_named bs n) (λ n. is_live_named bs n) stand
@@ -393,6 +393,98 @@ module _ (p : Source) (x : Exits) (bs : List InScope) (c : Context) (stands : Is
       home = same_home p.reading c.next_region region region ns c bs stands.known refl alive stands.home;
     }
 
+
+-- ---- a function begins
+
+-- before its own region is open
+pub other_same : (m : Reading) (region : ℕ) (ns : List ℕ) (c : RegionContext) (bs : List InScope) → Stand m c bs → (r : Region) → IsOtherBy m 0 r → lives_in bs r ≡ lives_in (Names 0 (opened_life m region ns) true ∷ bs) r
+other_same m region ns c bs stand r other = opened_same m 0 region ns c bs stand r other
+
+named_other : (m : Reading) (k : ℕ) (r : Region) → IsNamed k r → IsOtherBy m 0 r
+named_other AsHeap k r named = tt
+named_other ByScope k regions.Heap named = tt
+named_other ByScope k regions.Unique named = tt
+named_other ByScope k (regions.Variable n) (some, most) = λ e. (let z : n ≡ 0 = e in absurd (omega (arith, some, z)))
+
+named_known : (k : ℕ) (r : Region) → IsNamed k r → IsKnown (suc k) r
+named_known k regions.Heap named = tt
+named_known k regions.Unique named = tt
+named_known k (regions.Variable n) (some, most) = omega (arith, most)
+
+named_of : (k : ℕ) (rs : List Region) → AreNamedRegions k rs → AllOf (IsNamed k) rs
+named_of k [] named = tt
+named_of k (r ∷ rs) (one, named) = (one, named_of k rs named)
+
+named_in : (k : ℕ) (t : Ty) → IsNamedIn k t → AllIn (IsNamed k) t
+named_in k types.Int named = tt
+named_in k (types.Pointer m t r) (named, one) = (named_in k t named, one)
+named_in k (types.Handle r) named = named
+named_in k (types.Key r) named = named
+named_in k (types.Struct n rs) named = named_of k rs named
+
+named_result : (k : ℕ) (o : Option Ty) → IsNamedResult k o → AllInValue (IsNamed k) (result_type o)
+named_result k None named = tt
+named_result k (Some t) named = named_in k t named
+
+named_among : (k : ℕ) (rs : List Region) (r : Region) → AreNamedRegions k rs → Contains rs r → IsNamed k r
+named_among k [] r named has = contains_none r has
+named_among k (a ∷ rs) r (one, named) has = elim (contains_later a r rs has) [ inl same ↦ subst (λ z. IsNamed k z) same one | inr old ↦ named_among k rs r named old ]
+
+named_pairs : (k : ℕ) (ps : List (Region × Region)) (a b : Region) → AreConstraints k ps → Contains ps (a, b) → IsNamed k a × IsNamed k b
+named_pairs k [] a b named has = contains_none (a, b) has
+named_pairs k (q ∷ ps) a b ((first, plain, second, also), named) has = elim (contains_later q (a, b) ps has) [
+  | inl same ↦ subst (λ (z : Region × Region). IsNamed k z.0 × IsNamed k z.1) same (first, second)
+  | inr old ↦ named_pairs k ps a b named old
+]
+
+named_live : (k : ℕ) (effect : List Region) (r : Region) → AreNamedRegions k effect → Contains (regions.Heap ∷ regions.Unique ∷ effect) r → IsNamed k r
+named_live k effect r named has = elim (contains_later regions.Heap r (regions.Unique ∷ effect) has) [
+  | inl heap ↦ subst (λ z. IsNamed k z) heap tt
+  | inr later' ↦ elim (contains_later regions.Unique r effect later') [ inl unique ↦ subst (λ z. IsNamed k z) unique tt | inr old ↦ named_among k effect r named old ]
+]
+
+alike_parameters : (k : ℕ) (m : Reading) (i j : Lives) (ts : List Ty) → AreNamedIn k ts → ((r : Region) → IsOtherBy m 0 r → i r ≡ j r) → map (at i) ts ≡ map (at j) ts
+alike_parameters k m i j [] named same = refl
+alike_parameters k m i j (t ∷ ts) (one, named) same =
+    let here : at i t ≡ at j t = read_alike i j t (all_in (IsNamed k) (λ r. i r ≡ j r) (λ r is. same r (named_other m k r is)) t (named_in k t one)) in
+    ap (λ u. u ∷ map (at i) ts) here ∙ ap (λ us. at j t ∷ us) (alike_parameters k m i j ts named same)
+
+-- a function's types, effect and constraints name other regions than its own
+pub record NamesOthers (m : Reading) (h : Function) : Type 0 where
+  pub result : (P : Region → Type 0) → ((r : Region) → IsOtherBy m 0 r → P r) → AllInValue P (result_type h.result)
+  pub parameters : (i j : Lives) → ((r : Region) → IsOtherBy m 0 r → i r ≡ j r) → map (at i) h.parameters ≡ map (at j) h.parameters
+  pub live : (r : Region) → Contains (regions.Heap ∷ regions.Unique ∷ h.effect) r → IsOtherBy m 0 r
+  pub pairs : (a b : Region) → Contains h.constraints (a, b) → IsOtherBy m 0 a × IsOtherBy m 0 b
+
+pub named_function : (m : Reading) (p : Program) (h : Function) → IsWellTypedFunction p h → NamesOthers m h
+named_function m p h well = record {
+  result = λ P so. in_value (IsNamed h.variables) P (λ r is. so r (named_other m h.variables r is)) (result_type h.result) (named_result h.variables h.result well.result);
+  parameters = λ i j same. alike_parameters h.variables m i j h.parameters well.parameters same;
+  live = λ r has. named_other m h.variables r (named_live h.variables h.effect r well.effect has);
+  pairs = λ a b has. (let (one, two) = named_pairs h.variables h.constraints a b well.constraints has in (named_other m h.variables a one, named_other m h.variables b two));
+}
+
+known_parameters : (k number : ℕ) (ts : List Ty) (vs : List LocalInScope) → AreNamedIn k ts → AreKnownLocals (suc k) vs → AreKnownLocals (suc k) (parameters_in_scope ts number vs)
+known_parameters k number [] vs named known = known
+known_parameters k number (t ∷ ts) vs (one, named) known =
+    known_parameters k (suc number) ts (record { number = number; of_type = t; region = 0; is_place = true } ∷ vs) named
+    ((all_in (IsNamed k) (IsKnown (suc k)) (λ r is. named_known k r is) t (named_in k t one), (let e : 0 < suc k = omega arith in e)), known)
+
+-- and what its body knows was declared
+pub known_body : (m : Reading) (p : Program) (h : Function) → IsWellTypedFunction p h → AreKnown m (suc h.variables) (body_context p h).regions (parameters_in_scope h.parameters 0 []) h.result
+known_body AsHeap p h well = tt
+known_body ByScope p h well = record {
+  live = live;
+  pairs = λ a b has. (let (one, two) = named_pairs h.variables h.constraints a b well.constraints has in (named_known h.variables a one, named_known h.variables b two));
+  locals = known_parameters h.variables 0 h.parameters [] well.parameters tt;
+  gives = in_value (IsNamed h.variables) (IsKnown (suc h.variables)) (λ r is. named_known h.variables r is) (result_type h.result) (named_result h.variables h.result well.result);
+}
+  where
+    live : (r : Region) → Contains (regions.Variable 0 ∷ regions.Heap ∷ regions.Unique ∷ h.effect) r → IsKnown (suc h.variables) r
+    live r has = elim (contains_later (regions.Variable 0) r (regions.Heap ∷ regions.Unique ∷ h.effect) has) [
+      | inl own ↦ subst (λ z. IsKnown (suc h.variables) z) own (let e : 0 < suc h.variables = omega arith in e)
+      | inr old ↦ named_known h.variables r (named_live h.variables h.effect r well.effect old)
+    ]
 
 -- ---- the fields of a struct
 

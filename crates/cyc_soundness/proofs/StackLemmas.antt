@@ -141,7 +141,7 @@ void_tested : (n : Lives) (v : ValueType) → value_at n v ≡ Void → is_teste
 void_tested n v e tested = let k : false ≡ true = subst (λ z. is_tested z ≡ true) (void_read n v e) tested in absurd (cc)
 
 void_waits : {p : Source} {x : Exits} {bs cs : List InScope} {a : Awaiting} {ts : List RunTy} {r : RunValue} {f : flow.State} {next : Want} → Waits p x bs a ts r f cs next → r ≡ Void → ⊥
-void_waits {bs = bs} (stacks.converts c v t f conv from to target) e = void_converts c t (subst (λ z. Converts c z t) (void_read (lives_in bs) v e) conv)
+void_waits {bs = bs} (stacks.converts c v t f agrees conv from to target) e = void_converts c t (subst (λ z. Converts c z t) (void_read (lives_in bs) v e) conv)
 void_waits (stacks.negates f) e = value_void e
 void_waits (stacks.complements f) e = value_void e
 void_waits {bs = bs} (stacks.denies v f tested) e = void_tested (lives_in bs) v e tested
@@ -385,7 +385,7 @@ found_is Closed h = absurd h
 found_is Missing h = absurd h
 
 pub waits_within : {p : Source} {x : Exits} {bs cs : List InScope} {a : Awaiting} {ts : List RunTy} {r : RunValue} {f : flow.State} {next : Want} → Waits p x bs a ts r f cs next → Within cs bs
-waits_within {bs = bs} (stacks.converts c v t f conv from to target) = itself bs
+waits_within {bs = bs} (stacks.converts c v t f agrees conv from to target) = itself bs
 waits_within {bs = bs} (stacks.negates f) = itself bs
 waits_within {bs = bs} (stacks.complements f) = itself bs
 waits_within {bs = bs} (stacks.denies v f tested) = itself bs

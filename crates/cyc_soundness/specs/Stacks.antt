@@ -32,7 +32,7 @@ use Rattle.cyc_meaning.specs.Allocation.{writes_from}
 use Rattle.cyc_meaning.specs.Parts.{target_of, target_of_value}
 use Rattle.cyc_soundness.specs.Lives.{Life, RunTy, RunValue, Value, at, value_at, heap_life, lives_of, as_heap, Reading}
 use Rattle.cyc_soundness.specs.Lives as lives
-use Rattle.cyc_soundness.specs.Worlds.{ObjectType, Typing, IsFilled, IsFull, HasType, IsResult, AreOperands, IsOwner, IsTyped}
+use Rattle.cyc_soundness.specs.Worlds.{ObjectType, Typing, AgreesWith, IsFilled, IsFull, HasType, IsResult, AreOperands, IsOwner, IsTyped}
 use Rattle.cyc_soundness.specs.Classes.{InExpression, InPlace, InSide, InInitial, InArguments, InOperations, InStatement, InItems, InClauses, IsDeclarable, Source}
 use Rattle.cyc_soundness.specs.Frames.{IsAmong, Bound, InScope, Variable, Level, Names, Instance, Home, lives_in, read, read_value, IsThere, IsScope, AreBelow, IsBound, AreVariables, LiveIn, Within, IsSet, Holds, Implies, LoopExit, Exits, HasResult, around, AreBreaks, is_loop, Stand, IsHome, IsContext, lives_among, KnowsProgram}
 
@@ -194,7 +194,7 @@ pub record Repeats (m : Reading) (c : Context) (level : ℕ) (kind : Kind) (elem
 
 -- What waits for a value: with the types of the operands that wait in it, what it awaits, and what goes on then, in which scope.
 pub data Waits (p : Source) (x : Exits) (bs : List InScope) : Awaiting → List RunTy → RunValue → flow.State → List InScope → Want → Type 0 where
-  converts : {from to : Kind} {target : Option Kind} (c : Context) (v : ValueType) (t : Ty) (f : flow.State) → Converts c v t → from ≡ kind_of_value v → to ≡ kind_of t → target ≡ target_of_value v
+  converts : {from to : Kind} {target : Option Kind} (c : Context) (v : ValueType) (t : Ty) (f : flow.State) → AgreesWith c.regions (lives_in bs) → Converts c v t → from ≡ kind_of_value v → to ≡ kind_of t → target ≡ target_of_value v
       → Waits p x bs (ConvertTo from to target) [] (read_value bs v) f bs (Val (Value (read bs t)) f)
   negates : (f : flow.State) → Waits p x bs (Operate unary.Negate) [] (Value lives.Int) f bs (Val (Value lives.Int) f)
   complements : (f : flow.State) → Waits p x bs (Operate unary.Complement) [] (Value lives.Int) f bs (Val (Value lives.Int) f)
