@@ -32,7 +32,7 @@ use Rattle.cyc_soundness.specs.Worlds.{Typing, HasType, AreOperands, IsTyped, Gr
 use Rattle.cyc_soundness.specs.Frames.{InScope, Variable, Names, Instance, Home, lives_in, read, IsScope, AreBelow, IsBound, AreVariables, IsLasting, LiveIn, Within, itself, older, AreSet, Holds, Implies, Exits, HasResult, loop_of, around, AreBreaks, Stand, IsHome, IsContext, KnowsProgram}
 use Rattle.cyc_soundness.specs.Classes.{IsDeclarable, InItems, InClauses, Source}
 use Rattle.cyc_soundness.specs.Stacks.{regions_at_call, IsInstance, Continues, Catches, IsAccepted, Val, Go, turned, IsCalled, IsBlocked, AreFull, IsBody, IsStack, IsWell}
-use Rattle.cyc_soundness.proofs.TypeLemmas.{is_kind_same, kind_meant, value_alike}
+use Rattle.cyc_soundness.proofs.TypeLemmas.{is_kind_same, kind_meant}
 use Rattle.cyc_soundness.proofs.FlowLemmas.{implies_self, implies_after, meet_second}
 use Rattle.cyc_soundness.proofs.RuleLemmas.{breaks_clauses, clauses_implied, no_locks}
 use Rattle.cyc_soundness.proofs.WorldLemmas.{type_grown, operands_grown, opened_typed}
@@ -164,7 +164,7 @@ module _ (p : Source) (accepted : AreAccepted p) where
           cs,
           itself cs,
           ok,
-          (body.0, body.1, value_alike (lives_in cs) (lives_in bs) (result_type h.result) (named.result (λ r. lives_in cs r ≡ lives_in bs r) (λ r other. sym (same r other))) ∙ body.2),
+          (body.0, body.1, sym (named.result (lives_in bs) (lives_in cs) same) ∙ body.2),
           refl,
           refl,
           count,

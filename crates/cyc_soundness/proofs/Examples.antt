@@ -78,7 +78,7 @@ fields : Ends (check_of texts (
     (MoreItems (Execute (Evaluate (Assign (field 4) (New (at 10) (Plain (Number (at 11) 3))))))
     (MoreItems (Execute (Return (at 12) (Some (plus (field 3) (Prefixed (at 13) prefixes.Dereference (field 4)))))) NoItems)))
     ∷ [])) (HasEnded (Returned (pos 7)))
-fields = (refl, (((tt, (tt, (tt, tt))), ((tt, (tt, tt)), ((tt, (tt, tt)), tt))), tt), refl)
+fields = (refl, ((tt, (tt, (tt, (tt, tt))), ((tt, (tt, tt)), ((tt, (tt, tt)), tt))), tt), refl)
 
 -- int main(){ int ?p = new {for i < 3 : i * i}; return p[2] + numelts(p + 1); }
 elements : Ends (check_of texts (
@@ -86,7 +86,7 @@ elements : Ends (check_of texts (
     MoreItems (Local (written Int (marks.Fat ∷ [])) (named 2 5) (Some (New (at 6) (Array (at 7) (named 5 8) (Number (at 9) 3) (Binary (Variable (named 5 10)) (ThenOperation operators.Multiply (at 11) (Variable (named 5 12)) NoOperations))))))
     (MoreItems (Execute (Return (at 13) (Some (plus (Chained (Variable (named 2 14)) (ThenIndex (Number (at 15) 2) NoPostfixes)) (NumberOfElements (at 16) (plus (Variable (named 2 17)) (Number (at 18) 1))))))) NoItems))
     ∷ [])) (HasEnded (Returned (pos 6)))
-elements = (refl, (((tt, (tt, (tt, (tt, tt)))), (((tt, tt), ((tt, (tt, tt)), tt)), tt)), tt), refl)
+elements = (refl, ((tt, (tt, (tt, (tt, (tt, tt)))), (((tt, tt), ((tt, (tt, tt)), tt)), tt)), tt), refl)
 
 -- struct S { int x; int n; }; int main(){ struct S @p = new S{1, 5}; p->x :=: p->n; return p->x; }
 swapped : Ends (check_of texts (
@@ -96,7 +96,7 @@ swapped : Ends (check_of texts (
     (MoreItems (Execute (Swap (field 3) (field 4)))
     (MoreItems (Execute (Return (at 12) (Some (field 3)))) NoItems)))
     ∷ [])) (HasEnded (Returned (pos 5)))
-swapped = (refl, (((tt, (tt, (tt, tt))), ((tt, tt), (tt, tt))), tt), refl)
+swapped = (refl, ((tt, (tt, (tt, (tt, tt))), ((tt, tt), (tt, tt))), tt), refl)
 
 -- int main(){ int @`U p = rnew(unique_region) 5; return *p; }
 unique : Ends (check_of texts (
@@ -104,7 +104,7 @@ unique : Ends (check_of texts (
     MoreItems (Local (into 6) (named 2 5) (Some (RegionNew (at 6) (UniqueRegion (at 7)) (Plain (Number (at 8) 5)))))
     (MoreItems (Execute (Return (at 9) (Some (Prefixed (at 10) prefixes.Dereference (Variable (named 2 11)))))) NoItems))
     ∷ [])) (HasEnded (Returned (pos 5)))
-unique = (refl, (((tt, tt), (tt, tt)), tt), refl)
+unique = (refl, ((tt, (tt, tt), (tt, tt)), tt), refl)
 
 -- int main(){ int *p = NULL; try return *p; catch { default: return 9; } }
 caught : Ends (check_of texts (
@@ -112,7 +112,7 @@ caught : Ends (check_of texts (
     MoreItems (Local (written Int (marks.Nullable ∷ [])) (named 2 5) (Some (Null (at 6))))
     (MoreItems (Execute (Try (at 7) (Return (at 8) (Some (Prefixed (at 9) prefixes.Dereference (Variable (named 2 10))))) (Default (MoreItems (Execute (Return (at 11) (Some (Number (at 12) 9)))) NoItems)))) NoItems))
     ∷ [])) (HasEnded (Returned (pos 9)))
-caught = (refl, ((tt, ((tt, (tt, tt)), tt)), tt), refl)
+caught = (refl, ((tt, tt, ((tt, (tt, tt)), tt)), tt), refl)
 
 -- int x; int main(){ int *p = &x; *p = 8; return x; }
 global : Ends (check_of texts (
@@ -122,7 +122,7 @@ global : Ends (check_of texts (
     (MoreItems (Execute (Evaluate (Assign (Prefixed (at 8) prefixes.Dereference (Variable (named 2 9))) (Number (at 10) 8))))
     (MoreItems (Execute (Return (at 11) (Some (Variable (named 3 12))))) NoItems)))
     ∷ [])) (HasEnded (Returned (pos 8)))
-global = (refl, ((tt, ((tt, tt), (tt, tt))), tt), refl)
+global = (refl, ((tt, tt, ((tt, tt), (tt, tt))), tt), refl)
 
 -- int f(region_t<`r> h){ int @`r p = rnew(h) 6; return *p; } int main(){ return f(heap_region); }
 by_handle : Ends (check_of texts (
@@ -131,4 +131,4 @@ by_handle : Ends (check_of texts (
     (MoreItems (Execute (Return (at 9) (Some (Prefixed (at 10) prefixes.Dereference (Variable (named 2 11)))))) NoItems)) (at 12))
     ∷ main (MoreItems (Execute (Return (at 13) (Some (Call (named 7 14) (MoreExpressions (HeapRegion (at 15)) NoExpressions))))) NoItems)
     ∷ [])) (HasEnded (Returned (pos 6)))
-by_handle = (refl, (((tt, tt), (tt, tt)), (((tt, tt), tt), tt)), refl)
+by_handle = (refl, ((tt, (tt, tt), (tt, tt)), (((tt, tt), tt), tt)), refl)

@@ -252,7 +252,7 @@ module _ (p : Source) (g : Typing) (x : Exits) (bs : List InScope) (e : Environm
       → IsStack p g x cs (Go h) k → IsWell p (continues_with js k e w)
   continue_with NoItems k cs c f h before behind' nests live within stands holds well (u, known) are kept stack =
       let now : h ≡ f = ap (λ (z : Known). z.now) known in
-      running p g x cs e w typed' globals (within_bound e cs bs within bound) (within_variables g cs bs within variables) Proceeding k (within_live (ends_of k) cs bs within live)
+      running p g x cs e w typed' globals (within_bound e cs bs within bound) (within_variables g cs bs within variables) Proceeding k (within_live k cs bs within live)
       (h, subst (λ z. Holds g z cs) (sym now) (within_holds g f cs bs within holds), stack)
   continue_with (MoreItems (Execute s) js) k cs c f h before behind' nests live within stands holds (ws, wjs) (l, ds, djs) are (ks, kjs) stack =
       let sooner : AreBreaks x.loop l.breaks = breaks_before x.loop l.breaks behind' (breaks_items (around x) js l (record { now = h; breaks = behind' }) djs) are in
@@ -285,7 +285,7 @@ module _ (p : Source) (g : Typing) (x : Exits) (bs : List InScope) (e : Environm
           ([], cs, Go h, stacks.initialises cs c t f1 h within stands (named, alive) number (sym (kind_meant (lives_in bs) t) ∙ kind_read (lives_in bs) t) rest, tt, stack),
         ),
       )
-  continue_with (MoreItems (DeclareRegion r n) js) k cs c f h before behind' nests live within stands holds ((region, less), (number, has, alive), wjs) (l, (u, known), djs) are (scopes, kjs) stack =
+  continue_with (MoreItems (DeclareRegion r n) js) k cs c f h before behind' nests live within stands holds ((region, less), (number, has, alive), wjs) (l, (u, known), djs) are (scoped, kjs) stack =
       let flows = subst (λ (z : Known). Derives (rule_items (around x) js z) (record { now = h; breaks = behind' })) known djs in
       let t : Ty = types.Handle (regions.Variable r) in
       let d : Context = with_opened scopes.Lexical c in
@@ -309,7 +309,7 @@ module _ (p : Source) (g : Typing) (x : Exits) (bs : List InScope) (e : Environm
         (holds.0, (tt, holds.1)),
         (new_handle p.reading c.next_region r region, there),
         number,
-        (refl, subst (λ z. IsNumber z (length w.regions)) (sym stands_for) (handle_of p.reading (length w.regions) (ends_of k) scopes)),
+        (refl, subst (λ z. IsNumber z (length w.regions)) (sym stands_for) (handle_of p.reading (length w.regions) (ends_of k) scoped)),
         rest,
         (h, implies_self h, within_live k cs bs within live, stack),
       )

@@ -127,30 +127,30 @@ at_opening live (s ∷ earlier) a b (inr is) =
 
 module _ (kind : ScopeKind) (number region : ℕ) (ns : List ℕ) (c : RegionContext) (bs : List InScope) (outlived : is_outlived_by_live kind ≡ true) (live : AreLiveIn ns bs)
     (others : (r : Region) → Contains (live_regions c.live c.opened) r → IsOther number r) (pairs : (a b : Region) → Contains c.written (a, b) → IsOther number a × IsOther number b) where
-  abbrev named : List InScope
-  named = Names number (OfRegion region ns) true ∷ bs
+  abbrev inner : List InScope
+  inner = Names number (OfRegion region ns) true ∷ bs
 
   opened_named : AreNamed c (λ n. life_named bs n) (λ n. is_live_named bs n)
-      → AreNamed (with_scope kind (regions.Variable number) c) (λ n. life_named named n) (λ n. is_live_named named n)
+      → AreNamed (with_scope kind (regions.Variable number) c) (λ n. life_named inner n) (λ n. is_live_named inner n)
   opened_named names = record { there = there; agrees = agrees }
     where
-      there : (r : Region) → Contains (regions.Variable number ∷ live_regions c.live c.opened) r → IsThere named r
+      there : (r : Region) → Contains (regions.Variable number ∷ live_regions c.live c.opened) r → IsThere inner r
       there r has = elim (contains_later (regions.Variable number) r (live_regions c.live c.opened) has) [
         | inl new ↦ opened_there number (OfRegion region ns) bs r new
         | inr old ↦ other_there number (OfRegion region ns) bs r (others r old) (names.there r old)
       ]
 
-      moved : (a b : Region) → IsOther number a → IsOther number b → Outlasts (lives_in bs a) (lives_in bs b) → Outlasts (lives_in named a) (lives_in named b)
+      moved : (a b : Region) → IsOther number a → IsOther number b → Outlasts (lives_in bs a) (lives_in bs b) → Outlasts (lives_in inner a) (lives_in inner b)
       moved a b first second is =
-          subst (λ l. Outlasts l (lives_in named b)) (other_life number (OfRegion region ns) true bs a first)
+          subst (λ l. Outlasts l (lives_in inner b)) (other_life number (OfRegion region ns) true bs a first)
           (subst (λ l. Outlasts (lives_in bs a) l) (other_life number (OfRegion region ns) true bs b second) is)
 
-      agrees : (a b : Region) → IsGiven (with_scope kind (regions.Variable number) c) a b → Outlasts (lives_in named a) (lives_in named b)
-      agrees a b (inl (heap, plain)) = subst (λ z. Outlasts (lives_in named z) (lives_in named b)) (sym heap) (for_ever (lives_in named b))
+      agrees : (a b : Region) → IsGiven (with_scope kind (regions.Variable number) c) a b → Outlasts (lives_in inner a) (lives_in inner b)
+      agrees a b (inl (heap, plain)) = subst (λ z. Outlasts (lives_in inner z) (lives_in inner b)) (sym heap) (for_ever (lives_in inner b))
       agrees a b (inr (inl written)) = let (one, two) = pairs a b written in moved a b one two (names.agrees a b (inr (inl written)))
       agrees a b (inr (inr (inl (kind', new, plain, has)))) =
-          subst (λ z. Outlasts (lives_in named a) (lives_in named z)) (sym new)
-          (subst (λ l. Outlasts (lives_in named a) l) (sym (same_name number (OfRegion region ns) (life_named bs number)))
+          subst (λ z. Outlasts (lives_in inner a) (lives_in inner z)) (sym new)
+          (subst (λ l. Outlasts (lives_in inner a) l) (sym (same_name number (OfRegion region ns) (life_named bs number)))
           (subst (λ l. Outlasts l (OfRegion region ns)) (other_life number (OfRegion region ns) true bs a (others a has))
           (lasts_around ns region (lives_in bs a) (there_lasting ns bs a live (names.there a has)))))
       agrees a b (inr (inr (inr old))) =
@@ -451,14 +451,15 @@ alike_parameters k m i j (t ∷ ts) (one, named) same =
 
 -- a function's types, effect and constraints name other regions than its own
 pub record NamesOthers (m : Reading) (h : Function) : Type 0 where
-  pub result : (P : Region → Type 0) → ((r : Region) → IsOtherBy m 0 r → P r) → AllInValue P (result_type h.result)
+  pub result : (i j : Lives) → ((r : Region) → IsOtherBy m 0 r → i r ≡ j r) → value_at i (result_type h.result) ≡ value_at j (result_type h.result)
   pub parameters : (i j : Lives) → ((r : Region) → IsOtherBy m 0 r → i r ≡ j r) → map (at i) h.parameters ≡ map (at j) h.parameters
   pub live : (r : Region) → Contains (regions.Heap ∷ regions.Unique ∷ h.effect) r → IsOtherBy m 0 r
   pub pairs : (a b : Region) → Contains h.constraints (a, b) → IsOtherBy m 0 a × IsOtherBy m 0 b
 
 pub named_function : (m : Reading) (p : Program) (h : Function) → IsWellTypedFunction p h → NamesOthers m h
 named_function m p h well = record {
-  result = λ P so. in_value (IsNamed h.variables) P (λ r is. so r (named_other m h.variables r is)) (result_type h.result) (named_result h.variables h.result well.result);
+  result = λ i j same. value_alike i j (result_type h.result)
+      (in_value (IsNamed h.variables) (λ r. i r ≡ j r) (λ r is. same r (named_other m h.variables r is)) (result_type h.result) (named_result h.variables h.result well.result));
   parameters = λ i j same. alike_parameters h.variables m i j h.parameters well.parameters same;
   live = λ r has. named_other m h.variables r (named_live h.variables h.effect r well.effect has);
   pairs = λ a b has. (let (one, two) = named_pairs h.variables h.constraints a b well.constraints has in (named_other m h.variables a one, named_other m h.variables b two));

@@ -86,7 +86,7 @@ module _ (p : Source) (g : Typing) (e : Environment) (w : World) (typed : IsType
     pub breaks : (k : List Entry) (l : LoopExit) (f : flow.State) → IsNested k e w → LiveIn k bs → x.loop ≡ Some l → Holds g l.breaks bs → IsStack p g x bs (Go f) k → IsWell p (step_breaking k e w)
     breaks (Discard ∷ k) l f nests live same holds stack = on Breaking k live (l, f, same, holds, stack)
     breaks (Rest js ∷ k) l f nests live same holds (cs, c, h, within, stands, rest, stack) =
-        running p g x cs e w typed globals (within_bound e cs bs within bound) (within_variables g cs bs within variables) Breaking k (within_live (ends_of k) cs bs within live)
+        running p g x cs e w typed globals (within_bound e cs bs within bound) (within_variables g cs bs within variables) Breaking k (within_live k cs bs within live)
         (l, h, same, within_holds g l.breaks cs bs within holds, stack)
     breaks (Join ∷ k) l f nests live same holds (h, i, stack) = on Breaking k live (l, h, same, holds, stack)
     breaks (Loop condition body ∷ k) l f nests live same holds (y, m, v, u, h, around_is, loop, i, stack) =
@@ -103,7 +103,7 @@ module _ (p : Source) (g : Typing) (e : Environment) (w : World) (typed : IsType
     pub continues : (k : List Entry) (l : LoopExit) (f : flow.State) → IsNested k e w → LiveIn k bs → x.loop ≡ Some l → Holds g l.head bs → IsStack p g x bs (Go f) k → IsWell p (step_continuing k e w)
     continues (Discard ∷ k) l f nests live same holds stack = on Continuing k live (l, f, same, holds, stack)
     continues (Rest js ∷ k) l f nests live same holds (cs, c, h, within, stands, rest, stack) =
-        running p g x cs e w typed globals (within_bound e cs bs within bound) (within_variables g cs bs within variables) Continuing k (within_live (ends_of k) cs bs within live)
+        running p g x cs e w typed globals (within_bound e cs bs within bound) (within_variables g cs bs within variables) Continuing k (within_live k cs bs within live)
         (l, h, same, within_holds g l.head cs bs within holds, stack)
     continues (Join ∷ k) l f nests live same holds (h, i, stack) = on Continuing k live (l, h, same, holds, stack)
     continues (Loop condition body ∷ k) l f nests live same holds (y, m, v, u, h, around_is, loop, i, stack) =
@@ -130,7 +130,7 @@ module _ (p : Source) (g : Typing) (e : Environment) (w : World) (typed : IsType
     pub returns_on : (k : List Entry) (v : Option Operand) (f : flow.State) → IsNested k e w → LiveIn k bs → IsReturn g x.result x.gives v → IsStack p g x bs (Go f) k → IsWell p (step_returning v k e w)
     returns_on (Discard ∷ k) v f nests live is stack = on (Returning v) k live (f, is, stack)
     returns_on (Rest js ∷ k) v f nests live is (cs, c, h, within, stands, rest, stack) =
-        running p g x cs e w typed globals (within_bound e cs bs within bound) (within_variables g cs bs within variables) (Returning v) k (within_live (ends_of k) cs bs within live) (h, is, stack)
+        running p g x cs e w typed globals (within_bound e cs bs within bound) (within_variables g cs bs within variables) (Returning v) k (within_live k cs bs within live) (h, is, stack)
     returns_on (Join ∷ k) v f nests live is (h, i, stack) = on (Returning v) k live (h, is, stack)
     returns_on (Loop condition body ∷ k) v f nests live is (y, m, t, u, h, around_is, loop, i, stack) =
         running p g y bs e w typed globals bound variables (Returning v) k live (h, subst (λ (z : Exits). IsReturn g z.result z.gives v) around_is is, stack)
@@ -155,12 +155,12 @@ module _ (p : Source) (g : Typing) (e : Environment) (w : World) (typed : IsType
     throws_on [] tag value want nests live stack = tt
     throws_on (Needs a ∷ k) tag value (Val r f) nests live (ts, cs, next, waits, are, stack) =
         let within = waits_within waits in
-        running p g x cs e w typed globals (within_bound e cs bs within bound) (within_variables g cs bs within variables) (Throwing tag value) k (within_live (ends_of k) cs bs within live) (next, stack)
+        running p g x cs e w typed globals (within_bound e cs bs within bound) (within_variables g cs bs within variables) (Throwing tag value) k (within_live k cs bs within live) (next, stack)
     throws_on (NeedsPlace a ∷ k) tag value (PlaceOf t l f) nests live (next, waits, keeps, stack) = on (Throwing tag value) k live (next, stack)
     throws_on (Discard ∷ k) tag value (Val r f) nests live stack = on (Throwing tag value) k live (Go f, stack)
     throws_on (Discard ∷ k) tag value (Go f) nests live stack = on (Throwing tag value) k live (Go f, stack)
     throws_on (Rest js ∷ k) tag value (Go f) nests live (cs, c, h, within, stands, rest, stack) =
-        running p g x cs e w typed globals (within_bound e cs bs within bound) (within_variables g cs bs within variables) (Throwing tag value) k (within_live (ends_of k) cs bs within live) (Go h, stack)
+        running p g x cs e w typed globals (within_bound e cs bs within bound) (within_variables g cs bs within variables) (Throwing tag value) k (within_live k cs bs within live) (Go h, stack)
     throws_on (Join ∷ k) tag value (Go f) nests live (h, i, stack) = on (Throwing tag value) k live (Go h, stack)
     throws_on (Loop condition body ∷ k) tag value (Go f) nests live (y, m, t, u, h, around_is, loop, i, stack) =
         running p g y bs e w typed globals bound variables (Throwing tag value) k live (Go h, stack)
