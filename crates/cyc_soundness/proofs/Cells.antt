@@ -4,18 +4,16 @@ use Rattle.std.specs.Prelude.{if◌then◌else◌}
 use Rattle.cyc_types.specs.declared.typed.Kind.{Kind}
 use Rattle.cyc_types.specs.Types.{Ty}
 use Rattle.cyc_types.specs.Types as types
-use Rattle.cyc_types.specs.TypedTrees.{Program}
 use Rattle.cyc_types.specs.typing.Tests.{is_struct}
 use Rattle.cyc_types.specs.flow.States as flow
 use Rattle.cyc_meaning.specs.Values.{Operand}
 use Rattle.cyc_meaning.specs.Values as values
-use Rattle.cyc_meaning.specs.State.{World, Object, Found, Closed, heap_number, globals_number, is_open, cell_at, written, Environment, Entry, Focus, Given, Running}
+use Rattle.cyc_meaning.specs.State.{World, Object, Found, Closed, cell_at, written, Environment, Entry, Focus, Given, Running}
 use Rattle.cyc_meaning.specs.Objects.{found_object, object_at}
 use Rattle.cyc_meaning.specs.Parts.{wrong, read, loaded, stored}
 use Rattle.cyc_meaning.specs.Nesting.{ends_of, AreOpen}
-use Rattle.cyc_soundness.specs.Lives.{Life, OfRegion, RunTy, Int, Pointer, Handle, Key, Struct, Value, Lives, at, kind_at}
-use Rattle.cyc_soundness.specs.Lives as lives
-use Rattle.cyc_soundness.specs.Worlds.{ObjectType, Typing, Outlasts, alike, heap as for_ever, globals as with_globals, IsFilled, IsPart, IsTarget, HasType, IsResult, IsOwner, IsTyped, IsOpenLife, Grows}
+use Rattle.cyc_soundness.specs.Lives.{Life, RunTy, Int, Pointer, Handle, Key, Struct, Value, Lives, at, kind_at}
+use Rattle.cyc_soundness.specs.Worlds.{ObjectType, Typing, Outlasts, IsFilled, IsPart, IsTarget, HasType, IsResult, IsTyped, IsOpenLife, Grows}
 use Rattle.cyc_soundness.specs.Frames.{InScope, IsBound, AreVariables, LiveIn, Holds, Exits, IsLasting, KnowsProgram}
 use Rattle.cyc_soundness.specs.Stacks.{Val, IsStack, IsFocus, IsWell}
 use Rattle.cyc_soundness.proofs.Numbers.{slice_get-set_same, some_same}

@@ -34,7 +34,7 @@ use Rattle.cyc_meaning.specs.Step.{step_evaluating, addressed, counts, passes, a
 use Rattle.cyc_soundness.specs.Lives.{Life, heap_life, as_heap, Reading, Lives, AsHeap, ByScope, RunTy, RunValue, Value, kind_at}
 use Rattle.cyc_soundness.specs.Lives as lives
 use Rattle.cyc_soundness.specs.Worlds.{Typing, IsFull, variable_type, global_type, Outlasts, alike, globals as with_globals, AgreesWith, IsResult, AreOperands, IsTyped, IsOpenLife}
-use Rattle.cyc_soundness.specs.Frames.{IsAmong, Bound, InScope, Variable, IsBound, AreVariables, IsHomed, LiveIn, IsSet, Holds, Implies, Exits, IsContext, KnowsProgram, lives_in, read, read_value, IsThere}
+use Rattle.cyc_soundness.specs.Frames.{IsAmong, Bound, InScope, Variable, IsBound, AreVariables, IsHomed, LiveIn, IsSet, Holds, Implies, Exits, IsContext, KnowsProgram, lives_in, read, read_value}
 use Rattle.cyc_soundness.specs.Classes.{HasScopes, InExpression, InArguments, InOperations, Source}
 use Rattle.cyc_soundness.specs.Stacks.{Evaluates, Val, turned, IsCalled, null, IsStack, IsFocus, IsWell}
 use Rattle.cyc_soundness.specs.Stacks as stacks

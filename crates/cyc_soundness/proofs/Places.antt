@@ -12,7 +12,7 @@ use Rattle.cyc_types.specs.declared.typed.PointerOperator.{PointerOperator}
 use Rattle.cyc_types.specs.declared.typed.PointerOperator.TheVariants as operators
 use Rattle.cyc_types.specs.Types.{Ty, ValueType, substituted_ty}
 use Rattle.cyc_types.specs.Types as types
-use Rattle.cyc_types.specs.TypedTrees.{Expression, Dereference, Target, Member, Element, peeked, StructType, Program}
+use Rattle.cyc_types.specs.TypedTrees.{Expression, Dereference, Target, Member, Element, peeked, StructType}
 use Rattle.cyc_types.specs.Rules.{Derives}
 use Rattle.cyc_types.specs.typing.Tests.{is_struct, is_thin_mark}
 use Rattle.cyc_types.specs.typing.Tests as tests

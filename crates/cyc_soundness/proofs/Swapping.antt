@@ -1,10 +1,10 @@
 -- SWAPS: both places are found, and then are read and written.
-use Rattle.std.proofs.Common.{◌≡◌, ℕ, suc, ◌≤◌, Bool, true, false, List, [], ◌∷◌, ◌++◌, Option, Some, None, slice_get, refl, sym, ap, subst, ◌∙◌, arith}
+use Rattle.std.proofs.Common.{◌≡◌, ℕ, suc, ◌≤◌, Bool, false, List, [], ◌∷◌, ◌++◌, Option, Some, None, slice_get, refl, sym, ap, subst, ◌∙◌, arith}
 use Rattle.std.specs.Prelude.{if◌then◌else◌}
 use Rattle.cyc_syntax.specs.declared.tree.PointerKind.TheVariants as marks
 use Rattle.cyc_types.specs.declared.typed.Kind.{Kind}
 use Rattle.cyc_types.specs.Types.{Ty}
-use Rattle.cyc_types.specs.TypedTrees.{Local, Global, type_of_place, peeked, Side, VariableSide, CellSide, Program}
+use Rattle.cyc_types.specs.TypedTrees.{Local, Global, type_of_place, peeked, Side, VariableSide, CellSide}
 use Rattle.cyc_types.specs.Rules.{Demand, AllKept, Derives}
 use Rattle.cyc_types.specs.typing.Tests.{is_struct}
 use Rattle.cyc_types.specs.typing.WellTyped.{Context, IsSide}
@@ -13,14 +13,14 @@ use Rattle.cyc_types.specs.flow.States.{fullness, is_vacant}
 use Rattle.cyc_types.specs.flow.Statements.{rule_side, side_demanded}
 use Rattle.cyc_meaning.specs.Values.{Operand}
 use Rattle.cyc_meaning.specs.Values as values
-use Rattle.cyc_meaning.specs.State.{World, is_open, cell_at, Environment, SwapLeft, SwapRight, Write, Entry, NeedsPlace, Locating, Proceeding, Writing, Swapping}
+use Rattle.cyc_meaning.specs.State.{World, cell_at, Environment, SwapLeft, SwapRight, Write, Entry, NeedsPlace, Locating, Proceeding, Writing, Swapping}
 use Rattle.cyc_meaning.specs.Parts.{wrong, stored_at, step_writing}
 use Rattle.cyc_meaning.specs.Swaps.{both_places, finds_right_object, finds_right, finds_left_object, swaps, swap_read, swap_content, swap_loaded, swap_loaded_at, step_swapping}
 use Rattle.cyc_meaning.specs.Nesting.{ends_of, AreOpen}
 use Rattle.cyc_soundness.specs.Lives.{Life, RunTy, as_heap}
 use Rattle.cyc_soundness.specs.Lives as lives
 use Rattle.cyc_soundness.specs.Worlds.{ObjectType, Typing, variable_type, global_type, IsFilled, HasType, IsTyped, IsOpenLife}
-use Rattle.cyc_soundness.specs.Frames.{InScope, IsBound, AreVariables, IsLasting, LiveIn, IsSet, Holds, Exits, IsContext, KnowsProgram, lives_in, read, read_value, IsThere}
+use Rattle.cyc_soundness.specs.Frames.{InScope, IsBound, AreVariables, IsLasting, LiveIn, IsSet, Holds, Exits, IsContext, KnowsProgram, lives_in, read}
 use Rattle.cyc_soundness.specs.Classes.{InSide, Source}
 use Rattle.cyc_soundness.specs.Stacks.{Finds, Go, IsSpot, of_local, of_global, of_cell, IsRead, AreSwapped, IsStack, IsWell}
 use Rattle.cyc_soundness.specs.Stacks as stacks

@@ -1,5 +1,5 @@
 -- What operators, tests and conversions give of typed values: a value of the type that is wanted, or an exception.
-use Rattle.std.proofs.Common.{◌≡◌, ℕ, ◌+◌, ◌<◌, Bool, true, false, List, [], ◌∷◌, Some, eqb, refl, sym, subst, ◌∙◌, arith}
+use Rattle.std.proofs.Common.{◌≡◌, ℕ, ◌+◌, ◌<◌, Bool, true, false, List, ◌∷◌, Some, eqb, refl, sym, subst, ◌∙◌, arith}
 use Rattle.std.specs.Prelude.{if◌then◌else◌, nat_lt}
 use Rattle.std.proofs.lemmas.Bool.{ltb-true}
 use Rattle.cyc_syntax.specs.declared.tree.PointerKind.{PointerKind}
@@ -19,7 +19,6 @@ use Rattle.cyc_meaning.specs.Values as values
 use Rattle.cyc_meaning.specs.Operators.{Gives, Raises, is_zero, binary_result, has_no_result, unary_result, binary_word, division_by_zero, array_bounds}
 use Rattle.cyc_meaning.specs.Conversion.{conversion, thinned}
 use Rattle.cyc_soundness.specs.Lives.{Life, RunTy, Int, Pointer, Handle, Key, Lives, at, value_at}
-use Rattle.cyc_soundness.specs.Lives as lives
 use Rattle.cyc_soundness.specs.Worlds.{Typing, Outlasts, alike, heap as for_ever, globals as with_globals, encloses, IsEndOf, whole, behind, AgreesWith, IsTarget, HasType, IsResult, Fits}
 use Rattle.cyc_soundness.proofs.TypeLemmas.{kind_read}
 

@@ -22,7 +22,7 @@ use Rattle.cyc_types.specs.flow.Programs.{end_demanded, rule_functions, IsAllowe
 use Rattle.cyc_meaning.specs.Values as values
 use Rattle.cyc_meaning.specs.State.{World, Object, Environment, no_locals, first_world, global_object, constant_value, Entry, Needs, NeedsPlace, Discard, Main, Focus, Evaluating, Locating, Given, GivenPlace, Writing, Swapping, Beginning, Repeating, Executing, Proceeding, Calling, Entering, Binding, Naming, Breaking, Continuing, Returning, Throwing, Catching, State, Running, Ended, Dead, Wrong, GoesOn, HasEnded, IsDead, IsWrong, status_of}
 use Rattle.cyc_meaning.specs.Parts.{wrong}
-use Rattle.cyc_meaning.specs.Nesting.{ends_of, IsNested, Nests}
+use Rattle.cyc_meaning.specs.Nesting.{IsNested, Nests}
 use Rattle.cyc_meaning.specs.Places.{step_given_place}
 use Rattle.cyc_meaning.specs.Step.{called, step, stepped, step_given}
 use Rattle.cyc_meaning.specs.Run.{start, steps, run}

@@ -1,5 +1,5 @@
 -- THE LOCALS OF A CALL: to which objects the numbers in scope lead, what the flow rules say of them, and where control may go.
-use Rattle.std.specs.Prelude.{◌≡◌, ◌⊎◌, ℕ, suc, ◌<◌, ◌==◌, Bool, true, false, if◌then◌else◌, List, [], ◌∷◌, length, map, Option, Some, None, Contains, slice_get, slice_index_or}
+use Rattle.std.specs.Prelude.{◌≡◌, ◌⊎◌, ℕ, ◌<◌, ◌==◌, Bool, true, false, if◌then◌else◌, List, [], ◌∷◌, length, map, Option, Some, None, Contains, slice_get, slice_index_or}
 use Rattle.cyc_syntax.specs.Symbols.{Place}
 use Rattle.cyc_types.specs.declared.region.Region.{Region}
 use Rattle.cyc_types.specs.declared.region.Region.TheVariants as regions
@@ -7,7 +7,7 @@ use Rattle.cyc_types.specs.Types.{Ty, ValueType, result_type}
 use Rattle.cyc_types.specs.TypedTrees.{StructType, GlobalVariable}
 use Rattle.cyc_types.specs.Outlives.{RegionContext, live_regions, IsGiven}
 use Rattle.cyc_types.specs.typing.Tests.{is_moved}
-use Rattle.cyc_types.specs.typing.WellTyped.{LocalInScope, Context, IsLive, signature_of}
+use Rattle.cyc_types.specs.typing.WellTyped.{LocalInScope, Context, signature_of}
 use Rattle.cyc_types.specs.flow.States as flow
 use Rattle.cyc_types.specs.flow.States.{fullness, is_vacant, is_reached}
 use Rattle.cyc_types.specs.flow.Statements.{Loop, Around}
