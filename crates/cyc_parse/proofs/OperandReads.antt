@@ -46,7 +46,7 @@ deep_expression d fits e = deep_reads begins_expression d (omega arith) (express
 
 -- no assignment follows
 pub unassigned : (room d : ℕ) {e : Expression} → Reads (bind (nested (suc room)).unary (climb (nested (suc room)).unary 10)) e (yields.expression d e) (Stops 10) → Reads (nested (suc room)).expression e (yields.expression d e) (Stops 11)
-unfolding nested expression binary assignment
+unfolding nested
 unassigned room d {e = e} h = nothing_reads (assignment room (nested room)) h
     (unseen_reads signs.Assign _ _ (λ ts rest front ends. ap (sees signs.Assign) front ∙ no_assign rest ends) (pure_reads e (Stops 11)))
     (λ rest ends. stops-less 10 11 rest (omega arith) ends)
