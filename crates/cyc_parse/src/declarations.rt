@@ -189,7 +189,7 @@ impl<'a> Parser<'a> {
     }
 
     fn parse_parameter_list(&mut self) -> Result<ParameterList, Stop>
-        ensures { (room : ℕ) → Gives view_list result (parameter_list (suc room) self.old) self.new }
+        ensures { Gives view_list result (parameter_list 200 self.old) self.new }
     {
         if self.begins_void() {
             self.advance()?;
@@ -274,7 +274,7 @@ impl<'a> Parser<'a> {
     }
 
     fn parse_constraints(&mut self) -> Result<Vec<Constraint>, Stop>
-        ensures { (room : ℕ) → Gives (λ v. map view_constraint v.items) result (constraints (suc room) self.old) self.new }
+        ensures { Gives (λ v. map view_constraint v.items) result (constraints 200 self.old) self.new }
     {
         if !self.sees(Sign::Colon) {
             return Ok(Vec::new(self.alloc()));
@@ -393,7 +393,7 @@ impl<'a> Parser<'a> {
 
     /// A struct, behind its name and its regions.
     fn parse_struct(&mut self, name: Ident, regions: Vec<Ident>) -> Result<Declaration, Stop>
-        ensures { (room : ℕ) → Gives view_declaration result (struct_fields (suc room) (view_name name) (map view_name regions.items) self.old) self.new }
+        ensures { Gives view_declaration result (struct_fields 200 (view_name name) (map view_name regions.items) self.old) self.new }
     {
         self.take_sign(Sign::LeftBrace)?;
         let fields = self.parse_field_list()?;
