@@ -325,9 +325,10 @@ same_home : (m : Reading) (number region home : ℕ) (ns : List ℕ) (c : Contex
 same_home AsHeap number region home ns c bs known same live is = tt
 same_home ByScope number region home ns c bs known same live (at_home, there) =
     let less : c.region < c.next_region = known.live (regions.Variable c.region) live in
-    let apart : c.region ≢ number = (λ e. (let k : c.region ≡ number = e in absurd (omega (arith, less, k, same)))) in
-    (subst (λ l. IsNumber l (home_of bs)) (sym (other_name number c.region (OfRegion region ns) (life_named bs c.region) apart)) at_home,
-    other_name number c.region true (is_live_named bs c.region) apart ∙ there)
+    let apart : c.region ≢ number = (λ e. (let k : c.region ≡ number = e in absurd (omega (arith, less, k, same)))) in (
+      subst (λ l. IsNumber l (home_of bs)) (sym (other_name number c.region (OfRegion region ns) (life_named bs c.region) apart)) at_home,
+      other_name number c.region true (is_live_named bs c.region) apart ∙ there,
+    )
 
 module _ (p : Source) (x : Exits) (bs : List InScope) (c : Context) (stands : IsContext p x bs c) where
   -- a live region has not ended
@@ -389,7 +390,6 @@ module _ (p : Source) (x : Exits) (bs : List InScope) (c : Context) (stands : Is
       regions = stand_here scopes.Lexical refl;
       home = same_home p.reading c.next_region region region ns c bs stands.known refl alive stands.home;
     }
-
 
 -- ---- a function begins
 
