@@ -249,9 +249,19 @@ module _ (p : Source) (accepted : AreAccepted p) where
     begin_clause js k c start h before l live stands holds well flows are kept implies stack =
         let rest : Continues p.reading x (in_block c) js start l.now = record { before = before; behind = l.breaks; typed = well; flows = flows; breaks = are; kept = kept } in
         running p g x (scope c k) (inside e w) (opened w) (opened_typed g w.regions (new_region Stack ∷ []) w.objects typed) globals (tt, (tt, bound)) (tt, (tt, variables)) Proceeding (Rest js ∷ region_end e w ∷ k)
-        (block_live p g x bs e w typed globals bound variables c k live)
-        (start, (holds.0, (tt, (tt, holds.1))), (scope c k, in_block c, l.now, itself (scope c k), context_inside p x bs c stands (length w.regions) (ends_of k) live.0, rest,
-        block_stack p g x bs e w typed globals bound variables c k l.now h live implies stack))
+        (block_live p g x bs e w typed globals bound variables c k live) (
+          start,
+          (holds.0, (tt, (tt, holds.1))),
+          (
+            scope c k,
+            in_block c,
+            l.now,
+            itself (scope c k),
+            context_inside p x bs c stands (length w.regions) (ends_of k) live.0,
+            rest,
+            block_stack p g x bs e w typed globals bound variables c k l.now h live implies stack,
+          ),
+        )
 
     caught : (value : ℕ) (v : Option ℕ) (js : Items) (k : List Entry) (c : Context) (start h before : flow.State) (has : Bool) (l : Known) → LiveIn k bs → IsContext p x bs c → Holds g start bs → IsCaught c has v
         → WellTypedItems (with_caught v (in_block c)) js → Derives (rule_items (around x) js (record { now = statements.with_caught v start; breaks = before })) l → AreBreaks x.loop l.breaks → InItems p.reading (suc c.next_region) js → Implies l.now h

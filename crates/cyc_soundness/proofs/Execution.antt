@@ -150,10 +150,19 @@ module _ (p : Source) (g : Typing) (x : Exits) (bs : List InScope) (e : Environm
       let continues : Continues p.reading x (in_block c) js f l.now =
       record { before = before; behind = l.breaks; typed = well; flows = d; breaks = subst (λ z. AreBreaks x.loop z) breaks are; kept = kept } in
       running p g x (block_scope c k) (inside e w) (opened w) (opened_typed g w.regions (new_region Stack ∷ []) w.objects typed') globals (tt, (tt, bound)) (tt, (tt, variables)) Proceeding (Rest js ∷ region_end e w ∷ k)
-      (block_live c k live)
-      (f, (holds.0, (tt, (tt, holds.1))),
-      (block_scope c k, in_block c, l.now, itself (block_scope c k), context_inside p x bs c stands (length w.regions) (ends_of k) live.0, continues,
-      block_stack c k l.now h live (subst (λ z. Implies l.now z) (sym now) (implies_self l.now)) stack))
+      (block_live c k live) (
+        f,
+        (holds.0, (tt, (tt, holds.1))),
+        (
+          block_scope c k,
+          in_block c,
+          l.now,
+          itself (block_scope c k),
+          context_inside p x bs c stands (length w.regions) (ends_of k) live.0,
+          continues,
+          block_stack c k l.now h live (subst (λ z. Implies l.now z) (sym now) (implies_self l.now)) stack,
+        ),
+      )
   execute Empty k c f h before behind' live stands holds well (u, known) are kept stack =
       on Proceeding k live (h, subst (λ z. Holds g z bs) (sym (ap (λ (z : Known). z.now) known)) holds, stack)
   execute (Evaluate a) k c f h before behind' live stands holds (t, well) (f1, d, (u, known)) are kept stack =

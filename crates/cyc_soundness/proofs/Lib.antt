@@ -21,5 +21,6 @@ mod BuiltLemmas
 pub mod Whole
 -- texts, and programs that the rules accept and refuse
 mod Examples
+mod LaterRegions
 mod AcceptedPrograms
 mod RefusedPrograms

@@ -79,9 +79,6 @@ lasts_around ns n Never is = absurd is
 
 -- ---- names
 
-abbrev pub with_name : (ℕ → Life) → (number : ℕ) → Life → ℕ → Life
-with_name these number l k = if k == number then l else these k
-
 other_name : {A : Type 0} (number k : ℕ) (a b : A) → k ≢ number → (if k == number then a else b) ≡ b
 other_name number k a b apart = ap (λ (z : Bool). if z then a else b) (false_from_ne_true (eqb k number) (λ h. apart (eqb-true k number h)))
 
@@ -203,10 +200,6 @@ opened_same AsHeap number region ns c bs stand r other =
     before ∙ sym now
 opened_same ByScope number region ns c bs stand r other = other_life number (OfRegion region ns) true bs r other
 
-others_in : (m : Reading) (n : ℕ) (t : Ty) → IsDeclarable m n t → AllIn (IsOtherBy m n) t
-others_in AsHeap n t known = every_in (λ r. Unit {0}) (λ r. tt) t
-others_in ByScope n t known = all_in (IsKnown n) (IsOther n) (known_other n) t known
-
 in_value : (P Q : Region → Type 0) → ((r : Region) → P r → Q r) → (v : ValueType) → AllInValue P v → AllInValue Q v
 in_value P Q so types.Void all = tt
 in_value P Q so types.Null all = tt
@@ -320,14 +313,15 @@ new_home AsHeap number region ns bs = tt
 new_home ByScope number region ns bs =
     (subst (λ l. IsNumber l region) (sym (same_name number (OfRegion region ns) (life_named bs number))) refl, same_name number true (is_live_named bs number))
 
-same_home : (m : Reading) (number region home : ℕ) (ns : List ℕ) (c : Context) (bs : List InScope) → (AreKnown m c.next_region c.regions c.locals c.result) → number ≡ c.next_region → IsLive c (regions.Variable c.region)
+same_home : (m : Reading) (number region : ℕ) (ns : List ℕ) (c : Context) (bs : List InScope) → (AreKnown m c.next_region c.regions c.locals c.result) → number ≡ c.next_region → IsLive c (regions.Variable c.region)
     → IsHome m c.region bs → IsHome m c.region (Names number (opened_life m region ns) true ∷ bs)
-same_home AsHeap number region home ns c bs known same live is = tt
-same_home ByScope number region home ns c bs known same live (at_home, there) =
+same_home AsHeap number region ns c bs known same live is = tt
+same_home ByScope number region ns c bs known same live (at_home, there) =
     let less : c.region < c.next_region = known.live (regions.Variable c.region) live in
-    let apart : c.region ≢ number = (λ e. (let k : c.region ≡ number = e in absurd (omega (arith, less, k, same)))) in
-    (subst (λ l. IsNumber l (home_of bs)) (sym (other_name number c.region (OfRegion region ns) (life_named bs c.region) apart)) at_home,
-    other_name number c.region true (is_live_named bs c.region) apart ∙ there)
+    let apart : c.region ≢ number = (λ e. (let k : c.region ≡ number = e in absurd (omega (arith, less, k, same)))) in (
+      subst (λ l. IsNumber l (home_of bs)) (sym (other_name number c.region (OfRegion region ns) (life_named bs c.region) apart)) at_home,
+      other_name number c.region true (is_live_named bs c.region) apart ∙ there,
+    )
 
 module _ (p : Source) (x : Exits) (bs : List InScope) (c : Context) (stands : IsContext p x bs c) where
   -- a live region has not ended
@@ -387,9 +381,8 @@ module _ (p : Source) (x : Exits) (bs : List InScope) (c : Context) (stands : Is
       counters = λ l less. later (Names c.next_region (opened_life p.reading region ns) true) bs (stands.counters l less);
       known = known_opened p.reading c.next_region scopes.Lexical c.regions c.locals c.result stands.known;
       regions = stand_here scopes.Lexical refl;
-      home = same_home p.reading c.next_region region region ns c bs stands.known refl alive stands.home;
+      home = same_home p.reading c.next_region region ns c bs stands.known refl alive stands.home;
     }
-
 
 -- ---- a function begins
 

@@ -110,10 +110,6 @@ instance_by n m (types.Handle r) = refl
 instance_by n m (types.Key r) = refl
 instance_by n m (types.Struct s rs) = ap (lives.Struct s) (regions_by n m rs)
 
-pub instances_by : (n : Lives) (m : List Region) (ts : List Ty) → map (at n) (map (substituted_ty m) ts) ≡ map (at (lives_by n m)) ts
-instances_by n m [] = refl
-instances_by n m (t ∷ ts) = ap (λ u. u ∷ map (at n) (map (substituted_ty m) ts)) (instance_by n m t) ∙ ap (λ us. at (lives_by n m) t ∷ us) (instances_by n m ts)
-
 pub result_by : (n : Lives) (m : List Region) (t : Option Ty) → value_at n (result_type (option_map (substituted_ty m) t)) ≡ value_at (lives_by n m) (result_type t)
 result_by n m None = refl
 result_by n m (Some t) = ap Value (instance_by n m t)

@@ -72,6 +72,7 @@ read bs t = at (lives_in bs) t
 abbrev pub read_value : List InScope → ValueType → RunValue
 read_value bs t = value_at (lives_in bs) t
 
+-- where these region variables are live, so is this region
 abbrev pub IsThereBy : (ℕ → Bool) → Region → Type 0
 IsThereBy live regions.Heap = Unit {0}
 IsThereBy live regions.Unique = Unit {0}
@@ -81,6 +82,7 @@ IsThereBy live (regions.Variable n) = live n ≡ true
 abbrev pub IsThere : List InScope → Region → Type 0
 IsThere bs r = IsThereBy (λ n. is_live_named bs n) r
 
+-- in which region variables live here
 abbrev pub home_of : List InScope → ℕ
 home_of [] = globals_number
 home_of (Home region ∷ bs) = region
@@ -148,22 +150,23 @@ abbrev pub AreLiveIn : List ℕ → List InScope → Type 0
 AreLiveIn regions [] = Unit {0}
 AreLiveIn regions (b ∷ bs) = IsLiveIn regions b × AreLiveIn regions bs
 
--- where the variables of the innermost block live
+-- and in which by the stack, that of the innermost block
 abbrev pub home_in : List Entry → ℕ
 home_in [] = globals_number
 home_in (CloseRegion region outer ∷ stack) = region
 home_in (Caller outer ∷ stack) = globals_number
 home_in (entry ∷ stack) = home_in stack
 
--- a scope above this stack
+-- what a scope above this stack names is live by the stack
 abbrev pub LiveIn : List Entry → List InScope → Type 0
 LiveIn stack bs = AreLiveIn (ends_of stack) bs × (home_of bs ≡ home_in stack)
 
--- an outer scope within the same block
+-- what goes out of scope before its block ends
 abbrev pub IsInner : InScope → Type 0
 IsInner (Home region) = ⊥
 IsInner b = Unit {0}
 
+-- an outer scope in the same block
 pub data Within : (outer inner : List InScope) → Type 0 where
   itself : (bs : List InScope) → Within bs bs
   older : (b : InScope) (bs cs : List InScope) → IsInner b → Within bs cs → Within bs (b ∷ cs)
@@ -234,6 +237,7 @@ pub record AreNamed (c : RegionContext) (these : ℕ → Life) (live : ℕ → B
   pub there : (r : Region) → Contains (live_regions c.live c.opened) r → IsThereBy live r
   pub agrees : (a b : Region) → IsGiven c a b → Outlasts (lives_of these a) (lives_of these b)
 
+-- as the program is read, region variables stand for the heap, or for what the context says of them
 abbrev pub StandBy : Reading → RegionContext → (ℕ → Life) → (ℕ → Bool) → Type 0
 StandBy AsHeap c these live = (n : ℕ) → (these n ≡ heap_life) × (live n ≡ true)
 StandBy ByScope c these live = AreNamed c these live
@@ -281,7 +285,7 @@ pub record IsContext (p : Source) (x : Exits) (bs : List InScope) (c : Context) 
 
 -- ---- programs
 
--- the parameters of a struct stand for these
+-- the region parameters of a struct stand for these
 abbrev pub lives_among : List Life → Lives
 lives_among ls = lives_of (λ n. slice_index_or ls n heap_life)
 
