@@ -698,16 +698,22 @@ module _ (source : Program) (pages calls : ℕ) where
   chains (ThenPointer u b os) v o k e w c well (shared, facts, is, holds) (to_slot (d, q, (r, m, s, there, at_b, here, ops), lands)) =
       let g = c.active.function in
       silently source pages calls (Running (Given v) (Needs (Chain (ThenPointer u b os)) ∷ k) e w) (Running (Evaluating b) (Needs (ApplyPointer None u v) ∷ Needs (Chain os) ∷ k) e w) (plain.Running c)
-      (awaited (takes_kind u v.kind) (ApplyPointer None u v) b os k e w well)
-      (shared, facts, right_follows source pages calls None u b os v k e w c r m (next_slot os d (top source g k)) s (awaited_fits (takes_kind u v.kind) (ApplyPointer None u v) b os k e w well) shared.tables
-      (subst (IsIn shared.tables v c.active.slots) there is) holds at_b here (chain_lands os (operator_kind u) g e.locals d s q c.frames k ops lands))
+      (awaited (takes_kind u v.kind) (ApplyPointer None u v) b os k e w well) (
+        shared,
+        facts,
+        right_follows source pages calls None u b os v k e w c r m (next_slot os d (top source g k)) s (awaited_fits (takes_kind u v.kind) (ApplyPointer None u v) b os k e w well) shared.tables
+            (subst (IsIn shared.tables v c.active.slots) there is) holds at_b here (chain_lands os (operator_kind u) g e.locals d s q c.frames k ops lands),
+      )
       (omega arith)
   chains (ThenPointerPeek n u b os) v o k e w c well (shared, facts, is, holds) (to_slot (d, q, (r, m, s, there, at_b, here, ops), lands)) =
       let g = c.active.function in
       silently source pages calls (Running (Given v) (Needs (Chain (ThenPointerPeek n u b os)) ∷ k) e w) (Running (Evaluating b) (Needs (ApplyPointer (Some n) u v) ∷ Needs (Chain os) ∷ k) e w) (plain.Running c)
-      (awaited (takes_kind u v.kind) (ApplyPointer (Some n) u v) b os k e w well)
-      (shared, facts, right_follows source pages calls (Some n) u b os v k e w c r m (next_slot os d (top source g k)) s (awaited_fits (takes_kind u v.kind) (ApplyPointer (Some n) u v) b os k e w well) shared.tables
-      (subst (IsIn shared.tables v c.active.slots) there is) holds at_b here (chain_lands os (operator_kind u) g e.locals d s q c.frames k ops lands))
+      (awaited (takes_kind u v.kind) (ApplyPointer (Some n) u v) b os k e w well) (
+        shared,
+        facts,
+        right_follows source pages calls (Some n) u b os v k e w c r m (next_slot os d (top source g k)) s (awaited_fits (takes_kind u v.kind) (ApplyPointer (Some n) u v) b os k e w well) shared.tables
+            (subst (IsIn shared.tables v c.active.slots) there is) holds at_b here (chain_lands os (operator_kind u) g e.locals d s q c.frames k ops lands),
+      )
       (omega arith)
   chains os v o k e w c well stands (to_jump (failing, r, q, at, stack)) = absurd at
 
