@@ -1,7 +1,7 @@
 -- The code of a construct stands where its list of instructions does.
 use Rattle.std.proofs.Common.{◌≡◌, ℕ, zero, suc, ◌+◌, ◌<◌, Bool, true, false, List, [], ◌∷◌, ◌++◌, length, map, Option, None, Some, slice_get, refl, sym, ap, subst, ◌∙◌, arith, length-append}
 use Rattle.std.proofs.lemmas.Option.{same_Some, none-some, get_or_from_slice_get, slice_get-map}
-use Rattle.std.specs.Prelude.{option_map, if◌then◌else◌}
+use Rattle.std.specs.Prelude.{option_map, if◌then◌else◌, ◌==◌}
 use Rattle.cyc_meaning.specs.Operators.{null_exception, division_by_zero}
 use Rattle.cyc_types.specs.declared.typed.Kind.{Kind}
 use Rattle.cyc_types.specs.declared.typed.Kind.TheVariants as kinds
@@ -9,6 +9,8 @@ use Rattle.cyc_types.specs.declared.typed.Callee.TheVariants as callees
 use Rattle.cyc_types.specs.declared.typed.UnaryOperator.TheVariants as unary
 use Rattle.cyc_types.specs.declared.typed.Operator.{Operator}
 use Rattle.cyc_types.specs.declared.typed.Operator.TheVariants as operators
+use Rattle.cyc_types.specs.declared.typed.PointerOperator.{PointerOperator}
+use Rattle.cyc_types.specs.declared.typed.PointerOperator.TheVariants as pointers
 use Rattle.cyc_types.specs.Types.{Ty, words_of}
 use Rattle.cyc_types.specs.TypedTrees.{Load, Dereference, Target, Lvalue, Local, Global, Expression, Number, NullPointer, Copy, Call, Unary, Binary, Assign, Converted, Convert, Arguments, NoArguments, MoreArguments, Operations, NoOperations, ThenCompute, ThenTest, ThenPointer, Statement, Block, Empty, Evaluate, If, While, Return, Break, Continue, Items, NoItems, MoreItems, Execute, Declare, Signature, StructType, Function, Program, Move, Peek, ThenPointerPeek, type_of}
 use Rattle.cyc_types.specs.Numbered.{Numbering, argument_count, numbering_of, signatures_of}
@@ -23,9 +25,9 @@ use Rattle.cyc_plain.proofs.Straight.{has_front, has_back, has_whole}
 use Rattle.cyc_meaning.specs.Values.{kind_of, words_of_kind}
 use Rattle.cyc_meaning.specs.FrameCount.{words_of_all, operand_words}
 use Rattle.cyc_lower.specs.Slots.{Types, starts_of, slot_of}
-use Rattle.cyc_lower.specs.Lowering.{types_of, are_as_wide, converts_there, passed_words, source_of, source_slot, moved_by, move_of, pointer_instruction, operand_of, operand_or, code_unless, slot_or, code_unless_slot, left_with, left_of, value_slot, next_slot, slot_with, left_slot, value_operand, converted_operand, printed_operand, jump_if_nonzero, check_code, conversion_code, divisor_code, checked_code, operator_code, truth_code, load_code, low_byte, test_code, is_in, copy_code, expression_code, arguments_code, converted_code, converted_operand_code, printed_code, dereference_code, initial_code, assignment_code, assigned_operand, operations_code, discarded_code, failing_comparison, compared_or, compared_of, first_operand, first_code, second_code, pair_code, condition_code, condition_of, failing_jump, break_target, continue_target, return_code, declaration_code, statement_code, items_code, function_code, first_temporary, results_of, lower_function, lower_program, behind_left, pointer_code, outside_loops, inside_loop}
+use Rattle.cyc_lower.specs.Lowering.{types_of, are_as_wide, converts_there, passed_words, source_of, source_slot, moved_by, move_of, operand_of, operand_or, code_unless, slot_or, code_unless_slot, left_with, left_of, value_slot, next_slot, slot_with, left_slot, value_operand, converted_operand, printed_operand, jump_if_nonzero, check_code, conversion_code, divisor_code, checked_code, operator_code, truth_code, load_code, low_byte, test_code, is_in, copy_code, expression_code, arguments_code, converted_code, converted_operand_code, printed_code, dereference_code, initial_code, assignment_code, assigned_operand, operations_code, discarded_code, failing_comparison, compared_or, compared_of, first_operand, first_code, second_code, pair_code, condition_code, condition_of, failing_jump, break_target, continue_target, return_code, declaration_code, statement_code, items_code, function_code, first_temporary, results_of, lower_function, lower_program, behind_left, pointer_code, outside_loops, inside_loop, pointer_operator, index_code, pointer_instructions}
 use Rattle.cyc_lower.specs.declared.statements.Exits.{Exits}
-use Rattle.cyc_lower.proofs.Stands.{OperandBy, CheckAt, ConversionBy, ConversionAt, DivisorAt, CheckedAt, OperatorAt, LoadAt, CopyBy, ExpressionAt, InitialAt, InitialBy, ConvertedAt, ConvertedOperandAt, PrintedAt, ArgumentsAt, OperationsAt, PairAt, ConditionAt, AssignmentAt, DiscardedAt, ReturnedAt, ReturnAt, DeclarationAt, StatementAt, ItemsAt}
+use Rattle.cyc_lower.proofs.Stands.{OperandBy, CheckAt, ConversionBy, ConversionAt, DivisorAt, CheckedAt, OperatorAt, LoadAt, CopyBy, ExpressionAt, InitialAt, InitialBy, ConvertedAt, ConvertedOperandAt, PrintedAt, ArgumentsAt, OperationsAt, PairAt, ConditionAt, AssignmentAt, DiscardedAt, ReturnedAt, ReturnAt, DeclarationAt, StatementAt, ItemsAt, FirstTwoAt, IndexAt, PointerAt}
 use Rattle.cyc_lower.proofs.Widths.{kind_of_result, given, passed_kind, type_words}
 use Rattle.cyc_lower.proofs.Fitting.{FitsPlace, FitsStored, FitsCell, Fits, FitsConverted, FitArguments, FitOperations, FitsReturn, FitsInitial, FitsStatement, FitItems, AreFitting, IsFitting}
 use Rattle.cyc_lower.proofs.Values.{as_wide}
@@ -111,6 +113,30 @@ module _ (code : List Instruction) (b : Numbering) (types : Types) where
   operator_stands operators.Divide l r d p q end has = checked_stands operators.Divide l r d p q end has
   operator_stands operators.Remainder l r d p q end has = checked_stands operators.Remainder l r d p q end has
   operator_stands o l r d p q end (here, none) = (here, end)
+
+  -- an operator on pointers whose left operand is in slot t
+  first_two_by : (there : Bool) (t d p q : ℕ) → p + length (if there then [] else instructions.MoveWords d t 2 ∷ []) ≡ q → HasAt code p (if there then [] else instructions.MoveWords d t 2 ∷ []) → FirstTwoAt code b types there t d p q
+  first_two_by true t d p q end has = omega (arith, end)
+  first_two_by false t d p q end (here, none) = (here, end)
+
+  index_stands : (o : PointerOperator) (r : Operand) (t d p q : ℕ) → p + length (index_code (pointer_operator o) (operands.Slot t) r d) ≡ q → HasAt code p (index_code (pointer_operator o) (operands.Slot t) r d) → IndexAt code b types o r t d p q
+  index_stands o r t d p q end (here, rest) = (here, first_two_by (t == d) t d (p + 1) q (omega (arith, end)) rest)
+
+  slot_stands : (o : PointerOperator) (r : Operand) (t d p q : ℕ) → p + length (pointer_instructions o (operands.Slot t) r d) ≡ q → HasAt code p (pointer_instructions o (operands.Slot t) r d) → PointerAt code b types o r t d p q
+  slot_stands pointers.AddFat r t d p q end has = index_stands pointers.AddFat r t d p q end has
+  slot_stands pointers.SubtractFat r t d p q end has = index_stands pointers.SubtractFat r t d p q end has
+  slot_stands pointers.ThinIsNull r t d p q end (here, none) = (here, end)
+  slot_stands pointers.ThinIsNotNull r t d p q end (here, none) = (here, end)
+  slot_stands pointers.FatIsNull r t d p q end (here, none) = (here, end)
+  slot_stands pointers.FatIsNotNull r t d p q end (here, none) = (here, end)
+  slot_stands pointers.NullIs r t d p q end (here, none) = (here, end)
+  slot_stands pointers.NullIsNot r t d p q end (here, none) = (here, end)
+  slot_stands pointers.EqualThin r t d p q end (here, none) = (here, end)
+  slot_stands pointers.NotEqualThin r t d p q end (here, none) = (here, end)
+
+  pointer_stands : (o : PointerOperator) (l r : Operand) (t d p q : ℕ) → l ≡ operands.Slot t → p + length (pointer_instructions o l r d) ≡ q → HasAt code p (pointer_instructions o l r d) → PointerAt code b types o r t d p q
+  pointer_stands o l r t d p q left end has =
+      slot_stands o r t d p q (subst (λ x. p + length (pointer_instructions o x r d) ≡ q) left end) (subst (λ x. HasAt code p (pointer_instructions o x r d)) left has)
 
   load_stands : (l : Lvalue) (kind : Kind) (words d p q : ℕ) → FitsPlace b types l kind → p + length (load_code (starts_of types) words l d) ≡ q → HasAt code p (load_code (starts_of types) words l d)
       → LoadAt code b types words l d p q
@@ -293,43 +319,41 @@ module _ (code : List Instruction) (b : Numbering) (types : Types) where
           (first, second, omega (arith, long)),
           operations_stand os (operands.Slot next) d t (p + length front) q (words_of ty) ty rest (next_left os d t) (cut p q front back end) (has_back code p front back has),
         )
-    operations_stand (ThenPointer o a os) l d t p q words ty (test, wide, numbered, rest) left end has =
+    operations_stand (ThenPointer o a os) l d t p q words ty (wide, numbered, rest) left end has =
         let inner = expression_code (starts_of types) a p (value_slot (starts_of types) a (behind_left o t)) (behind_left o t) in
         let next = next_slot os d t in
         let r = value_operand (starts_of types) a (behind_left o t) in
-        let front = code_unless (operand_of (starts_of types) a) inner in
-        let m = p + length front in
-        let both = pointer_code o l r front next in
-        let back = operations_code (starts_of types) os (p + length both) (operands.Slot next) d t in
-        let (here, none) = has_back code p front _ (has_front code p both back has) in
-        let long : p + length both ≡ m + 1 = sym (cut p (p + length both) front (pointer_instruction o l r next ∷ []) refl) in (
+        let operand = code_unless (operand_of (starts_of types) a) inner in
+        let m = p + length operand in
+        let both = pointer_code o l r operand next in
+        let s = p + length both in
+        let back = operations_code (starts_of types) os s (operands.Slot next) d t in
+        let front_has = has_front code p both back has in (
           r,
           m,
+          s,
           left,
-          test,
-          operand_by (operand_of (starts_of types) a) _ inner (value_slot (starts_of types) a (behind_left o t)) p m refl (has_front code p front _ (has_front code p both back has)) (λ e h. expression_stands a (value_slot (starts_of types) a (behind_left o t)) (behind_left o t) p m numbered e h),
-          subst (λ x. At code m (pointer_instruction o x r next)) left here,
-          subst (λ n. OperationsAt code b types os (operands.Slot next) d t n q) long
-              (operations_stand os (operands.Slot next) d t (p + length both) q (words_of ty) ty rest (next_left os d t) (cut p q both back end) (has_back code p both back has)),
+          operand_by (operand_of (starts_of types) a) _ inner (value_slot (starts_of types) a (behind_left o t)) p m refl (has_front code p operand _ front_has) (λ e h. expression_stands a (value_slot (starts_of types) a (behind_left o t)) (behind_left o t) p m numbered e h),
+          pointer_stands o l r t next m s left (cut p s operand (pointer_instructions o l r next) refl) (has_back code p operand _ front_has),
+          operations_stand os (operands.Slot next) d t s q (words_of ty) ty rest (next_left os d t) (cut p q both back end) (has_back code p both back has),
         )
-    operations_stand (ThenPointerPeek n o a os) l d t p q words ty (test, wide, numbered, rest) left end has =
+    operations_stand (ThenPointerPeek n o a os) l d t p q words ty (wide, numbered, rest) left end has =
         let inner = expression_code (starts_of types) a p (value_slot (starts_of types) a (behind_left o t)) (behind_left o t) in
         let next = next_slot os d t in
         let r = value_operand (starts_of types) a (behind_left o t) in
-        let front = code_unless (operand_of (starts_of types) a) inner in
-        let m = p + length front in
-        let both = pointer_code o l r front next in
-        let back = operations_code (starts_of types) os (p + length both) (operands.Slot next) d t in
-        let (here, none) = has_back code p front _ (has_front code p both back has) in
-        let long : p + length both ≡ m + 1 = sym (cut p (p + length both) front (pointer_instruction o l r next ∷ []) refl) in (
+        let operand = code_unless (operand_of (starts_of types) a) inner in
+        let m = p + length operand in
+        let both = pointer_code o l r operand next in
+        let s = p + length both in
+        let back = operations_code (starts_of types) os s (operands.Slot next) d t in
+        let front_has = has_front code p both back has in (
           r,
           m,
+          s,
           left,
-          test,
-          operand_by (operand_of (starts_of types) a) _ inner (value_slot (starts_of types) a (behind_left o t)) p m refl (has_front code p front _ (has_front code p both back has)) (λ e h. expression_stands a (value_slot (starts_of types) a (behind_left o t)) (behind_left o t) p m numbered e h),
-          subst (λ x. At code m (pointer_instruction o x r next)) left here,
-          subst (λ n. OperationsAt code b types os (operands.Slot next) d t n q) long
-              (operations_stand os (operands.Slot next) d t (p + length both) q (words_of ty) ty rest (next_left os d t) (cut p q both back end) (has_back code p both back has)),
+          operand_by (operand_of (starts_of types) a) _ inner (value_slot (starts_of types) a (behind_left o t)) p m refl (has_front code p operand _ front_has) (λ e h. expression_stands a (value_slot (starts_of types) a (behind_left o t)) (behind_left o t) p m numbered e h),
+          pointer_stands o l r t next m s left (cut p s operand (pointer_instructions o l r next) refl) (has_back code p operand _ front_has),
+          operations_stand os (operands.Slot next) d t s q (words_of ty) ty rest (next_left os d t) (cut p q both back end) (has_back code p both back has),
         )
 
   assignment_stands : (l : Lvalue) (c : Converted) (t p q : ℕ) → FitsStored b types l (passed_kind c) → FitsConverted b types c → p + length (assignment_code (starts_of types) l c p t) ≡ q → HasAt code p (assignment_code (starts_of types) l c p t) → AssignmentAt code b types l c (assigned_operand (starts_of types) l c t) t p q

@@ -14,6 +14,8 @@ use Rattle.cyc_types.specs.declared.typed.Callee.{Callee}
 use Rattle.cyc_types.specs.declared.typed.Callee.TheVariants as callees
 use Rattle.cyc_types.specs.declared.typed.Operator.{Operator}
 use Rattle.cyc_types.specs.declared.typed.Operator.TheVariants as operators
+use Rattle.cyc_types.specs.declared.typed.PointerOperator.{PointerOperator}
+use Rattle.cyc_types.specs.declared.typed.PointerOperator.TheVariants as pointers
 use Rattle.cyc_types.specs.declared.typed.LogicalOperator.{LogicalOperator}
 use Rattle.cyc_types.specs.declared.typed.Expr.{Expr}
 use Rattle.cyc_types.specs.declared.typed.Expr.TheVariants as expr
@@ -33,7 +35,7 @@ use Rattle.cyc_plain.specs.declared.instruction.Operand.TheVariants as operands
 use Rattle.cyc_plain.specs.declared.instruction.Instruction.{Instruction}
 use Rattle.cyc_plain.specs.declared.instruction.Instruction.TheVariants as instructions
 use Rattle.cyc_lower.specs.Slots.{slot_of, Starts}
-use Rattle.cyc_lower.specs.Lowering.{passed_words, all_passed, converts_there, source_of, source_slot, converted_by, moved_by, move_of, operand_of, operand_or, code_unless, left_with, left_of, slot_with, left_slot, low_byte, value_operand, next_slot, converted_operand, printed_operand, operator_code, load_code, compute_code, test_jump, truth_code, test_code, copy_code, expression_code, dereference_code, value_slot, arguments_code, converted_code, converted_operand_code, printed_code, initial_code, assignment_code, assigned_operand, operations_code, discarded_code, binary_operator, behind_left}
+use Rattle.cyc_lower.specs.Lowering.{passed_words, all_passed, converts_there, source_of, source_slot, converted_by, moved_by, move_of, operand_of, operand_or, code_unless, left_with, left_of, slot_with, left_slot, low_byte, value_operand, next_slot, converted_operand, printed_operand, operator_code, load_code, compute_code, test_jump, truth_code, test_code, copy_code, expression_code, dereference_code, value_slot, arguments_code, converted_code, converted_operand_code, printed_code, initial_code, assignment_code, assigned_operand, operations_code, discarded_code, binary_operator, behind_left, pointer_instructions}
 use Rattle.cyc_lower.specs.Emission.{most_locals, value_code, print_code, left_code, takes_operand, HasRoom, operation_code}
 
 behind : (xs ys : List Instruction) → 0 < length ys → 0 < length (xs ++ ys)
@@ -395,12 +397,24 @@ module _ (starts : Starts) where
       (e2 ∙ ap (λ (x : Operand). m1 ++ operator_code o l x (length m1) d) (r_is ∙ ap (value_operand starts a) next))
       ∙ ap (λ (x : Operation). old ++ operation_code starts x (length old) l d t) (sym is)
 
+  pointed : (o : PointerOperator) (l r : Operand) (d : ℕ) → 0 < length (pointer_instructions o l r d)
+  pointed pointers.AddFat l r d = omega arith
+  pointed pointers.SubtractFat l r d = omega arith
+  pointed pointers.ThinIsNull l r d = omega arith
+  pointed pointers.ThinIsNotNull l r d = omega arith
+  pointed pointers.FatIsNull l r d = omega arith
+  pointed pointers.FatIsNotNull l r d = omega arith
+  pointed pointers.NullIs l r d = omega arith
+  pointed pointers.NullIsNot l r d = omega arith
+  pointed pointers.EqualThin l r d = omega arith
+  pointed pointers.NotEqualThin l r d = omega arith
+
   -- where one operator is made, more may follow
   operates_longer : (x : Operation) (p : ℕ) (l : Operand) (d t : ℕ) → 0 < length (operation_code starts x p l d t)
   operates_longer (operation.Compute o e) p l d t = behind (value_code starts (view_expression e) p (suc t)) _ (operates o l (value_operand starts (view_expression e) (suc t)) (p + length (value_code starts (view_expression e) p (suc t))) d)
   operates_longer (operation.Test o e) p l d t = omega arith
-  operates_longer (operation.Pointer o e) p l d t = behind (value_code starts (view_expression e) p (behind_left o t)) _ (omega arith)
-  operates_longer (operation.PointerPeek n o e) p l d t = behind (value_code starts (view_expression e) p (behind_left o t)) _ (omega arith)
+  operates_longer (operation.Pointer o e) p l d t = behind (value_code starts (view_expression e) p (behind_left o t)) _ (pointed o l (value_operand starts (view_expression e) (behind_left o t)) d)
+  operates_longer (operation.PointerPeek n o e) p l d t = behind (value_code starts (view_expression e) p (behind_left o t)) _ (pointed o l (value_operand starts (view_expression e) (behind_left o t)) d)
 
   room_everywhere : (os : Operations) (t many : ℕ) → t < most_locals + many → HasRoom starts os t many
   room_everywhere NoOperations t many low = omega (arith, low)

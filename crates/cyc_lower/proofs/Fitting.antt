@@ -1,7 +1,7 @@
 -- What lowering asks of a tree: each number that it has names something that is there, and each value has room where it comes to. The tree
 -- of a well typed program whose numbers are in range has it.
 use Rattle.std.proofs.Common.{◌≡◌, ◌⊎◌, ℕ, ◌≤◌, ◌<◌, Bool, true, false, List, [], ◌∷◌, length, map, Option, None, Some, slice_get, refl, sym, ap, subst, ◌∙◌, arith, inl, inr}
-use Rattle.std.specs.Prelude.{option_map, if◌then◌else◌}
+use Rattle.std.specs.Prelude.{option_map, if◌then◌else◌, not, ◌&&◌}
 use Rattle.std.proofs.lemmas.Option.{same_Some}
 use Rattle.cyc_syntax.specs.declared.tree.PointerKind.{PointerKind}
 use Rattle.cyc_syntax.specs.declared.tree.PointerKind.TheVariants as marks
@@ -19,14 +19,15 @@ use Rattle.cyc_types.specs.TypedTrees.{Load, Dereference, Target, Lvalue, Local,
 use Rattle.cyc_types.specs.typing.Scopes.{signature_of_ints}
 use Rattle.cyc_types.specs.typing.Tests as tests
 use Rattle.cyc_types.specs.typing.Expressions.{instantiated}
-use Rattle.cyc_types.specs.typing.WellTyped.{Context, PointerOperation, adds, subtracts, equals, differs, thin_null, thin_there, fat_null, fat_there, null_is, null_is_not, IsCallee, Converts, IsPeek, WellTyped, IsCell, IsConverted, ArePassed, IsChain, IsCondition, IsReturned, IsInitial, WellTypedStatement, WellTypedItems, behind, in_block, in_body, with_local, body_context, AreWellTypedFunctions, AreWellTypedGlobals, IsWellTypedProgram}
+use Rattle.cyc_types.specs.typing.WellTyped.{Context, PointerOperation, adds, subtracts, equals, differs, thin_null, thin_there, fat_null, fat_there, null_is, null_is_not, IsCallee, Converts, IsPeek, WellTyped, IsCell, IsConverted, ArePassed, IsChain, IsCondition, IsReturned, IsInitial, WellTypedStatement, WellTypedItems, behind, in_block, in_body, with_local, body_context, AreWellTypedFunctions, AreWellTypedGlobals, IsWellTypedProgram, IsLeft}
 use Rattle.cyc_types.specs.Numbered.{Numbering, signatures_of, IsSignature, argument_count, numbering_of}
-use Rattle.cyc_lower.specs.Lowerable.{IsLowerable, IsLowerableConverted, AreLowerableArguments, AreLowerableOperations, IsLowerableReturn, IsLowerableInitial, IsLowerableStatement, AreLowerableItems, AreLowerableFunctions, IsLowerableProgram, is_comparison}
+use Rattle.cyc_meaning.specs.Pointers.{result_kind as operator_kind}
+use Rattle.cyc_lower.specs.Lowerable.{IsLowerable, IsLowerableConverted, AreLowerableArguments, AreLowerableOperations, IsLowerableReturn, IsLowerableInitial, IsLowerableStatement, AreLowerableItems, AreLowerableFunctions, IsLowerableProgram, is_comparison, are_sums, stands_alone}
 use Rattle.cyc_meaning.specs.Values.{kind_of, is_thin, words_of_kind}
 use Rattle.cyc_meaning.specs.FrameCount.{result_words, words_of_all, operand_words}
 use Rattle.cyc_lower.specs.Slots.{Types}
 use Rattle.cyc_lower.specs.Lowering.{types_of, are_as_wide, passed_words, all_passed, results_of, left_kind}
-use Rattle.cyc_lower.proofs.Widths.{kind_of_result, result_kind, called_kind, given, passed_kind, type_words, HasRoom}
+use Rattle.cyc_lower.proofs.Widths.{kind_of_result, result_kind, called_kind, given, passed_kind, type_words, HasRoom, chain_kind}
 use Rattle.cyc_lower.proofs.Slots.{words-there, words_positive}
 
 -- ---- what is asked
@@ -73,8 +74,8 @@ module _ (b : Numbering) (types : Types) where
     FitOperations left t NoOperations = Unit {0}
     FitOperations left t (ThenCompute o a os) = Fits a × FitOperations (words_of t) t os
     FitOperations left t (ThenTest o a os) = Fits a × FitOperations (words_of t) t os
-    FitOperations left t (ThenPointer o a os) = (is_comparison o ≡ true) × (words_of_kind (left_kind o) ≤ left) × Fits a × FitOperations (words_of t) t os
-    FitOperations left t (ThenPointerPeek n o a os) = (is_comparison o ≡ true) × (words_of_kind (left_kind o) ≤ left) × Fits a × FitOperations (words_of t) t os
+    FitOperations left t (ThenPointer o a os) = (words_of_kind (left_kind o) ≤ left) × Fits a × FitOperations (words_of t) t os
+    FitOperations left t (ThenPointerPeek n o a os) = (words_of_kind (left_kind o) ≤ left) × Fits a × FitOperations (words_of t) t os
 
   abbrev pub FitsReturn : Option Ty → Option Converted → Type 0
   FitsReturn None None = Unit {0}
@@ -191,22 +192,82 @@ fat_words marks.Fat is = omega arith
 fat_words marks.Nullable is = absurd (let f : true ≡ false = is in cc)
 fat_words marks.NonNull is = absurd (let f : true ≡ false = is in cc)
 
--- no int is a left operand of these operators
-abbrev IsNoInt : ValueType → Type 0
-IsNoInt (Value type_forms.Int) = ⊥
-IsNoInt v = Unit {0}
+-- what an operator on pointers gives has its kind
+operation_given : (o : PointerOperator) (c : Context) (left right result : ValueType) → PointerOperation c o left right result → IsGiven (operator_kind o) result
+operation_given pointers.AddFat c left right result (adds t r other) = refl
+operation_given pointers.SubtractFat c left right result (subtracts t r other) = refl
+operation_given pointers.EqualThin c left right result (equals k l t r s is also live other) = refl
+operation_given pointers.NotEqualThin c left right result (differs k l t r s is also live other) = refl
+operation_given pointers.ThinIsNull c left right result (thin_null k t r is) = refl
+operation_given pointers.ThinIsNotNull c left right result (thin_there k t r is) = refl
+operation_given pointers.FatIsNull c left right result (fat_null k t r is) = refl
+operation_given pointers.FatIsNotNull c left right result (fat_there k t r is) = refl
+operation_given pointers.NullIs c left right result (null_is k t r) = refl
+operation_given pointers.NullIsNot c left right result (null_is_not k t r) = refl
 
-no_int_left : (c : Context) (o : PointerOperator) (left right result : ValueType) → PointerOperation c o left right result → IsNoInt left
-no_int_left c o left right result (adds t r other) = tt
-no_int_left c o left right result (subtracts t r other) = tt
-no_int_left c o left right result (equals k l t r s is also live other) = tt
-no_int_left c o left right result (differs k l t r s is also live other) = tt
-no_int_left c o left right result (thin_null k t r is) = tt
-no_int_left c o left right result (thin_there k t r is) = tt
-no_int_left c o left right result (fat_null k t r is) = tt
-no_int_left c o left right result (fat_there k t r is) = tt
-no_int_left c o left right result (null_is k t r) = tt
-no_int_left c o left right result (null_is_not k t r) = tt
+-- its left operand has the words that the code counts
+left_least : (o : PointerOperator) (c : Context) (left right result : ValueType) → PointerOperation c o left right result → words_of_kind (left_kind o) ≤ operand_words left
+left_least pointers.AddFat c left right result (adds t r other) = omega arith
+left_least pointers.SubtractFat c left right result (subtracts t r other) = omega arith
+left_least pointers.EqualThin c left right result (equals k l t r s is also live other) = words_positive (type_forms.Pointer k t r)
+left_least pointers.NotEqualThin c left right result (differs k l t r s is also live other) = words_positive (type_forms.Pointer k t r)
+left_least pointers.ThinIsNull c left right result (thin_null k t r is) = words_positive (type_forms.Pointer k t r)
+left_least pointers.ThinIsNotNull c left right result (thin_there k t r is) = words_positive (type_forms.Pointer k t r)
+left_least pointers.FatIsNull c left right result (fat_null k t r is) = fat_words k is
+left_least pointers.FatIsNotNull c left right result (fat_there k t r is) = fat_words k is
+left_least pointers.NullIs c left right result (null_is k t r) = omega arith
+left_least pointers.NullIsNot c left right result (null_is_not k t r) = omega arith
+
+-- sums alone keep the type of their left operand
+sum_words : (o : PointerOperator) (os : Operations) (c : Context) (left right result : ValueType) (u : Ty) → (not (is_comparison o) && are_sums os) ≡ true → PointerOperation c o left right result
+    → (are_sums os ≡ true → operand_words result ≤ words_of u) → operand_words left ≤ words_of u
+sum_words pointers.AddFat os c left right result u alone (adds t r other) rest = rest alone
+sum_words pointers.SubtractFat os c left right result u alone (subtracts t r other) rest = rest alone
+sum_words pointers.EqualThin os c left right result u alone operation rest = absurd (let f : false ≡ true = alone in cc)
+sum_words pointers.NotEqualThin os c left right result u alone operation rest = absurd (let f : false ≡ true = alone in cc)
+sum_words pointers.ThinIsNull os c left right result u alone operation rest = absurd (let f : false ≡ true = alone in cc)
+sum_words pointers.ThinIsNotNull os c left right result u alone operation rest = absurd (let f : false ≡ true = alone in cc)
+sum_words pointers.FatIsNull os c left right result u alone operation rest = absurd (let f : false ≡ true = alone in cc)
+sum_words pointers.FatIsNotNull os c left right result u alone operation rest = absurd (let f : false ≡ true = alone in cc)
+sum_words pointers.NullIs os c left right result u alone operation rest = absurd (let f : false ≡ true = alone in cc)
+sum_words pointers.NullIsNot os c left right result u alone operation rest = absurd (let f : false ≡ true = alone in cc)
+
+sums_words : (os : Operations) (c : Context) (left : ValueType) (u : Ty) → are_sums os ≡ true → IsChain c left os u → operand_words left ≤ words_of u
+sums_words NoOperations c left u alone is = omega (arith, ap operand_words is)
+sums_words (ThenCompute o x os) c left u alone is = absurd (let f : false ≡ true = alone in cc)
+sums_words (ThenTest o x os) c left u alone is = absurd (let f : false ≡ true = alone in cc)
+sums_words (ThenPointer o x os) c left u alone (v, w, right, operation, rest) = sum_words o os c left v w u alone operation (λ sums. sums_words os c w u sums rest)
+sums_words (ThenPointerPeek n o x os) c left u alone (v, w, right, operation, rest) = sum_words o os c left v w u alone operation (λ sums. sums_words os c w u sums rest)
+
+-- the operators behind one have its words to begin with
+next_words : (o : PointerOperator) (os : Operations) (c : Context) (left right result : ValueType) (u : Ty) → stands_alone o os ≡ true → PointerOperation c o left right result → IsChain c result os u
+    → operand_words result ≤ words_of u
+next_words pointers.AddFat os c left right result u alone operation rest = sums_words os c result u alone rest
+next_words pointers.SubtractFat os c left right result u alone operation rest = sums_words os c result u alone rest
+next_words pointers.EqualThin os c left right result u alone (equals k l t r s is also live other) rest = words_positive u
+next_words pointers.NotEqualThin os c left right result u alone (differs k l t r s is also live other) rest = words_positive u
+next_words pointers.ThinIsNull os c left right result u alone (thin_null k t r is) rest = words_positive u
+next_words pointers.ThinIsNotNull os c left right result u alone (thin_there k t r is) rest = words_positive u
+next_words pointers.FatIsNull os c left right result u alone (fat_null k t r is) rest = words_positive u
+next_words pointers.FatIsNotNull os c left right result u alone (fat_there k t r is) rest = words_positive u
+next_words pointers.NullIs os c left right result u alone (null_is k t r) rest = words_positive u
+next_words pointers.NullIsNot os c left right result u alone (null_is_not k t r) rest = words_positive u
+
+-- the kind of what a chain gives
+chain_given : (os : Operations) (c : Context) (left : ValueType) (kind : Kind) (u : Ty) → IsChain c left os u → IsGiven kind left → IsGiven (chain_kind kind os) (Value u)
+chain_given NoOperations c left kind u is given_left = subst (IsGiven kind) is given_left
+chain_given (ThenCompute o x os) c left kind u (int, right, rest) given_left = chain_given os c (Value type_forms.Int) kinds.Int u rest refl
+chain_given (ThenTest o x os) c left kind u (tested, right, rest) given_left = chain_given os c (Value type_forms.Int) kinds.Int u rest refl
+chain_given (ThenPointer o x os) c left kind u (v, w, right, operation, rest) given_left = chain_given os c w (operator_kind o) u rest (operation_given o c left v w operation)
+chain_given (ThenPointerPeek n o x os) c left kind u (v, w, right, operation, rest) given_left = chain_given os c w (operator_kind o) u rest (operation_given o c left v w operation)
+
+-- a left operand is a value that is given, or a peek
+seen_left : (os : Operations) (a : Expression) (c : Context) (v : ValueType) → IsLeft (WellTyped c a v) c a v os → WellTyped c a v ⊎ IsPeek c a v
+seen_left NoOperations a c v well = inl well
+seen_left (ThenCompute o x os) a c v well = inl well
+seen_left (ThenTest o x os) a c v well = well
+seen_left (ThenPointer o x os) a c v well = inl well
+seen_left (ThenPointerPeek n o x os) a c v (peek, of) = inr peek
 
 -- ---- what a well typed tree has
 
@@ -231,44 +292,6 @@ module _ (b : Numbering) (types : Types) where
   called_is callees.Putchar s is = sym (ap (λ (x : Signature). kind_of_result x.result) is)
   called_is callees.Getchar s is = sym (ap (λ (x : Signature). kind_of_result x.result) is)
   called_is (callees.Function n) s is = ap result_kind is
-
-  -- a comparison of pointers gives an int
-  comparison_gives : (o : PointerOperator) (c : Context) (left right result : ValueType) → is_comparison o ≡ true → PointerOperation c o left right result → result ≡ Value type_forms.Int
-  comparison_gives pointers.ThinIsNull c left right result test (thin_null k t r is) = refl
-  comparison_gives pointers.ThinIsNotNull c left right result test (thin_there k t r is) = refl
-  comparison_gives pointers.FatIsNull c left right result test (fat_null k t r is) = refl
-  comparison_gives pointers.FatIsNotNull c left right result test (fat_there k t r is) = refl
-  comparison_gives pointers.EqualThin c left right result test (equals k l t r s is also live other) = refl
-  comparison_gives pointers.NotEqualThin c left right result test (differs k l t r s is also live other) = refl
-  comparison_gives pointers.NullIs c left right result test (null_is k t r) = refl
-  comparison_gives pointers.NullIsNot c left right result test (null_is_not k t r) = refl
-  comparison_gives pointers.AddFat c left right result test operation = absurd (let f : false ≡ true = test in cc)
-  comparison_gives pointers.SubtractFat c left right result test operation = absurd (let f : false ≡ true = test in cc)
-
-  -- its left operand has the words that the code counts
-  left_least : (o : PointerOperator) (c : Context) (left right result : ValueType) → PointerOperation c o left right result → words_of_kind (left_kind o) ≤ operand_words left
-  left_least pointers.AddFat c left right result (adds t r other) = omega arith
-  left_least pointers.SubtractFat c left right result (subtracts t r other) = omega arith
-  left_least pointers.EqualThin c left right result (equals k l t r s is also live other) = words_positive (type_forms.Pointer k t r)
-  left_least pointers.NotEqualThin c left right result (differs k l t r s is also live other) = words_positive (type_forms.Pointer k t r)
-  left_least pointers.ThinIsNull c left right result (thin_null k t r is) = words_positive (type_forms.Pointer k t r)
-  left_least pointers.ThinIsNotNull c left right result (thin_there k t r is) = words_positive (type_forms.Pointer k t r)
-  left_least pointers.FatIsNull c left right result (fat_null k t r is) = fat_words k is
-  left_least pointers.FatIsNotNull c left right result (fat_there k t r is) = fat_words k is
-  left_least pointers.NullIs c left right result (null_is k t r) = omega arith
-  left_least pointers.NullIsNot c left right result (null_is_not k t r) = omega arith
-
-  chain_int : (os : Operations) (c : Context) (u : Ty) → AreLowerableOperations b os → IsChain c (Value type_forms.Int) os u → Value type_forms.Int ≡ Value u
-  chain_int NoOperations c u all is = is
-  chain_int (ThenCompute o x os) c u (one, all) (left, right, rest) = chain_int os c u all rest
-  chain_int (ThenTest o x os) c u (one, all) (left, right, rest) = chain_int os c u all rest
-  chain_int (ThenPointer o x os) c u (test, one, all) (v, w, right, operation, rest) =
-      chain_int os c u all (subst (λ (y : ValueType). IsChain c y os u) (comparison_gives o c (Value type_forms.Int) v w test operation) rest)
-  chain_int (ThenPointerPeek n o x os) c u (test, one, all) (v, w, right, operation, rest) =
-      chain_int os c u all (subst (λ (y : ValueType). IsChain c y os u) (comparison_gives o c (Value type_forms.Int) v w test operation) rest)
-
-  int_given : (u : Ty) (v : ValueType) → Value type_forms.Int ≡ Value u → v ≡ Value u → IsGiven kinds.Int v
-  int_given u v same is = subst (IsGiven kinds.Int) (same ∙ sym is) refl
 
   assigned_given : (l : Lvalue) (d : Converted) (u : ValueType) (t : Ty) (v : ValueType) → passed_kind d ≡ kind_of t → v ≡ (if tests.is_moved t then Void else Value t) → IsGiven (given b.functions (Assign l d u)) v
   assigned_given l (Convert from to a) u t v kind is = subst (IsGiven to) (sym is) (by (tests.is_moved t))
@@ -312,34 +335,11 @@ module _ (b : Numbering) (types : Types) where
     fits (Unary unary.Not a) c v suits numbered (w, (well, tested), is) = (subst (IsGiven kinds.Int) (sym is) refl, (looked_fits a c w suits numbered (λ h. fits a c w suits numbered h) well).1)
     fits (Unary unary.Negate a) c v suits numbered (w, (well, int), is) = (subst (IsGiven kinds.Int) (sym is) refl, (fits a c w suits numbered well).1)
     fits (Unary unary.Complement a) c v suits numbered (w, (well, int), is) = (subst (IsGiven kinds.Int) (sym is) refl, (fits a c w suits numbered well).1)
-    fits (Binary a NoOperations u) c v suits (numbered, all) (w, well, chain, is) =
-        let (kind, fitting) = fits a c w suits numbered well in
-        (subst (IsGiven (given b.functions a)) (chain ∙ sym is) kind, (fitting, tt))
-    fits (Binary a (ThenCompute o x os) u) c v suits (numbered, (one, all)) (w, well, (left, right, rest), is) = (
-      int_given u v (chain_int os c u all rest) is,
-      ((fits a c w suits numbered well).1, ((fits x c (Value type_forms.Int) suits one right).1, fit_next os c u suits all rest)),
-    )
-    fits (Binary a (ThenTest o x os) u) c v suits (numbered, (one, all)) (w, well, (left, (y, right, tested), rest), is) = (
-      int_given u v (chain_int os c u all rest) is,
-      (
-        (looked_fits a c w suits numbered (λ h. fits a c w suits numbered h) well).1,
-        ((looked_fits x c y suits one (λ h. fits x c y suits one h) right).1, fit_next os c u suits all rest),
-      ),
-    )
-    fits (Binary a (ThenPointer o x os) u) c v suits (numbered, (test, one, all)) (w, well, (y, z, right, operation, rest), is) =
-        let int = subst (λ (i : ValueType). IsChain c i os u) (comparison_gives o c w y z test operation) rest in
-        let words = subst (λ (i : ValueType). words_of_kind (left_kind o) ≤ operand_words i) (sym (type_given a c w (inl well))) (left_least o c w y z operation) in (
-          int_given u v (chain_int os c u all int) is,
-          ((fits a c w suits numbered well).1, (test, words, (looked_fits x c y suits one (λ h. fits x c y suits one h) right).1, fit_next os c u suits all int)),
-        )
-    fits (Binary a (ThenPointerPeek n o x os) u) c v suits (numbered, (test, one, all)) (w, (peek, of), (y, z, right, operation, rest), is) =
-        let int = subst (λ (i : ValueType). IsChain c i os u) (comparison_gives o c w y z test operation) rest in
-        let words = subst (λ (i : ValueType). words_of_kind (left_kind o) ≤ operand_words i) (sym (type_given a c w (inr peek))) (left_least o c w y z operation) in (
-          int_given u v (chain_int os c u all int) is,
-          (
-            (looked_fits a c w suits numbered (λ h. fits a c w suits numbered h) (inr peek)).1,
-            (test, words, (looked_fits x c y suits one (λ h. fits x c y suits one h) right).1, fit_next os c u suits all int),
-          ),
+    fits (Binary a os u) c v suits (numbered, all) (w, left, chain, is) =
+        let seen = seen_left os a c w left in
+        let (kind, fitting) = looked_fits a c w suits numbered (λ h. fits a c w suits numbered h) seen in (
+          subst (IsGiven (given b.functions (Binary a os u))) (sym is) (chain_given os c w (given b.functions a) u chain kind),
+          (fitting, fit_operations os c w u (operand_words (type_of a)) suits all chain (omega (arith, ap operand_words (type_given a c w seen)))),
         )
     fits (Assign (Local p n) d u) c v suits (few, numbered) (t, r, (m, place, home, there), converted, u_is, is) =
         let (kind, fitting) = fits_converted d c t suits numbered converted in
@@ -373,13 +373,23 @@ module _ (b : Numbering) (types : Types) where
         let (words, others) = fit_arguments ds c ts suits all rest in
         (omega (arith, words, passed_is d, ap words_of_kind kind, type_words t), (fitting, others))
 
-    -- all operators behind one give an int
-    fit_next : (os : Operations) (c : Context) (u : Ty) → Suits c → AreLowerableOperations b os → IsChain c (Value type_forms.Int) os u → FitOperations b types (words_of u) u os
-    fit_next NoOperations c u suits all is = tt
-    fit_next (ThenCompute o x os) c u suits (one, all) (is, right, rest) = ((fits x c (Value type_forms.Int) suits one right).1, fit_next os c u suits all rest)
-    fit_next (ThenTest o x os) c u suits (one, all) (is, (y, right, tested), rest) = ((looked_fits x c y suits one (λ h. fits x c y suits one h) right).1, fit_next os c u suits all rest)
-    fit_next (ThenPointer o x os) c u suits (test, one, all) (v, w, right, operation, rest) = absurd (no_int_left c o (Value type_forms.Int) v w operation)
-    fit_next (ThenPointerPeek n o x os) c u suits (test, one, all) (v, w, right, operation, rest) = absurd (no_int_left c o (Value type_forms.Int) v w operation)
+    -- behind a left operand of at most so many words
+    fit_operations : (os : Operations) (c : Context) (left : ValueType) (u : Ty) (words : ℕ) → Suits c → AreLowerableOperations b os → IsChain c left os u → operand_words left ≤ words → FitOperations b types words u os
+    fit_operations NoOperations c left u words suits all is few = tt
+    fit_operations (ThenCompute o x os) c left u words suits (one, all) (is, right, rest) few =
+        ((fits x c (Value type_forms.Int) suits one right).1, fit_operations os c (Value type_forms.Int) u (words_of u) suits all rest (words_positive u))
+    fit_operations (ThenTest o x os) c left u words suits (one, all) (is, (y, right, tested), rest) few =
+        ((looked_fits x c y suits one (λ h. fits x c y suits one h) right).1, fit_operations os c (Value type_forms.Int) u (words_of u) suits all rest (words_positive u))
+    fit_operations (ThenPointer o x os) c left u words suits (alone, one, all) (v, w, right, operation, rest) few = (
+      omega (arith, left_least o c left v w operation, few),
+      (looked_fits x c v suits one (λ h. fits x c v suits one h) right).1,
+      fit_operations os c w u (words_of u) suits all rest (next_words o os c left v w u alone operation rest),
+    )
+    fit_operations (ThenPointerPeek n o x os) c left u words suits (alone, one, all) (v, w, right, operation, rest) few = (
+      omega (arith, left_least o c left v w operation, few),
+      (looked_fits x c v suits one (λ h. fits x c v suits one h) right).1,
+      fit_operations os c w u (words_of u) suits all rest (next_words o os c left v w u alone operation rest),
+    )
 
   fits_condition : (a : Expression) (c : Context) → Suits c → IsLowerable b a → IsCondition c a → Fits b types a
   fits_condition a c suits numbered (v, well, tested) = (looked_fits a c v suits numbered (λ h. fits a c v suits numbered h) well).1

@@ -34,6 +34,8 @@ use Rattle.cyc_objects.specs.Tables.{Tables}
 use Rattle.cyc_objects.proofs.RegionLemmas.{counted-same}
 use Rattle.cyc_lower.specs.declared.statements.Exits.{Exits}
 use Rattle.cyc_lower.specs.Lowering.{compared_of, outside_loops, lower_program}
+use Rattle.cyc_meaning.specs.Pointers.{result_kind as operator_kind}
+use Rattle.cyc_lower.proofs.Widths.{chain_kind}
 use Rattle.cyc_meaning.specs.SourceMachine.{status_in, source_machine}
 use Rattle.cyc_lower.proofs.Weights.{weight}
 use Rattle.cyc_lower.proofs.Relation.{base_of, IsPlainStack, Lands, in_temporary, in_local, HandsOn, drops, leaves, copies, Prints, prints_only, gives_byte, SharedAt, to_slot, to_jump, ValueStack, PlaceStack, ConditionStack, DroppedStack, AheadStack, StatementStack, LandsStack, PrintsStack, AppliedStack, RightAt, ReadyAt, EvaluatingAt, as_operand, into_slot, for_effect, as_right, as_condition, FocusAt, GivenAt, in_operand, nowhere, ahead, compared, with_left, ProceedingAt, behind_statement, behind_call, behind_wrong, Related, Matches, code_of, given_at, called_at, returned_at, top}
@@ -71,13 +73,13 @@ module _ (source : Program) where
     value_depth g locals kind o p frames (Needs (Operate u) ∷ k) (to_jump (is, stack)) = condition_depth g comparisons.NotEqual o (operands.Word 0) p frames k stack
     value_depth g locals kind o p frames (Needs (Chain NoOperations) ∷ k) stack = value_depth g locals kind o p frames k stack
     value_depth g locals kind o p frames (Needs (Chain os) ∷ k) (to_slot (d, q, at, lands)) =
-        by_lands lands (λ stack. value_depth g locals kinds.Int (operands.Slot d) q frames k stack) (λ stack. ahead_depth g locals kinds.Int d q frames k stack)
+        by_lands lands (λ stack. value_depth g locals (chain_kind kind os) (operands.Slot d) q frames k stack) (λ stack. ahead_depth g locals (chain_kind kind os) d q frames k stack)
     value_depth g locals kind o p frames (Needs (Chain os) ∷ k) (to_jump (failing, r, q, at, stack)) = condition_depth g failing o r q frames k stack
     value_depth g locals kind o p frames (Needs (Apply u left) ∷ k) (to_slot (d, q, at, lands)) =
         by_lands lands (λ stack. value_depth g locals kinds.Int (operands.Slot d) q frames k stack) (λ stack. ahead_depth g locals kinds.Int d q frames k stack)
     value_depth g locals kind o p frames (Needs (Apply u left) ∷ k) (to_jump (failing, is, stack)) = condition_depth g failing (operands.Slot (top source g k)) o p frames k stack
-    value_depth g locals kind o p frames (Needs (ApplyPointer peek u left) ∷ k) (d, test, at, lands) =
-        by_lands lands (λ stack. value_depth g locals kinds.Int (operands.Slot d) (p + 1) frames k stack) (λ stack. ahead_depth g locals kinds.Int d (p + 1) frames k stack)
+    value_depth g locals kind o p frames (Needs (ApplyPointer peek u left) ∷ k) (d, q, at, lands) =
+        by_lands lands (λ stack. value_depth g locals (operator_kind u) (operands.Slot d) q frames k stack) (λ stack. ahead_depth g locals (operator_kind u) d q frames k stack)
     value_depth g locals kind o p frames (Needs Decide ∷ k) (d, q, is, at, lands) =
         by_lands lands (λ stack. value_depth g locals kinds.Int (operands.Slot d) q frames k stack) (λ stack. ahead_depth g locals kinds.Int d q frames k stack)
     value_depth g locals kind o p frames (Needs (Store place) ∷ k) (l, to, q, at, is, hands) =
@@ -145,13 +147,13 @@ module _ (source : Program) where
     value_plain g locals kind o p frames (Needs (Operate u) ∷ k) (to_jump (is, stack)) = condition_plain g comparisons.NotEqual o (operands.Word 0) p frames k stack
     value_plain g locals kind o p frames (Needs (Chain NoOperations) ∷ k) stack = value_plain g locals kind o p frames k stack
     value_plain g locals kind o p frames (Needs (Chain os) ∷ k) (to_slot (d, q, at, lands)) =
-        by_lands lands (λ stack. value_plain g locals kinds.Int (operands.Slot d) q frames k stack) (λ stack. ahead_plain g locals kinds.Int d q frames k stack)
+        by_lands lands (λ stack. value_plain g locals (chain_kind kind os) (operands.Slot d) q frames k stack) (λ stack. ahead_plain g locals (chain_kind kind os) d q frames k stack)
     value_plain g locals kind o p frames (Needs (Chain os) ∷ k) (to_jump (failing, r, q, at, stack)) = condition_plain g failing o r q frames k stack
     value_plain g locals kind o p frames (Needs (Apply u left) ∷ k) (to_slot (d, q, at, lands)) =
         by_lands lands (λ stack. value_plain g locals kinds.Int (operands.Slot d) q frames k stack) (λ stack. ahead_plain g locals kinds.Int d q frames k stack)
     value_plain g locals kind o p frames (Needs (Apply u left) ∷ k) (to_jump (failing, is, stack)) = condition_plain g failing (operands.Slot (top source g k)) o p frames k stack
-    value_plain g locals kind o p frames (Needs (ApplyPointer peek u left) ∷ k) (d, test, at, lands) =
-        by_lands lands (λ stack. value_plain g locals kinds.Int (operands.Slot d) (p + 1) frames k stack) (λ stack. ahead_plain g locals kinds.Int d (p + 1) frames k stack)
+    value_plain g locals kind o p frames (Needs (ApplyPointer peek u left) ∷ k) (d, q, at, lands) =
+        by_lands lands (λ stack. value_plain g locals (operator_kind u) (operands.Slot d) q frames k stack) (λ stack. ahead_plain g locals (operator_kind u) d q frames k stack)
     value_plain g locals kind o p frames (Needs Decide ∷ k) (d, q, is, at, lands) =
         by_lands lands (λ stack. value_plain g locals kinds.Int (operands.Slot d) q frames k stack) (λ stack. ahead_plain g locals kinds.Int d q frames k stack)
     value_plain g locals kind o p frames (Needs (Store place) ∷ k) (l, to, q, at, is, hands) =

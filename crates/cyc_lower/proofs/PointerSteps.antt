@@ -1,7 +1,8 @@
 -- The steps of operators on pointers.
-use Rattle.std.proofs.Common.{◌≡◌, ◌≢◌, ℕ, ◌+◌, Bool, true, false, not, List, ◌∷◌, Option, None, Some, slice_get, refl, sym, ap, subst, ◌∙◌}
+use Rattle.std.proofs.Common.{◌≡◌, ◌≢◌, ℕ, ◌+◌, ◌<◌, Bool, true, false, not, List, ◌∷◌, Option, None, Some, slice_get, refl, sym, ap, subst, ◌∙◌, arith, inl, inr}
 use Rattle.std.specs.Prelude.{◌==◌, ◌&&◌, if◌then◌else◌}
-use Rattle.std.proofs.lemmas.Bool.{eq-eqb, ne_eqb}
+use Rattle.std.proofs.lemmas.Bool.{eq-eqb, ne_eqb, eqb-true}
+use Rattle.cyc_words.specs.Word.{add_of, sub_of}
 use Rattle.cyc_types.specs.declared.typed.Kind.{Kind}
 use Rattle.cyc_types.specs.declared.typed.Kind.TheVariants as kinds
 use Rattle.cyc_types.specs.declared.typed.PointerOperator.{PointerOperator}
@@ -12,29 +13,32 @@ use Rattle.cyc_plain.specs.declared.instruction.Operand.{Operand}
 use Rattle.cyc_plain.specs.declared.instruction.Operand.TheVariants as operands
 use Rattle.cyc_plain.specs.Operators.{truth}
 use Rattle.cyc_plain.specs.State as plain
-use Rattle.cyc_plain.specs.State.{Words, put, Configuration}
-use Rattle.cyc_plain.specs.Step.{Choice, operand_word, with_slots, advanced, performed}
+use Rattle.cyc_plain.specs.declared.instruction.Instruction.TheVariants as instructions
+use Rattle.cyc_plain.specs.State.{Words, put, copied, Frame, Configuration}
+use Rattle.cyc_plain.specs.Step.{Choice, operand_word, with_slots, at, advanced, performed}
+use Rattle.cyc_plain.proofs.SlotLaws.{put-same, put-other, copied-inside, copied-above}
 use Rattle.cyc_plain.specs.Straight.{At}
 use Rattle.cyc_meaning.specs.Values.{Value, Int, Null, Thin, Fat, Handle, Key, Operand as Kinded, is_thin, is_kind, words_of_kind}
 use Rattle.cyc_meaning.specs.Operators.{Result, Gives}
-use Rattle.cyc_meaning.specs.Pointers.{null_test, takes_kind}
+use Rattle.cyc_meaning.specs.Pointers.{moved, null_test, takes_kind, result_kind as operator_kind}
 use Rattle.cyc_meaning.specs.Objects.{found_object, object_at, both_found, compared}
 use Rattle.cyc_meaning.specs.State.{Object, World, Access, Found, Closed, Missing, Owner, InRegion, Unique, is_live, Environment, Chain, ApplyPointer, Entry, Needs, Given, State, Running}
 use Rattle.cyc_meaning.specs.Step.{computed, tells, applies_pointer, step}
 use Rattle.cyc_objects.specs.Tables.{Tables}
 use Rattle.cyc_objects.specs.Words.{Is}
 use Rattle.cyc_objects.specs.Related as objects
-use Rattle.cyc_objects.proofs.Pointers.{not-null, part-not-null, ThinIs, thin_null, thin_cell}
+use Rattle.cyc_objects.proofs.Pointers.{not-null, part-not-null, ThinIs, thin_null, thin_cell, fat-moved}
 use Rattle.cyc_objects.proofs.Comparing.{thin-compared}
 use Rattle.cyc_lower.specs.Lowerable.{is_comparison}
-use Rattle.cyc_lower.specs.Lowering.{left_kind, behind_left, pointer_instruction, lower_program}
-use Rattle.cyc_lower.proofs.Widths.{same_kind}
-use Rattle.cyc_lower.proofs.Stands.{ValueAt}
-use Rattle.cyc_lower.proofs.Relation.{IsIn, types_at, silent, Holds, held, DataIn, SharedAt, LandsStack, EvaluatingAt, as_operand, Matches, code_of, bounds_at, base_of, top}
-use Rattle.cyc_lower.proofs.Data.{in_words}
+use Rattle.cyc_lower.specs.Lowering.{left_kind, behind_left, pointer_operator, lower_program}
+use Rattle.cyc_lower.proofs.Widths.{same_kind, Outside}
+use Rattle.cyc_lower.proofs.Moves.{copied_elsewhere}
+use Rattle.cyc_lower.proofs.Stands.{FirstTwoAt, IndexAt, PointerAt, ValueAt}
+use Rattle.cyc_lower.proofs.Relation.{IsIn, types_at, silent, Holds, held, DataIn, SharedAt, LandsStack, in_temporary, in_local, EvaluatingAt, as_operand, Matches, code_of, bounds_at, base_of, top}
+use Rattle.cyc_lower.proofs.Data.{height-least, in_words}
 use Rattle.cyc_lower.proofs.Accesses.{IsWell}
-use Rattle.cyc_lower.proofs.Matched.{IsMatched, by_one}
-use Rattle.cyc_lower.proofs.Evaluations.{landed_word}
+use Rattle.cyc_lower.proofs.Matched.{IsMatched, by_one, by_two}
+use Rattle.cyc_lower.proofs.Evaluations.{landed, landed_word}
 
 -- ---- the words of a left operand
 
@@ -223,12 +227,59 @@ module _ (k : List Entry) (e : Environment) (w : World) where
     applies_told pointers.SubtractFat i j left v words others p q test is_left is well = absurd (let f : false ≡ true = test in cc)
     applies_told u i j left v words others p q test is_left is well = absurd (well refl)
 
+-- ---- arithmetic
+
+-- only a fat pointer has an index
+abbrev IsFatPointer : Value → Type 0
+IsFatPointer Null = Unit {0}
+IsFatPointer (Fat object start many index) = Unit {0}
+IsFatPointer v = ⊥
+
+as_fat : (t : Tables) (kind : Kind) (v : Value) (words : Words) (p : ℕ) → Is t kind v words p → IsFatPointer v → Is t kinds.Fat v words p
+as_fat t kinds.Nullable Null words p is fat = is
+as_fat t kinds.Fat Null words p is fat = is
+as_fat t kinds.Fat (Fat object start many index) words p is fat = is
+as_fat t kind (Int a) words p is fat = absurd fat
+as_fat t kind (Thin object offset) words p is fat = absurd fat
+as_fat t kind (Handle region) words p is fat = absurd fat
+as_fat t kind (Key region) words p is fat = absurd fat
+as_fat t kind v words p is fat = absurd is
+
+int_word : (t : Tables) (kind : Kind) (a : ℕ) (words : Words) (p : ℕ) → Is t kind (Int a) words p → words p ≡ a
+int_word t kinds.Int a words p is = is
+int_word t kind a words p is = absurd is
+
+-- what its arithmetic gives
+pub record IsMoved (change : ℕ → ℕ) (v : Value) : Type 0 where
+  pub value : Value
+  pub gives : moved change v ≡ Gives value
+  pub fat : IsFatPointer v
+
+is_moved : (change : ℕ → ℕ) (v : Value) (k : List Entry) (e : Environment) (w : World) → IsWell (computed kinds.Fat (moved change v) k e w) → IsMoved change v
+is_moved change Null k e w well = record { value = Null; gives = refl; fat = tt }
+is_moved change (Fat object start many index) k e w well = record { value = Fat object start many (change index); gives = refl; fat = tt }
+is_moved change v k e w well = absurd (well refl)
+
+-- where an index was put, and where it was not
+outside_index : (slots : Words) (d x m : ℕ) → Outside d 3 m → put slots (d + 2) x m ≡ slots m
+outside_index slots d x m (inl below) = put-other slots (d + 2) m x (λ same. absurd (omega (arith, same, below)))
+outside_index slots d x m (inr above) = put-other slots (d + 2) m x (λ same. absurd (omega (arith, same, above)))
+
+first_outside : (d m : ℕ) → Outside d 3 m → Outside d 2 m
+first_outside d m (inl below) = inl below
+first_outside d m (inr above) = inr (omega (arith, above))
+
+-- the first two words, which do not lie there
+copied_first : (slots : Words) (t d x i : ℕ) → i < 2 → (t + i ≡ d + 2 → ⊥) → copied (put slots (d + 2) x) t 2 (put slots (d + 2) x) d (d + i) ≡ slots (t + i)
+copied_first slots t d x i below apart =
+    copied-inside (put slots (d + 2) x) (put slots (d + 2) x) t 2 d i below ∙ put-other slots (d + 2) (t + i) x apart
+
 -- ---- the steps
 
 module _ (source : Program) (pages calls : ℕ) where
   -- the instruction of a comparison tells the same of the words of its operands
   compares_words : (u : PointerOperator) (l r : Operand) (d : ℕ) (choice : Choice) (c : Configuration) → is_comparison u ≡ true
-      → performed (lower_program source) choice c (pointer_instruction u l r d)
+      → performed (lower_program source) choice c (instructions.Binary (pointer_operator u) d l r)
       ≡ plain.Running (advanced (with_slots c (put c.active.slots d (told (is_negated u) (operand_word c.active.slots l) (operand_word c.active.slots r)))))
   compares_words pointers.ThinIsNull l r d choice c test = refl
   compares_words pointers.ThinIsNotNull l r d choice c test = refl
@@ -241,32 +292,143 @@ module _ (source : Program) (pages calls : ℕ) where
   compares_words u l r d choice c test = absurd (let f : false ≡ true = test in cc)
 
   -- both operands are there, and are compared
-  pub compares_pointers : (u : PointerOperator) (peek : Option ℕ) (left v : Kinded) (o : Operand) (d : ℕ) (k : List Entry) (e : Environment) (w : World) (c : Configuration)
-      → IsWell (step source (Running (Given v) (Needs (ApplyPointer peek u left) ∷ k) e w)) → is_comparison u ≡ true
+  compares_pointers : (u : PointerOperator) (peek : Option ℕ) (left v : Kinded) (o : Operand) (d q : ℕ) (k : List Entry) (e : Environment) (w : World) (c : Configuration)
+      → is_comparison u ≡ true → IsWell (applies_pointer u left.value v.value k e w)
       → (shared : SharedAt source pages calls k e w c) → DataIn source shared.tables c.active.slots k e w c → IsIn shared.tables v c.active.slots o
       → Is shared.tables left.kind left.value c.active.slots (top source c.active.function k) → Holds shared.tables c.active.slots (base_of source c.active.function) (held k)
-      → At (code_of source c.active.function) c.active.next (pointer_instruction u (operands.Slot (top source c.active.function k)) o d)
-      → LandsStack source c.active.function e.locals kinds.Int d (c.active.next + 1) c.frames k
+      → At (code_of source c.active.function) c.active.next (instructions.Binary (pointer_operator u) d (operands.Slot (top source c.active.function k)) o) → c.active.next + 1 ≡ q
+      → LandsStack source c.active.function e.locals kinds.Int d q c.frames k
       → IsMatched source pages calls (Running (Given v) (Needs (ApplyPointer peek u left) ∷ k) e w) (plain.Running c)
-  compares_pointers u peek left v o d k e w c well test shared facts is is_left holds here lands =
+  compares_pointers u peek left v o d q k e w c test well shared facts is is_left holds here end lands =
       let slots = c.active.slots in
       let free = top source c.active.function k in
-      let (others, q, same, is_right) = in_words shared.tables v slots o is in
+      let (others, p, same, is_right) = in_words shared.tables v slots o is in
       let n = told (is_negated u) (slots free) (operand_word slots o) in
-      let does = applies_told k e w shared.tables c.store shared.related u left.kind v.kind left.value v.value slots others free q test is_left is_right well ∙ ap (λ x. gives_told k e w (is_negated u) (slots free) x) same in
+      let does = applies_told k e w shared.tables c.store shared.related u left.kind v.kind left.value v.value slots others free p test is_left is_right well ∙ ap (λ x. gives_told k e w (is_negated u) (slots free) x) same in
       by_one source pages calls does shared here
       (λ choice. subst (Matches source pages calls (Running (Given (record { kind = kinds.Int; value = Int n })) k e w)) (sym (compares_words u (operands.Slot free) o d choice c test))
-      (landed_word source pages calls n n d k e w c (c.active.next + 1) refl shared facts holds refl lands))
+      (landed_word source pages calls n n d k e w c q refl shared facts holds end lands))
+
+  -- the first two words are not where the index comes
+  lands_apart : (g : ℕ) (locals : ℕ → Option ℕ) (d q : ℕ) (frames : List Frame) (k : List Entry) → LandsStack source g locals kinds.Fat d q frames k → (i : ℕ) → i < 2 → top source g k + i ≡ d + 2 → ⊥
+  lands_apart g locals d q frames k (in_temporary least stack) i below same = absurd (omega (arith, below, same, least))
+  lands_apart g locals d q frames k (in_local inside stack) i below same = absurd (omega (arith, below, same, inside, height-least (base_of source g) (held k)))
+
+  -- an index comes where it is to be, and the first two words with it
+  index_moves : (there : Bool) (u : PointerOperator) (peek : Option ℕ) (x : ℕ) (left v : Kinded) (value : Value) (o : Operand) (d q : ℕ) (k : List Entry) (e : Environment) (w : World) (c : Configuration)
+      → (top source c.active.function k == d) ≡ there → step source (Running (Given v) (Needs (ApplyPointer peek u left) ∷ k) e w) ≡ Running (Given (record { kind = kinds.Fat; value = value })) k e w
+      → ((choice : Choice) → performed (lower_program source) choice c (instructions.Binary (pointer_operator u) (d + 2) (operands.Slot (top source c.active.function k + 2)) o)
+      ≡ plain.Running (advanced (with_slots c (put c.active.slots (d + 2) x))))
+      → (shared : SharedAt source pages calls k e w c) → DataIn source shared.tables c.active.slots k e w c
+      → ((after : Words) → after d ≡ c.active.slots (top source c.active.function k) → after (d + 1) ≡ c.active.slots (top source c.active.function k + 1) → after (d + 2) ≡ x → Is shared.tables kinds.Fat value after d)
+      → Holds shared.tables c.active.slots (base_of source c.active.function) (held k)
+      → At (code_of source c.active.function) c.active.next (instructions.Binary (pointer_operator u) (d + 2) (operands.Slot (top source c.active.function k + 2)) o)
+      → FirstTwoAt (code_of source c.active.function) (bounds_at source c.active.function) (types_at source c.active.function) there (top source c.active.function k) d (c.active.next + 1) q
+      → LandsStack source c.active.function e.locals kinds.Fat d q c.frames k
+      → IsMatched source pages calls (Running (Given v) (Needs (ApplyPointer peek u left) ∷ k) e w) (plain.Running c)
+  index_moves true u peek x left v value o d q k e w c told does performs shared facts is holds here end lands =
+      let slots = c.active.slots in
+      let t = top source c.active.function k in
+      let after = put slots (d + 2) x in
+      let same : t ≡ d = eqb-true t d told in
+      let result : Kinded = record { kind = kinds.Fat; value = value } in
+      by_one source pages calls does shared here
+      (λ choice. subst (Matches source pages calls (Running (Given result) k e w)) (sym (performs choice))
+      (landed source pages calls result after d k e w c q shared
+      (is after (put-other slots (d + 2) d x (λ h. absurd (omega (arith, h))) ∙ ap slots (sym same)) (put-other slots (d + 2) (d + 1) x (λ h. absurd (omega (arith, h))) ∙ ap (λ n. slots (n + 1)) (sym same)) (put-same slots (d + 2) x))
+      (λ m out. outside_index slots d x m out) facts holds end lands))
+  index_moves false u peek x left v value o d q k e w c told does performs shared facts is holds here (move, end) lands =
+      let slots = c.active.slots in
+      let g = c.active.function in
+      let t = top source g k in
+      let before = put slots (d + 2) x in
+      let after = copied before t 2 before d in
+      let apart = lands_apart g e.locals d q c.frames k lands in
+      let result : Kinded = record { kind = kinds.Fat; value = value } in
+      let first : after d ≡ slots t = ap after (let e : d ≡ d + 0 = omega arith in e) ∙ copied_first slots t d x 0 (omega arith) (apart 0 (omega arith)) ∙ ap slots (let e : t + 0 ≡ t = omega arith in e) in
+      by_two source pages calls (advanced (with_slots c before)) does shared shared here performs move (λ equal. omega (arith, equal))
+      (λ choice. landed source pages calls result after d k e w (at c (c.active.next + 1)) q shared
+      (is after first (copied_first slots t d x 1 (omega arith) (apart 1 (omega arith))) (copied-above before before t 2 d (d + 2) (omega arith) ∙ put-same slots (d + 2) x))
+      (λ m out. copied_elsewhere before before t 2 d m (first_outside d m out) ∙ outside_index slots d x m out) facts holds end lands)
+
+  -- a fat pointer and an int
+  moves_index : (u : PointerOperator) (peek : Option ℕ) (change : ℕ → ℕ) (left v : Kinded) (o : Operand) (d q : ℕ) (k : List Entry) (e : Environment) (w : World) (c : Configuration)
+      → step source (Running (Given v) (Needs (ApplyPointer peek u left) ∷ k) e w) ≡ computed kinds.Fat (moved change left.value) k e w → IsWell (computed kinds.Fat (moved change left.value) k e w)
+      → ((choice : Choice) → performed (lower_program source) choice c (instructions.Binary (pointer_operator u) (d + 2) (operands.Slot (top source c.active.function k + 2)) o)
+      ≡ plain.Running (advanced (with_slots c (put c.active.slots (d + 2) (change (c.active.slots (top source c.active.function k + 2)))))))
+      → (shared : SharedAt source pages calls k e w c) → DataIn source shared.tables c.active.slots k e w c
+      → Is shared.tables left.kind left.value c.active.slots (top source c.active.function k) → Holds shared.tables c.active.slots (base_of source c.active.function) (held k)
+      → IndexAt (code_of source c.active.function) (bounds_at source c.active.function) (types_at source c.active.function) u o (top source c.active.function k) d c.active.next q
+      → LandsStack source c.active.function e.locals kinds.Fat d q c.frames k
+      → IsMatched source pages calls (Running (Given v) (Needs (ApplyPointer peek u left) ∷ k) e w) (plain.Running c)
+  moves_index u peek change left v o d q k e w c does well performs shared facts is_left holds (here, rest) lands =
+      let slots = c.active.slots in
+      let t = top source c.active.function k in
+      let result = is_moved change left.value k e w well in
+      index_moves (t == d) u peek (change (slots (t + 2))) left v result.value o d q k e w c refl (does ∙ ap (λ (r : Result). computed kinds.Fat r k e w) result.gives) performs shared facts
+      (λ after first second third. fat-moved shared.tables change left.value result.value slots after t d (as_fat shared.tables left.kind left.value slots t is_left result.fat) result.gives first second third)
+      holds here rest lands
+
+  adds_to : (peek : Option ℕ) (left : Kinded) (j : Kind) (v : Value) (o : Operand) (d q : ℕ) (k : List Entry) (e : Environment) (w : World) (c : Configuration)
+      → IsWell (applies_pointer pointers.AddFat left.value v k e w)
+      → (shared : SharedAt source pages calls k e w c) → DataIn source shared.tables c.active.slots k e w c → IsIn shared.tables (record { kind = j; value = v }) c.active.slots o
+      → Is shared.tables left.kind left.value c.active.slots (top source c.active.function k) → Holds shared.tables c.active.slots (base_of source c.active.function) (held k)
+      → IndexAt (code_of source c.active.function) (bounds_at source c.active.function) (types_at source c.active.function) pointers.AddFat o (top source c.active.function k) d c.active.next q
+      → LandsStack source c.active.function e.locals kinds.Fat d q c.frames k
+      → IsMatched source pages calls (Running (Given (record { kind = j; value = v })) (Needs (ApplyPointer peek pointers.AddFat left) ∷ k) e w) (plain.Running c)
+  adds_to peek left j (Int n) o d q k e w c well shared facts is is_left holds here lands =
+      let slots = c.active.slots in
+      let t = top source c.active.function k in
+      let (others, p, same, is_right) = in_words shared.tables (record { kind = j; value = Int n }) slots o is in
+      moves_index pointers.AddFat peek (λ index. add_of index n) left (record { kind = j; value = Int n }) o d q k e w c refl well
+      (λ choice. ap (λ x. plain.Running (advanced (with_slots c (put slots (d + 2) (add_of (slots (t + 2)) x))))) (sym same ∙ int_word shared.tables j n others p is_right))
+      shared facts is_left holds here lands
+  adds_to peek left j v o d q k e w c well shared facts is is_left holds here lands = absurd (well refl)
+
+  takes_from : (peek : Option ℕ) (left : Kinded) (j : Kind) (v : Value) (o : Operand) (d q : ℕ) (k : List Entry) (e : Environment) (w : World) (c : Configuration)
+      → IsWell (applies_pointer pointers.SubtractFat left.value v k e w)
+      → (shared : SharedAt source pages calls k e w c) → DataIn source shared.tables c.active.slots k e w c → IsIn shared.tables (record { kind = j; value = v }) c.active.slots o
+      → Is shared.tables left.kind left.value c.active.slots (top source c.active.function k) → Holds shared.tables c.active.slots (base_of source c.active.function) (held k)
+      → IndexAt (code_of source c.active.function) (bounds_at source c.active.function) (types_at source c.active.function) pointers.SubtractFat o (top source c.active.function k) d c.active.next q
+      → LandsStack source c.active.function e.locals kinds.Fat d q c.frames k
+      → IsMatched source pages calls (Running (Given (record { kind = j; value = v })) (Needs (ApplyPointer peek pointers.SubtractFat left) ∷ k) e w) (plain.Running c)
+  takes_from peek left j (Int n) o d q k e w c well shared facts is is_left holds here lands =
+      let slots = c.active.slots in
+      let t = top source c.active.function k in
+      let (others, p, same, is_right) = in_words shared.tables (record { kind = j; value = Int n }) slots o is in
+      moves_index pointers.SubtractFat peek (λ index. sub_of index n) left (record { kind = j; value = Int n }) o d q k e w c refl well
+      (λ choice. ap (λ x. plain.Running (advanced (with_slots c (put slots (d + 2) (sub_of (slots (t + 2)) x))))) (sym same ∙ int_word shared.tables j n others p is_right))
+      shared facts is_left holds here lands
+  takes_from peek left j v o d q k e w c well shared facts is is_left holds here lands = absurd (well refl)
+
+  -- both operands are there
+  pub applies_pointers : (u : PointerOperator) (peek : Option ℕ) (left v : Kinded) (o : Operand) (d q : ℕ) (k : List Entry) (e : Environment) (w : World) (c : Configuration)
+      → IsWell (step source (Running (Given v) (Needs (ApplyPointer peek u left) ∷ k) e w))
+      → (shared : SharedAt source pages calls k e w c) → DataIn source shared.tables c.active.slots k e w c → IsIn shared.tables v c.active.slots o
+      → Is shared.tables left.kind left.value c.active.slots (top source c.active.function k) → Holds shared.tables c.active.slots (base_of source c.active.function) (held k)
+      → PointerAt (code_of source c.active.function) (bounds_at source c.active.function) (types_at source c.active.function) u o (top source c.active.function k) d c.active.next q
+      → LandsStack source c.active.function e.locals (operator_kind u) d q c.frames k
+      → IsMatched source pages calls (Running (Given v) (Needs (ApplyPointer peek u left) ∷ k) e w) (plain.Running c)
+  applies_pointers pointers.AddFat peek left v o d q k e w c well shared facts is is_left holds here lands = adds_to peek left v.kind v.value o d q k e w c well shared facts is is_left holds here lands
+  applies_pointers pointers.SubtractFat peek left v o d q k e w c well shared facts is is_left holds here lands = takes_from peek left v.kind v.value o d q k e w c well shared facts is is_left holds here lands
+  applies_pointers pointers.ThinIsNull peek left v o d q k e w c well shared facts is is_left holds (here, end) lands = compares_pointers pointers.ThinIsNull peek left v o d q k e w c refl well shared facts is is_left holds here end lands
+  applies_pointers pointers.ThinIsNotNull peek left v o d q k e w c well shared facts is is_left holds (here, end) lands = compares_pointers pointers.ThinIsNotNull peek left v o d q k e w c refl well shared facts is is_left holds here end lands
+  applies_pointers pointers.FatIsNull peek left v o d q k e w c well shared facts is is_left holds (here, end) lands = compares_pointers pointers.FatIsNull peek left v o d q k e w c refl well shared facts is is_left holds here end lands
+  applies_pointers pointers.FatIsNotNull peek left v o d q k e w c well shared facts is is_left holds (here, end) lands = compares_pointers pointers.FatIsNotNull peek left v o d q k e w c refl well shared facts is is_left holds here end lands
+  applies_pointers pointers.NullIs peek left v o d q k e w c well shared facts is is_left holds (here, end) lands = compares_pointers pointers.NullIs peek left v o d q k e w c refl well shared facts is is_left holds here end lands
+  applies_pointers pointers.NullIsNot peek left v o d q k e w c well shared facts is is_left holds (here, end) lands = compares_pointers pointers.NullIsNot peek left v o d q k e w c refl well shared facts is is_left holds here end lands
+  applies_pointers pointers.EqualThin peek left v o d q k e w c well shared facts is is_left holds (here, end) lands = compares_pointers pointers.EqualThin peek left v o d q k e w c refl well shared facts is is_left holds here end lands
+  applies_pointers pointers.NotEqualThin peek left v o d q k e w c well shared facts is is_left holds (here, end) lands = compares_pointers pointers.NotEqualThin peek left v o d q k e w c refl well shared facts is is_left holds here end lands
 
   -- the right operand stands behind the left one
-  pub right_follows : (peek : Option ℕ) (u : PointerOperator) (b : Expression) (os : Operations) (v : Kinded) (k : List Entry) (e : Environment) (w : World) (c : Configuration) (r : Operand) (m d : ℕ) → takes_kind u v.kind ≡ true
-      → (t : Tables) → Is t v.kind v.value c.active.slots (top source c.active.function k) → Holds t c.active.slots (base_of source c.active.function) (held k) → is_comparison u ≡ true
+  pub right_follows : (peek : Option ℕ) (u : PointerOperator) (b : Expression) (os : Operations) (v : Kinded) (k : List Entry) (e : Environment) (w : World) (c : Configuration) (r : Operand) (m d q : ℕ) → takes_kind u v.kind ≡ true
+      → (t : Tables) → Is t v.kind v.value c.active.slots (top source c.active.function k) → Holds t c.active.slots (base_of source c.active.function) (held k)
       → ValueAt (code_of source c.active.function) (bounds_at source c.active.function) (types_at source c.active.function) b (behind_left u (top source c.active.function k)) r c.active.next m
-      → At (code_of source c.active.function) m (pointer_instruction u (operands.Slot (top source c.active.function k)) r d)
-      → LandsStack source c.active.function e.locals kinds.Int d (m + 1) c.frames (Needs (Chain os) ∷ k)
+      → PointerAt (code_of source c.active.function) (bounds_at source c.active.function) (types_at source c.active.function) u r (top source c.active.function k) d m q
+      → LandsStack source c.active.function e.locals (operator_kind u) d q c.frames (Needs (Chain os) ∷ k)
       → EvaluatingAt source t b e.locals c.active.function c.active.next c.active.slots c.frames (Needs (ApplyPointer peek u v) ∷ Needs (Chain os) ∷ k)
-  right_follows peek u b os v k e w c r m d takes t is holds test at_b here lands =
+  right_follows peek u b os v k e w c r m d q takes t is holds at_b here lands =
       let g = c.active.function in
       as_operand r m
       (subst (λ n. ValueAt (code_of source g) (bounds_at source g) (types_at source g) b n r c.active.next m) (ap (λ n. top source g k + n) (sym (taken_words u v.kind takes))) at_b)
-      (is, holds) (d, test, here, lands)
+      (is, holds) (d, q, here, lands)

@@ -26,7 +26,7 @@ use Rattle.cyc_lower.specs.declared.statements.Exits.{Exits}
 use Rattle.cyc_lower.specs.Slots.{starts_of, slot_of, Starts}
 use Rattle.cyc_meaning.specs.Values.{kind_of, words_of_kind}
 use Rattle.cyc_lower.proofs.Widths.{kind_few, type_words}
-use Rattle.cyc_lower.specs.Lowering.{types_of, converts_there, passed_words, all_passed, source_of, source_slot, converted_by, moved_by, move_of, pointer_instruction, unary_operator, binary_operator, operand_of, operand_or, code_unless, slot_or, code_unless_slot, left_of, value_slot, next_slot, left_slot, value_operand, converted_operand, printed_operand, conversion_code, divisor_code, checked_code, operator_code, truth_code, load_code, low_byte, test_code, is_in, copy_code, expression_code, arguments_code, converted_code, converted_operand_code, printed_code, dereference_code, initial_code, assignment_code, operations_code, discarded_code, failing_comparison, compared_or, left_with, slot_with, first_code, second_code, pair_code, condition_code, condition_of, failing_jump, break_target, continue_target, return_code, declaration_code, statement_code, items_code, first_temporary, jump_if_zero, jump_if_nonzero, lower_function, behind_left, pointer_code, outside_loops, inside_loop}
+use Rattle.cyc_lower.specs.Lowering.{types_of, converts_there, passed_words, all_passed, source_of, source_slot, converted_by, moved_by, move_of, unary_operator, binary_operator, operand_of, operand_or, code_unless, slot_or, code_unless_slot, left_of, value_slot, next_slot, left_slot, value_operand, converted_operand, printed_operand, conversion_code, divisor_code, checked_code, operator_code, truth_code, load_code, low_byte, test_code, is_in, copy_code, expression_code, arguments_code, converted_code, converted_operand_code, printed_code, dereference_code, initial_code, assignment_code, operations_code, discarded_code, failing_comparison, compared_or, left_with, slot_with, first_code, second_code, pair_code, condition_code, condition_of, failing_jump, break_target, continue_target, return_code, declaration_code, statement_code, items_code, first_temporary, jump_if_zero, jump_if_nonzero, lower_function, behind_left, pointer_code, outside_loops, inside_loop, pointer_operator, index_of, first_two, pointer_instructions}
 use Rattle.cyc_lower.specs.Lowered.{size_per_weight}
 
 abbrev code_size : List Instruction → ℕ
@@ -100,9 +100,17 @@ initial_by_size true known at_once inner to o p d bound few other = omega (arith
 initial_by_size false known at_once inner to o p d bound few other =
     omega (arith, both (converted_by known inner to o p) (move_of (words_of_kind to) d o ∷ []), converted_by_size known inner to o p bound other, move_size (words_of_kind to) d o (kind_few to))
 
-pointer_size : (o : PointerOperator) (l r : Operand) (d : ℕ) → instruction_size (pointer_instruction o l r d) ≤ 11
-pointer_size pointers.AddFat l r d = omega arith
-pointer_size pointers.SubtractFat l r d = omega arith
+first_two_size : (l : Operand) (d : ℕ) → code_size (first_two l d) ≤ 14
+first_two_size (operands.Word n) d = omega arith
+first_two_size (operands.Slot n) d = by (n == d)
+  where
+    by : (there : Bool) → code_size (if there then [] else instructions.MoveWords d n 2 ∷ []) ≤ 14
+    by true = omega arith
+    by false = omega arith
+
+pointer_size : (o : PointerOperator) (l r : Operand) (d : ℕ) → code_size (pointer_instructions o l r d) ≤ 36
+pointer_size pointers.AddFat l r d = omega (arith, cons (instructions.Binary (pointer_operator pointers.AddFat) (d + 2) (index_of l) r) (first_two l d), first_two_size l d)
+pointer_size pointers.SubtractFat l r d = omega (arith, cons (instructions.Binary (pointer_operator pointers.SubtractFat) (d + 2) (index_of l) r) (first_two l d), first_two_size l d)
 pointer_size pointers.ThinIsNull l r d = omega arith
 pointer_size pointers.ThinIsNotNull l r d = omega arith
 pointer_size pointers.FatIsNull l r d = omega arith
@@ -127,12 +135,12 @@ module _ (starts : Starts) where
   right_size : (o : PointerOperator) (a : Expression) (p : ℕ) (l : Operand) (d t : ℕ) (back : List Instruction)
       → code_size (expression_code starts a p (value_slot starts a (behind_left o t)) (behind_left o t)) ≤ size_per_weight * expression_weight a
       → code_size (pointer_code o l (value_operand starts a (behind_left o t)) (code_unless (operand_of starts a) (expression_code starts a p (value_slot starts a (behind_left o t)) (behind_left o t))) d ++ back)
-      ≤ size_per_weight * expression_weight a + 11 + code_size back
+      ≤ size_per_weight * expression_weight a + 36 + code_size back
   right_size o a p l d t back few =
       let r = value_operand starts a (behind_left o t) in
       let inner = expression_code starts a p (value_slot starts a (behind_left o t)) (behind_left o t) in
       let operand = code_unless (operand_of starts a) inner in
-      omega (arith, both (pointer_code o l r operand d) back, both operand (pointer_instruction o l r d ∷ []), unless_size (operand_of starts a) inner, pointer_size o l r d, few)
+      omega (arith, both (pointer_code o l r operand d) back, both operand (pointer_instructions o l r d), unless_size (operand_of starts a) inner, pointer_size o l r d, few)
 
   mutual
     expression_size : (a : Expression) (p d t : ℕ) → code_size (expression_code starts a p d t) ≤ size_per_weight * expression_weight a

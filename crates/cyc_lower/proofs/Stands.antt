@@ -1,10 +1,13 @@
 -- Where in a function's code the code of a construct stands, with all places between its parts left open.
 use Rattle.std.proofs.Common.{◌≡◌, ℕ, suc, ◌+◌, ◌<◌, Bool, true, false, List, Option, None, Some}
+use Rattle.std.specs.Prelude.{◌==◌}
 use Rattle.cyc_types.specs.declared.typed.Kind.{Kind}
 use Rattle.cyc_types.specs.declared.typed.Kind.TheVariants as kinds
 use Rattle.cyc_types.specs.declared.typed.Callee.TheVariants as callees
 use Rattle.cyc_types.specs.declared.typed.Operator.{Operator}
 use Rattle.cyc_types.specs.declared.typed.Operator.TheVariants as operators
+use Rattle.cyc_types.specs.declared.typed.PointerOperator.{PointerOperator}
+use Rattle.cyc_types.specs.declared.typed.PointerOperator.TheVariants as pointers
 use Rattle.cyc_types.specs.TypedTrees.{type_of_place, Load, Dereference, Target, Lvalue, Local, Global, Expression, Number, NullPointer, Copy, Call, Unary, Binary, Assign, Converted, Convert, Arguments, NoArguments, MoreArguments, Operations, NoOperations, ThenCompute, ThenTest, ThenPointer, Statement, Block, Empty, Evaluate, If, While, Return, Break, Continue, Items, NoItems, MoreItems, Execute, Declare, Move, Peek, ThenPointerPeek}
 use Rattle.cyc_types.specs.Types.{Ty, words_of}
 use Rattle.cyc_types.specs.Numbered.{Numbering}
@@ -19,8 +22,7 @@ use Rattle.cyc_meaning.specs.Operators.{null_exception, division_by_zero}
 use Rattle.cyc_meaning.specs.Values.{is_thin, words_of_kind}
 use Rattle.cyc_lower.specs.declared.statements.Exits.{Exits}
 use Rattle.cyc_lower.specs.Slots.{Types, starts_of, slot_of}
-use Rattle.cyc_lower.specs.Lowerable.{is_comparison}
-use Rattle.cyc_lower.specs.Lowering.{unary_operator, binary_operator, operand_of, source_of, source_slot, failing_comparison, left_with, left_of, value_slot, next_slot, slot_with, left_slot, is_in, jump_if_nonzero, move_of, pointer_instruction, test_jump, are_as_wide, converts_there, passed_words, all_passed, compared_of, low_byte, break_target, continue_target, results_of, behind_left, inside_loop}
+use Rattle.cyc_lower.specs.Lowering.{unary_operator, binary_operator, operand_of, source_of, source_slot, failing_comparison, left_with, left_of, value_slot, next_slot, slot_with, left_slot, is_in, jump_if_nonzero, move_of, test_jump, are_as_wide, converts_there, passed_words, all_passed, compared_of, low_byte, break_target, continue_target, results_of, behind_left, inside_loop, pointer_operator}
 use Rattle.cyc_lower.proofs.Widths.{kind_of_result, given, passed_kind, HasRoom}
 
 -- ---- expressions
@@ -69,6 +71,20 @@ module _ (code : List Instruction) (bounds : Numbering) (types : Types) where
   OperatorAt operators.Divide d l r p q = CheckedAt operators.Divide d l r p q
   OperatorAt operators.Remainder d l r p q = CheckedAt operators.Remainder d l r p q
   OperatorAt o d l r p q = At code p (instructions.Binary (binary_operator o) d l r) × (p + 1 ≡ q)
+
+  -- the index of a fat pointer in slot t changes, and its first two words come before it
+  abbrev pub FirstTwoAt : Bool → (t d p q : ℕ) → Type 0
+  FirstTwoAt true t d p q = p ≡ q
+  FirstTwoAt false t d p q = At code p (instructions.MoveWords d t 2) × (p + 1 ≡ q)
+
+  abbrev pub IndexAt : PointerOperator → (r : Operand) → (t d p q : ℕ) → Type 0
+  IndexAt o r t d p q = At code p (instructions.Binary (pointer_operator o) (d + 2) (operands.Slot (t + 2)) r) × FirstTwoAt (t == d) t d (p + 1) q
+
+  -- an operator on pointers whose left operand is in slot t
+  abbrev pub PointerAt : PointerOperator → (r : Operand) → (t d p q : ℕ) → Type 0
+  PointerAt pointers.AddFat r t d p q = IndexAt pointers.AddFat r t d p q
+  PointerAt pointers.SubtractFat r t d p q = IndexAt pointers.SubtractFat r t d p q
+  PointerAt o r t d p q = At code p (instructions.Binary (pointer_operator o) d (operands.Slot t) r) × (p + 1 ≡ q)
 
   abbrev pub TruthAt : (t d p q : ℕ) → Type 0
   TruthAt t d p q =
@@ -154,13 +170,13 @@ module _ (code : List Instruction) (bounds : Numbering) (types : Types) where
         (m : ℕ) × (r : ℕ) × (l ≡ operands.Slot t) × At code p (test_jump o t m) × ExpressionAt a t t (p + 1) m × TruthAt t (next_slot os d t) m r
         × OperationsAt os (operands.Slot (next_slot os d t)) d t r q
     OperationsAt (ThenPointer o a os) l d t p q =
-        (r : Operand) × (m : ℕ) × (l ≡ operands.Slot t) × (is_comparison o ≡ true)
+        (r : Operand) × (m : ℕ) × (s : ℕ) × (l ≡ operands.Slot t)
         × OperandBy (operand_of (starts_of types) a) (ExpressionAt a (value_slot (starts_of types) a (behind_left o t)) (behind_left o t) p m) (value_slot (starts_of types) a (behind_left o t)) r p m
-        × At code m (pointer_instruction o (operands.Slot t) r (next_slot os d t)) × OperationsAt os (operands.Slot (next_slot os d t)) d t (m + 1) q
+        × PointerAt o r t (next_slot os d t) m s × OperationsAt os (operands.Slot (next_slot os d t)) d t s q
     OperationsAt (ThenPointerPeek n o a os) l d t p q =
-        (r : Operand) × (m : ℕ) × (l ≡ operands.Slot t) × (is_comparison o ≡ true)
+        (r : Operand) × (m : ℕ) × (s : ℕ) × (l ≡ operands.Slot t)
         × OperandBy (operand_of (starts_of types) a) (ExpressionAt a (value_slot (starts_of types) a (behind_left o t)) (behind_left o t) p m) (value_slot (starts_of types) a (behind_left o t)) r p m
-        × At code m (pointer_instruction o (operands.Slot t) r (next_slot os d t)) × OperationsAt os (operands.Slot (next_slot os d t)) d t (m + 1) q
+        × PointerAt o r t (next_slot os d t) m s × OperationsAt os (operands.Slot (next_slot os d t)) d t s q
 
   -- a value that comes to slot d, where it is told whether it does so before it is converted
   abbrev pub InitialBy : Bool → (from to : Kind) → Expression → (d t p q : ℕ) → Type 0

@@ -38,7 +38,7 @@ use Rattle.cyc_plain.specs.Straight.{At}
 use Rattle.cyc_types.specs.Types.{Ty}
 use Rattle.cyc_meaning.specs.Values.{Value, Int, Null, Thin, Fat, Handle, Key, Operand as Kinded, is_kind, is_thin, words_of_kind}
 use Rattle.cyc_meaning.specs.Operators.{Result, Gives, Raises, Misfits, has_no_result, binary_word, is_zero, unary_result, truth_result, truth_of, division_by_zero, array_bounds}
-use Rattle.cyc_meaning.specs.Pointers.{takes_kind, followed}
+use Rattle.cyc_meaning.specs.Pointers.{takes_kind, followed, result_kind as operator_kind}
 use Rattle.cyc_meaning.specs.Places.{arrives}
 use Rattle.cyc_meaning.specs.Conversion.{conversion}
 use Rattle.cyc_meaning.specs.State.{Region, World, Environment, with_local, made, variable, written, region_at, Awaiting, ConvertTo, Operate, Chain, Apply, ApplyPointer, Follow, Decide, Store, Pass, Initialise, Choose, Test, Return, Entry, Needs, Discard, Rest, Join, Loop, Focus, Evaluating, Given, GivenPlace, Executing, Proceeding, Calling, Returning, Throwing, State, Running}
@@ -48,7 +48,7 @@ use Rattle.cyc_meaning.specs.SourceMachine.{status_in}
 use Rattle.cyc_lower.specs.declared.statements.Exits.{Exits}
 use Rattle.cyc_lower.specs.Slots.{slot_of, Types}
 use Rattle.cyc_lower.proofs.Slots.{slot-room, room-inside}
-use Rattle.cyc_lower.proofs.Widths.{kind_positive, same_kind, HasRoom, Outside}
+use Rattle.cyc_lower.proofs.Widths.{kind_positive, same_kind, HasRoom, Outside, chain_kind}
 use Rattle.cyc_lower.proofs.Moves.{moved_slots, moves, put_elsewhere, moved_elsewhere, moved_is}
 use Rattle.cyc_lower.specs.Lowering.{unary_operator, binary_operator, failing_comparison, operand_of, value_slot, next_slot, is_in, jump_if_zero, jump_if_nonzero, move_of, converts_there, break_target, lower_program}
 use Rattle.cyc_lower.proofs.Stands.{OperandBy, CopyBy, CopyAt, CheckAt, CheckedAt, OperatorAt, TruthAt, ExpressionAt, OperationsAt}
@@ -65,7 +65,7 @@ use Rattle.cyc_lower.proofs.PlaceWords.{stays}
 use Rattle.cyc_lower.proofs.Weights.{weight}
 use Rattle.cyc_lower.proofs.Relation.{StatementStack}
 use Rattle.cyc_lower.proofs.Matched.{IsMatched, silently, by_one, by_two, by_three, shared_way, shared_within, lands_depth, value_depth, place_depth, lands_plain, value_plain, place_plain}
-use Rattle.cyc_lower.proofs.PointerSteps.{compares_pointers, right_follows}
+use Rattle.cyc_lower.proofs.PointerSteps.{applies_pointers, right_follows}
 use Rattle.cyc_lower.proofs.Evaluations.{IsStep, landed_word, landed_moved, lands_at, passes_related, passes_weight, object_of_same, global_there}
 
 -- an operand of a kind, and an int
@@ -571,14 +571,14 @@ module _ (source : Program) (pages calls : ℕ) where
   -- ---- chains
 
   -- the value of all before goes to what is left of a chain
-  chain_lands : (os : Operations) (g : ℕ) (locals : ℕ → Option ℕ) (d p q : ℕ) (frames : List Frame) (k : List Entry)
+  chain_lands : (os : Operations) (kind : Kind) (g : ℕ) (locals : ℕ → Option ℕ) (d p q : ℕ) (frames : List Frame) (k : List Entry)
       → OperationsAt (code_of source g) (bounds_at source g) (types_at source g) os (operands.Slot (next_slot os d (top source g k))) d (top source g k) p q
-      → LandsStack source g locals kinds.Int d q frames k → LandsStack source g locals kinds.Int (next_slot os d (top source g k)) p frames (Needs (Chain os) ∷ k)
-  chain_lands NoOperations g locals d p q frames k (is, end) lands = lands_at source pages calls g locals kinds.Int d p q frames k end lands
-  chain_lands (ThenCompute u b os) g locals d p q frames k ops lands = in_temporary (omega arith) (to_slot (d, q, ops, lands))
-  chain_lands (ThenTest u b os) g locals d p q frames k ops lands = in_temporary (omega arith) (to_slot (d, q, ops, lands))
-  chain_lands (ThenPointer u b os) g locals d p q frames k ops lands = in_temporary (omega arith) (to_slot (d, q, ops, lands))
-  chain_lands (ThenPointerPeek n u b os) g locals d p q frames k ops lands = in_temporary (omega arith) (to_slot (d, q, ops, lands))
+      → LandsStack source g locals (chain_kind kind os) d q frames k → LandsStack source g locals kind (next_slot os d (top source g k)) p frames (Needs (Chain os) ∷ k)
+  chain_lands NoOperations kind g locals d p q frames k (is, end) lands = lands_at source pages calls g locals kind d p q frames k end lands
+  chain_lands (ThenCompute u b os) kind g locals d p q frames k ops lands = in_temporary (omega arith) (to_slot (d, q, ops, lands))
+  chain_lands (ThenTest u b os) kind g locals d p q frames k ops lands = in_temporary (omega arith) (to_slot (d, q, ops, lands))
+  chain_lands (ThenPointer u b os) kind g locals d p q frames k ops lands = in_temporary (omega arith) (to_slot (d, q, ops, lands))
+  chain_lands (ThenPointerPeek n u b os) kind g locals d p q frames k ops lands = in_temporary (omega arith) (to_slot (d, q, ops, lands))
 
   -- where the left operand decides, the right one is jumped over
   decided_at_once : (u : LogicalOperator) (b : Expression) (os : Operations) (v : Kinded) (f : Bool) (k : List Entry) (e : Environment) (w : World) (c : Configuration) (i : Instruction) (d m r : ℕ)
@@ -612,29 +612,29 @@ module _ (source : Program) (pages calls : ℕ) where
       → IsWell (step source (Running (Given v) (Needs (Chain (ThenTest u b os)) ∷ k) e w))
       → (c.active.slots (top source c.active.function k) == 0) ≡ f → Stands v (operands.Slot (top source c.active.function k)) k e w c
       → OperationsAt (code_of source c.active.function) (bounds_at source c.active.function) (types_at source c.active.function) (ThenTest u b os) (operands.Slot (top source c.active.function k)) d (top source c.active.function k) c.active.next q
-      → LandsStack source c.active.function e.locals kinds.Int d q c.frames k → GoesBehind v (Needs (Chain (ThenTest u b os)) ∷ k) e w c
+      → LandsStack source c.active.function e.locals (chain_kind kinds.Int os) d q c.frames k → GoesBehind v (Needs (Chain (ThenTest u b os)) ∷ k) e w c
   tests logical.AndThen b os v true k e w c d q well told (shared, facts, is, holds) (m, r, there, jump, at_b, truths, ops) lands =
       let does = ap (λ (x : Option Bool). tested x logical.AndThen b os k e w) (zero_is shared.tables v c.active.slots (operands.Slot (top source c.active.function k)) (λ none. well (ap (λ x. status_in (status_of (tested x logical.AndThen b os k e w))) none)) is ∙ ap Some told) in
       decided_at_once logical.AndThen b os v true k e w c _ (next_slot os d (top source c.active.function k)) m r does jump (λ choice. ap (λ x. plain_step.branches c x m) told)
       (λ x same. let f : jump_if_zero _ m ≡ instructions.Unary plain_unary.Not x _ = same in cc) told shared facts holds truths
-      (chain_lands os c.active.function e.locals d r q c.frames k ops lands)
+      (chain_lands os kinds.Int c.active.function e.locals d r q c.frames k ops lands)
   tests logical.AndThen b os v false k e w c d q well told (shared, facts, is, holds) (m, r, there, jump, at_b, truths, ops) lands =
       let free = top source c.active.function k in
       let does = ap (λ (x : Option Bool). tested x logical.AndThen b os k e w) (zero_is shared.tables v c.active.slots (operands.Slot (top source c.active.function k)) (λ none. well (ap (λ x. status_in (status_of (tested x logical.AndThen b os k e w))) none)) is ∙ ap Some told) in
       by_one source pages calls does shared jump
       (λ choice. not_taken (Running (Evaluating b) (Needs Decide ∷ Needs (Chain os) ∷ k) e w) c _ m told
-      (shared, facts, into_slot free m at_b holds (in_temporary (omega arith) (next_slot os d free, r, refl, truths, chain_lands os c.active.function e.locals d r q c.frames k ops lands))))
+      (shared, facts, into_slot free m at_b holds (in_temporary (omega arith) (next_slot os d free, r, refl, truths, chain_lands os kinds.Int c.active.function e.locals d r q c.frames k ops lands))))
   tests logical.OrElse b os v true k e w c d q well told (shared, facts, is, holds) (m, r, there, jump, at_b, truths, ops) lands =
       let free = top source c.active.function k in
       let does = ap (λ (x : Option Bool). tested x logical.OrElse b os k e w) (zero_is shared.tables v c.active.slots (operands.Slot (top source c.active.function k)) (λ none. well (ap (λ x. status_in (status_of (tested x logical.OrElse b os k e w))) none)) is ∙ ap Some told) in
       by_one source pages calls does shared jump
       (λ choice. not_taken (Running (Evaluating b) (Needs Decide ∷ Needs (Chain os) ∷ k) e w) c _ m (ap not told)
-      (shared, facts, into_slot free m at_b holds (in_temporary (omega arith) (next_slot os d free, r, refl, truths, chain_lands os c.active.function e.locals d r q c.frames k ops lands))))
+      (shared, facts, into_slot free m at_b holds (in_temporary (omega arith) (next_slot os d free, r, refl, truths, chain_lands os kinds.Int c.active.function e.locals d r q c.frames k ops lands))))
   tests logical.OrElse b os v false k e w c d q well told (shared, facts, is, holds) (m, r, there, jump, at_b, truths, ops) lands =
       let does = ap (λ (x : Option Bool). tested x logical.OrElse b os k e w) (zero_is shared.tables v c.active.slots (operands.Slot (top source c.active.function k)) (λ none. well (ap (λ x. status_in (status_of (tested x logical.OrElse b os k e w))) none)) is ∙ ap Some told) in
       decided_at_once logical.OrElse b os v false k e w c _ (next_slot os d (top source c.active.function k)) m r does jump (λ choice. ap (λ x. plain_step.branches c (not x) m) told)
       (λ x same. let f : jump_if_nonzero _ m ≡ instructions.Unary plain_unary.Not x _ = same in cc) told shared facts holds truths
-      (chain_lands os c.active.function e.locals d r q c.frames k ops lands)
+      (chain_lands os kinds.Int c.active.function e.locals d r q c.frames k ops lands)
 
   -- the left operand fits
   awaited : (fits : Bool) (waiting : Awaiting) (b : Expression) (os : Operations) (k : List Entry) (e : Environment) (w : World) → IsWell (awaits_right fits waiting b os k e w)
@@ -690,30 +690,30 @@ module _ (source : Program) (pages calls : ℕ) where
       (omega arith)
   chains (ThenCompute u b os) v o k e w c well stands (to_slot (d, q, (r, m, s, at_b, at, ops), lands)) =
       chain_goes_on (operand_of (starts_at source c.active.function) b) u b os v o k e w c r m well refl stands at_b
-      (to_slot (next_slot os d (top source c.active.function k), s, at, chain_lands os c.active.function e.locals d s q c.frames k ops lands))
+      (to_slot (next_slot os d (top source c.active.function k), s, at, chain_lands os kinds.Int c.active.function e.locals d s q c.frames k ops lands))
   chains (ThenCompute u b NoOperations) v o k e w c well stands (to_jump (failing, r, q, (is, at_b), stack)) =
       chain_goes_on (operand_of (starts_at source c.active.function) b) u b NoOperations v o k e w c r q well refl stands at_b (to_jump (failing, is, stack))
   chains (ThenTest u b os) v o k e w c well (shared, facts, is, holds) (to_slot (d, q, (m, r, there, jump, at_b, truths, ops), lands)) =
       tests u b os v (c.active.slots (top source c.active.function k) == 0) k e w c d q well refl
       (shared, facts, subst (IsIn shared.tables v c.active.slots) there is, holds) (m, r, refl, jump, at_b, truths, ops) lands
-  chains (ThenPointer u b os) v o k e w c well (shared, facts, is, holds) (to_slot (d, q, (r, m, there, test, at_b, here, ops), lands)) =
+  chains (ThenPointer u b os) v o k e w c well (shared, facts, is, holds) (to_slot (d, q, (r, m, s, there, at_b, here, ops), lands)) =
       let g = c.active.function in
       silently source pages calls (Running (Given v) (Needs (Chain (ThenPointer u b os)) ∷ k) e w) (Running (Evaluating b) (Needs (ApplyPointer None u v) ∷ Needs (Chain os) ∷ k) e w) (plain.Running c)
       (awaited (takes_kind u v.kind) (ApplyPointer None u v) b os k e w well) (
         shared,
         facts,
-        right_follows source pages calls None u b os v k e w c r m (next_slot os d (top source g k)) (awaited_fits (takes_kind u v.kind) (ApplyPointer None u v) b os k e w well) shared.tables
-            (subst (IsIn shared.tables v c.active.slots) there is) holds test at_b here (chain_lands os g e.locals d (m + 1) q c.frames k ops lands),
+        right_follows source pages calls None u b os v k e w c r m (next_slot os d (top source g k)) s (awaited_fits (takes_kind u v.kind) (ApplyPointer None u v) b os k e w well) shared.tables
+            (subst (IsIn shared.tables v c.active.slots) there is) holds at_b here (chain_lands os (operator_kind u) g e.locals d s q c.frames k ops lands),
       )
       (omega arith)
-  chains (ThenPointerPeek n u b os) v o k e w c well (shared, facts, is, holds) (to_slot (d, q, (r, m, there, test, at_b, here, ops), lands)) =
+  chains (ThenPointerPeek n u b os) v o k e w c well (shared, facts, is, holds) (to_slot (d, q, (r, m, s, there, at_b, here, ops), lands)) =
       let g = c.active.function in
       silently source pages calls (Running (Given v) (Needs (Chain (ThenPointerPeek n u b os)) ∷ k) e w) (Running (Evaluating b) (Needs (ApplyPointer (Some n) u v) ∷ Needs (Chain os) ∷ k) e w) (plain.Running c)
       (awaited (takes_kind u v.kind) (ApplyPointer (Some n) u v) b os k e w well) (
         shared,
         facts,
-        right_follows source pages calls (Some n) u b os v k e w c r m (next_slot os d (top source g k)) (awaited_fits (takes_kind u v.kind) (ApplyPointer (Some n) u v) b os k e w well) shared.tables
-            (subst (IsIn shared.tables v c.active.slots) there is) holds test at_b here (chain_lands os g e.locals d (m + 1) q c.frames k ops lands),
+        right_follows source pages calls (Some n) u b os v k e w c r m (next_slot os d (top source g k)) s (awaited_fits (takes_kind u v.kind) (ApplyPointer (Some n) u v) b os k e w well) shared.tables
+            (subst (IsIn shared.tables v c.active.slots) there is) holds at_b here (chain_lands os (operator_kind u) g e.locals d s q c.frames k ops lands),
       )
       (omega arith)
   chains os v o k e w c well stands (to_jump (failing, r, q, at, stack)) = absurd at
@@ -1009,8 +1009,8 @@ module _ (source : Program) (pages calls : ℕ) where
   stands_given v o (Needs (Chain os) ∷ k) e w c well stands stack = chains os v o k e w c well stands stack
   stands_given v o (Needs (Apply u left) ∷ k) e w c well (shared, facts, is, (is_left, holds)) applied =
       applies u left v k e w c well shared facts (operands.Slot (top source c.active.function k), o, is_left, is, holds, applied)
-  stands_given v o (Needs (ApplyPointer peek u left) ∷ k) e w c well (shared, facts, is, (is_left, holds)) (d, test, here, lands) =
-      compares_pointers source pages calls u peek left v o d k e w c well test shared facts is is_left holds here lands
+  stands_given v o (Needs (ApplyPointer peek u left) ∷ k) e w c well (shared, facts, is, (is_left, holds)) (d, q, here, lands) =
+      applies_pointers source pages calls u peek left v o d q k e w c well shared facts is is_left holds here lands
   stands_given v o (Needs Decide ∷ k) e w c well stands stack = decides_truth v o k e w c well stands stack
   stands_given v o (Needs (Store place) ∷ k) e w c well stands stack = stores_at place v o k e w c well stands stack
   stands_given v o (Needs (Pass f before cs) ∷ k) e w c well stands stack = hands_on f before cs v o k e w c stands stack

@@ -9,6 +9,7 @@ use Rattle.cyc_types.specs.declared.typed.UnaryOperator.TheVariants as unary
 use Rattle.cyc_types.specs.declared.typed.Operator.{Operator}
 use Rattle.cyc_types.specs.declared.typed.Operator.TheVariants as operators
 use Rattle.cyc_types.specs.declared.typed.PointerOperator.{PointerOperator}
+use Rattle.cyc_types.specs.declared.typed.PointerOperator.TheVariants as pointers
 use Rattle.cyc_types.specs.declared.typed.LogicalOperator.{LogicalOperator}
 use Rattle.cyc_types.specs.declared.typed.LogicalOperator.TheVariants as logical
 use Rattle.cyc_types.specs.Types.{Ty, words_of, ValueType, Void, Null, Value}
@@ -30,9 +31,10 @@ use Rattle.cyc_meaning.specs.Operators.{null_exception, division_by_zero}
 use Rattle.cyc_meaning.specs.Values.{kind_of, words_of_kind}
 use Rattle.cyc_meaning.specs.FrameCount.{result_words, operand_words, converted_words, argument_words, expression_need, dereference_need, converted_need, arguments_need, operations_need, initial_need, statement_need, items_need, words_of_all}
 use Rattle.cyc_lower.specs.declared.statements.Exits.{Exits}
+use Rattle.cyc_meaning.specs.Pointers.{result_kind as operator_kind}
 use Rattle.cyc_lower.specs.Slots.{starts_of, slot_of, Types}
-use Rattle.cyc_lower.specs.Lowering.{types_of, spare_slots, are_as_wide, converts_there, passed_words, all_passed, source_of, source_slot, moved_by, move_of, unary_operator, binary_operator, operand_of, operand_or, code_unless, slot_or, code_unless_slot, left_with, left_of, value_slot, next_slot, slot_with, left_slot, value_operand, converted_operand, printed_operand, check_code, conversion_code, divisor_code, checked_code, operator_code, truth_code, load_code, low_byte, test_code, is_in, copy_code, expression_code, arguments_code, converted_code, converted_operand_code, printed_code, dereference_code, initial_code, assignment_code, operations_code, discarded_code, failing_comparison, compared_or, first_operand, first_code, second_code, pair_code, condition_code, condition_of, failing_jump, break_target, continue_target, return_code, declaration_code, statement_code, items_code, first_temporary, results_of, lower_function, lower_global, lower_program, pointer_operator, left_kind, behind_left, first_words_by, pointer_instruction, pointer_code, outside_loops, inside_loop}
-use Rattle.cyc_lower.proofs.Widths.{kind_positive, kind_few, type_words, kind_of_result, result_kind, given, passed_kind, words_in}
+use Rattle.cyc_lower.specs.Lowering.{types_of, spare_slots, are_as_wide, converts_there, passed_words, all_passed, source_of, source_slot, moved_by, move_of, unary_operator, binary_operator, operand_of, operand_or, code_unless, slot_or, code_unless_slot, left_with, left_of, value_slot, next_slot, slot_with, left_slot, value_operand, converted_operand, printed_operand, check_code, conversion_code, divisor_code, checked_code, operator_code, truth_code, load_code, low_byte, test_code, is_in, copy_code, expression_code, arguments_code, converted_code, converted_operand_code, printed_code, dereference_code, initial_code, assignment_code, operations_code, discarded_code, failing_comparison, compared_or, first_operand, first_code, second_code, pair_code, condition_code, condition_of, failing_jump, break_target, continue_target, return_code, declaration_code, statement_code, items_code, first_temporary, results_of, lower_function, lower_global, lower_program, pointer_operator, left_kind, behind_left, pointer_code, outside_loops, inside_loop, index_code, pointer_instructions}
+use Rattle.cyc_lower.proofs.Widths.{kind_positive, kind_few, type_words, kind_of_result, result_kind, given, passed_kind, words_in, chain_kind}
 use Rattle.cyc_lower.proofs.Fitting.{FitsPlace, FitsStored, FitsCell, Fits, FitsConverted, FitArguments, FitOperations, FitsReturn, FitsInitial, FitsStatement, FitItems, AreFitting, IsFitting}
 use Rattle.cyc_lower.proofs.Values.{as_wide}
 use Rattle.cyc_lower.proofs.Slots.{words_positive, slot-room, slot_types-many, slots-few}
@@ -129,6 +131,26 @@ module _ (program : PlainProgram) (r : Routine) (b : Numbering) (types : Types) 
   assigned_kind : (l : Lvalue) (c : Converted) (ty : ValueType) → kind_at (Assign l c ty) ≡ passed_kind c
   assigned_kind l (Convert from to a) ty = refl
 
+  -- what a chain gives has as many as its left operand, or as its operators need
+  operator_few : (o : PointerOperator) → words_of_kind (operator_kind o) ≤ words_of_kind (left_kind o)
+  operator_few pointers.AddFat = omega arith
+  operator_few pointers.SubtractFat = omega arith
+  operator_few pointers.ThinIsNull = omega arith
+  operator_few pointers.ThinIsNotNull = omega arith
+  operator_few pointers.FatIsNull = omega arith
+  operator_few pointers.FatIsNotNull = omega arith
+  operator_few pointers.NullIs = omega arith
+  operator_few pointers.NullIsNot = omega arith
+  operator_few pointers.EqualThin = omega arith
+  operator_few pointers.NotEqualThin = omega arith
+
+  chain_needs : (os : Operations) (kind : Kind) (t : Ty) (left : ℕ) → FitOperations b types left t os → words_of_kind (chain_kind kind os) ≤ max (words_of_kind kind) (max 1 (operations_need os t left))
+  chain_needs NoOperations kind t left numbered = omega arith
+  chain_needs (ThenCompute o a os) kind t left (numbered, rest) = omega (arith, chain_needs os kinds.Int t (words_of t) rest)
+  chain_needs (ThenTest o a os) kind t left (numbered, rest) = omega (arith, chain_needs os kinds.Int t (words_of t) rest)
+  chain_needs (ThenPointer o a os) kind t left (wide, numbered, rest) = omega (arith, chain_needs os (operator_kind o) t (words_of t) rest, operator_few o, wide)
+  chain_needs (ThenPointerPeek n o a os) kind t left (wide, numbered, rest) = omega (arith, chain_needs os (operator_kind o) t (words_of t) rest, operator_few o, wide)
+
   -- what is given has as many words as are needed for it, or one
   given_needs : (a : Expression) → Fits b types a → words_of_kind (kind_at a) ≤ max 1 (expression_need a)
   given_needs (Number n) numbered = omega arith
@@ -141,11 +163,7 @@ module _ (program : PlainProgram) (r : Routine) (b : Numbering) (types : Types) 
   given_needs (Call (callees.Function n) cs t) (s, signature, many, passed, result, numbered) =
       omega (arith, ap (λ (o : Option Signature). words_of_kind (result_kind o)) signature, (result_least s.result).1, result)
   given_needs (Unary o a) numbered = omega arith
-  given_needs (Binary a NoOperations t) (numbered, none) = omega (arith, given_needs a numbered)
-  given_needs (Binary a (ThenCompute o c os) t) numbered = omega arith
-  given_needs (Binary a (ThenTest o c os) t) numbered = omega arith
-  given_needs (Binary a (ThenPointer o c os) t) numbered = omega arith
-  given_needs (Binary a (ThenPointerPeek n o c os) t) numbered = omega arith
+  given_needs (Binary a os t) (numbered, rest) = omega (arith, given_needs a numbered, chain_needs os (kind_at a) t (operand_words (type_of a)) rest)
   given_needs (Assign l (Convert from to a) t) numbered = omega arith
   given_needs (Load (Target k a t)) numbered = omega (arith, type_words t)
   given_needs (Load x) numbered = absurd numbered
@@ -203,9 +221,34 @@ module _ (program : PlainProgram) (r : Routine) (b : Numbering) (types : Types) 
       by true = (omega (arith, room, kind_positive kind), omega (arith, inside, kind_positive kind))
       by false = record { some = kind_positive kind; few = kind_few kind; destination_in_range = room; source_in_range = inside }
 
-  next_in : (os : Operations) (d t : ℕ) → d < r.slots → t < r.slots → next_slot os d t < r.slots
-  next_in NoOperations d t few room = few
-  next_in os d t few room = room
+  -- the slot for what an operator gives has room for it
+  next_in : (os : Operations) (kind : Kind) (d t : ℕ) → d + words_of_kind (chain_kind kind os) ≤ r.slots → t + words_of_kind kind ≤ r.slots → next_slot os d t + words_of_kind kind ≤ r.slots
+  next_in NoOperations kind d t few room = few
+  next_in (ThenCompute o a os) kind d t few room = room
+  next_in (ThenTest o a os) kind d t few room = room
+  next_in (ThenPointer o a os) kind d t few room = room
+  next_in (ThenPointerPeek n o a os) kind d t few room = room
+
+  -- a left operand of an operator on pointers has its words
+  abbrev LeftIn : Operations → Operand → Type 0
+  LeftIn (ThenPointer o a os) l = HasOperand l (words_of_kind (left_kind o))
+  LeftIn (ThenPointerPeek n o a os) l = HasOperand l (words_of_kind (left_kind o))
+  LeftIn os l = Unit {0}
+
+  next_left_in : (os : Operations) (ty : Ty) (d t left : ℕ) → FitOperations b types left ty os → t + operations_need os ty left ≤ r.slots → LeftIn os (operands.Slot (next_slot os d t))
+  next_left_in NoOperations ty d t left numbered few = tt
+  next_left_in (ThenCompute o a os) ty d t left numbered few = tt
+  next_left_in (ThenTest o a os) ty d t left numbered few = tt
+  next_left_in (ThenPointer o a os) ty d t left (wide, numbered, rest) few = omega (arith, few, wide)
+  next_left_in (ThenPointerPeek n o a os) ty d t left (wide, numbered, rest) few = omega (arith, few, wide)
+
+  first_left_in : (a : Expression) (os : Operations) (ty : Ty) (d t left : ℕ) → FitOperations b types left ty os → t + operations_need os ty left ≤ r.slots
+      → LeftIn os (operand_or (left_of (starts_of types) a os) (left_slot (starts_of types) a os d t))
+  first_left_in a NoOperations ty d t left numbered few = tt
+  first_left_in a (ThenCompute o c os) ty d t left numbered few = tt
+  first_left_in a (ThenTest o c os) ty d t left numbered few = tt
+  first_left_in a (ThenPointer o c os) ty d t left (wide, numbered, rest) few = omega (arith, few, wide)
+  first_left_in a (ThenPointerPeek n o c os) ty d t left (wide, numbered, rest) few = omega (arith, few, wide)
 
   -- where operators follow, there is room for a value
   abbrev HasRoom : Operations → ℕ → Type 0
@@ -280,9 +323,25 @@ module _ (program : PlainProgram) (r : Routine) (b : Numbering) (types : Types) 
   copy_in true c o d inside few = tt
   copy_in false c o d inside few = (subst (λ words. IsInRange program r (move_of words d o)) (sym (passed_is c)) (move_in (passed_kind c) d o few inside), tt)
 
-  pointer_in : (o : Option PlainBinary) (l m : Operand) (d : ℕ) → d < r.slots → IsOperand r l → IsOperand r m → IsInRange program r (first_words_by o l m d)
-  pointer_in (Some o) l m d few left right = (few, left, right)
-  pointer_in None l m d few left right = (few, tt)
+  index_in : (o : PlainBinary) (l m : Operand) (d : ℕ) → d + 3 ≤ r.slots → HasOperand l 3 → IsOperand r m → AreIn (index_code o l m d)
+  index_in o (operands.Word n) m d few left right = ((omega (arith, few), tt, right), tt)
+  index_in o (operands.Slot n) m d few left right = ((omega (arith, few), omega (arith, left), right), by (n == d))
+    where
+      by : (there : Bool) → AreIn (if there then [] else instructions.MoveWords d n 2 ∷ [])
+      by true = tt
+      by false = (record { some = omega arith; few = omega arith; destination_in_range = omega (arith, few); source_in_range = omega (arith, left) }, tt)
+
+  pointer_in : (o : PointerOperator) (l m : Operand) (d : ℕ) → d + words_of_kind (operator_kind o) ≤ r.slots → HasOperand l (words_of_kind (left_kind o)) → IsOperand r l → IsOperand r m → AreIn (pointer_instructions o l m d)
+  pointer_in pointers.AddFat l m d few wide left right = index_in (pointer_operator pointers.AddFat) l m d few wide right
+  pointer_in pointers.SubtractFat l m d few wide left right = index_in (pointer_operator pointers.SubtractFat) l m d few wide right
+  pointer_in pointers.ThinIsNull l m d few wide left right = ((omega (arith, few), left, right), tt)
+  pointer_in pointers.ThinIsNotNull l m d few wide left right = ((omega (arith, few), left, right), tt)
+  pointer_in pointers.FatIsNull l m d few wide left right = ((omega (arith, few), left, right), tt)
+  pointer_in pointers.FatIsNotNull l m d few wide left right = ((omega (arith, few), left, right), tt)
+  pointer_in pointers.NullIs l m d few wide left right = ((omega (arith, few), left, right), tt)
+  pointer_in pointers.NullIsNot l m d few wide left right = ((omega (arith, few), left, right), tt)
+  pointer_in pointers.EqualThin l m d few wide left right = ((omega (arith, few), left, right), tt)
+  pointer_in pointers.NotEqualThin l m d few wide left right = ((omega (arith, few), left, right), tt)
 
   test_in : (o : LogicalOperator) (operand : List Instruction) (p d t : ℕ) → d < r.slots → t < r.slots → p + length (test_code o operand p d t) < length r.code → AreIn operand → AreIn (test_code o operand p d t)
   test_in logical.AndThen operand p d t few room short inside =
@@ -295,22 +354,22 @@ module _ (program : PlainProgram) (r : Routine) (b : Numbering) (types : Types) 
   -- ---- expressions
 
   -- an operator on pointers with its right operand, which stands behind the left one
-  right_in : (o : PointerOperator) (a : Expression) (ty : Ty) (p : ℕ) (l : Operand) (d t left : ℕ) → Fits b types a → words_of_kind (left_kind o) ≤ left → d < r.slots → IsOperand r l
+  right_in : (o : PointerOperator) (a : Expression) (ty : Ty) (p : ℕ) (l : Operand) (d t left : ℕ) → Fits b types a → words_of_kind (left_kind o) ≤ left → d + words_of_kind (operator_kind o) ≤ r.slots → HasOperand l (words_of_kind (left_kind o)) → IsOperand r l
       → t + max (left + operand_words (type_of a) + words_of ty) (left + expression_need a) ≤ r.slots
       → p + length (pointer_code o l (value_operand (starts_of types) a (behind_left o t)) (code_unless (operand_of (starts_of types) a) (expression_code (starts_of types) a p (value_slot (starts_of types) a (behind_left o t)) (behind_left o t))) d) < length r.code
       → ((slot : ℕ) → slot + words_of_kind (kind_at a) ≤ r.slots → p + length (expression_code (starts_of types) a p slot (behind_left o t)) < length r.code → AreIn (expression_code (starts_of types) a p slot (behind_left o t)))
       → AreIn (pointer_code o l (value_operand (starts_of types) a (behind_left o t)) (code_unless (operand_of (starts_of types) a) (expression_code (starts_of types) a p (value_slot (starts_of types) a (behind_left o t)) (behind_left o t))) d)
-  right_in o a ty p l d t left numbered wide room inside few short computed =
+  right_in o a ty p l d t left numbered wide room all inside few short computed =
       let u = behind_left o t in
       let slot = value_slot (starts_of types) a u in
       let inner = expression_code (starts_of types) a p slot u in
       let operand = code_unless (operand_of (starts_of types) a) inner in
       let m = value_operand (starts_of types) a u in
-      let back = pointer_instruction o l m d ∷ [] in
+      let back = pointer_instructions o l m d in
       let free : u + words_of_kind (kind_at a) ≤ r.slots = omega (arith, few, wide, operand_positive (type_of a), words_positive ty, given_needs a numbered) in
       append operand back
       (unless_in (operand_of (starts_of types) a) inner p (omega (arith, short, length-append operand back)) (λ less. computed slot (slot_fits a u numbered free) less))
-      (pointer_in (pointer_operator o) l m d room inside (value_in a u numbered free), tt)
+      (pointer_in o l m d room all inside (value_in a u numbered free))
 
   initial_by : (there : Bool) (from to : Kind) (a : Expression) (p d t : ℕ) → from ≡ kind_at a → are_as_wide from to ≡ true → Fits b types a → d + words_of_kind to ≤ r.slots → t + converted_words (Convert from to a) ≤ r.slots → converts_there from to ≡ there
       → ((slot : ℕ) → slot + words_of_kind (kind_at a) ≤ r.slots → p + length (expression_code (starts_of types) a p slot t) < length r.code → AreIn (expression_code (starts_of types) a p slot t))
@@ -381,7 +440,7 @@ module _ (program : PlainProgram) (r : Routine) (b : Numbering) (types : Types) 
         let first = left_room os a t numbered (omega (arith, few)) free in
         append front back
         (unless_in (left_of (starts_of types) a os) inner p (omega (arith, short, length-append front back)) (λ less. expression_in a p (left_slot (starts_of types) a os d t) t numbered (left_slot_in a os ty d t numbered room first) (omega (arith, few)) less))
-        (operations_in os ty (p + length front) (operand_or (left_of (starts_of types) a os) (left_slot (starts_of types) a os d t)) d t (operand_words (type_of a)) rest (omega (arith, room, kind_positive (kind_at (Binary a os ty)))) (left_in a os ty d t numbered room first) some (omega (arith, few)) (omega (arith, short, length-append front back)))
+        (operations_in os ty (kind_at a) (p + length front) (operand_or (left_of (starts_of types) a os) (left_slot (starts_of types) a os d t)) d t (operand_words (type_of a)) rest room (first_left_in a os ty d t (operand_words (type_of a)) rest (omega (arith, few))) (left_in a os ty d t numbered room first) some (omega (arith, few)) (omega (arith, short, length-append front back)))
     expression_in (Assign (Local w n) c ty) p d t ((within, own), numbered) room few short =
         let o = operands.Slot (slot_of (starts_of types) n) in
         let front = initial_code (starts_of types) c p (slot_of (starts_of types) n) t in
@@ -459,9 +518,9 @@ module _ (program : PlainProgram) (r : Routine) (b : Numbering) (types : Types) 
         (converted_in c p t numbered (omega (arith, few, place)) (omega (arith, needs, place)) (omega (arith, short, length-append front back)))
         (arguments_in cs (p + length front) (t + passed_words c) first (before + converted_words c) rest (omega (arith, place, passed_is c, converted_least c)) (omega (arith, few)) (omega (arith, needs)) (omega (arith, short, length-append front back)))
 
-    operations_in : (os : Operations) (ty : Ty) (p : ℕ) (l : Operand) (d t left : ℕ) → FitOperations b types left ty os → d < r.slots → IsOperand r l → 1 ≤ left → t + operations_need os ty left ≤ r.slots → p + length (operations_code (starts_of types) os p l d t) < length r.code → AreIn (operations_code (starts_of types) os p l d t)
-    operations_in NoOperations ty p l d t left numbered room inside some few short = tt
-    operations_in (ThenCompute o a os) ty p l d t left (numbered, rest) room inside some few short =
+    operations_in : (os : Operations) (ty : Ty) (kind : Kind) (p : ℕ) (l : Operand) (d t left : ℕ) → FitOperations b types left ty os → d + words_of_kind (chain_kind kind os) ≤ r.slots → LeftIn os l → IsOperand r l → 1 ≤ left → t + operations_need os ty left ≤ r.slots → p + length (operations_code (starts_of types) os p l d t) < length r.code → AreIn (operations_code (starts_of types) os p l d t)
+    operations_in NoOperations ty kind p l d t left numbered room all inside some few short = tt
+    operations_in (ThenCompute o a os) ty kind p l d t left (numbered, rest) room all inside some few short =
         let inner = expression_code (starts_of types) a p (value_slot (starts_of types) a (suc t)) (suc t) in
         let operand = code_unless (operand_of (starts_of types) a) inner in
         let next = next_slot os d t in
@@ -472,13 +531,14 @@ module _ (program : PlainProgram) (r : Routine) (b : Numbering) (types : Types) 
         let long = length-append front back in
         let long_front = length-append operand operator in
         let free : suc t + words_of_kind (kind_at a) ≤ r.slots = omega (arith, few, some, operand_positive (type_of a), words_positive ty, given_needs a numbered) in
-        let next_few = next_in os d t room (omega (arith, free)) in
+        let next_room = next_in os kinds.Int d t room (omega (arith, free)) in
+        let next_few : next < r.slots = omega (arith, next_room) in
         append front back
         (append operand operator
         (unless_in (operand_of (starts_of types) a) inner p (omega (arith, short, long, long_front)) (λ less. expression_in a p (value_slot (starts_of types) a (suc t)) (suc t) numbered (slot_fits a (suc t) numbered free) (omega (arith, few, some)) less))
         (operator_in o l m (p + length operand) next next_few inside (value_in a (suc t) numbered free) (omega (arith, short, long, long_front))))
-        (operations_in os ty (p + length front) (operands.Slot next) d t (words_of ty) rest room next_few (words_positive ty) (omega (arith, few)) (omega (arith, short, long)))
-    operations_in (ThenTest o a os) ty p l d t left (numbered, rest) room inside some few short =
+        (operations_in os ty kinds.Int (p + length front) (operands.Slot next) d t (words_of ty) rest room (next_left_in os ty d t (words_of ty) rest (omega (arith, few))) next_few (words_positive ty) (omega (arith, few)) (omega (arith, short, long)))
+    operations_in (ThenTest o a os) ty kind p l d t left (numbered, rest) room all inside some few short =
         let operand = expression_code (starts_of types) a (p + 1) t t in
         let next = next_slot os d t in
         let front = test_code o operand p next t in
@@ -486,32 +546,35 @@ module _ (program : PlainProgram) (r : Routine) (b : Numbering) (types : Types) 
         let long = length-append front back in
         let long_front = length-append operand (truth_code t next) in
         let free : t < r.slots = omega (arith, few, some) in
-        let next_few = next_in os d t room free in
+        let next_room = next_in os kinds.Int d t room (omega (arith, free)) in
+        let next_few : next < r.slots = omega (arith, next_room) in
         append front back
         (test_in o operand p next t next_few free (omega (arith, short, long)) (expression_in a (p + 1) t t numbered (omega (arith, few, free, given_needs a numbered)) (omega (arith, few)) (omega (arith, short, long, long_front))))
-        (operations_in os ty (p + length front) (operands.Slot next) d t (words_of ty) rest room next_few (words_positive ty) (omega (arith, few)) (omega (arith, short, long)))
-    operations_in (ThenPointer o a os) ty p l d t left (test, wide, numbered, rest) room inside some few short =
+        (operations_in os ty kinds.Int (p + length front) (operands.Slot next) d t (words_of ty) rest room (next_left_in os ty d t (words_of ty) rest (omega (arith, few))) next_few (words_positive ty) (omega (arith, few)) (omega (arith, short, long)))
+    operations_in (ThenPointer o a os) ty kind p l d t left (wide, numbered, rest) room all inside some few short =
         let next = next_slot os d t in
         let m = value_operand (starts_of types) a (behind_left o t) in
         let operand = code_unless (operand_of (starts_of types) a) (expression_code (starts_of types) a p (value_slot (starts_of types) a (behind_left o t)) (behind_left o t)) in
         let front = pointer_code o l m operand next in
         let back = operations_code (starts_of types) os (p + length front) (operands.Slot next) d t in
         let long = length-append front back in
-        let next_few = next_in os d t room (omega (arith, few, some)) in
+        let next_room = next_in os (operator_kind o) d t room (omega (arith, few, wide, operator_few o)) in
+        let next_few : next < r.slots = omega (arith, next_room, kind_positive (operator_kind o)) in
         append front back
-        (right_in o a ty p l next t left numbered wide next_few inside (omega (arith, few)) (omega (arith, short, long)) (λ slot fits less. expression_in a p slot (behind_left o t) numbered fits (omega (arith, few, wide)) less))
-        (operations_in os ty (p + length front) (operands.Slot next) d t (words_of ty) rest room next_few (words_positive ty) (omega (arith, few)) (omega (arith, short, long)))
-    operations_in (ThenPointerPeek n o a os) ty p l d t left (test, wide, numbered, rest) room inside some few short =
+        (right_in o a ty p l next t left numbered wide next_room all inside (omega (arith, few)) (omega (arith, short, long)) (λ slot fits less. expression_in a p slot (behind_left o t) numbered fits (omega (arith, few, wide)) less))
+        (operations_in os ty (operator_kind o) (p + length front) (operands.Slot next) d t (words_of ty) rest room (next_left_in os ty d t (words_of ty) rest (omega (arith, few))) next_few (words_positive ty) (omega (arith, few)) (omega (arith, short, long)))
+    operations_in (ThenPointerPeek n o a os) ty kind p l d t left (wide, numbered, rest) room all inside some few short =
         let next = next_slot os d t in
         let m = value_operand (starts_of types) a (behind_left o t) in
         let operand = code_unless (operand_of (starts_of types) a) (expression_code (starts_of types) a p (value_slot (starts_of types) a (behind_left o t)) (behind_left o t)) in
         let front = pointer_code o l m operand next in
         let back = operations_code (starts_of types) os (p + length front) (operands.Slot next) d t in
         let long = length-append front back in
-        let next_few = next_in os d t room (omega (arith, few, some)) in
+        let next_room = next_in os (operator_kind o) d t room (omega (arith, few, wide, operator_few o)) in
+        let next_few : next < r.slots = omega (arith, next_room, kind_positive (operator_kind o)) in
         append front back
-        (right_in o a ty p l next t left numbered wide next_few inside (omega (arith, few)) (omega (arith, short, long)) (λ slot fits less. expression_in a p slot (behind_left o t) numbered fits (omega (arith, few, wide)) less))
-        (operations_in os ty (p + length front) (operands.Slot next) d t (words_of ty) rest room next_few (words_positive ty) (omega (arith, few)) (omega (arith, short, long)))
+        (right_in o a ty p l next t left numbered wide next_room all inside (omega (arith, few)) (omega (arith, short, long)) (λ slot fits less. expression_in a p slot (behind_left o t) numbered fits (omega (arith, few, wide)) less))
+        (operations_in os ty (operator_kind o) (p + length front) (operands.Slot next) d t (words_of ty) rest room (next_left_in os ty d t (words_of ty) rest (omega (arith, few))) next_few (words_positive ty) (omega (arith, few)) (omega (arith, short, long)))
 
   assignment_in : (l : Lvalue) (c : Converted) (p t : ℕ) → FitsStored b types l (passed_kind c) → FitsConverted b types c → t + converted_words c ≤ r.slots → t + converted_need c ≤ r.slots → p + length (assignment_code (starts_of types) l c p t) < length r.code → AreIn (assignment_code (starts_of types) l c p t)
   assignment_in (Local w n) c p t (within, own) numbered free few short = initial_in c p (slot_of (starts_of types) n) t numbered (omega (arith, locals n within, own)) free few short

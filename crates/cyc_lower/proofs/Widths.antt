@@ -8,7 +8,8 @@ use Rattle.cyc_types.specs.declared.typed.Callee.{Callee}
 use Rattle.cyc_types.specs.declared.typed.Callee.TheVariants as callees
 use Rattle.cyc_types.specs.Types.{Ty, words_of, words_of_mark}
 use Rattle.cyc_types.specs.Types as types
-use Rattle.cyc_types.specs.TypedTrees.{Load, type_of_place, Expression, NullPointer, Copy, Move, Peek, Call, Binary, Assign, Converted, Convert, NoOperations, Signature}
+use Rattle.cyc_types.specs.TypedTrees.{Load, type_of_place, Expression, NullPointer, Copy, Move, Peek, Call, Binary, Assign, Converted, Convert, Operations, NoOperations, ThenCompute, ThenTest, ThenPointer, ThenPointerPeek, Signature}
+use Rattle.cyc_meaning.specs.Pointers.{result_kind as operator_kind}
 use Rattle.cyc_meaning.specs.Values.{kind_of, number_of_kind, is_kind, words_of_kind}
 use Rattle.cyc_lower.specs.Slots.{Types}
 
@@ -70,6 +71,14 @@ abbrev pub result_kind : Option Signature → Kind
 result_kind None = kinds.Int
 result_kind (Some s) = kind_of_result s.result
 
+-- the kind of what operators give, behind a left operand of a kind
+abbrev pub chain_kind : Kind → Operations → Kind
+chain_kind kind NoOperations = kind
+chain_kind kind (ThenCompute o b os) = chain_kind kinds.Int os
+chain_kind kind (ThenTest o b os) = chain_kind kinds.Int os
+chain_kind kind (ThenPointer o b os) = chain_kind (operator_kind o) os
+chain_kind kind (ThenPointerPeek n o b os) = chain_kind (operator_kind o) os
+
 module _ (signatures : List Signature) where
   abbrev pub called_kind : Callee → Kind
   called_kind callees.Putchar = kinds.Int
@@ -83,7 +92,7 @@ module _ (signatures : List Signature) where
   given (Move p n t) = kind_of t
   given (Peek p n t) = kind_of t
   given (Call f cs t) = called_kind f
-  given (Binary a NoOperations t) = given a
+  given (Binary a os t) = chain_kind (given a) os
   given (Assign l (Convert from to a) t) = to
   given a = kinds.Int
 

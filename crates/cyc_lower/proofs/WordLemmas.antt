@@ -9,6 +9,8 @@ use Rattle.cyc_types.specs.declared.typed.Callee.TheVariants as callees
 use Rattle.cyc_types.specs.declared.typed.UnaryOperator.TheVariants as unary
 use Rattle.cyc_types.specs.declared.typed.Operator.{Operator}
 use Rattle.cyc_types.specs.declared.typed.Operator.TheVariants as operators
+use Rattle.cyc_types.specs.declared.typed.PointerOperator.{PointerOperator}
+use Rattle.cyc_types.specs.declared.typed.PointerOperator.TheVariants as pointers
 use Rattle.cyc_types.specs.declared.typed.LogicalOperator.{LogicalOperator}
 use Rattle.cyc_types.specs.declared.typed.LogicalOperator.TheVariants as logical
 use Rattle.cyc_types.specs.TypedTrees.{Load, Dereference, Target, Lvalue, Local, Global, Expression, Number, NullPointer, Copy, Call, Unary, Binary, Assign, Converted, Convert, Arguments, NoArguments, MoreArguments, Operations, NoOperations, ThenCompute, ThenTest, ThenPointer, Statement, Block, Empty, Evaluate, If, While, Return, Break, Continue, Items, NoItems, MoreItems, Execute, Declare, Constant, Word, Null, GlobalVariable, StructType, Function, Program, Move, Peek, ThenPointerPeek}
@@ -25,7 +27,7 @@ use Rattle.cyc_lower.specs.Slots.{starts_of, slot_of, Starts}
 use Rattle.std.specs.Prelude.{◌==◌, if◌then◌else◌}
 use Rattle.cyc_types.specs.Types.{words_of}
 use Rattle.cyc_meaning.specs.Values.{words_of_kind}
-use Rattle.cyc_lower.specs.Lowering.{types_of, are_as_wide, converts_there, passed_words, source_of, source_slot, converted_by, moved_by, move_of, operand_of, operand_or, code_unless, slot_or, code_unless_slot, left_with, left_of, value_slot, next_slot, left_slot, value_operand, converted_operand, printed_operand, check_code, conversion_code, divisor_code, checked_code, operator_code, truth_code, load_code, test_code, is_in, copy_code, expression_code, arguments_code, converted_code, converted_operand_code, printed_code, dereference_code, initial_code, assignment_code, operations_code, discarded_code, failing_comparison, compared_or, compared_of, slot_with, first_code, second_code, pair_code, condition_code, condition_of, return_code, declaration_code, statement_code, items_code, first_temporary, initial_word, lower_function, lower_global, lower_program, pointer_operator, behind_left, first_words_by, pointer_instruction, pointer_code, outside_loops, inside_loop}
+use Rattle.cyc_lower.specs.Lowering.{types_of, are_as_wide, converts_there, passed_words, source_of, source_slot, converted_by, moved_by, move_of, operand_of, operand_or, code_unless, slot_or, code_unless_slot, left_with, left_of, value_slot, next_slot, left_slot, value_operand, converted_operand, printed_operand, check_code, conversion_code, divisor_code, checked_code, operator_code, truth_code, load_code, test_code, is_in, copy_code, expression_code, arguments_code, converted_code, converted_operand_code, printed_code, dereference_code, initial_code, assignment_code, operations_code, discarded_code, failing_comparison, compared_or, compared_of, slot_with, first_code, second_code, pair_code, condition_code, condition_of, return_code, declaration_code, statement_code, items_code, first_temporary, initial_word, lower_function, lower_global, lower_program, behind_left, pointer_code, outside_loops, inside_loop, index_of, first_two, pointer_instructions}
 use Rattle.cyc_lower.proofs.WellFormed.{all_append, all_of}
 
 abbrev HaveWords : List Instruction → Type 0
@@ -89,9 +91,22 @@ initial_by_words : (there : Bool) (known : Option Operand) (at_once inner : List
 initial_by_words true known at_once inner to o p d all other word = all
 initial_by_words false known at_once inner to o p d all other word = append (converted_by known inner to o p) _ (converted_by_words known inner to o p other word) (move_words (words_of_kind to) d o word)
 
-pointer_word : (o : Option PlainBinary) (l r : Operand) (d : ℕ) → IsOfWord l → IsOfWord r → HasWord (first_words_by o l r d)
-pointer_word (Some o) l r d left right = (left, right)
-pointer_word None l r d left right = omega arith
+index_word : (l : Operand) → IsOfWord l → IsOfWord (index_of l)
+index_word (operands.Slot n) word = tt
+index_word (operands.Word n) word = word
+
+first_two_words : (l : Operand) (d : ℕ) → HaveWords (first_two l d)
+first_two_words (operands.Word n) d = tt
+first_two_words (operands.Slot n) d = by (n == d)
+  where
+    by : (there : Bool) → HaveWords (if there then [] else instructions.MoveWords d n 2 ∷ [])
+    by true = tt
+    by false = (tt, tt)
+
+pointer_words : (o : PointerOperator) (l r : Operand) (d : ℕ) → IsOfWord l → IsOfWord r → HaveWords (pointer_instructions o l r d)
+pointer_words pointers.AddFat l r d left right = ((index_word l left, right), first_two_words l d)
+pointer_words pointers.SubtractFat l r d left right = ((index_word l left, right), first_two_words l d)
+pointer_words o l r d left right = ((left, right), tt)
 
 test_words : (o : LogicalOperator) (operand : List Instruction) (p d t : ℕ) → HaveWords operand → HaveWords (test_code o operand p d t)
 test_words logical.AndThen operand p d t all = ((tt, omega arith), append operand (truth_code t d) all (tt, (tt, tt)))
@@ -226,7 +241,7 @@ module _ (starts : Starts) where
         let next = next_slot os d t in
         let front = pointer_code o l (value_operand starts a (behind_left o t)) operand next in
         append front (operations_code starts os (p + length front) (operands.Slot next) d t)
-        (append operand _ (unless_words (operand_of starts a) inner (expression_words a p slot (behind_left o t) first)) (pointer_word (pointer_operator o) l (value_operand starts a (behind_left o t)) next left (known_word a slot first), tt))
+        (append operand _ (unless_words (operand_of starts a) inner (expression_words a p slot (behind_left o t) first)) (pointer_words o l (value_operand starts a (behind_left o t)) next left (known_word a slot first)))
         (operations_words os (p + length front) (operands.Slot next) d t tt rest)
     operations_words (ThenPointerPeek n o a os) p l d t left (first, rest) =
         let slot = value_slot starts a (behind_left o t) in
@@ -235,7 +250,7 @@ module _ (starts : Starts) where
         let next = next_slot os d t in
         let front = pointer_code o l (value_operand starts a (behind_left o t)) operand next in
         append front (operations_code starts os (p + length front) (operands.Slot next) d t)
-        (append operand _ (unless_words (operand_of starts a) inner (expression_words a p slot (behind_left o t) first)) (pointer_word (pointer_operator o) l (value_operand starts a (behind_left o t)) next left (known_word a slot first), tt))
+        (append operand _ (unless_words (operand_of starts a) inner (expression_words a p slot (behind_left o t) first)) (pointer_words o l (value_operand starts a (behind_left o t)) next left (known_word a slot first)))
         (operations_words os (p + length front) (operands.Slot next) d t tt rest)
 
   assignment_words : (l : Lvalue) (c : Converted) (p t : ℕ) → IsOfWordsConverted c → HaveWords (assignment_code starts l c p t)

@@ -1,6 +1,6 @@
 -- Which typed trees are lowered: those whose forms have code. Each number that such a tree has names something that is there, each call passes
 -- as many arguments as its function has parameters, and a break or a continue stands in a loop. A tree of the int language is one.
-use Rattle.std.specs.Prelude.{◌≡◌, ℕ, ◌<◌, Bool, true, false, List, [], ◌∷◌, Option, Some, None, length, slice_get}
+use Rattle.std.specs.Prelude.{◌≡◌, ℕ, ◌<◌, Bool, true, false, not, ◌&&◌, List, [], ◌∷◌, Option, Some, None, length, slice_get}
 use Rattle.cyc_types.specs.declared.typed.PointerOperator.{PointerOperator}
 use Rattle.cyc_types.specs.declared.typed.PointerOperator.TheVariants as pointers
 use Rattle.cyc_types.specs.Types.{Ty, words_of}
@@ -15,6 +15,18 @@ abbrev pub is_comparison : PointerOperator → Bool
 is_comparison pointers.AddFat = false
 is_comparison pointers.SubtractFat = false
 is_comparison o = true
+
+-- Arithmetic on pointers stands in a chain of its own, as it is written: each operator behind it is one such.
+abbrev pub are_sums : Operations → Bool
+are_sums NoOperations = true
+are_sums (ThenPointer o a os) = not (is_comparison o) && are_sums os
+are_sums (ThenPointerPeek n o a os) = not (is_comparison o) && are_sums os
+are_sums os = false
+
+abbrev pub stands_alone : PointerOperator → Operations → Bool
+stands_alone pointers.AddFat os = are_sums os
+stands_alone pointers.SubtractFat os = are_sums os
+stands_alone o os = true
 
 -- a value of so many words has a place in a variable: a global has one word yet
 abbrev pub HasPlace : Numbering → Lvalue → (words : ℕ) → Type 0
@@ -51,8 +63,8 @@ abbrev mutual
   AreLowerableOperations b NoOperations = Unit {0}
   AreLowerableOperations b (ThenCompute o a os) = IsLowerable b a × AreLowerableOperations b os
   AreLowerableOperations b (ThenTest o a os) = IsLowerable b a × AreLowerableOperations b os
-  AreLowerableOperations b (ThenPointer o a os) = (is_comparison o ≡ true) × IsLowerable b a × AreLowerableOperations b os
-  AreLowerableOperations b (ThenPointerPeek n o a os) = (is_comparison o ≡ true) × IsLowerable b a × AreLowerableOperations b os
+  AreLowerableOperations b (ThenPointer o a os) = (stands_alone o os ≡ true) × IsLowerable b a × AreLowerableOperations b os
+  AreLowerableOperations b (ThenPointerPeek n o a os) = (stands_alone o os ≡ true) × IsLowerable b a × AreLowerableOperations b os
 
 -- a value is returned exactly by a function with a result
 abbrev pub IsLowerableReturn : Numbering → Option Ty → Option Converted → Type 0

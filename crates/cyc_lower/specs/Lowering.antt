@@ -75,17 +75,18 @@ binary_operator operators.Multiply = plain_binary.Multiply
 binary_operator operators.Divide = plain_binary.Divide
 binary_operator operators.Remainder = plain_binary.Remainder
 
--- what the first words of two pointers are compared by, if they are; that of null is 0
-abbrev pub pointer_operator : PointerOperator → Option PlainBinary
-pointer_operator pointers.ThinIsNull = Some plain_binary.Equal
-pointer_operator pointers.ThinIsNotNull = Some plain_binary.NotEqual
-pointer_operator pointers.FatIsNull = Some plain_binary.Equal
-pointer_operator pointers.FatIsNotNull = Some plain_binary.NotEqual
-pointer_operator pointers.NullIs = Some plain_binary.Equal
-pointer_operator pointers.NullIsNot = Some plain_binary.NotEqual
-pointer_operator pointers.EqualThin = Some plain_binary.Equal
-pointer_operator pointers.NotEqualThin = Some plain_binary.NotEqual
-pointer_operator o = None
+-- what an operator does to words: to the first ones of two pointers, of which that of null is 0, or to an index
+abbrev pub pointer_operator : PointerOperator → PlainBinary
+pointer_operator pointers.AddFat = plain_binary.Add
+pointer_operator pointers.SubtractFat = plain_binary.Subtract
+pointer_operator pointers.ThinIsNull = plain_binary.Equal
+pointer_operator pointers.ThinIsNotNull = plain_binary.NotEqual
+pointer_operator pointers.FatIsNull = plain_binary.Equal
+pointer_operator pointers.FatIsNotNull = plain_binary.NotEqual
+pointer_operator pointers.NullIs = plain_binary.Equal
+pointer_operator pointers.NullIsNot = plain_binary.NotEqual
+pointer_operator pointers.EqualThin = plain_binary.Equal
+pointer_operator pointers.NotEqualThin = plain_binary.NotEqual
 
 -- a kind with as many words as the left operand of an operator on pointers has
 abbrev pub left_kind : PointerOperator → Kind
@@ -186,13 +187,23 @@ abbrev pub test_jump : LogicalOperator → (t target : ℕ) → Instruction
 test_jump logical.AndThen t target = jump_if_zero (operands.Slot t) target
 test_jump logical.OrElse t target = jump_if_nonzero (operands.Slot t) target
 
--- Pointers are compared by their first words; another operator on pointers has a constant in its place.
-abbrev pub first_words_by : Option PlainBinary → (l r : Operand) → (d : ℕ) → Instruction
-first_words_by (Some o) l r d = instructions.Binary o d l r
-first_words_by None l r d = instructions.Move d (operands.Word 0)
+-- Arithmetic changes the third word of a fat pointer, its index. The first two come before it, where they are not there yet.
+abbrev pub index_of : Operand → Operand
+index_of (operands.Slot n) = operands.Slot (n + 2)
+index_of (operands.Word n) = operands.Word n
 
-abbrev pub pointer_instruction : PointerOperator → (l r : Operand) → (d : ℕ) → Instruction
-pointer_instruction o l r d = first_words_by (pointer_operator o) l r d
+abbrev pub first_two : Operand → (d : ℕ) → List Instruction
+first_two (operands.Slot n) d = if n == d then [] else instructions.MoveWords d n 2 ∷ []
+first_two (operands.Word n) d = []
+
+abbrev pub index_code : PlainBinary → (l r : Operand) → (d : ℕ) → List Instruction
+index_code o l r d = instructions.Binary o (d + 2) (index_of l) r ∷ first_two l d
+
+-- what an operator on pointers becomes, which compares their first words or changes an index
+abbrev pub pointer_instructions : PointerOperator → (l r : Operand) → (d : ℕ) → List Instruction
+pointer_instructions pointers.AddFat l r d = index_code (pointer_operator pointers.AddFat) l r d
+pointer_instructions pointers.SubtractFat l r d = index_code (pointer_operator pointers.SubtractFat) l r d
+pointer_instructions o l r d = instructions.Binary (pointer_operator o) d l r ∷ []
 
 -- 0 stays 0, and any other word becomes 1
 abbrev pub truth_code : (t d : ℕ) → List Instruction
@@ -211,7 +222,7 @@ compute_code o l r operand p d = operand ++ operator_code o l r (p + length oper
 
 -- an operator on pointers with its right operand
 abbrev pub pointer_code : PointerOperator → (l r : Operand) → (operand : List Instruction) → (d : ℕ) → List Instruction
-pointer_code o l r operand d = operand ++ pointer_instruction o l r d ∷ []
+pointer_code o l r operand d = operand ++ pointer_instructions o l r d
 
 -- a test at place p with its right operand, whose code stands behind the jump
 abbrev pub test_code : LogicalOperator → (operand : List Instruction) → (p d t : ℕ) → List Instruction

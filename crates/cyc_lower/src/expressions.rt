@@ -7,18 +7,18 @@ ghost use Rattle.cyc_types.specs.TypedTrees.{Call};
 ghost use Rattle.cyc_meaning.specs.Values.{words_of_kind};
 ghost use Rattle.cyc_plain.specs.declared.instruction.Operand.TheVariants as operands;
 ghost use Rattle.cyc_plain.specs.declared.instruction.Instruction.TheVariants as instructions;
-ghost use Rattle.cyc_lower.specs.Lowering.{operand_of, operand_or, left_of, left_slot, value_operand, converted_operand, printed_operand, check_code, conversion_code, divisor_code, operator_code, truth_code, copy_code, all_passed, expression_code, dereference_code, arguments_code, converted_operand_code, printed_code, initial_code, assignment_code, assigned_operand, operations_code, discarded_code, condition_of, condition_code};
+ghost use Rattle.cyc_lower.specs.Lowering.{operand_of, operand_or, left_of, left_slot, value_operand, converted_operand, printed_operand, check_code, conversion_code, divisor_code, operator_code, truth_code, copy_code, all_passed, expression_code, dereference_code, arguments_code, converted_operand_code, printed_code, initial_code, assignment_code, assigned_operand, operations_code, discarded_code, condition_of, condition_code, first_two, index_code, pointer_instructions};
 ghost use Rattle.cyc_lower.specs.Emission.{Appends, Gives, HasRoom, HasRoomFor, most_locals, value_code, source_code, slot_code, print_code, converted_slot, converted_slot_code, left_code, operation_code, IsChain, zero_condition, view_starts, pointer_operation_code};
 
 use crate::emitter::Emitter;
 use crate::frame_count::{words_of, words_of_kind};
 use crate::locals::{Starts, slot_of};
 use crate::operands::{
-    Condition, are_as_wide, converts_there, is_in, operand_of, slot_behind, takes_operand,
-    value_slot,
+    Condition, are_as_wide, converts_there, index_of, is_in, operand_of, slot_behind,
+    takes_operand, value_slot,
 };
 use crate::operators::{
-    binary_operator, failing_comparison, jump_if_nonzero, left_kind, move_of, pointer_instruction,
+    binary_operator, failing_comparison, jump_if_nonzero, left_kind, move_of, pointer_operator,
     test_jump, unary_operator,
 };
 use cyc_plain::{BinaryOperator, Comparison, Instruction, Operand, UnaryOperator};
@@ -464,7 +464,64 @@ impl Emitter {
     {
         let behind = slot_behind(free, left_kind(operator))?;
         let right = self.lower_operand(starts, operand, behind)?;
-        self.emit(pointer_instruction(operator, left, right, slot))
+        self.apply_pointer(operator, left, right, slot)
+    }
+
+    /// An operator on pointers: their first words are compared, or an index changes and the first two words come before it.
+    fn apply_pointer(
+        &mut self,
+        operator: PointerOperator,
+        left: Operand,
+        right: Operand,
+        slot: usize,
+    ) -> Result<(), AllocError>
+        ensures { Appends result self.old self.new (pointer_instructions operator left right slot) }
+    {
+        if matches!(
+            operator,
+            PointerOperator::AddFat | PointerOperator::SubtractFat
+        ) {
+            return self.change_index(pointer_operator(operator), left, right, slot);
+        }
+        self.emit(Instruction::Binary {
+            operator: pointer_operator(operator),
+            destination: slot,
+            left,
+            right,
+        })
+    }
+
+    /// An index changes, and the first two words of its pointer come before it, where they are not there yet.
+    fn change_index(
+        &mut self,
+        operator: BinaryOperator,
+        left: Operand,
+        right: Operand,
+        slot: usize,
+    ) -> Result<(), AllocError>
+        ensures { Appends result self.old self.new (index_code operator left right slot) }
+    {
+        let behind = slot_behind(slot, Kind::Fat)?;
+        self.emit(Instruction::Binary {
+            operator,
+            destination: behind - 1,
+            left: index_of(left)?,
+            right,
+        })?;
+        self.move_first_two(left, slot)
+    }
+
+    fn move_first_two(&mut self, pointer: Operand, slot: usize) -> Result<(), AllocError>
+        ensures { Appends result self.old self.new (first_two pointer slot) }
+    {
+        match pointer {
+            Operand::Slot { number } if number != slot => self.emit(Instruction::MoveWords {
+                destination: slot,
+                source: number,
+                count: 2,
+            }),
+            Operand::Slot { .. } | Operand::Word { .. } => Ok(()),
+        }
     }
 
     /// A chain, from its first operator on. What the last one gives comes to a slot.

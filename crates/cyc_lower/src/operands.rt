@@ -2,7 +2,7 @@
 ghost use Rattle.std.specs.Prelude.{◌≡◌, ◌+◌, ◌≤◌, IfOk};
 ghost use Rattle.cyc_types.specs.TypedTreeView.{view_expression, operations_of};
 ghost use Rattle.cyc_meaning.specs.Values.{words_of_kind};
-ghost use Rattle.cyc_lower.specs.Lowering.{operand_of, value_slot, is_in, are_as_wide, converts_there};
+ghost use Rattle.cyc_lower.specs.Lowering.{operand_of, value_slot, is_in, index_of, are_as_wide, converts_there};
 ghost use Rattle.cyc_lower.specs.Emission.{most_locals, takes_operand, view_starts};
 
 use crate::frame_count::words_of_kind;
@@ -90,6 +90,19 @@ pub(crate) fn slot_behind(slot: usize, kind: Kind) -> Result<usize, AllocError>
         return Err(AllocError);
     }
     Ok(slot + words_of_kind(kind))
+}
+
+/// The operand of the third word of a fat pointer.
+pub(crate) fn index_of(pointer: Operand) -> Result<Operand, AllocError>
+    ensures { IfOk result (λ index. index ≡ index_of pointer) }
+{
+    match pointer {
+        Operand::Slot { number } => {
+            let behind = slot_behind(number, Kind::Fat)?;
+            Ok(Operand::Slot { number: behind - 1 })
+        }
+        Operand::Word { .. } => Ok(pointer),
+    }
 }
 
 /// Whether the value in an operand is in this slot.

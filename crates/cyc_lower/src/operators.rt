@@ -1,6 +1,6 @@
 //! What operators become.
 ghost use Rattle.std.specs.Prelude.{◌≡◌};
-ghost use Rattle.cyc_lower.specs.Lowering.{unary_operator, binary_operator, left_kind, pointer_instruction, failing_comparison, move_of, failing_jump, jump_if_zero, jump_if_nonzero, test_jump};
+ghost use Rattle.cyc_lower.specs.Lowering.{unary_operator, binary_operator, left_kind, pointer_operator, failing_comparison, move_of, failing_jump, jump_if_zero, jump_if_nonzero, test_jump};
 
 use crate::operands::Condition;
 use cyc_plain::{BinaryOperator, Comparison, Instruction, Operand, UnaryOperator};
@@ -58,16 +58,13 @@ pub(crate) fn left_kind(operator: typed::PointerOperator) -> Kind
     }
 }
 
-/// Pointers are compared by their first words; another operator on pointers is not built yet, and never runs.
-pub(crate) fn pointer_instruction(
-    operator: typed::PointerOperator,
-    left: Operand,
-    right: Operand,
-    destination: usize,
-) -> Instruction
-    ensures { result ≡ pointer_instruction operator left right destination }
+/// What an operator on pointers does to words: to the first ones of two pointers, or to an index.
+pub(crate) fn pointer_operator(operator: typed::PointerOperator) -> BinaryOperator
+    ensures { result ≡ pointer_operator operator }
 {
-    let operator = match operator {
+    match operator {
+        typed::PointerOperator::AddFat => BinaryOperator::Add,
+        typed::PointerOperator::SubtractFat => BinaryOperator::Subtract,
         typed::PointerOperator::ThinIsNull
         | typed::PointerOperator::FatIsNull
         | typed::PointerOperator::NullIs
@@ -76,18 +73,6 @@ pub(crate) fn pointer_instruction(
         | typed::PointerOperator::FatIsNotNull
         | typed::PointerOperator::NullIsNot
         | typed::PointerOperator::NotEqualThin => BinaryOperator::NotEqual,
-        typed::PointerOperator::AddFat | typed::PointerOperator::SubtractFat => {
-            return Instruction::Move {
-                destination,
-                source: Operand::Word { word: 0 },
-            };
-        }
-    };
-    Instruction::Binary {
-        operator,
-        destination,
-        left,
-        right,
     }
 }
 
