@@ -1,5 +1,6 @@
 //! The symbols that are left, and the parsers of one symbol.
 #![tactic(auto, unfolding(crate::specs::Parsing::take))]
+
 ghost use Rattle.std.specs.Prelude.{◌≡◌, ℕ, suc, length, map, option_map, if◌then◌else◌};
 ghost use Rattle.cyc_parse.specs.declared.stop.Reason.TheVariants as reasons;
 ghost use Rattle.cyc_parse.specs.declared.stop.Stop.TheVariants.{Refused};

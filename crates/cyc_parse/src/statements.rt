@@ -1,6 +1,7 @@
 //! The parser of statements and of the items of blocks. A function with `room` reads at a level of nesting below which
 //! so many are left.
 #![tactic(auto, unfolding(crate::specs::Parsing::bind, crate::specs::Parsing::choose, crate::specs::Parsing::if_sees, crate::specs::Parsing::if_starts, crate::specs::Parsing::refuse_item, crate::specs::Expressions::nested, crate::specs::Statements::nested_statements), using(crate::proofs::StatementLevels::nested_statement, crate::proofs::StatementLevels::nested_items))]
+
 ghost use Rattle.std.specs.Prelude.{◌≡◌, ℕ, suc, length, option_map};
 ghost use Rattle.cyc_syntax.specs.TreeView.{place_of_span, view_name, view_expression, view_initial, view_statement, view_item, view_block, items_of, clauses_of, default_of};
 ghost use Rattle.cyc_syntax.specs.Trees as trees;
