@@ -1,6 +1,6 @@
 -- Parts of the parser that are functions of their own in the code, and one step of each list that the code reads in a
 -- loop: the next item, if the list goes on.
-use Rattle.std.specs.Prelude.{ℕ, suc, Bool, false, nat_le, Option, Some, None}
+use Rattle.std.specs.Prelude.{ℕ, zero, suc, ◌+◌, ◌-◌, Bool, false, ◌&&◌, nat_lt, nat_le, if◌then◌else◌, Option, Some, None}
 use Rattle.cyc_syntax.specs.declared.tokens.Sign.TheVariants as signs
 use Rattle.cyc_syntax.specs.declared.tree.BinaryOperator.{BinaryOperator}
 use Rattle.cyc_syntax.specs.declared.tree.PrefixOperator.{PrefixOperator}
@@ -55,14 +55,19 @@ one_postfix room inner =
     (if_sees signs.Arrow (sign (suc room) signs.Arrow >> identifier (suc room) >>= (λ x. pure (Some (ThenField x))))
     (pure None))
 
--- the next symbol is a binary operator of one of the levels up to this one
+-- an operator is of one of the levels up to this one
 abbrev pub is_within : ℕ → Option BinaryOperator → Bool
 is_within most None = false
 is_within most (Some o) = nat_le (level o) most
 
-abbrev pub has_operator : ℕ → Option Terminal → Bool
-has_operator most (Some (Mark s)) = is_within most (binary_operator s)
-has_operator most _ = false
+abbrev pub level_within : ℕ → ℕ → Option BinaryOperator → Option ℕ
+level_within below most None = None
+level_within below most (Some o) = if nat_lt below (level o) && is_within most (Some o) then Some (level o) else None
+
+-- the level of the next symbol, if it is a binary operator of one of the levels above one, up to another
+abbrev pub level_at : ℕ → ℕ → Option Terminal → Option ℕ
+level_at below most (Some (Mark s)) = level_within below most (binary_operator s)
+level_at below most _ = None
 
 -- an operand of the operators of the level above this one
 abbrev pub operand : ℕ → Nested → ℕ → Parser Expression
@@ -78,9 +83,14 @@ one_operation operand k = choose (λ t. elim (operator_at k t) [
   | Some o ↦ advance >>= (λ p. operand >>= (λ e. pure (Some (ThenOperation o p e))))
 ])
 
--- goes on from a first operand by the operators of the level above this one
-abbrev pub one_level : ℕ → Nested → ℕ → Expression → Parser Expression
-one_level room inner below e = climb (unary room inner) below e >>= (λ first. operations (operand room inner below) (suc below) max_items >>= (λ os. pure (binary_of first os)))
+-- goes on from a first operand by the operators of so many levels above this one
+unfoldable pub climb_from : Parser Expression → ℕ → ℕ → Expression → Parser Expression
+climb_from tightest below zero e = pure e
+climb_from tightest below (suc count) e = operations (tightest >>= climb tightest below) (suc below) max_items >>= (λ os. climb_from tightest (suc below) count (binary_of e os))
+
+-- goes on by the operators of the level above this one, and then of those above it up to the last
+abbrev pub one_level : ℕ → Nested → ℕ → ℕ → Expression → Parser Expression
+one_level room inner below most e = operations (operand room inner below) (suc below) max_items >>= (λ os. climb_from (unary room inner) (below + 1) (most - (below + 1)) (binary_of e os))
 
 -- ---- declarations
 

@@ -1,12 +1,14 @@
 //! The symbols that are left, and the parsers of one symbol.
 #![tactic(auto, unfolding(crate::specs::Parsing::take))]
+
 ghost use Rattle.std.specs.Prelude.{◌≡◌, ℕ, suc, length, map, option_map, if◌then◌else◌};
 ghost use Rattle.cyc_parse.specs.declared.stop.Reason.TheVariants as reasons;
 ghost use Rattle.cyc_parse.specs.declared.stop.Stop.TheVariants.{Refused};
 ghost use Rattle.cyc_syntax.specs.TreeView.{place_of_span, view_name};
 ghost use Rattle.cyc_parse.specs.Code.{Gives, view_terminal, view_symbol, accepted};
 ghost use Rattle.cyc_parse.specs.Answers.{place_at};
-ghost use Rattle.cyc_parse.specs.Parsing.{next, sees, opens_regions, advance, sign, word, identifier, region_name};
+ghost use Rattle.cyc_parse.specs.Declarations.{number_value};
+ghost use Rattle.cyc_parse.specs.Parsing.{next, sees, opens_regions, advance, take, sign, word, identifier, region_name};
 
 use crate::stop::{Reason, Stop};
 use crate::symbol::{Symbol, Terminal};
@@ -143,6 +145,16 @@ impl<'a> Parser<'a> {
         };
         let span = self.advance()?;
         Ok(Ident { name, span })
+    }
+
+    pub(crate) fn take_number(&mut self) -> Result<u32, Stop>
+        ensures { (room : ℕ) → Gives (λ n. n) result (take (suc room) number_value (λ n p. n) self.old) self.new }
+    {
+        let Some(Terminal::Number(value)) = self.next() else {
+            return Err(Stop::Refused(Reason::Unexpected));
+        };
+        self.advance()?;
+        Ok(value)
     }
 
     // ---- a symbol further inside: `room` counts the levels that are left there

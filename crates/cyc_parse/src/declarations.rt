@@ -4,10 +4,10 @@ ghost use Rattle.std.specs.Prelude.{◌≡◌, ℕ, suc, map, option_map, List, 
 ghost use Rattle.cyc_syntax.specs.TreeView.{place_of_span, view_name, view_type, view_member, view_constructor, view_value, view_constraint, view_list, view_parameters, view_declaration};
 ghost use Rattle.cyc_syntax.specs.Trees as trees;
 ghost use Rattle.cyc_parse.specs.Code.{Gives};
-ghost use Rattle.cyc_parse.specs.Parsing.{next, starts, take, begins_region, no_more_items, separated};
+ghost use Rattle.cyc_parse.specs.Parsing.{next, starts, begins_region, no_more_items, separated};
 ghost use Rattle.cyc_parse.specs.Types.{begins_type};
 ghost use Rattle.cyc_parse.specs.Steps.{after_comma, one_of, one_declaration};
-ghost use Rattle.cyc_parse.specs.Declarations.{begins_void, number_value, begins_constructor, member, field, has_int, constructor, no_more_of, some_of, parameter_list, effect_regions, effect, constraint, constraints, parameters, value, global_value, global, function, typed, struct_fields, struct_or_typed, exceptions, declaration, program_of};
+ghost use Rattle.cyc_parse.specs.Declarations.{begins_void, begins_constructor, member, field, has_int, constructor, no_more_of, some_of, parameter_list, effect_regions, effect, constraint, constraints, parameters, value, global_value, global, function, typed, struct_fields, struct_or_typed, exceptions, declaration, program_of};
 
 use crate::cursor::{Parser, refusal};
 use crate::stop::{Reason, Stop};
@@ -298,17 +298,6 @@ impl<'a> Parser<'a> {
     }
 
     // ---- declarations
-
-    #[tactic(auto, unfolding(crate::specs::Parsing::take))]
-    fn take_number(&mut self) -> Result<u32, Stop>
-        ensures { (room : ℕ) → Gives (λ n. n) result (take (suc room) number_value (λ n p. n) self.old) self.new }
-    {
-        let Some(Terminal::Number(value)) = self.next() else {
-            return Err(Stop::Refused(Reason::Unexpected));
-        };
-        self.advance()?;
-        Ok(value)
-    }
 
     fn parse_value(&mut self) -> Result<GlobalValue, Stop>
         ensures { Gives view_value result (value 200 self.old) self.new }

@@ -1,11 +1,13 @@
 //! The parser of expressions: chains of binary operators by their levels, from the tightest. A function with `room`
 //! reads at a level of nesting below which so many are left.
-ghost use Rattle.std.specs.Prelude.{◌≡◌, ◌<◌, suc, true, map, option_map, List, [], Ok};
+#![tactic(auto, unfolding(crate::specs::Parsing::bind, crate::specs::Parsing::choose, crate::specs::Parsing::if_sees, crate::specs::Parsing::if_starts, crate::specs::Parsing::if_is, crate::specs::Parsing::refuse_item, crate::specs::Expressions::nested), using(crate::proofs::Levels::levels))]
+
+ghost use Rattle.std.specs.Prelude.{◌≡◌, ◌<◌, ◌≤◌, ◌-◌, suc, map, option_map, List, [], Ok, IfSome};
 ghost use Rattle.cyc_syntax.specs.TreeView.{view_name, view_expression, view_initial, expressions_of, postfixes_of, operations_of, then_postfix};
 ghost use Rattle.cyc_parse.specs.Boxes.{view_boxed, view_boxed_initial};
 ghost use Rattle.cyc_parse.specs.Code.{Gives};
 ghost use Rattle.cyc_parse.specs.Parsing.{next, starts, separated, no_more_items, opens_regions};
-ghost use Rattle.cyc_parse.specs.Steps.{after_comma, one_postfix, one_operation, then_operation, prefixed, created, created_in, freed_key, bracketed, with_chain, has_operator, operand, one_level};
+ghost use Rattle.cyc_parse.specs.Steps.{after_comma, one_postfix, one_operation, then_operation, prefixed, created, created_in, freed_key, bracketed, with_chain, level_at, operand, climb_from, one_level};
 ghost use Rattle.cyc_syntax.specs.Grammar.{level};
 ghost use Rattle.cyc_syntax.specs.Trees.{Expression, NoPostfixes, NoOperations, Call, Plain, Fields};
 ghost use Rattle.cyc_parse.specs.Expressions.{binary_operator, chained, binary_of, nested, begins_expression, begins_initial, operator_at, no_more_operations, operations, climb, group, arguments, from_name, primary, no_more_postfixes, postfixes, with_postfixes, unary, assignment, binary, expression, values, fields, initial_from_name, array, initial};
@@ -66,7 +68,6 @@ impl<'a> Parser<'a> {
     // ---- one level deeper
 
     #[cycle(expression)]
-    #[tactic(auto, unfolding(crate::specs::Expressions::nested, crate::specs::Parsing::refuse_item), using(crate::proofs::Levels::nested_unary))]
     pub(crate) fn parse_unary(&mut self, room: u32) -> Result<Box<Expr>, Stop>
         ensures { Gives view_boxed result ((nested room).unary self.old) self.new }
     {
@@ -77,7 +78,6 @@ impl<'a> Parser<'a> {
     }
 
     #[cycle(expression)]
-    #[tactic(auto, unfolding(crate::specs::Expressions::nested, crate::specs::Parsing::refuse_item), using(crate::proofs::Levels::nested_binary))]
     pub(crate) fn parse_binary(&mut self, room: u32) -> Result<Box<Expr>, Stop>
         ensures { Gives view_boxed result ((nested room).binary self.old) self.new }
     {
@@ -88,7 +88,6 @@ impl<'a> Parser<'a> {
     }
 
     #[cycle(expression)]
-    #[tactic(auto, unfolding(crate::specs::Expressions::nested, crate::specs::Parsing::refuse_item), using(crate::proofs::Levels::nested_expression))]
     pub(crate) fn parse_expression(&mut self, room: u32) -> Result<Box<Expr>, Stop>
         ensures { Gives view_boxed result ((nested room).expression self.old) self.new }
     {
@@ -99,7 +98,6 @@ impl<'a> Parser<'a> {
     }
 
     #[cycle(expression)]
-    #[tactic(auto, unfolding(crate::specs::Expressions::nested, crate::specs::Parsing::refuse_item), using(crate::proofs::Levels::nested_group))]
     pub(crate) fn parse_group(&mut self, room: u32) -> Result<Box<Expr>, Stop>
         ensures { Gives view_boxed result ((nested room).group self.old) self.new }
     {
@@ -110,7 +108,6 @@ impl<'a> Parser<'a> {
     }
 
     #[cycle(expression)]
-    #[tactic(auto, unfolding(crate::specs::Expressions::nested, crate::specs::Parsing::refuse_item), using(crate::proofs::Levels::nested_initial))]
     fn parse_initial(&mut self, room: u32) -> Result<Box<Initial>, Stop>
         ensures { Gives view_boxed_initial result ((nested room).initial self.old) self.new }
     {
@@ -133,7 +130,6 @@ impl<'a> Parser<'a> {
     }
 
     /// An operand with the postfixes behind it.
-    #[tactic(auto, using(crate::proofs::Levels::chained_view, crate::proofs::Levels::no_postfixes))]
     fn chained(&self, base: Box<Expr>, postfixes: Vec<Postfix>) -> Result<Box<Expr>, Stop>
         ensures { Gives view_boxed result (Ok (chained (view_boxed base) (postfixes_of postfixes.items), self.now)) self.now }
     {
@@ -144,7 +140,6 @@ impl<'a> Parser<'a> {
     }
 
     /// A first operand with the operators of one level behind it.
-    #[tactic(auto, using(crate::proofs::Levels::binary_view, crate::proofs::Levels::no_operations))]
     fn joined(&self, first: Box<Expr>, rest: Vec<Operation>) -> Result<Box<Expr>, Stop>
         ensures { Gives view_boxed result (Ok (binary_of (view_boxed first) (operations_of rest.items), self.now)) self.now }
     {
@@ -220,7 +215,6 @@ impl<'a> Parser<'a> {
 
     /// The arguments of a call, up to its closing bracket.
     #[cycle(expression)]
-    #[tactic(auto, unfolding(crate::specs::Parsing::if_sees, crate::specs::Parsing::bind), using(crate::proofs::Levels::chain_of_view))]
     fn parse_arguments(&mut self, room: u32) -> Result<Vec<Expr>, Stop>
         ensures { Gives (λ v. expressions_of v.items) result (arguments room (nested room) self.old) self.new }
     {
@@ -455,22 +449,25 @@ impl<'a> Parser<'a> {
         }
     }
 
-    /// Whether the next symbol is a binary operator of one of the levels up to this one.
-    fn has_operator(&self, most: u32) -> bool
-        ensures value { result ≡ has_operator most (next self.now) }
-        ensures some { result ≡ true → 0 < most }
+    /// The level of the next symbol, if it is a binary operator of one of the levels above one, up to another.
+    fn next_level(&self, below: u32, most: u32) -> Option<u32>
+        ensures value { result ≡ level_at below most (next self.now) }
+        ensures within { IfSome result (λ k. (below < k) × (k ≤ most)) }
     {
         let Some(Terminal::Mark(sign)) = self.next() else {
-            return false;
+            return None;
         };
-        match binary_operator(sign) {
-            Some(operator) => level(operator) <= u64::from(most),
-            None => false,
+        let operator = binary_operator(sign)?;
+        if u64::from(below) < level(operator) && level(operator) <= u64::from(most) {
+            Some(level(operator) as u32)
+        } else {
+            None
         }
     }
 
     #[cycle(expression)]
     fn parse_operation(&mut self, room: u32, below: u32) -> Result<Option<Operation>, Stop>
+        requires { below < 10 }
         ensures { Gives (option_map then_operation) result (one_operation (operand room (nested room) below) (suc below) self.old) self.new }
     {
         let Some(operator) = self.operator(below) else {
@@ -497,9 +494,10 @@ impl<'a> Parser<'a> {
 
     #[cycle(expression)]
     fn parse_operations(&mut self, room: u32, below: u32) -> Result<Vec<Operation>, Stop>
+        requires { below < 10 }
         ensures { Gives (λ v. operations_of v.items) result (operations (operand room (nested room) below) (suc below) 64 self.old) self.new }
     {
-        let mut operations = Vec::new(self.alloc());
+        let mut operations = Vec::with_capacity(self.alloc(), 1)?;
         for _ in 0..MAX_ITEMS {
             let Some(operation) = self.parse_operation(room, below)? else {
                 return Ok(operations);
@@ -510,31 +508,54 @@ impl<'a> Parser<'a> {
         Ok(operations)
     }
 
-    /// Goes on from a first operand by the operators of the levels up to this one. Where none of them comes next, no level
-    /// is tried.
+    /// Goes on from a first operand by the operators of the levels up to this one.
     #[cycle(expression)]
-    #[tactic(auto, using(crate::proofs::Levels::climb_step, crate::proofs::Levels::climb_stops))]
     pub(crate) fn climb(
         &mut self,
         room: u32,
         level: u32,
         first: Box<Expr>,
     ) -> Result<Box<Expr>, Stop>
+        requires { level ≤ 10 }
         ensures { Gives view_boxed result (climb (unary room (nested room)) level (view_boxed first) self.old) self.new }
     {
-        if !self.has_operator(level) {
-            return Ok(first);
-        }
-        self.climb_level(room, level - 1, first)
+        self.climb_above(room, 0, level, first)
     }
 
+    /// Goes on by the operators of the levels above one, up to another. Levels of which no operator comes next are passed
+    /// over.
     #[cycle(expression)]
-    fn climb_level(&mut self, room: u32, below: u32, first: Box<Expr>) -> Result<Box<Expr>, Stop>
-        ensures { Gives view_boxed result (one_level room (nested room) below (view_boxed first) self.old) self.new }
+    fn climb_above(
+        &mut self,
+        room: u32,
+        below: u32,
+        most: u32,
+        first: Box<Expr>,
+    ) -> Result<Box<Expr>, Stop>
+        requires { most ≤ 10 }
+        ensures { Gives view_boxed result (climb_from (unary room (nested room)) below (most - below) (view_boxed first) self.old) self.new }
     {
-        let first = self.climb(room, below, first)?;
+        let Some(level) = self.next_level(below, most) else {
+            return Ok(first);
+        };
+        self.climb_level(room, level - 1, most, first)
+    }
+
+    /// Goes on by the operators of the level above this one, and then of those above it.
+    #[cycle(expression)]
+    fn climb_level(
+        &mut self,
+        room: u32,
+        below: u32,
+        most: u32,
+        first: Box<Expr>,
+    ) -> Result<Box<Expr>, Stop>
+        requires { (below < most) × (most ≤ 10) }
+        ensures { Gives view_boxed result (one_level room (nested room) below most (view_boxed first) self.old) self.new }
+    {
         let rest = self.parse_operations(room, below)?;
-        self.joined(first, rest)
+        let first = self.joined(first, rest)?;
+        self.climb_above(room, below + 1, most, first)
     }
 
     #[cycle(expression)]

@@ -1,6 +1,7 @@
 //! The parser of statements and of the items of blocks. A function with `room` reads at a level of nesting below which
 //! so many are left.
-#![tactic(auto, unfolding(crate::specs::Parsing::bind, crate::specs::Parsing::choose, crate::specs::Parsing::if_sees, crate::specs::Parsing::if_starts, crate::specs::Parsing::refuse_item, crate::specs::Expressions::nested))]
+#![tactic(auto, unfolding(crate::specs::Parsing::bind, crate::specs::Parsing::choose, crate::specs::Parsing::if_sees, crate::specs::Parsing::if_starts, crate::specs::Parsing::refuse_item, crate::specs::Expressions::nested, crate::specs::Statements::nested_statements), using(crate::proofs::StatementLevels::nested_statement, crate::proofs::StatementLevels::nested_items))]
+
 ghost use Rattle.std.specs.Prelude.{◌≡◌, ℕ, suc, length, option_map};
 ghost use Rattle.cyc_syntax.specs.TreeView.{place_of_span, view_name, view_expression, view_initial, view_statement, view_item, view_block, items_of, clauses_of, default_of};
 ghost use Rattle.cyc_syntax.specs.Trees as trees;
@@ -94,7 +95,6 @@ impl<'a> Parser<'a> {
     // ---- one level deeper
 
     #[cycle(statement)]
-    #[tactic(auto, unfolding(crate::specs::Statements::nested_statements, crate::specs::Parsing::refuse_item), using(crate::proofs::StatementLevels::nested_statement))]
     fn parse_statement(&mut self, room: u32) -> Result<Box<Stmt>, Stop>
         ensures { Gives view_boxed_statement result ((nested_statements room).statement self.old) self.new }
     {
@@ -107,7 +107,6 @@ impl<'a> Parser<'a> {
 
     /// The items of a block.
     #[cycle(statement)]
-    #[tactic(auto, unfolding(crate::specs::Statements::nested_statements, crate::specs::Parsing::if_starts), using(crate::proofs::StatementLevels::nested_items))]
     fn parse_items(&mut self, room: u32) -> Result<Vec<Item>, Stop>
         ensures { Gives (λ v. items_of v.items) result ((nested_statements room).items self.old) self.new }
     {

@@ -59,7 +59,7 @@ parse_postfixes-returns t c =
 
 pub parse_operations-returns-in_err-operation : goal.parse_operations-returns-in_err-operation
 parse_operations-returns-in_err-operation t c =
-    let p = err_from_is_err_and c.from_residual.result c.from_residual.ensures.1 in
+    let p = err_from_is_err_and c.from_residual-in_err-operation.result c.from_residual-in_err-operation.ensures.1 in
     rw (p.1, p.2) (fails then_operation _ _ _ _ (operations_steps (operand c.args.room (nested c.args.room) c.args.below) (suc c.args.below)) c.in_err-operation.field-0.0 c.loop.operations.items 64 c.loop.counter c.loop.self c.parse_operation.new.self _ c.loop-test.true c.in_err-operation.ensures c.loop.invariant)
 
 pub parse_operations-returns-in_default : goal.parse_operations-returns-in_default
