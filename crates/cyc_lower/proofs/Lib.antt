@@ -14,6 +14,8 @@ pub mod Fitting
 pub mod Bridge
 pub mod Data
 pub mod Sharing
+pub mod CellWrites
+pub mod Allocations
 pub mod Values
 pub mod Evaluations
 pub mod Accesses
@@ -21,6 +23,7 @@ pub mod Branching
 pub mod Conditions
 pub mod Calls
 pub mod StatementSteps
+pub mod Keeping
 pub mod Whole
 -- the rest of the promise: it is well formed, of words, and small
 pub mod WellFormed

@@ -8,7 +8,7 @@ use Rattle.cyc_types.specs.declared.typed.Callee.{Callee}
 use Rattle.cyc_types.specs.declared.typed.Callee.TheVariants as callees
 use Rattle.cyc_types.specs.Types.{Ty, words_of, words_of_mark}
 use Rattle.cyc_types.specs.Types as types
-use Rattle.cyc_types.specs.TypedTrees.{Load, type_of_place, Expression, NullPointer, Copy, Call, Binary, Assign, Converted, Convert, NoOperations, Signature}
+use Rattle.cyc_types.specs.TypedTrees.{Load, New, Initial, Array, type_of_place, Expression, NullPointer, Copy, Call, Binary, Assign, Converted, Convert, NoOperations, Signature}
 use Rattle.cyc_meaning.specs.Values.{kind_of, number_of_kind, is_kind, words_of_kind}
 
 -- ---- kinds and their words
@@ -69,6 +69,11 @@ abbrev pub result_kind : Option Signature → Kind
 result_kind None = kinds.Int
 result_kind (Some s) = kind_of_result s.result
 
+-- the kind of the pointer to a new object
+abbrev pub made_kind : Initial → Kind
+made_kind (Array p level n kind a) = kinds.Fat
+made_kind i = kinds.NonNull
+
 module _ (signatures : List Signature) where
   abbrev pub called_kind : Callee → Kind
   called_kind callees.Putchar = kinds.Int
@@ -79,6 +84,7 @@ module _ (signatures : List Signature) where
   given NullPointer = kinds.Nullable
   given (Load x) = kind_of (type_of_place x)
   given (Copy l t) = kind_of t
+  given (New w i t) = made_kind i
   given (Call f cs t) = called_kind f
   given (Binary a NoOperations t) = given a
   given (Assign l (Convert from to a) t) = to
