@@ -14,16 +14,17 @@ use Rattle.cyc_types.proofs.TypedTreeViewLemmas.{view_block}
 use Rattle.cyc_plain.specs.declared.instruction.Instruction.{Instruction}
 use Rattle.cyc_plain.specs.declared.instruction.Instruction.TheVariants as instructions
 use Rattle.cyc_lower.specs.declared.operands.Condition.{Condition}
+use Rattle.cyc_lower.specs.Slots.{Starts}
 use Rattle.cyc_lower.specs.Lowering.{condition_code, condition_of, failing_jump, statement_code, items_code, break_target, continue_target}
 use Rattle.cyc_lower.specs.Emission.{loop_code}
 use Rattle.cyc_lower.proofs.Emitting.{written_back}
 
 -- ---- blocks
 
-abbrev pub all_items : List ℕ → ℕ → List ItemCode → (p t : ℕ) → List Instruction
+abbrev pub all_items : Starts → ℕ → List ItemCode → (p t : ℕ) → List Instruction
 all_items starts head js p t = items_code starts (items_of js) p head t
 
-module _ (starts : List ℕ) (value : Stmt) (region : ℕ) (v : Vec ItemCode Heap) (is : value ≡ stmt.Block region v) (items : List ItemCode) (same : items ≡ v.items) (old new : List Instruction) (head d : ℕ) where
+module _ (starts : Starts) (value : Stmt) (region : ℕ) (v : Vec ItemCode Heap) (is : value ≡ stmt.Block region v) (items : List ItemCode) (same : items ≡ v.items) (old new : List Instruction) (head d : ℕ) where
   pub made_block : new ≡ old ++ items_code starts (items_of items) (length old) head d → new ≡ old ++ statement_code starts (view_statement value) (length old) head d
   made_block h =
       let e : view_statement value ≡ Block region (items_of items)
@@ -60,7 +61,7 @@ module _ (old condition : List Instruction) (x y : Instruction) (first second : 
       ∙ ap (λ (l : List Instruction). l ++ (over q ∷ (t ++ rest))) e0
       ∙ append_assoc old condition (over q ∷ (t ++ rest))
 
-module _ (starts : List ℕ) (value : Stmt) (e : Expr) (b b' : Box Stmt Heap) (is : value ≡ stmt.If e b b') (s t : Stmt) (at : s ≡ b.value) (at' : t ≡ b'.value) (head d : ℕ) (o : Condition) (o_is : o ≡ condition_of starts (view_expression e) d) (old : List Instruction) (x y : Instruction) (m0 m1 m2 m3 m4 m5 m6 : List Instruction) (p1 p2 : ℕ) where
+module _ (starts : Starts) (value : Stmt) (e : Expr) (b b' : Box Stmt Heap) (is : value ≡ stmt.If e b b') (s t : Stmt) (at : s ≡ b.value) (at' : t ≡ b'.value) (head d : ℕ) (o : Condition) (o_is : o ≡ condition_of starts (view_expression e) d) (old : List Instruction) (x y : Instruction) (m0 m1 m2 m3 m4 m5 m6 : List Instruction) (p1 p2 : ℕ) where
   pub made_if : m0 ≡ old ++ condition_code starts (view_expression e) (length old) d → p1 ≡ length m0 → m1 ≡ m0 ++ x ∷ [] → m2 ≡ m1 ++ statement_code starts (view_statement s) (length m1) head d → p2 ≡ length m2 → m3 ≡ m2 ++ y ∷ []
       → m4 ≡ set m3 p1 (failing_jump o (length m3)) → m5 ≡ m4 ++ statement_code starts (view_statement t) (length m4) head d → m6 ≡ set m5 p2 (instructions.Jump (length m5))
       → m6 ≡ old ++ statement_code starts (view_statement value) (length old) head d
@@ -114,7 +115,7 @@ module _ (old : List Instruction) (into x test back : Instruction) (first second
       ∙ ap (λ (l : List Instruction). l ++ (out (q + length (second q) + 1) ∷ whole)) e1
       ∙ append_assoc old (into ∷ []) (out (q + length (second q) + 1) ∷ whole)
 
-module _ (starts : List ℕ) (a : Expression) (s : Statement) (d : ℕ) (o : Condition) (o_is : o ≡ condition_of starts a d) (old : List Instruction) (x : Instruction) (m1 m2 m3 m4 m5 m6 m7 : List Instruction) (head leaving : ℕ) (here : head ≡ length old) where
+module _ (starts : Starts) (a : Expression) (s : Statement) (d : ℕ) (o : Condition) (o_is : o ≡ condition_of starts a d) (old : List Instruction) (x : Instruction) (m1 m2 m3 m4 m5 m6 m7 : List Instruction) (head leaving : ℕ) (here : head ≡ length old) where
   pub made_loop : m1 ≡ old ++ instructions.Jump (continue_target head) ∷ [] → leaving ≡ length m1 → m2 ≡ m1 ++ x ∷ [] → m3 ≡ m2 ++ condition_code starts a (length m2) d → m4 ≡ m3 ++ failing_jump o leaving ∷ []
       → m5 ≡ m4 ++ statement_code starts s (length m4) head d → m6 ≡ m5 ++ instructions.Jump (continue_target head) ∷ [] → m7 ≡ set m6 leaving (instructions.Jump (length m6))
       → m7 ≡ old ++ loop_code starts a s (length old) d

@@ -10,7 +10,7 @@ use Rattle.cyc_types.specs.declared.typed.UnaryOperator.TheVariants as unary
 use Rattle.cyc_types.specs.declared.typed.Operator.{Operator}
 use Rattle.cyc_types.specs.declared.typed.Operator.TheVariants as operators
 use Rattle.cyc_types.specs.Types.{Ty, words_of}
-use Rattle.cyc_types.specs.TypedTrees.{Load, Dereference, Target, Lvalue, Local, Global, Expression, Number, NullPointer, Copy, Call, Unary, Binary, Assign, Converted, Convert, Arguments, NoArguments, MoreArguments, Operations, NoOperations, ThenCompute, ThenTest, ThenPointer, Statement, Block, Empty, Evaluate, If, While, Return, Break, Continue, Items, NoItems, MoreItems, Execute, Declare, Signature, Function, Program}
+use Rattle.cyc_types.specs.TypedTrees.{Load, Dereference, Target, Lvalue, Local, Global, Expression, Number, NullPointer, Copy, Call, Unary, Binary, Assign, Converted, Convert, Arguments, NoArguments, MoreArguments, Operations, NoOperations, ThenCompute, ThenTest, ThenPointer, Statement, Block, Empty, Evaluate, If, While, Return, Break, Continue, Items, NoItems, MoreItems, Execute, Declare, Signature, StructType, Function, Program}
 use Rattle.cyc_types.specs.Numbered.{Numbering, argument_count, numbering_of, signatures_of}
 use Rattle.cyc_plain.specs.declared.instruction.Comparison.{Comparison}
 use Rattle.cyc_plain.specs.declared.instruction.Operand.{Operand}
@@ -22,8 +22,8 @@ use Rattle.cyc_plain.specs.Straight.{At, HasAt}
 use Rattle.cyc_plain.proofs.Straight.{has_front, has_back, has_whole}
 use Rattle.cyc_meaning.specs.Values.{kind_of, words_of_kind}
 use Rattle.cyc_meaning.specs.FrameCount.{words_of_all}
-use Rattle.cyc_lower.specs.Slots.{starts_of, slot_of}
-use Rattle.cyc_lower.specs.Lowering.{slot_types, converts_there, passed_words, source_of, source_slot, moved_by, move_of, pointer_instruction, operand_of, operand_or, code_unless, slot_or, code_unless_slot, left_with, left_of, value_slot, next_slot, slot_with, left_slot, value_operand, converted_operand, printed_operand, jump_if_nonzero, check_code, conversion_code, divisor_code, checked_code, operator_code, truth_code, load_code, low_byte, test_code, is_in, copy_code, expression_code, arguments_code, converted_code, converted_operand_code, printed_code, dereference_code, initial_code, assignment_code, assigned_operand, operations_code, discarded_code, failing_comparison, compared_or, compared_of, first_operand, first_code, second_code, pair_code, condition_code, condition_of, failing_jump, break_target, continue_target, return_code, declaration_code, statement_code, items_code, function_code, first_temporary, results_of, lower_function, lower_program}
+use Rattle.cyc_lower.specs.Slots.{starts_of, slot_of, Types}
+use Rattle.cyc_lower.specs.Lowering.{types_of, converts_there, passed_words, source_of, source_slot, moved_by, move_of, pointer_instruction, operand_of, operand_or, code_unless, slot_or, code_unless_slot, left_with, left_of, value_slot, next_slot, slot_with, left_slot, value_operand, converted_operand, printed_operand, jump_if_nonzero, check_code, conversion_code, divisor_code, checked_code, operator_code, truth_code, load_code, low_byte, test_code, is_in, copy_code, expression_code, arguments_code, converted_code, converted_operand_code, printed_code, dereference_code, initial_code, assignment_code, assigned_operand, operations_code, discarded_code, failing_comparison, compared_or, compared_of, first_operand, first_code, second_code, pair_code, condition_code, condition_of, failing_jump, break_target, continue_target, return_code, declaration_code, statement_code, items_code, function_code, first_temporary, results_of, lower_function, lower_program}
 use Rattle.cyc_lower.proofs.Stands.{OperandBy, CheckAt, ConversionAt, DivisorAt, CheckedAt, OperatorAt, LoadAt, DereferenceAt, CopyBy, ExpressionAt, InitialAt, InitialBy, ConvertedAt, ConvertedOperandAt, PrintedAt, ArgumentsAt, OperationsAt, PairAt, ConditionAt, AssignmentAt, DiscardedAt, ReturnedAt, ReturnAt, DeclarationAt, StatementAt, ItemsAt}
 use Rattle.cyc_lower.proofs.Widths.{kind_of_result, given, passed_kind, type_words}
 use Rattle.cyc_lower.proofs.Fitting.{FitsPlace, FitsCell, Fits, FitsConverted, FitArguments, FitOperations, FitsReturn, FitsInitial, FitsStatement, FitItems, AreFitting, IsFitting}
@@ -35,7 +35,7 @@ use Rattle.cyc_lower.proofs.Calls.{FunctionsStand}
 cut : (p q : ℕ) (a b : List Instruction) → p + length (a ++ b) ≡ q → p + length a + length b ≡ q
 cut p q a b end = omega (arith, end, length-append a b)
 
-module _ (code : List Instruction) (b : Numbering) (types : List Ty) where
+module _ (code : List Instruction) (b : Numbering) (types : Types) where
   -- ---- operands
 
   -- an operand without code, or code that stands here
@@ -439,35 +439,36 @@ module _ (code : List Instruction) (b : Numbering) (types : List Ty) where
 
 -- ---- functions
 
-fitting_function : (globals : ℕ) (signatures : List Signature) (hs : List Function) (n : ℕ) (h : Function) → AreFitting globals signatures hs → slice_get hs n ≡ Some h → FitItems (numbering_of globals signatures h) (slot_types h) false h.body
-fitting_function globals signatures [] n h numbered there = absurd (none-some h there)
-fitting_function globals signatures (g ∷ hs) zero h (first, rest) there =
-    subst (λ (f : Function). FitItems (numbering_of globals signatures f) (slot_types f) false f.body) (same_Some g h there) first
-fitting_function globals signatures (g ∷ hs) (suc n) h (first, rest) there = fitting_function globals signatures hs n h rest there
+fitting_function : (structs : List StructType) (globals : ℕ) (signatures : List Signature) (hs : List Function) (n : ℕ) (h : Function) → AreFitting structs globals signatures hs → slice_get hs n ≡ Some h
+    → FitItems (numbering_of globals signatures h) (types_of structs h) false h.body
+fitting_function structs globals signatures [] n h numbered there = absurd (none-some h there)
+fitting_function structs globals signatures (g ∷ hs) zero h (first, rest) there =
+    subst (λ (f : Function). FitItems (numbering_of globals signatures f) (types_of structs f) false f.body) (same_Some g h there) first
+fitting_function structs globals signatures (g ∷ hs) (suc n) h (first, rest) there = fitting_function structs globals signatures hs n h rest there
 
 module _ (source : Program) where
   -- each function is lowered by itself
-  pub routine_there : (n : ℕ) (h : Function) → slice_get source.functions n ≡ Some h → routine_at (lower_program source) n ≡ lower_function h
-  routine_there n h there = get_or_from_slice_get (map lower_function source.functions) n (lower_function h) no_routine (slice_get-map lower_function source.functions n ∙ ap (option_map lower_function) there)
+  pub routine_there : (n : ℕ) (h : Function) → slice_get source.functions n ≡ Some h → routine_at (lower_program source) n ≡ lower_function source.structs h
+  routine_there n h there = get_or_from_slice_get (map (lower_function source.structs) source.functions) n (lower_function source.structs h) no_routine (slice_get-map (lower_function source.structs) source.functions n ∙ ap (option_map (lower_function source.structs)) there)
 
   -- the code of a function, with its body at the beginning and a return behind it
   abbrev BodyStands : Function → List Instruction → Option Function → Type 0
   BodyStands h code o =
-      (m : ℕ) × ItemsAt code (bounds_in source o) (types_in source o) h.body 0 (words_of_all (types_in source o)) 0 m
-      × At code m (instructions.Return (words_of_all (types_in source o)))
+      (m : ℕ) × ItemsAt code (bounds_in source o) (types_in source o) h.body 0 (words_of_all (types_in source o).locals) 0 m
+      × At code m (instructions.Return (words_of_all (types_in source o).locals))
 
-  body_stands : (h : Function) → FitItems (bounds_in source (Some h)) (slot_types h) false h.body → BodyStands h (function_code h) (Some h)
+  body_stands : (h : Function) → FitItems (bounds_in source (Some h)) (types_of source.structs h) false h.body → BodyStands h (function_code source.structs h) (Some h)
   body_stands h numbered =
       let d = first_temporary h in
-      let starts = starts_of (slot_types h) in
+      let starts = starts_of (types_of source.structs h) in
       let body = items_code starts h.body 0 0 d in
       let end = instructions.Return d ∷ [] in
       let has = has_whole (body ++ end) in
       let (here, none) = has_back (body ++ end) 0 body end has in
-      (0 + length body, items_stand (body ++ end) (bounds_in source (Some h)) (slot_types h) h.body false 0 d 0 (0 + length body) numbered refl (has_front (body ++ end) 0 body end has), here)
+      (0 + length body, items_stand (body ++ end) (bounds_in source (Some h)) (types_of source.structs h) h.body false 0 d 0 (0 + length body) numbered refl (has_front (body ++ end) 0 body end has), here)
 
   pub functions_stand : (pages calls : ℕ) → IsFitting source → FunctionsStand source pages calls
   functions_stand pages calls numbered n h there =
       subst (λ (code : List Instruction). BodyStands h code (slice_get source.functions n)) (sym (ap (λ (r : Routine). r.code) (routine_there n h there)))
-      (subst (λ (o : Option Function). BodyStands h (function_code h) o) (sym there)
-      (body_stands h (fitting_function (length source.globals) (signatures_of source.functions) source.functions n h numbered.functions there)))
+      (subst (λ (o : Option Function). BodyStands h (function_code source.structs h) o) (sym there)
+      (body_stands h (fitting_function source.structs (length source.globals) (signatures_of source.functions) source.functions n h numbered.functions there)))

@@ -130,11 +130,11 @@ module _ (source : Program) (pages calls : ℕ) where
 
   -- a parameter is a local, whose slots are behind those of the parameters before it
   parameter_in : (h : Option Function) (first rest : List Ty) (t : Ty) → parameters_in source h ≡ first ++ t ∷ rest
-      → (length first < length (types_in source h)) × (slot_of (starts_of (types_in source h)) (length first) ≡ words_of_all first) × (words_in (types_in source h) (length first) ≡ words_of t)
+      → (length first < length (types_in source h).locals) × (slot_of (starts_of (types_in source h)) (length first) ≡ words_of_all first) × (words_in (types_in source h).locals (length first) ≡ words_of t)
   parameter_in None first rest t own = absurd (omega (arith, ap length own, length-append first (t ∷ rest)))
   parameter_in (Some h) first rest t own = (
     omega (arith, slot_types-many h, ap length own, length-append first (t ∷ rest)),
-    ap (λ (ts : List Ty). slot_of (starts_of (ts ++ h.locals)) (length first)) own ∙ slot-parameter first rest t h.locals,
+    ap (λ (ts : List Ty). slot_of (starts_of (record { locals = ts ++ h.locals; structs = source.structs })) (length first)) own ∙ slot-parameter source.structs first rest t h.locals,
     ap (λ (ts : List Ty). words_in (ts ++ h.locals) (length first)) own ∙ words-parameter first rest t h.locals,
   )
 
@@ -160,7 +160,7 @@ module _ (source : Program) (pages calls : ℕ) where
       let kind_is : v.kind ≡ kind_of t = same_kind v.kind (kind_of t) fits in
       let wide : words_of_kind v.kind ≡ words_of t = ap words_of_kind kind_is ∙ type_words t in
       let there : slot_of (starts_at source g) n ≡ words_of_all first = ap (slot_of (starts_at source g)) (sym count) ∙ slot in
-      let room : HasRoom (types_at source g) n v.kind = omega (arith, wide, words, ap (words_in (types_at source g)) count) in
+      let room : HasRoom (types_at source g) n v.kind = omega (arith, wide, words, ap (words_in (types_at source g).locals) count) in
       let next : words_of_all (first ++ t ∷ []) ≡ words_of_all first + words_of_kind v.kind = omega (arith, words-append first (t ∷ []), wide) in
       silently source pages calls (Running (Binding n (t ∷ types) (v ∷ arguments) body) k e w)
       (Running (Binding (suc n) types arguments body) k (with_local e n (length w.objects)) (made w x)) (plain.Running c)

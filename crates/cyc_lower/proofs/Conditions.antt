@@ -13,6 +13,7 @@ use Rattle.cyc_plain.specs.declared.instruction.Comparison.TheVariants as compar
 use Rattle.cyc_plain.specs.declared.instruction.Operand.{Operand}
 use Rattle.cyc_plain.specs.declared.instruction.Instruction.{Instruction}
 use Rattle.cyc_lower.specs.declared.operands.Condition.{Condition}
+use Rattle.cyc_lower.specs.Slots.{Starts}
 use Rattle.cyc_lower.specs.Lowering.{operand_of, operand_or, left_of, left_slot, value_operand, failing_comparison, Compared, with_zero, compared_or, compared_of, first_operand, first_code, second_code, pair_code, condition_code, condition_of}
 use Rattle.cyc_lower.specs.Emission.{most_locals, value_code, left_code, zero_condition}
 use Rattle.cyc_lower.proofs.Emitting.{joined, room_behind}
@@ -32,7 +33,7 @@ not_single first (operation.Compute o e ∷ operation.PointerPeek u n x ∷ os) 
 
 -- ---- locals that have these first slots
 
-module _ (starts : List ℕ) where
+module _ (starts : Starts) where
   -- what is made of a condition, and answered
   abbrev IsMade : (whole : Expression) → (answer : Condition) → (old new : List Instruction) → (t : ℕ) → Type 0
   IsMade whole answer old new t = (answer ≡ condition_of starts whole t) × (new ≡ old ++ condition_code starts whole (length old) t)

@@ -13,7 +13,7 @@ use Rattle.cyc_meaning.specs.Values.{Value, Int, Null, Thin, Handle, Key, Operan
 use Rattle.cyc_meaning.specs.State.{Object, Environment, with_local}
 use Rattle.cyc_types.specs.Types.{Ty}
 use Rattle.cyc_meaning.specs.FrameCount.{words_of_all}
-use Rattle.cyc_lower.specs.Slots.{starts_of, slot_of}
+use Rattle.cyc_lower.specs.Slots.{starts_of, slot_of, Types}
 use Rattle.cyc_lower.proofs.Widths.{kind_positive, words_in, HasRoom, Outside}
 use Rattle.cyc_lower.proofs.Slots.{slot-room, slot-apart}
 use Rattle.cyc_plain.specs.declared.instruction.Operand.{Operand as Place}
@@ -80,8 +80,8 @@ SameBetween low high objects others = (o : ℕ) → low ≤ o → o < high → c
 -- ---- the locals of a call
 
 -- what is outside of the words of one local, for another
-other_outside : (types : List Ty) (n number many m : ℕ) → n < length types → number < length types → n ≢ number → many ≤ words_in types number
-    → slot_of (starts_of types) n ≤ m → m < slot_of (starts_of types) n + words_in types n → Outside (slot_of (starts_of types) number) many m
+other_outside : (types : Types) (n number many m : ℕ) → n < length types.locals → number < length types.locals → n ≢ number → many ≤ words_in types.locals number
+    → slot_of (starts_of types) n ≤ m → m < slot_of (starts_of types) n + words_in types.locals n → Outside (slot_of (starts_of types) number) many m
 other_outside types n number many m inside there other few from to = elim (slot-apart types n number inside there other) [
   | inl before ↦ inl (omega (arith, before, to))
   | inr behind ↦ inr (omega (arith, behind, from, few))
@@ -174,7 +174,7 @@ module _ (t : Tables) where
         (subst (λ n. HoldsFrom t from n vs) (let e : source + i + words_of_kind v.kind ≡ source + (i + words_of_kind v.kind) = omega arith in e) holds),
   )
 
-  pub locals_kept : (types : List Ty) (objects others : List Object) (locals : ℕ → Option ℕ) (low high : ℕ) (slots : Words)
+  pub locals_kept : (types : Types) (objects others : List Object) (locals : ℕ → Option ℕ) (low high : ℕ) (slots : Words)
       → SameBetween low high objects others → LocalsHold t types objects locals low high slots → LocalsHold t types others locals low high slots
   locals_kept types objects others locals low high slots same hold = record {
     within = hold.within;
@@ -186,15 +186,15 @@ module _ (t : Tables) where
   }
 
   -- the words of a local's value, with other slots that are equal where the local has its own
-  local_same : (types : List Ty) (slots other : Words) (number : ℕ) (v : Operand) → number < length types → HasRoom types number v.kind
-      → ((m : ℕ) → slot_of (starts_of types) number ≤ m → m < slot_of (starts_of types) number + words_in types number → other m ≡ slots m)
+  local_same : (types : Types) (slots other : Words) (number : ℕ) (v : Operand) → number < length types.locals → HasRoom types number v.kind
+      → ((m : ℕ) → slot_of (starts_of types) number ≤ m → m < slot_of (starts_of types) number + words_in types.locals number → other m ≡ slots m)
       → Is t v.kind v.value slots (slot_of (starts_of types) number) → Is t v.kind v.value other (slot_of (starts_of types) number)
   local_same types slots other number v inside room same is =
       let slot = slot_of (starts_of types) number in
       Is-same v.kind v.value slots other slot slot (λ i below. same (slot + i) (omega arith) (omega (arith, below, room))) is
 
-  pub locals_same_slots : (types : List Ty) (objects : List Object) (locals : ℕ → Option ℕ) (low high : ℕ) (slots other : Words)
-      → ((n : ℕ) → n < words_of_all types → other n ≡ slots n) → LocalsHold t types objects locals low high slots → LocalsHold t types objects locals low high other
+  pub locals_same_slots : (types : Types) (objects : List Object) (locals : ℕ → Option ℕ) (low high : ℕ) (slots other : Words)
+      → ((n : ℕ) → n < words_of_all types.locals → other n ≡ slots n) → LocalsHold t types objects locals low high slots → LocalsHold t types objects locals low high other
   locals_same_slots types objects locals low high slots other same hold = record {
     within = hold.within;
     apart = hold.apart;
@@ -206,7 +206,7 @@ module _ (t : Tables) where
   }
 
   -- a local is assigned: the words of its value differ, and no others
-  pub locals_assigned : (types : List Ty) (objects others : List Object) (locals : ℕ → Option ℕ) (low high : ℕ) (slots after : Words) (number object : ℕ) (v : Operand)
+  pub locals_assigned : (types : Types) (objects others : List Object) (locals : ℕ → Option ℕ) (low high : ℕ) (slots after : Words) (number object : ℕ) (v : Operand)
       → locals number ≡ Some object → contents others object ≡ Some v → ((o : ℕ) → o ≢ object → contents others o ≡ contents objects o)
       → HasRoom types number v.kind → Is t v.kind v.value after (slot_of (starts_of types) number)
       → ((m : ℕ) → Outside (slot_of (starts_of types) number) (words_of_kind v.kind) m → after m ≡ slots m)
@@ -232,8 +232,8 @@ module _ (t : Tables) where
   }
 
   -- a local is declared, whose object is the one made last, and so many words of it are written
-  pub locals_declared : (types : List Ty) (objects : List Object) (e : Environment) (low : ℕ) (slots other : Words) (number many : ℕ) (x : Object)
-      → number < length types → many ≤ words_in types number → low ≤ length objects → slice_get t.rows (length objects) ≡ Some Variable
+  pub locals_declared : (types : Types) (objects : List Object) (e : Environment) (low : ℕ) (slots other : Words) (number many : ℕ) (x : Object)
+      → number < length types.locals → many ≤ words_in types.locals number → low ≤ length objects → slice_get t.rows (length objects) ≡ Some Variable
       → ((m : ℕ) → Outside (slot_of (starts_of types) number) many m → other m ≡ slots m)
       → ((v : Operand) → content_of (Some x) ≡ Some v → Is t v.kind v.value other (slot_of (starts_of types) number) × HasRoom types number v.kind)
       → LocalsHold t types objects e.locals low (length objects) slots
@@ -285,7 +285,7 @@ module _ (t : Tables) where
       }
 
   -- no local is there before the first is declared
-  pub no_locals_hold : (types : List Ty) (objects : List Object) (low high : ℕ) (slots : Words) → LocalsHold t types objects (λ (number : ℕ). None) low high slots
+  pub no_locals_hold : (types : Types) (objects : List Object) (low high : ℕ) (slots : Words) → LocalsHold t types objects (λ (number : ℕ). None) low high slots
   no_locals_hold types objects low high slots = record {
     within = λ number object at. absurd (none-some object at);
     apart = λ number other object at at_other. absurd (none-some object at);
@@ -293,7 +293,7 @@ module _ (t : Tables) where
     holds = λ number object v at has. absurd (none-some object at);
   }
 
-  pub locals_raised : (types : List Ty) (objects : List Object) (locals : ℕ → Option ℕ) (low high higher : ℕ) (slots : Words) → high ≤ higher
+  pub locals_raised : (types : Types) (objects : List Object) (locals : ℕ → Option ℕ) (low high higher : ℕ) (slots : Words) → high ≤ higher
       → LocalsHold t types objects locals low high slots → LocalsHold t types objects locals low higher slots
   locals_raised types objects locals low high higher slots raised hold = record {
     within = λ number object at. let inside = hold.within number object at in (inside.0, inside.1, omega (arith, inside.2, raised));
@@ -382,7 +382,7 @@ module _ (t : Tables) where
         )
 
     pub data_declared : (g : ℕ) (objects : List Object) (e : Environment) (outer : List Waiting) (slots other globals : Words) (frames : List Frame) (number many : ℕ) (x : Object)
-        → number < length (types_at source g) → many ≤ words_in (types_at source g) number → slice_get t.rows (length objects) ≡ Some Variable
+        → number < length (types_at source g).locals → many ≤ words_in (types_at source g).locals number → slice_get t.rows (length objects) ≡ Some Variable
         → ((m : ℕ) → Outside (slot_of (starts_at source g) number) many m → other m ≡ slots m)
         → ((v : Operand) → content_of (Some x) ≡ Some v → Is t v.kind v.value other (slot_of (starts_at source g) number) × HasRoom (types_at source g) number v.kind)
         → DataAt source t g objects e.locals outer slots globals frames → DataAt source t g (objects ++ x ∷ []) (with_local e number (length objects)).locals outer other globals frames
@@ -457,7 +457,7 @@ module _ (t u : Tables) (grows : Grows t u) where
   HoldsFrom-grows slots first [] holds = tt
   HoldsFrom-grows slots first (v ∷ vs) (is, holds) = (Is-grows grows v.kind v.value slots first is, HoldsFrom-grows slots (first + words_of_kind v.kind) vs holds)
 
-  locals_grow : (types : List Ty) (objects : List Object) (locals : ℕ → Option ℕ) (low high : ℕ) (slots : Words) → LocalsHold t types objects locals low high slots
+  locals_grow : (types : Types) (objects : List Object) (locals : ℕ → Option ℕ) (low high : ℕ) (slots : Words) → LocalsHold t types objects locals low high slots
       → LocalsHold u types objects locals low high slots
   locals_grow types objects locals low high slots hold = record {
     within = hold.within;

@@ -32,7 +32,7 @@ use Rattle.cyc_plain.specs.declared.instruction.Operand.{Operand}
 use Rattle.cyc_plain.specs.declared.instruction.Operand.TheVariants as operands
 use Rattle.cyc_plain.specs.declared.instruction.Instruction.{Instruction}
 use Rattle.cyc_plain.specs.declared.instruction.Instruction.TheVariants as instructions
-use Rattle.cyc_lower.specs.Slots.{slot_of}
+use Rattle.cyc_lower.specs.Slots.{slot_of, Starts}
 use Rattle.cyc_lower.specs.Lowering.{passed_words, all_passed, converts_there, source_of, source_slot, converted_by, moved_by, move_of, operand_of, operand_or, code_unless, left_with, left_of, slot_with, left_slot, low_byte, value_operand, next_slot, converted_operand, printed_operand, operator_code, load_code, compute_code, test_jump, truth_code, test_code, copy_code, expression_code, dereference_code, value_slot, arguments_code, converted_code, converted_operand_code, printed_code, initial_code, assignment_code, assigned_operand, operations_code, discarded_code, binary_operator}
 use Rattle.cyc_lower.specs.Emission.{most_locals, value_code, print_code, left_code, takes_operand, HasRoom, operation_code}
 
@@ -170,7 +170,7 @@ slot_by_count xs i (suc many) to d t counted none some = some (omega arith) ∙ 
 
 -- ---- locals that have these first slots
 
-module _ (starts : List ℕ) where
+module _ (starts : Starts) where
   -- ---- no expression is without code
 
   loads : (words : ℕ) (l : Lvalue) (d : ℕ) → 0 < length (load_code starts words l d)

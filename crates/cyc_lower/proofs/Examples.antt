@@ -259,7 +259,7 @@ source_catches_null = refl
 -- ---- code
 
 abbrev code_of_body : Items → List Instruction
-code_of_body body = function_code (function [] ints body)
+code_of_body body = function_code [] (function [] ints body)
 
 -- a loop, with its two jumps in front
 loop_code : code_of_body (all (While nowhere (local 0) Break ∷ returns (local 1) ∷ [])) ≡
@@ -305,7 +305,7 @@ chain_code : code_of_body (all (Evaluate (sets 0 (two (local 1) (ThenCompute Sub
 chain_code = refl
 
 -- a local behind a fat pointer has the slot behind its three words, and temporaries stand behind both
-wide_code : function_code (function [] (Pointer Fat Int Heap ∷ Int ∷ []) (all (Evaluate (sets 1 (two (local 1) (ThenCompute Add (Number 1) NoOperations))) ∷ []))) ≡
+wide_code : function_code [] (function [] (Pointer Fat Int Heap ∷ Int ∷ []) (all (Evaluate (sets 1 (two (local 1) (ThenCompute Add (Number 1) NoOperations))) ∷ []))) ≡
     instructions.Binary plain_binary.Add 3 (Slot 3) (Constant 1)
     ∷ instructions.Return 4 ∷ []
 wide_code = refl

@@ -14,7 +14,7 @@ use Rattle.cyc_types.specs.declared.typed.PointerOperator.{PointerOperator}
 use Rattle.cyc_types.specs.declared.typed.PointerOperator.TheVariants as pointers
 use Rattle.cyc_types.specs.Types.{Ty, words_of, substituted_ty, ValueType, Void, Value, result_type}
 use Rattle.cyc_types.specs.Types as type_forms
-use Rattle.cyc_types.specs.TypedTrees.{Load, Dereference, Target, Lvalue, Local, Global, Expression, Number, NullPointer, Copy, Peek, Call, Unary, Binary, Assign, Converted, Convert, Arguments, NoArguments, MoreArguments, Operations, NoOperations, ThenCompute, ThenTest, ThenPointer, Statement, Block, Empty, Evaluate, If, While, Return, Break, Continue, Items, NoItems, MoreItems, Execute, Declare, Signature, Function, Program}
+use Rattle.cyc_types.specs.TypedTrees.{Load, Dereference, Target, Lvalue, Local, Global, Expression, Number, NullPointer, Copy, Peek, Call, Unary, Binary, Assign, Converted, Convert, Arguments, NoArguments, MoreArguments, Operations, NoOperations, ThenCompute, ThenTest, ThenPointer, Statement, Block, Empty, Evaluate, If, While, Return, Break, Continue, Items, NoItems, MoreItems, Execute, Declare, Signature, StructType, Function, Program}
 use Rattle.cyc_types.specs.typing.Scopes.{signature_of_ints}
 use Rattle.cyc_types.specs.typing.Tests as tests
 use Rattle.cyc_types.specs.typing.Expressions.{instantiated}
@@ -23,13 +23,14 @@ use Rattle.cyc_types.specs.Numbered.{Numbering, signatures_of, IsSignature, argu
 use Rattle.cyc_lower.specs.Lowerable.{is_null_test, IsLowerable, IsLowerableConverted, AreLowerableArguments, AreLowerableOperations, IsLowerableReturn, IsLowerableInitial, IsLowerableStatement, AreLowerableItems, AreLowerableFunctions, IsLowerableProgram}
 use Rattle.cyc_meaning.specs.Values.{kind_of, words_of_kind}
 use Rattle.cyc_meaning.specs.FrameCount.{result_words, words_of_all}
-use Rattle.cyc_lower.specs.Lowering.{slot_types, passed_words, all_passed, results_of}
+use Rattle.cyc_lower.specs.Slots.{Types}
+use Rattle.cyc_lower.specs.Lowering.{types_of, passed_words, all_passed, results_of}
 use Rattle.cyc_lower.proofs.Widths.{kind_of_result, result_kind, called_kind, given, passed_kind, type_words, HasRoom}
 use Rattle.cyc_lower.proofs.Slots.{words-there}
 
 -- ---- what is asked
 
-module _ (b : Numbering) (types : List Ty) where
+module _ (b : Numbering) (types : Types) where
   -- a variable with room for a value of a kind; a global has one word yet
   abbrev pub FitsPlace : Lvalue → Kind → Type 0
   FitsPlace (Local p n) kind = (n < b.locals) × HasRoom types n kind
@@ -95,12 +96,12 @@ module _ (b : Numbering) (types : List Ty) where
     FitItems l (MoreItems (Declare n t v) js) = (n < b.locals) × FitsInitial n v × FitItems l js
     FitItems l js = ⊥
 
-abbrev pub AreFitting : ℕ → List Signature → List Function → Type 0
-AreFitting globals functions [] = Unit {0}
-AreFitting globals functions (h ∷ hs) = FitItems (numbering_of globals functions h) (slot_types h) false h.body × AreFitting globals functions hs
+abbrev pub AreFitting : List StructType → ℕ → List Signature → List Function → Type 0
+AreFitting structs globals functions [] = Unit {0}
+AreFitting structs globals functions (h ∷ hs) = FitItems (numbering_of globals functions h) (types_of structs h) false h.body × AreFitting structs globals functions hs
 
 pub record IsFitting (p : Program) : Type 0 where
-  pub functions : AreFitting (length p.globals) (signatures_of p.functions) p.functions
+  pub functions : AreFitting p.structs (length p.globals) (signatures_of p.functions) p.functions
   pub globals : AreWellTypedGlobals p.globals
   pub main : slice_get (signatures_of p.functions) p.main ≡ Some (signature_of_ints [])
 
@@ -150,16 +151,16 @@ given_result m (Some t) u is = subst (IsGiven (kind_of t)) (sym is) (sym (kind_s
 
 -- ---- what a well typed tree has
 
-module _ (b : Numbering) (types : List Ty) where
+module _ (b : Numbering) (types : Types) where
   -- a place in the function with these bounds and these types of locals
   record Suits (c : Context) : Type 0 where
     functions : c.functions ≡ b.functions
-    variables : c.variables ≡ types
+    variables : c.variables ≡ types.locals
     result : c.result ≡ b.result
 
   room_in : (c : Context) (n : ℕ) (t : Ty) (kind : Kind) → Suits c → slice_get c.variables n ≡ Some t → kind ≡ kind_of t → HasRoom types n kind
   room_in c n t kind suits at same =
-      omega (arith, words-there types n t (ap (λ (ts : List Ty). slice_get ts n) (sym suits.variables) ∙ at), type_words t, ap words_of_kind same)
+      omega (arith, words-there types.locals n t (ap (λ (ts : List Ty). slice_get ts n) (sym suits.variables) ∙ at), type_words t, ap words_of_kind same)
 
   same_signature : (f : Callee) (c : Context) (s u : Signature) → Suits c → IsCallee c f s → IsSignature b f u → s ≡ u
   same_signature callees.Putchar c s u suits is also = is ∙ sym also
@@ -346,15 +347,15 @@ module _ (b : Numbering) (types : List Ty) where
     )
     fit_items js l c suits numbered well = absurd numbered
 
-  pub body_fits : (js : Items) (c : Context) → c.functions ≡ b.functions → c.variables ≡ types → c.result ≡ b.result → AreLowerableItems b false js → WellTypedItems c js → FitItems b types false js
+  pub body_fits : (js : Items) (c : Context) → c.functions ≡ b.functions → c.variables ≡ types.locals → c.result ≡ b.result → AreLowerableItems b false js → WellTypedItems c js → FitItems b types false js
   body_fits js c functions variables result numbered well = fit_items js false c (record { functions = functions; variables = variables; result = result }) numbered well
 
 -- ---- programs
 
-functions_fit : (p : Program) (hs : List Function) → AreLowerableFunctions (length p.globals) (signatures_of p.functions) hs → AreWellTypedFunctions p hs → AreFitting (length p.globals) (signatures_of p.functions) hs
+functions_fit : (p : Program) (hs : List Function) → AreLowerableFunctions (length p.globals) (signatures_of p.functions) hs → AreWellTypedFunctions p hs → AreFitting p.structs (length p.globals) (signatures_of p.functions) hs
 functions_fit p [] numbered well = tt
 functions_fit p (h ∷ hs) (one, all) (well, rest) =
-    (body_fits (numbering_of (length p.globals) (signatures_of p.functions) h) (slot_types h) h.body (body_context p h) refl refl refl one well.body, functions_fit p hs all rest)
+    (body_fits (numbering_of (length p.globals) (signatures_of p.functions) h) (types_of p.structs h) h.body (body_context p h) refl refl refl one well.body, functions_fit p hs all rest)
 
 pub is_fitting_program : (p : Program) → IsLowerableProgram p → IsWellTypedProgram p → IsFitting p
 is_fitting_program p numbered well = record {

@@ -8,7 +8,7 @@ use Rattle.cyc_words.specs.Decision.{Decides}
 use Rattle.cyc_words.specs.Fault.{memory_fault}
 use Rattle.cyc_words.proofs.Decisions.{IsDecided, decides}
 use Rattle.cyc_syntax.specs.Weight.{sum_of}
-use Rattle.cyc_types.specs.TypedTrees.{Function, Program}
+use Rattle.cyc_types.specs.TypedTrees.{StructType, Function, Program}
 use Rattle.cyc_types.specs.typing.WellTyped.{IsWellTypedProgram}
 use Rattle.cyc_types.specs.Weight.{function_weight, program_weight}
 use Rattle.cyc_plain.specs.Program.{Program as PlainProgram, size}
@@ -24,29 +24,29 @@ use Rattle.cyc_lower.proofs.WellFormed.{globals_counted, well_formed}
 use Rattle.cyc_lower.proofs.WordLemmas.{has_words}
 use Rattle.cyc_lower.proofs.Whole.{follows}
 
-functions_lowered : (hs : List Function) → AreLoweredFunctions hs (map lower_function hs)
-functions_lowered [] = tt
-functions_lowered (h ∷ hs) = (record { name = refl; frame = refl; small = function_size h }, functions_lowered hs)
+functions_lowered : (structs : List StructType) (hs : List Function) → AreLoweredFunctions hs (map (lower_function structs) hs)
+functions_lowered structs [] = tt
+functions_lowered structs (h ∷ hs) = (record { name = refl; frame = refl; small = function_size structs h }, functions_lowered structs hs)
 
 pub is_lowered : (source : Program) → IsWellTypedProgram source → CanBeLowered source → IsLowered source (lower_program source)
 is_lowered source well fit = record {
   well_formed = well_formed source (is_fitting_program source fit.lowerable well) fit.few_globals;
   words = has_words source fit.of_words;
-  functions = functions_lowered source.functions;
+  functions = functions_lowered source.structs source.functions;
   globals = sym (globals_counted source.globals);
   follows = λ pages calls store input new some_page some_call. follows source (is_fitting_program source fit.lowerable well) pages calls store input new some_page some_call;
 }
 
-functions_small : (hs : List Function) → sum_by size (map lower_function hs) ≤ size_per_weight * sum_of function_weight hs
-functions_small [] = omega arith
-functions_small (h ∷ hs) = omega (arith, sum_by-cons size (lower_function h) (map lower_function hs), function_size h, functions_small hs)
+functions_small : (structs : List StructType) (hs : List Function) → sum_by size (map (lower_function structs) hs) ≤ size_per_weight * sum_of function_weight hs
+functions_small structs [] = omega arith
+functions_small structs (h ∷ hs) = omega (arith, sum_by-cons size (lower_function structs h) (map (lower_function structs) hs), function_size structs h, functions_small structs hs)
 
 -- what is true of every plain program is true of this one
 pub is_plain : (source : Program) → IsWellTypedProgram source → CanBeLowered source → program_weight source ≤ max_tokens → IsPlain (lower_program source)
 is_plain source well fit light = record {
   well_formed = well_formed source (is_fitting_program source fit.lowerable well) fit.few_globals;
   words = has_words source fit.of_words;
-  small = omega (arith, functions_small source.functions, light);
+  small = omega (arith, functions_small source.structs source.functions, light);
 }
 
 numbered_below : {X : Type 0} (xs : List X) (n : ℕ) (x : X) → slice_get xs n ≡ Some x → n < length xs

@@ -32,9 +32,9 @@ use Rattle.cyc_meaning.specs.State.{Owner, InRegion, Unique, Object, World, heap
 use Rattle.cyc_meaning.specs.Step.{target_of, object_of}
 use Rattle.cyc_meaning.specs.Operators.{null_exception, is_zero}
 use Rattle.cyc_meaning.specs.FrameCount.{words_of_all}
-use Rattle.cyc_lower.specs.Slots.{starts_of, slot_of}
+use Rattle.cyc_lower.specs.Slots.{Types, Starts, starts_of, slot_of}
 use Rattle.cyc_lower.specs.Lowerable.{is_null_test}
-use Rattle.cyc_lower.specs.Lowering.{slot_types, unary_operator, failing_comparison, operand_of, move_of, pointer_instruction, low_byte, converts_there, all_passed, compared_of, break_target, continue_target, results_of, lower_program}
+use Rattle.cyc_lower.specs.Lowering.{types_of, unary_operator, failing_comparison, operand_of, move_of, pointer_instruction, low_byte, converts_there, all_passed, compared_of, break_target, continue_target, results_of, lower_program}
 use Rattle.cyc_lower.proofs.Widths.{kind_of_result, given, called_kind, HasRoom, Outside}
 use Rattle.cyc_lower.proofs.Stands.{CheckAt, ConversionAt, OperatorAt, TruthAt, CopyAt, ExpressionAt, ArgumentsAt, OperationsAt, StoresAt, ObjectAt, ValueAt, ConditionAt, FailingAt, ComparesAt, DiscardedAt, StatementAt, ItemsAt}
 
@@ -123,8 +123,8 @@ contents objects number = content_of (slice_get objects number)
 
 -- The locals of a call, which have these types and whose objects are all from `low` on and below `high`: the slots of each have what
 -- it holds, and there is room for it.
-pub record LocalsHold (t : Tables) (types : List Ty) (objects : List Object) (locals : ℕ → Option ℕ) (low high : ℕ) (slots : Words) : Type 0 where
-  pub within : (number object : ℕ) → locals number ≡ Some object → (number < length types) × (low ≤ object) × (object < high)
+pub record LocalsHold (t : Tables) (types : Types) (objects : List Object) (locals : ℕ → Option ℕ) (low high : ℕ) (slots : Words) : Type 0 where
+  pub within : (number object : ℕ) → locals number ≡ Some object → (number < length types.locals) × (low ≤ object) × (object < high)
   pub apart : (number other object : ℕ) → locals number ≡ Some object → locals other ≡ Some object → number ≡ other
   pub rows : (number object : ℕ) → locals number ≡ Some object → slice_get t.rows object ≡ Some Variable
   pub holds : (number object : ℕ) (v : Kinded) → locals number ≡ Some object → contents objects object ≡ Some v
@@ -198,15 +198,15 @@ module _ (source : Program) where
   abbrev pub bounds_at : ℕ → Numbering
   bounds_at g = bounds_in (slice_get source.functions g)
 
-  -- the types of its locals, and their first slots
-  abbrev pub types_in : Option Function → List Ty
-  types_in None = []
-  types_in (Some h) = slot_types h
+  -- the types of its locals with the structs, and their first slots
+  abbrev pub types_in : Option Function → Types
+  types_in None = record { locals = []; structs = source.structs }
+  types_in (Some h) = types_of source.structs h
 
-  abbrev pub types_at : ℕ → List Ty
+  abbrev pub types_at : ℕ → Types
   types_at g = types_in (slice_get source.functions g)
 
-  abbrev pub starts_at : ℕ → List ℕ
+  abbrev pub starts_at : ℕ → Starts
   starts_at g = starts_of (types_at g)
 
   abbrev pub parameters_in : Option Function → List Ty
@@ -218,7 +218,7 @@ module _ (source : Program) where
 
   -- the first slot behind the locals
   abbrev pub base_of : ℕ → ℕ
-  base_of g = words_of_all (types_at g)
+  base_of g = words_of_all (types_at g).locals
 
   -- the kind of what an expression gives in a function, of what is called there, and of what the function itself returns
   abbrev pub given_at : ℕ → Expression → Kind

@@ -5,13 +5,13 @@ use Rattle.cyc_words.specs.declared.fault.Code.TheVariants.{TooManyFunctions}
 use Rattle.cyc_words.specs.declared.fault.Fault.{Fault}
 use Rattle.cyc_types.specs.declared.typed.TypedTree.{TypedTree}
 use Rattle.cyc_types.specs.declared.typed.Function.{Function as FunctionCode}
-use Rattle.cyc_types.specs.TypedTrees.{Items, Function, Program}
+use Rattle.cyc_types.specs.TypedTrees.{Items, StructType, Function, Program}
 use Rattle.cyc_types.specs.TypedTreeView.{view_function, view_program}
 use Rattle.cyc_meaning.specs.FrameCount.{frame_count, words_of_all}
 use Rattle.cyc_plain.specs.declared.instruction.Instruction.{Instruction}
 use Rattle.cyc_plain.specs.declared.instruction.Instruction.TheVariants.{Return}
-use Rattle.cyc_lower.specs.Slots.{starts_of}
-use Rattle.cyc_lower.specs.Lowering.{slot_types, first_temporary, items_code, function_code}
+use Rattle.cyc_lower.specs.Slots.{Starts, starts_of}
+use Rattle.cyc_lower.specs.Lowering.{types_of, first_temporary, items_code, function_code}
 use Rattle.cyc_lower.specs.declared.limits.TheConstants.{MOST_FUNCTIONS}
 use Rattle.cyc_lower.specs.Lowered.{HasTooMany}
 use Rattle.cyc_lower.specs.Emission.{most_frame_count, most_locals}
@@ -33,14 +33,14 @@ pub few_locals : (f : FunctionCode) → frame_count (view_function f) ≤ most_f
 few_locals f small = (omega (arith, small), omega (arith, small, slots-few (view_function f)))
 
 -- the code of a function's body, with a return behind it
-pub function_made : (h : Function) (starts : List ℕ) (free : ℕ) (js : Items) (begun body code : List Instruction) → starts ≡ starts_of (slot_types h) → free ≡ first_temporary h → js ≡ h.body → begun ≡ []
-    → body ≡ begun ++ items_code starts js (length begun) 0 free → code ≡ body ++ Return free ∷ [] → code ≡ function_code h
-function_made h starts free js begun body code starts_is free_is js_is begun_is body_is code_is =
+pub function_made : (structs : List StructType) (h : Function) (starts : Starts) (free : ℕ) (js : Items) (begun body code : List Instruction) → starts ≡ starts_of (types_of structs h) → free ≡ first_temporary h → js ≡ h.body → begun ≡ []
+    → body ≡ begun ++ items_code starts js (length begun) 0 free → code ≡ body ++ Return free ∷ [] → code ≡ function_code structs h
+function_made structs h starts free js begun body code starts_is free_is js_is begun_is body_is code_is =
     code_is
     ∙ ap (λ (l : List Instruction). l ++ Return free ∷ []) (body_is ∙ ap (λ (l : List Instruction). l ++ items_code starts js (length l) 0 free) begun_is)
-    ∙ ap (λ (l : List ℕ). items_code l js 0 0 free ++ Return free ∷ []) starts_is
-    ∙ ap (λ (x : Items). items_code (starts_of (slot_types h)) x 0 0 free ++ Return free ∷ []) js_is
-    ∙ ap (λ (n : ℕ). items_code (starts_of (slot_types h)) h.body 0 0 n ++ Return n ∷ []) free_is
+    ∙ ap (λ (l : Starts). items_code l js 0 0 free ++ Return free ∷ []) starts_is
+    ∙ ap (λ (x : Items). items_code (starts_of (types_of structs h)) x 0 0 free ++ Return free ∷ []) js_is
+    ∙ ap (λ (n : ℕ). items_code (starts_of (types_of structs h)) h.body 0 0 n ++ Return n ∷ []) free_is
 
 -- ---- lists that are lowered element by element
 

@@ -1,4 +1,5 @@
 -- The slots of locals are apart, in their order, and none is left out.
+use Rattle.std.specs.Prelude.{unwrap_or}
 use Rattle.std.proofs.Common.{◌≡◌, ◌≢◌, ◌⊎◌, ℕ, zero, suc, ◌+◌, ◌≤◌, ◌<◌, List, [], ◌∷◌, ◌++◌, length, Some, slice_get, refl, sym, ap, ◌∙◌, arith, inl, inr, length-append, append_assoc}
 use Rattle.std.specs.List.{AllByRecursion}
 use Rattle.std.proofs.lemmas.Option.{same_Some, none-some}
@@ -8,9 +9,9 @@ use Rattle.cyc_syntax.specs.declared.tree.PointerKind.TheVariants.{Nullable, Non
 use Rattle.cyc_types.specs.declared.typed.Kind.{Kind}
 use Rattle.cyc_types.specs.Types.{Ty, words_of, words_of_mark}
 use Rattle.cyc_types.specs.Types as types
-use Rattle.cyc_types.specs.TypedTrees.{Function}
+use Rattle.cyc_types.specs.TypedTrees.{StructType, Function}
 use Rattle.cyc_meaning.specs.FrameCount.{words_of_all}
-use Rattle.cyc_lower.specs.Slots.{slot_in, starts_from, starts_of, slot_of}
+use Rattle.cyc_lower.specs.Slots.{slot_in, starts_from, Types, starts_of, slot_of}
 use Rattle.cyc_lower.specs.Lowering.{slot_types, first_temporary}
 use Rattle.cyc_lower.proofs.Widths.{kind_positive, words_in, HasRoom}
 
@@ -62,14 +63,14 @@ slot-number (t ∷ ts) (suc n) (first, rest) few = omega (arith, first, slot-num
 
 -- ---- the list of first slots
 
-starts-from : (ts : List Ty) (slot n : ℕ) → n < length ts → slot_of (starts_from slot ts) n ≡ slot + slot_in ts n
+starts-from : (ts : List Ty) (slot n : ℕ) → n < length ts → unwrap_or (slice_get (starts_from slot ts) n) 0 ≡ slot + slot_in ts n
 starts-from [] slot n inside = absurd (omega (arith, inside))
 starts-from (t ∷ ts) slot zero inside = omega arith
 starts-from (t ∷ ts) slot (suc n) inside = omega (arith, starts-from ts (slot + words_of t) n (omega (arith, inside)))
 
 -- it has the slot of each local
-pub starts-are : (ts : List Ty) (n : ℕ) → n < length ts → slot_of (starts_of ts) n ≡ slot_in ts n
-starts-are ts n inside = omega (arith, starts-from ts 0 n inside)
+pub starts-are : (ts : Types) (n : ℕ) → n < length ts.locals → slot_of (starts_of ts) n ≡ slot_in ts.locals n
+starts-are ts n inside = omega (arith, starts-from ts.locals 0 n inside)
 
 type-there : (ts : List Ty) (n : ℕ) → n < length ts → (t : Ty) × (slice_get ts n ≡ Some t)
 type-there [] n inside = absurd (omega (arith, inside))
@@ -77,19 +78,19 @@ type-there (t ∷ ts) zero inside = (t, refl)
 type-there (t ∷ ts) (suc n) inside = type-there ts n (omega (arith, inside))
 
 -- the slot of a local is one of the locals'
-pub slot-inside : (ts : List Ty) (n : ℕ) → n < length ts → slot_of (starts_of ts) n < words_of_all ts
+pub slot-inside : (ts : Types) (n : ℕ) → n < length ts.locals → slot_of (starts_of ts) n < words_of_all ts.locals
 slot-inside ts n inside =
-    let (t, at) = type-there ts n inside in
-    omega (arith, starts-are ts n inside, slot-below ts n t at, words_positive t)
+    let (t, at) = type-there ts.locals n inside in
+    omega (arith, starts-are ts n inside, slot-below ts.locals n t at, words_positive t)
 
-slot-before : (ts : List Ty) (n m : ℕ) → n < m → m < length ts → slot_of (starts_of ts) n < slot_of (starts_of ts) m
+slot-before : (ts : Types) (n m : ℕ) → n < m → m < length ts.locals → slot_of (starts_of ts) n < slot_of (starts_of ts) m
 slot-before ts n m less inside =
-    let (t, at) = type-there ts n (omega (arith, less, inside)) in
-    let (u, there) = type-there ts m inside in
-    omega (arith, starts-are ts n (omega (arith, less, inside)), starts-are ts m inside, slots-apart ts n m t u less at there, words_positive t)
+    let (t, at) = type-there ts.locals n (omega (arith, less, inside)) in
+    let (u, there) = type-there ts.locals m inside in
+    omega (arith, starts-are ts n (omega (arith, less, inside)), starts-are ts m inside, slots-apart ts.locals n m t u less at there, words_positive t)
 
 -- two locals have two slots
-pub slot-other : (ts : List Ty) (n m : ℕ) → n < length ts → m < length ts → n ≢ m → slot_of (starts_of ts) n ≢ slot_of (starts_of ts) m
+pub slot-other : (ts : Types) (n m : ℕ) → n < length ts.locals → m < length ts.locals → n ≢ m → slot_of (starts_of ts) n ≢ slot_of (starts_of ts) m
 slot-other ts n m inside there other same = elim (cases_lt n m) [
   | inl less ↦ absurd (omega (arith, same, slot-before ts n m less there))
   | inr most ↦ elim (cases_lt m n) [
@@ -104,19 +105,19 @@ words-there [] n t at = absurd (none-some t at)
 words-there (u ∷ ts) zero t at = ap words_of (same_Some u t at)
 words-there (u ∷ ts) (suc n) t at = words-there ts n t at
 
-pub slot-room : (ts : List Ty) (n : ℕ) → n < length ts → slot_of (starts_of ts) n + words_in ts n ≤ words_of_all ts
+pub slot-room : (ts : Types) (n : ℕ) → n < length ts.locals → slot_of (starts_of ts) n + words_in ts.locals n ≤ words_of_all ts.locals
 slot-room ts n inside =
-    let (t, at) = type-there ts n inside in
-    omega (arith, starts-are ts n inside, slot-below ts n t at, words-there ts n t at)
+    let (t, at) = type-there ts.locals n inside in
+    omega (arith, starts-are ts n inside, slot-below ts.locals n t at, words-there ts.locals n t at)
 
-slot-behind-other : (ts : List Ty) (n m : ℕ) → n < m → m < length ts → slot_of (starts_of ts) n + words_in ts n ≤ slot_of (starts_of ts) m
+slot-behind-other : (ts : Types) (n m : ℕ) → n < m → m < length ts.locals → slot_of (starts_of ts) n + words_in ts.locals n ≤ slot_of (starts_of ts) m
 slot-behind-other ts n m less inside =
-    let (t, at) = type-there ts n (omega (arith, less, inside)) in
-    let (u, there) = type-there ts m inside in
-    omega (arith, starts-are ts n (omega (arith, less, inside)), starts-are ts m inside, slots-apart ts n m t u less at there, words-there ts n t at)
+    let (t, at) = type-there ts.locals n (omega (arith, less, inside)) in
+    let (u, there) = type-there ts.locals m inside in
+    omega (arith, starts-are ts n (omega (arith, less, inside)), starts-are ts m inside, slots-apart ts.locals n m t u less at there, words-there ts.locals n t at)
 
-pub slot-apart : (ts : List Ty) (n m : ℕ) → n < length ts → m < length ts → n ≢ m
-    → (slot_of (starts_of ts) n + words_in ts n ≤ slot_of (starts_of ts) m) ⊎ (slot_of (starts_of ts) m + words_in ts m ≤ slot_of (starts_of ts) n)
+pub slot-apart : (ts : Types) (n m : ℕ) → n < length ts.locals → m < length ts.locals → n ≢ m
+    → (slot_of (starts_of ts) n + words_in ts.locals n ≤ slot_of (starts_of ts) m) ⊎ (slot_of (starts_of ts) m + words_in ts.locals m ≤ slot_of (starts_of ts) n)
 slot-apart ts n m inside there other = elim (cases_lt n m) [
   | inl less ↦ inl (slot-behind-other ts n m less there)
   | inr most ↦ elim (cases_lt m n) [
@@ -126,21 +127,25 @@ slot-apart ts n m inside there other = elim (cases_lt n m) [
 ]
 
 -- a local that has room for something is there
-pub room-inside : (ts : List Ty) (n : ℕ) (kind : Kind) → HasRoom ts n kind → n < length ts
-room-inside [] n kind room = absurd (omega (arith, room, kind_positive kind))
-room-inside (t ∷ ts) zero kind room = omega arith
-room-inside (t ∷ ts) (suc n) kind room = omega (arith, room-inside ts n kind room)
+has-words : (ts : List Ty) (n : ℕ) → 1 ≤ words_in ts n → n < length ts
+has-words [] n some = absurd (omega (arith, some))
+has-words (t ∷ ts) zero some = omega arith
+has-words (t ∷ ts) (suc n) some = omega (arith, has-words ts n some)
+
+pub room-inside : (ts : Types) (n : ℕ) (kind : Kind) → HasRoom ts n kind → n < length ts.locals
+room-inside ts n kind room = has-words ts.locals n (omega (arith, room, kind_positive kind))
 
 -- the slot of a parameter is behind the words of those before it
-pub slot-parameter : (first rest : List Ty) (t : Ty) (more : List Ty) → slot_of (starts_of ((first ++ t ∷ rest) ++ more)) (length first) ≡ words_of_all first
-slot-parameter first rest t more =
+pub slot-parameter : (structs : List StructType) (first rest : List Ty) (t : Ty) (more : List Ty)
+    → slot_of (starts_of (record { locals = (first ++ t ∷ rest) ++ more; structs = structs })) (length first) ≡ words_of_all first
+slot-parameter structs first rest t more =
     let ts = (first ++ t ∷ rest) ++ more in
     let long : length ts ≡ length (first ++ t ∷ rest) + length more = length-append (first ++ t ∷ rest) more in
     let shorter : length (first ++ t ∷ rest) ≡ length first + length (t ∷ rest) = length-append first (t ∷ rest) in
     let next : length first + 0 ≡ length first = omega arith in
     let at : slot_in ts (length first) ≡ words_of_all first + 0
     = ap (λ (us : List Ty). slot_in us (length first)) (append_assoc first (t ∷ rest) more) ∙ ap (slot_in (first ++ (t ∷ rest ++ more))) (sym next) ∙ slot-append first (t ∷ rest ++ more) 0 in
-    omega (arith, starts-are ts (length first) (omega (arith, long, shorter)), at)
+    omega (arith, starts-are (record { locals = ts; structs = structs }) (length first) (omega (arith, long, shorter)), at)
 
 pub words-parameter : (first rest : List Ty) (t : Ty) (more : List Ty) → words_in ((first ++ t ∷ rest) ++ more) (length first) ≡ words_of t
 words-parameter [] rest t more = refl
@@ -166,7 +171,7 @@ slots-few h = words-append h.parameters h.locals
 
 -- the slots of the parameters, and behind them those of the other locals
 pub slots-made : (h : Function) (behind free : ℕ) (first all : List ℕ) → behind ≡ words_of_all h.parameters → first ≡ starts_from 0 h.parameters
-    → free ≡ behind + words_of_all h.locals → all ≡ first ++ starts_from behind h.locals → (all ≡ starts_of (slot_types h)) × (free ≡ first_temporary h)
+    → free ≡ behind + words_of_all h.locals → all ≡ first ++ starts_from behind h.locals → (all ≡ starts_from 0 (slot_types h)) × (free ≡ first_temporary h)
 slots-made h behind free first all behind_is first_is free_is all_is = (
   all_is
       ∙ ap (λ (l : List ℕ). l ++ starts_from behind h.locals) first_is

@@ -19,7 +19,7 @@ use Rattle.cyc_plain.specs.Straight.{At}
 use Rattle.cyc_store.specs.declared.range.TheConstants.{MOST_BLOCK_WORDS, HEAP}
 use Rattle.cyc_meaning.specs.Operators.{null_exception, division_by_zero}
 use Rattle.cyc_meaning.specs.Values.{words_of_kind}
-use Rattle.cyc_lower.specs.Slots.{starts_of, slot_of}
+use Rattle.cyc_lower.specs.Slots.{starts_of, slot_of, Types}
 use Rattle.cyc_lower.specs.Lowerable.{is_null_test}
 use Rattle.cyc_lower.specs.Lowering.{unary_operator, binary_operator, operand_of, source_of, source_slot, failing_comparison, left_with, left_of, value_slot, next_slot, slot_with, left_slot, is_in, jump_if_nonzero, move_of, pointer_instruction, test_jump, converts_there, passed_words, all_passed, compared_of, low_byte, break_target, continue_target, results_of}
 use Rattle.cyc_lower.proofs.Widths.{kind_of_result, given, passed_kind, HasRoom}
@@ -37,7 +37,7 @@ module _ (code : List Instruction) where
 
 -- In a code of a function with these bounds, whose locals have these types, from p to q stands the code of this, with temporaries from
 -- slot t on.
-module _ (code : List Instruction) (bounds : Numbering) (types : List Ty) where
+module _ (code : List Instruction) (bounds : Numbering) (types : Types) where
   -- one or the other
   abbrev pub EitherBy : Bool → (there otherwise : Type 0) → Type 0
   EitherBy true first second = first

@@ -186,7 +186,7 @@ module _ (source : Program) (pages calls : ℕ) where
   -- ---- what goes on when something is done
 
   -- what the instructions of a function return is what its bounds say
-  results_in : (hs : List Function) (g : ℕ) → (slice_index_or (map lower_function hs) g no_routine).results ≡ results_of (bounds_in source (slice_get hs g)).result
+  results_in : (hs : List Function) (g : ℕ) → (slice_index_or (map (lower_function source.structs) hs) g no_routine).results ≡ results_of (bounds_in source (slice_get hs g)).result
   results_in [] g = refl
   results_in (h ∷ hs) zero = refl
   results_in (h ∷ hs) (suc g) = results_in hs g
@@ -194,18 +194,18 @@ module _ (source : Program) (pages calls : ℕ) where
   results_at : (g : ℕ) → (routine_at (lower_program source) g).results ≡ results_of (bounds_at source g).result
   results_at g = results_in source.functions g
 
-  locals_in : (h : Option Function) → (bounds_in source h).locals ≡ length (types_in source h)
+  locals_in : (h : Option Function) → (bounds_in source h).locals ≡ length (types_in source h).locals
   locals_in None = refl
   locals_in (Some h) = sym (slot_types-many h)
 
   -- a local of a function, in its bounds
-  local_there : (g n : ℕ) → n < (bounds_at source g).locals → n < length (types_at source g)
+  local_there : (g n : ℕ) → n < (bounds_at source g).locals → n < length (types_at source g).locals
   local_there g n few = omega (arith, few, locals_in (slice_get source.functions g))
 
   declares : (n : ℕ) (t : Ty) (js : Items) (k : List Entry) (e : Environment) (w : World) (c : Configuration) (loop m q : ℕ)
       → IsWell (step source (Running Proceeding (Rest (MoreItems (Declare n t None) js) ∷ k) e w))
       → (shared : SharedAt source pages calls k e w c) → DataAt source shared.tables c.active.function w.objects e.locals (callers k) c.active.slots c.globals c.frames
-      → n < length (types_at source c.active.function) → c.active.next ≡ m
+      → n < length (types_at source c.active.function).locals → c.active.next ≡ m
       → ItemsAt (code_of source c.active.function) (bounds_at source c.active.function) (types_at source c.active.function) js loop (base_of source c.active.function) m q
       → StatementStack source c.active.function loop q c.frames k
       → IsMatched source pages calls (Running Proceeding (Rest (MoreItems (Declare n t None) js) ∷ k) e w) (plain.Running c)

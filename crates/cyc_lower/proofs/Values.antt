@@ -44,7 +44,7 @@ use Rattle.cyc_meaning.specs.State.{Region, World, Environment, with_local, made
 use Rattle.cyc_meaning.specs.Step.{leads_to, wrong, object_of, computed, stored_at, declared, passes, tested, awaits_right, chosen, looped, step}
 use Rattle.cyc_meaning.specs.State.{status_of}
 use Rattle.cyc_meaning.specs.SourceMachine.{status_in}
-use Rattle.cyc_lower.specs.Slots.{slot_of}
+use Rattle.cyc_lower.specs.Slots.{slot_of, Types}
 use Rattle.cyc_lower.specs.Lowerable.{is_null_test}
 use Rattle.cyc_lower.proofs.Slots.{slot-room, room-inside}
 use Rattle.cyc_lower.proofs.Widths.{kind_positive, same_kind, HasRoom, Outside}
@@ -861,7 +861,7 @@ module _ (source : Program) (pages calls : ℕ) where
       home_there Proceeding n kind (Some v.value) (Rest js ∷ k) e w (subst IsWell does well)
 
   -- and holds just that
-  made_value : (t : Tables) (n : ℕ) (kind : Kind) (js : Items) (v : Kinded) (k : List Entry) (e : Environment) (w : World) (slots : Words) (slot : ℕ) (types : List Ty)
+  made_value : (t : Tables) (n : ℕ) (kind : Kind) (js : Items) (v : Kinded) (k : List Entry) (e : Environment) (w : World) (slots : Words) (slot : ℕ) (types : Types)
       → IsWell (step source (Running (Given v) (Needs (Initialise n kind js) ∷ k) e w)) → HasRoom types n v.kind → Is t v.kind v.value slots slot
       → (u : Kinded) → with_kind kind (Some v.value) ≡ Some u → Is t u.kind u.value slots slot × HasRoom types n u.kind
   made_value t n kind js v k e w slots slot types well room is u has =

@@ -11,7 +11,7 @@ use Rattle.cyc_types.specs.declared.typed.Operator.TheVariants as operators
 use Rattle.cyc_types.specs.declared.typed.LogicalOperator.{LogicalOperator}
 use Rattle.cyc_types.specs.declared.typed.LogicalOperator.TheVariants as logical
 use Rattle.cyc_types.specs.Types.{Ty, words_of, ValueType, Void, Null, Value}
-use Rattle.cyc_types.specs.TypedTrees.{Load, Dereference, Target, type_of_place, Lvalue, Local, Global, Expression, Number, NullPointer, Copy, Call, Unary, Binary, Assign, Converted, Convert, Arguments, NoArguments, MoreArguments, Operations, NoOperations, ThenCompute, ThenTest, ThenPointer, type_of, Statement, Block, Empty, Evaluate, If, While, Return, Break, Continue, Items, NoItems, MoreItems, Execute, Declare, GlobalVariable, Signature, Function, Program}
+use Rattle.cyc_types.specs.TypedTrees.{Load, Dereference, Target, type_of_place, Lvalue, Local, Global, Expression, Number, NullPointer, Copy, Call, Unary, Binary, Assign, Converted, Convert, Arguments, NoArguments, MoreArguments, Operations, NoOperations, ThenCompute, ThenTest, ThenPointer, type_of, Statement, Block, Empty, Evaluate, If, While, Return, Break, Continue, Items, NoItems, MoreItems, Execute, Declare, GlobalVariable, Signature, StructType, Function, Program}
 use Rattle.cyc_types.specs.typing.WellTyped.{signature_of}
 use Rattle.cyc_types.specs.Numbered.{Numbering, signatures_of, numbering_of}
 use Rattle.cyc_plain.specs.declared.instruction.Comparison.{Comparison}
@@ -28,8 +28,8 @@ use Rattle.std.proofs.lemmas.Bool.{eqb-true}
 use Rattle.cyc_meaning.specs.Operators.{null_exception, division_by_zero}
 use Rattle.cyc_meaning.specs.Values.{kind_of, words_of_kind}
 use Rattle.cyc_meaning.specs.FrameCount.{result_words, operand_words, converted_words, argument_words, expression_need, dereference_need, converted_need, arguments_need, operations_need, initial_need, statement_need, items_need, words_of_all}
-use Rattle.cyc_lower.specs.Slots.{starts_of, slot_of}
-use Rattle.cyc_lower.specs.Lowering.{slot_types, spare_slots, are_as_wide, converts_there, passed_words, all_passed, source_of, source_slot, moved_by, move_of, null_operator, compared_with_null, unary_operator, binary_operator, operand_of, operand_or, code_unless, slot_or, code_unless_slot, left_with, left_of, value_slot, next_slot, slot_with, left_slot, value_operand, converted_operand, printed_operand, check_code, conversion_code, divisor_code, checked_code, operator_code, truth_code, load_code, low_byte, test_code, is_in, copy_code, expression_code, arguments_code, converted_code, converted_operand_code, printed_code, dereference_code, initial_code, assignment_code, operations_code, discarded_code, failing_comparison, compared_or, first_operand, first_code, second_code, pair_code, condition_code, condition_of, failing_jump, break_target, continue_target, return_code, declaration_code, statement_code, items_code, first_temporary, results_of, lower_function, lower_global, lower_program}
+use Rattle.cyc_lower.specs.Slots.{starts_of, slot_of, Types}
+use Rattle.cyc_lower.specs.Lowering.{types_of, spare_slots, are_as_wide, converts_there, passed_words, all_passed, source_of, source_slot, moved_by, move_of, null_operator, compared_with_null, unary_operator, binary_operator, operand_of, operand_or, code_unless, slot_or, code_unless_slot, left_with, left_of, value_slot, next_slot, slot_with, left_slot, value_operand, converted_operand, printed_operand, check_code, conversion_code, divisor_code, checked_code, operator_code, truth_code, load_code, low_byte, test_code, is_in, copy_code, expression_code, arguments_code, converted_code, converted_operand_code, printed_code, dereference_code, initial_code, assignment_code, operations_code, discarded_code, failing_comparison, compared_or, first_operand, first_code, second_code, pair_code, condition_code, condition_of, failing_jump, break_target, continue_target, return_code, declaration_code, statement_code, items_code, first_temporary, results_of, lower_function, lower_global, lower_program}
 use Rattle.cyc_lower.proofs.Widths.{kind_positive, kind_few, type_words, kind_of_result, result_kind, given, passed_kind, words_in}
 use Rattle.cyc_lower.proofs.Fitting.{FitsPlace, FitsCell, Fits, FitsConverted, FitArguments, FitOperations, FitsReturn, FitsInitial, FitsStatement, FitItems, AreFitting, IsFitting}
 use Rattle.cyc_lower.proofs.Values.{as_wide}
@@ -94,7 +94,7 @@ record IsKnown (program : PlainProgram) (n : ℕ) (s : Signature) : Type 0 where
   pub parameters : (routine_at program n).parameters ≡ words_of_all s.parameters
   pub results : (routine_at program n).results ≡ results_of s.result
 
-module _ (program : PlainProgram) (r : Routine) (b : Numbering) (types : List Ty) (locals : (n : ℕ) → n < b.locals → slot_of (starts_of types) n + words_in types n ≤ r.slots) (globals : b.globals ≡ length program.globals) (known : (n : ℕ) (s : Signature) → slice_get b.functions n ≡ Some s → IsKnown program n s) (results : r.results ≡ results_of b.result) where
+module _ (program : PlainProgram) (r : Routine) (b : Numbering) (types : Types) (locals : (n : ℕ) → n < b.locals → slot_of (starts_of types) n + words_in types.locals n ≤ r.slots) (globals : b.globals ≡ length program.globals) (known : (n : ℕ) (s : Signature) → slice_get b.functions n ≡ Some s → IsKnown program n s) (results : r.results ≡ results_of b.result) where
   abbrev AreIn : List Instruction → Type 0
   AreIn code = AllByRecursion (IsInRange program r) code
 
@@ -633,16 +633,16 @@ module _ (program : PlainProgram) (r : Routine) (b : Numbering) (types : List Ty
 
 -- ---- functions
 
-signatures_known : (hs : List Function) (n : ℕ) (s : Signature) → slice_get (signatures_of hs) n ≡ Some s
-    → (n < length (map lower_function hs))
-    × ((slice_index_or (map lower_function hs) n no_routine).parameters ≡ words_of_all s.parameters)
-    × ((slice_index_or (map lower_function hs) n no_routine).results ≡ results_of s.result)
-signatures_known [] n s there = absurd (none-some s there)
-signatures_known (h ∷ hs) zero s there =
+signatures_known : (structs : List StructType) (hs : List Function) (n : ℕ) (s : Signature) → slice_get (signatures_of hs) n ≡ Some s
+    → (n < length (map (lower_function structs) hs))
+    × ((slice_index_or (map (lower_function structs) hs) n no_routine).parameters ≡ words_of_all s.parameters)
+    × ((slice_index_or (map (lower_function structs) hs) n no_routine).results ≡ results_of s.result)
+signatures_known structs [] n s there = absurd (none-some s there)
+signatures_known structs (h ∷ hs) zero s there =
     let same : signature_of h ≡ s = same_Some (signature_of h) s there in
     (omega arith, ap (λ (x : Signature). words_of_all x.parameters) same, ap (λ (x : Signature). results_of x.result) same)
-signatures_known (h ∷ hs) (suc n) s there =
-    let (few, parameters, results) = signatures_known hs n s there in (omega (arith, few), parameters, results)
+signatures_known structs (h ∷ hs) (suc n) s there =
+    let (few, parameters, results) = signatures_known structs hs n s there in (omega (arith, few), parameters, results)
 
 pub globals_counted : (gs : List GlobalVariable) → length gs ≡ length (map lower_global gs)
 globals_counted [] = refl
@@ -651,15 +651,15 @@ globals_counted (g ∷ gs) = ap suc (globals_counted gs)
 module _ (source : Program) (is_fitting : IsFitting source) where
   known_functions : (n : ℕ) (s : Signature) → slice_get (signatures_of source.functions) n ≡ Some s → IsKnown (lower_program source) n s
   known_functions n s there =
-      let (few, parameters, results) = signatures_known source.functions n s there in
+      let (few, parameters, results) = signatures_known source.structs source.functions n s there in
       record { there = few; parameters = parameters; results = results }
 
-  function_well : (h : Function) → FitItems (numbering_of (length source.globals) (signatures_of source.functions) h) (slot_types h) false h.body → IsRoutine (lower_program source) (lower_function h)
+  function_well : (h : Function) → FitItems (numbering_of (length source.globals) (signatures_of source.functions) h) (types_of source.structs h) false h.body → IsRoutine (lower_program source) (lower_function source.structs h)
   function_well h numbered_body =
       let d = first_temporary h in
-      let r = lower_function h in
+      let r = lower_function source.structs h in
       let b = numbering_of (length source.globals) (signatures_of source.functions) h in
-      let types = slot_types h in
+      let types = types_of source.structs h in
       let starts = starts_of types in
       let body = items_code starts h.body 0 0 d in
       let end = instructions.Return d ∷ [] in
@@ -676,7 +676,7 @@ module _ (source : Program) (is_fitting : IsFitting source) where
         last = subst (λ (o : Option Instruction). IsSomeAnd o (λ i. leaves i ≡ true)) (sym (last_of body (instructions.Return d))) refl;
       }
 
-  functions_well : (hs : List Function) → AreFitting (length source.globals) (signatures_of source.functions) hs → AllByRecursion (IsRoutine (lower_program source)) (map lower_function hs)
+  functions_well : (hs : List Function) → AreFitting source.structs (length source.globals) (signatures_of source.functions) hs → AllByRecursion (IsRoutine (lower_program source)) (map (lower_function source.structs) hs)
   functions_well [] numbered_all = tt
   functions_well (h ∷ hs) (first, rest) = (function_well h first, functions_well hs rest)
 
@@ -684,7 +684,7 @@ module _ (source : Program) (is_fitting : IsFitting source) where
   well_formed few =
       let main = known_functions source.main _ is_fitting.main in
       record {
-        functions = all_of (IsRoutine (lower_program source)) (map lower_function source.functions) (functions_well source.functions is_fitting.functions);
+        functions = all_of (IsRoutine (lower_program source)) (map (lower_function source.structs) source.functions) (functions_well source.functions is_fitting.functions);
         main = main.there;
         main_parameters = main.parameters;
         main_results = main.results;

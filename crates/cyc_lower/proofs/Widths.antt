@@ -10,6 +10,7 @@ use Rattle.cyc_types.specs.Types.{Ty, words_of, words_of_mark}
 use Rattle.cyc_types.specs.Types as types
 use Rattle.cyc_types.specs.TypedTrees.{Load, New, Initial, Array, type_of_place, Expression, NullPointer, Copy, Call, Binary, Assign, Converted, Convert, NoOperations, Signature}
 use Rattle.cyc_meaning.specs.Values.{kind_of, number_of_kind, is_kind, words_of_kind}
+use Rattle.cyc_lower.specs.Slots.{Types}
 
 -- ---- kinds and their words
 
@@ -102,8 +103,8 @@ words_in (t ∷ ts) zero = words_of t
 words_in (t ∷ ts) (suc n) = words_in ts n
 
 -- a value of a kind has room in the local of this number
-abbrev pub HasRoom : List Ty → ℕ → Kind → Type 0
-HasRoom ts n kind = words_of_kind kind ≤ words_in ts n
+abbrev pub HasRoom : Types → ℕ → Kind → Type 0
+HasRoom types n kind = words_of_kind kind ≤ words_in types.locals n
 
 -- so many places from one on are not concerned
 abbrev pub Outside : (first many n : ℕ) → Type 0

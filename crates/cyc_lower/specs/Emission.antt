@@ -1,5 +1,5 @@
 -- What the code that emits says of itself: what it adds to the code made so far.
-use Rattle.std.specs.Prelude.{◌≡◌, ℕ, suc, ◌+◌, ◌^◌, ◌≤◌, ◌<◌, Bool, false, is_some, None, IfOk, List, [], ◌∷◌, ◌++◌, length, max, Some, option_map, Result, OnOk, slice_get}
+use Rattle.std.specs.Prelude.{◌≡◌, ℕ, suc, ◌+◌, ◌^◌, ◌≤◌, ◌<◌, Bool, false, is_some, None, IfOk, List, [], ◌∷◌, ◌++◌, length, map, max, Some, option_map, Result, OnOk, slice_get}
 use Rattle.std.specs.declared.alloc.AllocError.{AllocError}
 use Rattle.cyc_types.specs.declared.typed.Operation.{Operation}
 use Rattle.cyc_types.specs.declared.typed.Operation.TheVariants as operation
@@ -7,15 +7,17 @@ use Rattle.cyc_types.specs.declared.typed.Item.{Item}
 use Rattle.cyc_types.specs.declared.typed.Item.TheVariants as item
 use Rattle.cyc_types.specs.Types.{Ty, words_of}
 use Rattle.cyc_types.specs.TypedTrees.{Expression, Converted, Convert, Arguments, Operations, ThenCompute, Statement, Function, type_of, Binary}
-use Rattle.cyc_types.specs.TypedTreeView.{view_expression, view_converted, view_statement}
+use Rattle.cyc_types.specs.TypedTreeView.{view_struct, view_expression, view_converted, view_statement}
 use Rattle.cyc_plain.specs.declared.instruction.Operand.{Operand}
 use Rattle.cyc_plain.specs.declared.instruction.Operand.TheVariants.{Slot, Word}
 use Rattle.cyc_plain.specs.declared.instruction.Instruction.{Instruction}
 use Rattle.cyc_plain.specs.declared.instruction.Instruction.TheVariants.{Move, WriteByte}
+use Rattle.cyc_lower.specs.Slots.{Starts}
 use Rattle.cyc_lower.specs.Lowering.{operand_of, source_of, source_slot, code_unless, slot_or, code_unless_slot, printed_operand, conversion_code, printed_code, left_of, value_slot, left_slot, value_operand, expression_code, compute_code, test_code, pointer_instruction, condition_code, failing_jump, while_code, statement_code, declaration_code, condition_of}
 use Rattle.cyc_meaning.specs.FrameCount.{operand_words, argument_words, arguments_need, expression_need, initial_need, statement_need, kept_by, frame_count}
 use Rattle.cyc_plain.specs.declared.instruction.Comparison.{Comparison}
 use Rattle.cyc_lower.specs.declared.emitter.Emitter.{Emitter}
+use Rattle.cyc_lower.specs.declared.locals.Starts.{Starts as StartsCode}
 use Rattle.cyc_lower.specs.declared.operands.Condition.{Condition}
 
 -- this code is added behind what there was
@@ -26,6 +28,10 @@ Appends result old new code = OnOk result (new.code.items ≡ old.code.items ++ 
 abbrev pub Gives : {T : Type 0} → T → Result T AllocError → (old new : Emitter) → List Instruction → Type 0
 Gives answer result old new code = IfOk result (λ given. (given ≡ answer) × (new.code.items ≡ old.code.items ++ code))
 
+-- where things begin, as the code has it
+abbrev pub view_starts : StartsCode → Starts
+view_starts starts = record { locals = starts.locals.now; structs = map view_struct starts.structs.now }
+
 -- Slots are numbers that a word holds: a function has fewer locals than this, and of its temporaries no more are in use than
 -- there are instructions before.
 abbrev pub most_locals : ℕ
@@ -35,8 +41,8 @@ most_locals = 2 ^ 32
 abbrev pub IsChain : (whole first : Expression) → Operations → Type 0
 IsChain whole first os = (ty : Ty) × (whole ≡ Binary first os ty)
 
--- Locals that have these first slots.
-module _ (starts : List ℕ) where
+-- Locals that have these first slots, in a program with these structs.
+module _ (starts : Starts) where
   -- the code of an expression that is an operand
   abbrev pub value_code : Expression → (p t : ℕ) → List Instruction
   value_code a p t = code_unless (operand_of starts a) (expression_code starts a p (value_slot starts a t) t)

@@ -19,7 +19,7 @@ use Rattle.cyc_types.specs.declared.typed.PointerOperator.TheVariants as pointer
 use Rattle.cyc_types.specs.declared.typed.LogicalOperator.{LogicalOperator}
 use Rattle.cyc_types.specs.declared.typed.LogicalOperator.TheVariants as logical
 use Rattle.cyc_types.specs.Types.{Ty, words_of}
-use Rattle.cyc_types.specs.TypedTrees.{Load, Dereference, Target, Lvalue, Local, Global, Expression, Number, NullPointer, Copy, Call, Unary, Binary, Assign, Converted, Convert, Arguments, NoArguments, MoreArguments, Operations, NoOperations, ThenCompute, ThenTest, ThenPointer, ThenPointerPeek, Statement, Block, Empty, Evaluate, If, While, Return, Break, Continue, Items, NoItems, MoreItems, Execute, Declare, Constant, Word, Null, GlobalVariable, Function, Program}
+use Rattle.cyc_types.specs.TypedTrees.{Load, Dereference, Target, Lvalue, Local, Global, Expression, Number, NullPointer, Copy, Call, Unary, Binary, Assign, Converted, Convert, Arguments, NoArguments, MoreArguments, Operations, NoOperations, ThenCompute, ThenTest, ThenPointer, ThenPointerPeek, Statement, Block, Empty, Evaluate, If, While, Return, Break, Continue, Items, NoItems, MoreItems, Execute, Declare, Constant, Word, Null, GlobalVariable, StructType, Function, Program}
 use Rattle.cyc_plain.specs.declared.instruction.UnaryOperator.{UnaryOperator as PlainUnary}
 use Rattle.cyc_plain.specs.declared.instruction.UnaryOperator.TheVariants as plain_unary
 use Rattle.cyc_plain.specs.declared.instruction.BinaryOperator.{BinaryOperator as PlainBinary}
@@ -34,7 +34,7 @@ use Rattle.cyc_plain.specs.Program.{Routine, Program as PlainProgram}
 use Rattle.cyc_meaning.specs.Values.{words_of_kind}
 use Rattle.cyc_meaning.specs.Operators.{null_exception, division_by_zero}
 use Rattle.cyc_meaning.specs.FrameCount.{frame_count, items_need, words_of_all}
-use Rattle.cyc_lower.specs.Slots.{starts_of, slot_of}
+use Rattle.cyc_lower.specs.Slots.{Types, Starts, starts_of, slot_of}
 use Rattle.cyc_lower.specs.declared.operands.Condition.{Condition}
 
 -- ---- slots and operators
@@ -42,6 +42,10 @@ use Rattle.cyc_lower.specs.declared.operands.Condition.{Condition}
 -- the types by which a function's locals have their slots
 abbrev pub slot_types : Function → List Ty
 slot_types h = h.parameters ++ h.locals
+
+-- those by which its code is made, in a program with these structs
+abbrev pub types_of : List StructType → Function → Types
+types_of structs h = record { locals = slot_types h; structs = structs }
 
 -- the first slot behind the locals of a function
 abbrev pub first_temporary : Function → ℕ
@@ -275,8 +279,8 @@ while_code condition jump body p =
     ++ instructions.Jump (continue_target p)
     ∷ []
 
--- Locals that have these first slots.
-module _ (starts : List ℕ) where
+-- Locals that have these first slots, in a program with these structs.
+module _ (starts : Starts) where
   -- ---- where values stand
 
   -- what an expression is without code: a number, null, or a local
@@ -500,8 +504,8 @@ module _ (starts : List ℕ) where
 
 -- The code of a function ends in a return, which is the end of a void function. In any other it is never reached, and
 -- stands there so that no code runs off its end.
-abbrev pub function_code : Function → List Instruction
-function_code h = items_code (starts_of (slot_types h)) h.body 0 0 (first_temporary h) ++ instructions.Return (first_temporary h) ∷ []
+abbrev pub function_code : List StructType → Function → List Instruction
+function_code structs h = items_code (starts_of (types_of structs h)) h.body 0 0 (first_temporary h) ++ instructions.Return (first_temporary h) ∷ []
 
 -- the words that a function returns
 abbrev pub results_of : Option Ty → ℕ
@@ -516,14 +520,14 @@ abbrev pub spare_slots : ℕ
 spare_slots = 3
 
 -- its slots are the locals and as many temporaries as its expressions need, and those of one value more, such as what it returns
-abbrev pub lower_function : Function → Routine
-lower_function h = record {
+abbrev pub lower_function : List StructType → Function → Routine
+lower_function structs h = record {
   name = span_of_place h.place;
   parameters = words_of_all h.parameters;
   results = results_of h.result;
   slots = first_temporary h + items_need h.body + spare_slots;
   frame_count = frame_count h;
-  code = function_code h;
+  code = function_code structs h;
 }
 
 -- the word that a global holds at the start
@@ -536,4 +540,4 @@ lower_global g = initial_word g.value
 
 -- each function and each global keeps its number
 abbrev pub lower_program : Program → PlainProgram
-lower_program p = record { functions = map lower_function p.functions; globals = map lower_global p.globals; main = p.main }
+lower_program p = record { functions = map (lower_function p.structs) p.functions; globals = map lower_global p.globals; main = p.main }

@@ -1,7 +1,8 @@
 -- The slots of a function's locals, by their types: each has as many as its value has words, in the order of their
--- numbers. Where every type has one word, a local's slot is its number.
+-- numbers. Where every type has one word, a local's slot is its number. The fields of a struct begin likewise, by their types.
 use Rattle.std.specs.Prelude.{ℕ, zero, suc, ◌+◌, List, [], ◌∷◌, slice_get, unwrap_or}
 use Rattle.cyc_types.specs.Types.{Ty, words_of}
+use Rattle.cyc_types.specs.TypedTrees.{StructType}
 
 -- the first slot of a local of this number
 abbrev pub slot_in : List Ty → ℕ → ℕ
@@ -14,9 +15,19 @@ abbrev pub starts_from : (slot : ℕ) → List Ty → List ℕ
 starts_from slot [] = []
 starts_from slot (t ∷ ts) = slot ∷ starts_from (slot + words_of t) ts
 
-abbrev pub starts_of : List Ty → List ℕ
-starts_of ts = starts_from 0 ts
+-- the types of a function's locals, and the structs of its program
+pub record Types : Type 0 where
+  pub locals : List Ty
+  pub structs : List StructType
 
--- the first slot of the local of this number, where the locals have these first slots
-abbrev pub slot_of : (starts : List ℕ) → (number : ℕ) → ℕ
-slot_of starts number = unwrap_or (slice_get starts number) 0
+-- what tells where things begin: the first slots of a function's locals, and the structs of its program, for their fields
+pub record Starts : Type 0 where
+  pub locals : List ℕ
+  pub structs : List StructType
+
+abbrev pub starts_of : Types → Starts
+starts_of types = record { locals = starts_from 0 types.locals; structs = types.structs }
+
+-- the first slot of the local of this number
+abbrev pub slot_of : Starts → (number : ℕ) → ℕ
+slot_of starts number = unwrap_or (slice_get starts.locals number) 0

@@ -2,9 +2,9 @@
 ghost use Rattle.std.specs.Prelude.{◌≡◌, ◌<◌, [], ◌∷◌, ◌++◌, length, set, IfOk};
 ghost use Rattle.cyc_types.specs.TypedTreeView.{view_lvalue};
 ghost use Rattle.cyc_lower.specs.Lowering.{failing_jump, load_code};
-ghost use Rattle.cyc_lower.specs.Emission.{Appends};
+ghost use Rattle.cyc_lower.specs.Emission.{Appends, view_starts};
 
-use crate::locals::slot_of;
+use crate::locals::{Starts, slot_of};
 use crate::operands::Condition;
 use crate::operators::{failing_jump, move_of};
 use cyc_plain::{Instruction, Operand};
@@ -79,12 +79,12 @@ impl Emitter {
     /// The value of a place, which has so many words, comes to a slot and those behind it.
     pub(crate) fn load(
         &mut self,
-        starts: &[usize],
+        starts: &Starts,
         words: usize,
         source: Lvalue,
         slot: usize,
     ) -> Result<(), AllocError>
-        ensures { Appends result self.old self.new (load_code starts.now words (view_lvalue source) slot) }
+        ensures { Appends result self.old self.new (load_code (view_starts starts.now) words (view_lvalue source) slot) }
     {
         self.emit(match source {
             Lvalue::Local { number, .. } => move_of(

@@ -8,11 +8,11 @@ ghost use Rattle.cyc_meaning.specs.Values.{words_of_kind};
 ghost use Rattle.cyc_plain.specs.declared.instruction.Operand.TheVariants as operands;
 ghost use Rattle.cyc_plain.specs.declared.instruction.Instruction.TheVariants as instructions;
 ghost use Rattle.cyc_lower.specs.Lowering.{operand_of, operand_or, left_of, left_slot, value_operand, converted_operand, printed_operand, check_code, conversion_code, divisor_code, operator_code, truth_code, copy_code, all_passed, expression_code, dereference_code, arguments_code, converted_operand_code, printed_code, initial_code, assignment_code, assigned_operand, operations_code, discarded_code, condition_of, condition_code};
-ghost use Rattle.cyc_lower.specs.Emission.{Appends, Gives, HasRoom, HasRoomFor, most_locals, value_code, source_code, slot_code, print_code, converted_slot, converted_slot_code, left_code, operation_code, IsChain, zero_condition};
+ghost use Rattle.cyc_lower.specs.Emission.{Appends, Gives, HasRoom, HasRoomFor, most_locals, value_code, source_code, slot_code, print_code, converted_slot, converted_slot_code, left_code, operation_code, IsChain, zero_condition, view_starts};
 
 use crate::emitter::Emitter;
 use crate::frame_count::{words_of, words_of_kind};
-use crate::locals::slot_of;
+use crate::locals::{Starts, slot_of};
 use crate::operands::{
     Condition, are_as_wide, converts_there, is_in, operand_of, slot_behind, takes_operand,
     value_slot,
@@ -123,13 +123,13 @@ impl Emitter {
     #[cycle(expression)]
     pub(crate) fn lower_expression(
         &mut self,
-        starts: &[usize],
+        starts: &Starts,
         value: &Expr,
         slot: usize,
         free: usize,
     ) -> Result<(), AllocError>
         requires { free ≤ most_locals + length self.old.code.items }
-        ensures { Appends result self.old self.new (expression_code starts.now (view_expression value.now) (length self.old.code.items) slot free) }
+        ensures { Appends result self.old self.new (expression_code (view_starts starts.now) (view_expression value.now) (length self.old.code.items) slot free) }
     {
         match value {
             Expr::Number { value } => self.emit(Instruction::Move {
@@ -169,13 +169,13 @@ impl Emitter {
     #[cycle(expression)]
     fn load_cell(
         &mut self,
-        starts: &[usize],
+        starts: &Starts,
         source: &Dereference,
         slot: usize,
         free: usize,
     ) -> Result<(), AllocError>
         requires { free ≤ most_locals + length self.old.code.items }
-        ensures { Appends result self.old self.new (dereference_code starts.now (view_dereference source.now) (length self.old.code.items) slot free) }
+        ensures { Appends result self.old self.new (dereference_code (view_starts starts.now) (view_dereference source.now) (length self.old.code.items) slot free) }
     {
         match source {
             Dereference::Target { pointer, .. } => {
@@ -195,12 +195,12 @@ impl Emitter {
     #[cycle(expression)]
     pub(crate) fn lower_operand(
         &mut self,
-        starts: &[usize],
+        starts: &Starts,
         value: &Expr,
         free: usize,
     ) -> Result<Operand, AllocError>
-        requires { operand_of starts.now (view_expression value.now) ≡ None → free ≤ most_locals + length self.old.code.items }
-        ensures { Gives (value_operand starts.now (view_expression value.now) free) result self.old self.new (value_code starts.now (view_expression value.now) (length self.old.code.items) free) }
+        requires { operand_of (view_starts starts.now) (view_expression value.now) ≡ None → free ≤ most_locals + length self.old.code.items }
+        ensures { Gives (value_operand (view_starts starts.now) (view_expression value.now) free) result self.old self.new (value_code (view_starts starts.now) (view_expression value.now) (length self.old.code.items) free) }
     {
         match operand_of(starts, value) {
             Some(known) => Ok(known),
@@ -216,14 +216,14 @@ impl Emitter {
     #[cycle(expression)]
     fn call(
         &mut self,
-        starts: &[usize],
+        starts: &Starts,
         callee: Callee,
         arguments: &[Converted],
         slot: usize,
         free: usize,
     ) -> Result<(), AllocError>
         requires { free ≤ most_locals + length self.old.code.items }
-        ensures { Appends result self.old self.new (expression_code starts.now (Call callee (arguments_of arguments.now) Void) (length self.old.code.items) slot free) }
+        ensures { Appends result self.old self.new (expression_code (view_starts starts.now) (Call callee (arguments_of arguments.now) Void) (length self.old.code.items) slot free) }
     {
         match callee {
             Callee::Putchar => {
@@ -255,12 +255,12 @@ impl Emitter {
     #[cycle(expression)]
     fn print(
         &mut self,
-        starts: &[usize],
+        starts: &Starts,
         arguments: &[Converted],
         free: usize,
     ) -> Result<Operand, AllocError>
         requires { free ≤ most_locals + length self.old.code.items }
-        ensures { Gives (printed_operand starts.now (arguments_of arguments.now) (operands.Slot free) free) result self.old self.new (print_code starts.now (arguments_of arguments.now) (length self.old.code.items) free) }
+        ensures { Gives (printed_operand (view_starts starts.now) (arguments_of arguments.now) (operands.Slot free) free) result self.old self.new (print_code (view_starts starts.now) (arguments_of arguments.now) (length self.old.code.items) free) }
     {
         let mut byte = Operand::Slot { number: free };
         for argument in arguments {
@@ -274,12 +274,12 @@ impl Emitter {
     #[cycle(expression)]
     fn lower_arguments(
         &mut self,
-        starts: &[usize],
+        starts: &Starts,
         arguments: &[Converted],
         first: usize,
     ) -> Result<usize, AllocError>
         requires { first ≤ most_locals + length self.old.code.items }
-        ensures { Gives (all_passed (arguments_of arguments.now)) result self.old self.new (arguments_code starts.now (arguments_of arguments.now) (length self.old.code.items) first) }
+        ensures { Gives (all_passed (arguments_of arguments.now)) result self.old self.new (arguments_code (view_starts starts.now) (arguments_of arguments.now) (length self.old.code.items) first) }
     {
         let mut slot = first;
         for argument in arguments {
@@ -294,12 +294,12 @@ impl Emitter {
     #[cycle(expression)]
     fn lower_source(
         &mut self,
-        starts: &[usize],
+        starts: &Starts,
         value: &Converted,
         free: usize,
     ) -> Result<Operand, AllocError>
         requires { free ≤ most_locals + length self.old.code.items }
-        ensures { Gives (converted_operand starts.now (view_converted value.now) free) result self.old self.new (source_code starts.now (view_converted value.now) (length self.old.code.items) free) }
+        ensures { Gives (converted_operand (view_starts starts.now) (view_converted value.now) free) result self.old self.new (source_code (view_starts starts.now) (view_converted value.now) (length self.old.code.items) free) }
     {
         if are_as_wide(value.from, value.to) {
             return self.lower_operand(starts, &value.value, free);
@@ -312,12 +312,12 @@ impl Emitter {
     #[cycle(expression)]
     fn lower_converted(
         &mut self,
-        starts: &[usize],
+        starts: &Starts,
         value: &Converted,
         free: usize,
     ) -> Result<Operand, AllocError>
         requires { free ≤ most_locals + length self.old.code.items }
-        ensures { Gives (converted_operand starts.now (view_converted value.now) free) result self.old self.new (converted_operand_code starts.now (view_converted value.now) (length self.old.code.items) free) }
+        ensures { Gives (converted_operand (view_starts starts.now) (view_converted value.now) free) result self.old self.new (converted_operand_code (view_starts starts.now) (view_converted value.now) (length self.old.code.items) free) }
     {
         let operand = self.lower_source(starts, value, free)?;
         self.convert(value.to, operand)?;
@@ -328,13 +328,13 @@ impl Emitter {
     #[cycle(expression)]
     pub(crate) fn lower_initial(
         &mut self,
-        starts: &[usize],
+        starts: &Starts,
         value: &Converted,
         slot: usize,
         free: usize,
     ) -> Result<(), AllocError>
         requires { free ≤ most_locals + length self.old.code.items }
-        ensures { Appends result self.old self.new (initial_code starts.now (view_converted value.now) (length self.old.code.items) slot free) }
+        ensures { Appends result self.old self.new (initial_code (view_starts starts.now) (view_converted value.now) (length self.old.code.items) slot free) }
     {
         if converts_there(value.from, value.to) {
             return self.lower_expression(starts, &value.value, slot, free);
@@ -347,13 +347,13 @@ impl Emitter {
     #[cycle(expression)]
     fn lower_assignment(
         &mut self,
-        starts: &[usize],
+        starts: &Starts,
         target: Lvalue,
         value: &Converted,
         free: usize,
     ) -> Result<Operand, AllocError>
         requires { free ≤ most_locals + length self.old.code.items }
-        ensures { Gives (assigned_operand starts.now (view_lvalue target) (view_converted value.now) free) result self.old self.new (assignment_code starts.now (view_lvalue target) (view_converted value.now) (length self.old.code.items) free) }
+        ensures { Gives (assigned_operand (view_starts starts.now) (view_lvalue target) (view_converted value.now) free) result self.old self.new (assignment_code (view_starts starts.now) (view_lvalue target) (view_converted value.now) (length self.old.code.items) free) }
     {
         match target {
             Lvalue::Local { number, .. } => {
@@ -376,14 +376,14 @@ impl Emitter {
     #[cycle(expression)]
     fn lower_left(
         &mut self,
-        starts: &[usize],
+        starts: &Starts,
         first: &Expr,
         rest: &[Operation],
         slot: usize,
         free: usize,
     ) -> Result<Operand, AllocError>
         requires { free ≤ most_locals + length self.old.code.items }
-        ensures { Gives (operand_or (left_of starts.now (view_expression first.now) (operations_of rest.now)) (left_slot starts.now (view_expression first.now) (operations_of rest.now) slot free)) result self.old self.new (left_code starts.now (view_expression first.now) (operations_of rest.now) (length self.old.code.items) slot free) }
+        ensures { Gives (operand_or (left_of (view_starts starts.now) (view_expression first.now) (operations_of rest.now)) (left_slot (view_starts starts.now) (view_expression first.now) (operations_of rest.now) slot free)) result self.old self.new (left_code (view_starts starts.now) (view_expression first.now) (operations_of rest.now) (length self.old.code.items) slot free) }
     {
         if takes_operand(starts, rest) {
             return self.lower_operand(starts, first, free);
@@ -397,15 +397,15 @@ impl Emitter {
     #[cycle(expression)]
     fn lower_operation(
         &mut self,
-        starts: &[usize],
+        starts: &Starts,
         operation: &Operation,
         left: Operand,
         slot: usize,
         free: usize,
     ) -> Result<(), AllocError>
         requires low { free ≤ most_locals + length self.old.code.items }
-        requires room { HasRoomFor starts.now operation.now free (length self.old.code.items) }
-        ensures { Appends result self.old self.new (operation_code starts.now operation.now (length self.old.code.items) left slot free) }
+        requires room { HasRoomFor (view_starts starts.now) operation.now free (length self.old.code.items) }
+        ensures { Appends result self.old self.new (operation_code (view_starts starts.now) operation.now (length self.old.code.items) left slot free) }
     {
         match operation {
             Operation::Compute { operator, operand } => {
@@ -431,15 +431,15 @@ impl Emitter {
     #[cycle(expression)]
     fn lower_operations(
         &mut self,
-        starts: &[usize],
+        starts: &Starts,
         operations: &[Operation],
         first: Operand,
         slot: usize,
         free: usize,
     ) -> Result<(), AllocError>
         requires low { free ≤ most_locals + length self.old.code.items }
-        requires room { HasRoom starts.now (operations_of operations.now) free (length self.old.code.items) }
-        ensures { Appends result self.old self.new (operations_code starts.now (operations_of operations.now) (length self.old.code.items) first slot free) }
+        requires room { HasRoom (view_starts starts.now) (operations_of operations.now) free (length self.old.code.items) }
+        ensures { Appends result self.old self.new (operations_code (view_starts starts.now) (operations_of operations.now) (length self.old.code.items) first slot free) }
     {
         let mut left = first;
         let mut behind = operations.len();
@@ -455,13 +455,13 @@ impl Emitter {
     /// A call whose value nobody wants.
     fn discard_call(
         &mut self,
-        starts: &[usize],
+        starts: &Starts,
         callee: Callee,
         arguments: &[Converted],
         free: usize,
     ) -> Result<(), AllocError>
         requires { free ≤ most_locals + length self.old.code.items }
-        ensures { Appends result self.old self.new (discarded_code starts.now (Call callee (arguments_of arguments.now) Void) (length self.old.code.items) free) }
+        ensures { Appends result self.old self.new (discarded_code (view_starts starts.now) (Call callee (arguments_of arguments.now) Void) (length self.old.code.items) free) }
     {
         match callee {
             Callee::Putchar => {
@@ -476,12 +476,12 @@ impl Emitter {
     /// An expression whose value nobody wants.
     pub(crate) fn discard(
         &mut self,
-        starts: &[usize],
+        starts: &Starts,
         value: &Expr,
         free: usize,
     ) -> Result<(), AllocError>
         requires { free ≤ most_locals + length self.old.code.items }
-        ensures { Appends result self.old self.new (discarded_code starts.now (view_expression value.now) (length self.old.code.items) free) }
+        ensures { Appends result self.old self.new (discarded_code (view_starts starts.now) (view_expression value.now) (length self.old.code.items) free) }
     {
         match value {
             Expr::Call {
@@ -503,13 +503,13 @@ impl Emitter {
     /// A condition that is a value compared with 0.
     fn compare_with_zero(
         &mut self,
-        starts: &[usize],
+        starts: &Starts,
         failing: Comparison,
         value: &Expr,
         free: usize,
     ) -> Result<Condition, AllocError>
         requires { free ≤ most_locals + length self.old.code.items }
-        ensures { Gives (zero_condition starts.now failing (view_expression value.now) free) result self.old self.new (value_code starts.now (view_expression value.now) (length self.old.code.items) free) }
+        ensures { Gives (zero_condition (view_starts starts.now) failing (view_expression value.now) free) result self.old self.new (value_code (view_starts starts.now) (view_expression value.now) (length self.old.code.items) free) }
     {
         let left = self.lower_operand(starts, value, free)?;
         Ok(Condition {
@@ -522,7 +522,7 @@ impl Emitter {
     /// A condition that is a chain: one operator that compares is left to the jump.
     fn compare_chain(
         &mut self,
-        starts: &[usize],
+        starts: &Starts,
         value: &Expr,
         first: &Expr,
         rest: &[Operation],
@@ -530,7 +530,7 @@ impl Emitter {
     ) -> Result<Condition, AllocError>
         requires low { free ≤ most_locals + length self.old.code.items }
         requires chain { IsChain (view_expression value.now) (view_expression first.now) (operations_of rest.now) }
-        ensures { Gives (condition_of starts.now (view_expression value.now) free) result self.old self.new (condition_code starts.now (view_expression value.now) (length self.old.code.items) free) }
+        ensures { Gives (condition_of (view_starts starts.now) (view_expression value.now) free) result self.old self.new (condition_code (view_starts starts.now) (view_expression value.now) (length self.old.code.items) free) }
     {
         if rest.len() != 1 {
             return self.compare_with_zero(starts, Comparison::Equal, value, free);
@@ -552,12 +552,12 @@ impl Emitter {
     /// A condition: two operands that are compared.
     pub(crate) fn lower_condition(
         &mut self,
-        starts: &[usize],
+        starts: &Starts,
         value: &Expr,
         free: usize,
     ) -> Result<Condition, AllocError>
         requires { free ≤ most_locals + length self.old.code.items }
-        ensures { Gives (condition_of starts.now (view_expression value.now) free) result self.old self.new (condition_code starts.now (view_expression value.now) (length self.old.code.items) free) }
+        ensures { Gives (condition_of (view_starts starts.now) (view_expression value.now) free) result self.old self.new (condition_code (view_starts starts.now) (view_expression value.now) (length self.old.code.items) free) }
     {
         match value {
             Expr::Binary { first, rest, .. } => self.compare_chain(
@@ -574,12 +574,12 @@ impl Emitter {
     /// A value that is to be in a slot: in that of a local where no words change, or in `free`.
     pub(crate) fn lower_to_slot(
         &mut self,
-        starts: &[usize],
+        starts: &Starts,
         value: &Converted,
         free: usize,
     ) -> Result<usize, AllocError>
         requires { free ≤ most_locals + length self.old.code.items }
-        ensures { Gives (converted_slot starts.now (view_converted value.now) free) result self.old self.new (slot_code starts.now (view_converted value.now) (length self.old.code.items) free) }
+        ensures { Gives (converted_slot (view_starts starts.now) (view_converted value.now) free) result self.old self.new (slot_code (view_starts starts.now) (view_converted value.now) (length self.old.code.items) free) }
     {
         if are_as_wide(value.from, value.to) {
             if let Some(Operand::Slot { number }) = operand_of(starts, &value.value) {
@@ -593,12 +593,12 @@ impl Emitter {
     /// A value that is returned, converted, and its slot.
     pub(crate) fn convert_to_slot(
         &mut self,
-        starts: &[usize],
+        starts: &Starts,
         value: &Converted,
         free: usize,
     ) -> Result<usize, AllocError>
         requires { free ≤ most_locals + length self.old.code.items }
-        ensures { Gives (converted_slot starts.now (view_converted value.now) free) result self.old self.new (converted_slot_code starts.now (view_converted value.now) (length self.old.code.items) free) }
+        ensures { Gives (converted_slot (view_starts starts.now) (view_converted value.now) free) result self.old self.new (converted_slot_code (view_starts starts.now) (view_converted value.now) (length self.old.code.items) free) }
     {
         let slot = self.lower_to_slot(starts, value, free)?;
         self.convert(value.to, Operand::Slot { number: slot })?;

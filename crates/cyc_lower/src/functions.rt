@@ -2,7 +2,7 @@
 ghost use Rattle.std.specs.Prelude.{◌≡◌, ◌≤◌, map, option_map, IfOk};
 ghost use Rattle.cyc_syntax.specs.TokenRule.{max_tokens};
 ghost use Rattle.cyc_types.specs.TypeView.{view_ty};
-ghost use Rattle.cyc_types.specs.TypedTreeView.{view_constant, view_global, view_function, view_program};
+ghost use Rattle.cyc_types.specs.TypedTreeView.{view_constant, view_global, view_struct, view_function, view_program};
 ghost use Rattle.cyc_types.specs.typing.WellTyped.{IsWellTypedProgram};
 ghost use Rattle.cyc_types.specs.Weight.{program_weight};
 ghost use Rattle.cyc_plain.specs.Program.{routine_of};
@@ -13,9 +13,9 @@ ghost use Rattle.cyc_lower.specs.Lowered.{CanBeLowered};
 
 use crate::emitter::Emitter;
 use crate::frame_count::{frame_count, items_need, words_of, words_of_all};
-use crate::locals::slots_of_locals;
+use crate::locals::{Starts, slots_of_locals};
 use cyc_plain::{Function, Instruction, Plain};
-use cyc_types::typed::{self, Constant};
+use cyc_types::typed::{self, Constant, StructType};
 use cyc_types::{Ty, TypedTree};
 use std::alloc::{AllocError, Global};
 
@@ -43,11 +43,19 @@ fn initial_word(value: Constant) -> u32
 }
 
 /// A function. Its slots are its locals, and behind them the temporaries and one value more.
-fn lower_function(alloc: Global, function: &typed::Function) -> Result<Function, AllocError>
+fn lower_function(
+    alloc: Global,
+    structs: &[StructType],
+    function: &typed::Function,
+) -> Result<Function, AllocError>
     requires { frame_count (view_function function.now) ≤ most_frame_count }
-    ensures { IfOk result (λ f. routine_of f ≡ lower_function (view_function function.now)) }
+    ensures { IfOk result (λ f. routine_of f ≡ lower_function (map view_struct structs.now) (view_function function.now)) }
 {
-    let (starts, free) = slots_of_locals(alloc, function)?;
+    let (locals, free) = slots_of_locals(alloc, function)?;
+    let starts = Starts {
+        locals: &locals,
+        structs,
+    };
     let mut emitter = Emitter::new(alloc);
     emitter.lower_items(&starts, &function.body, 0, free)?;
     emitter.emit(Instruction::Return { value: free })?;
@@ -63,14 +71,15 @@ fn lower_function(alloc: Global, function: &typed::Function) -> Result<Function,
 
 fn lower_functions(
     alloc: Global,
+    structs: &[StructType],
     functions: &[typed::Function],
 ) -> Result<Vec<Function>, AllocError>
     requires { HaveFewWords (map view_function functions.now) }
-    ensures { IfOk result (λ fs. map routine_of fs.items ≡ map lower_function (map view_function functions.now)) }
+    ensures { IfOk result (λ fs. map routine_of fs.items ≡ map (lower_function (map view_struct structs.now)) (map view_function functions.now)) }
 {
     let mut lowered = Vec::new(alloc);
     for function in functions {
-        lowered.push(lower_function(alloc, function)?)?;
+        lowered.push(lower_function(alloc, structs, function)?)?;
     }
     Ok(lowered)
 }
@@ -93,7 +102,7 @@ pub(crate) fn lower_tree(alloc: Global, tree: &TypedTree) -> Result<Plain, Alloc
     requires can_be { CanBeLowered (view_program tree.now) }
     ensures { IfOk result (λ plain. plain ≡ lower_program (view_program tree.now)) }
 {
-    let functions = lower_functions(alloc, &tree.functions)?;
+    let functions = lower_functions(alloc, &tree.structs, &tree.functions)?;
     let globals = lower_globals(alloc, &tree.globals)?;
     Ok(Plain::new(functions, globals, tree.main))
 }

@@ -4,20 +4,27 @@ ghost use Rattle.cyc_types.specs.Types.{words_of};
 ghost use Rattle.cyc_types.specs.TypeView.{view_ty};
 ghost use Rattle.cyc_types.specs.TypedTreeView.{view_function};
 ghost use Rattle.cyc_meaning.specs.FrameCount.{words_of_all, frame_count};
-ghost use Rattle.cyc_lower.specs.Slots.{starts_from, starts_of, slot_of};
+ghost use Rattle.cyc_lower.specs.Slots.{starts_from, slot_of};
 ghost use Rattle.cyc_lower.specs.Lowering.{slot_types, first_temporary};
-ghost use Rattle.cyc_lower.specs.Emission.{most_frame_count};
+ghost use Rattle.cyc_lower.specs.Emission.{most_frame_count, view_starts};
 
 use crate::frame_count::words_of;
 use cyc_types::Ty;
-use cyc_types::typed::Function;
+use cyc_types::typed::{Function, StructType};
 use std::alloc::{AllocError, Global};
 
-/// The first slot of the local of this number, where the locals have these first slots.
-pub(crate) fn slot_of(starts: &[usize], number: usize) -> usize
-    ensures { result ≡ slot_of starts.now number }
+/// What tells where things begin: the first slots of a function's locals, and the structs of its program, for their fields.
+#[derive(Clone, Copy)]
+pub(crate) struct Starts<'a> {
+    pub(crate) locals: &'a [usize],
+    pub(crate) structs: &'a [StructType],
+}
+
+/// The first slot of the local of this number.
+pub(crate) fn slot_of(starts: &Starts, number: usize) -> usize
+    ensures { result ≡ slot_of (view_starts starts.now) number }
 {
-    match starts.get(number) {
+    match starts.locals.get(number) {
         Some(slot) => *slot,
         None => 0,
     }
@@ -42,7 +49,7 @@ pub(crate) fn slots_of_locals(
     function: &Function,
 ) -> Result<(Vec<usize>, usize), AllocError>
     requires { frame_count (view_function function.now) ≤ most_frame_count }
-    ensures { IfOk result (λ slots. (slots.0.items ≡ starts_of (slot_types (view_function function.now))) × (slots.1 ≡ first_temporary (view_function function.now))) }
+    ensures { IfOk result (λ slots. (slots.0.items ≡ starts_from 0 (slot_types (view_function function.now))) × (slots.1 ≡ first_temporary (view_function function.now))) }
 {
     let mut starts = Vec::new(alloc);
     let behind = add_locals(&mut starts, 0, &function.parameters)?;

@@ -3,10 +3,10 @@ ghost use Rattle.std.specs.Prelude.{◌≡◌, ◌+◌, ◌≤◌, IfOk};
 ghost use Rattle.cyc_types.specs.TypedTreeView.{view_expression, operations_of};
 ghost use Rattle.cyc_meaning.specs.Values.{words_of_kind};
 ghost use Rattle.cyc_lower.specs.Lowering.{operand_of, value_slot, is_in, are_as_wide, converts_there};
-ghost use Rattle.cyc_lower.specs.Emission.{most_locals, takes_operand};
+ghost use Rattle.cyc_lower.specs.Emission.{most_locals, takes_operand, view_starts};
 
 use crate::frame_count::words_of_kind;
-use crate::locals::slot_of;
+use crate::locals::{Starts, slot_of};
 use cyc_plain::{Comparison, Operand};
 use cyc_types::typed::{Expr, Kind, Lvalue, Operation};
 use std::alloc::AllocError;
@@ -23,8 +23,8 @@ pub(crate) struct Condition {
 }
 
 /// What an expression is without code: a number, null, or a local.
-pub(crate) fn operand_of(starts: &[usize], value: &Expr) -> Option<Operand>
-    ensures { result ≡ operand_of starts.now (view_expression value.now) }
+pub(crate) fn operand_of(starts: &Starts, value: &Expr) -> Option<Operand>
+    ensures { result ≡ operand_of (view_starts starts.now) (view_expression value.now) }
 {
     match value {
         Expr::Number { value } => Some(Operand::Word { word: *value }),
@@ -40,8 +40,8 @@ pub(crate) fn operand_of(starts: &[usize], value: &Expr) -> Option<Operand>
 }
 
 /// The slot for the value of an expression that is an operand: an assigned local has it already.
-pub(crate) fn value_slot(starts: &[usize], value: &Expr, free: usize) -> usize
-    ensures { result ≡ value_slot starts.now (view_expression value.now) free }
+pub(crate) fn value_slot(starts: &Starts, value: &Expr, free: usize) -> usize
+    ensures { result ≡ value_slot (view_starts starts.now) (view_expression value.now) free }
 {
     match value {
         Expr::Assign { target, .. } => match *target {
@@ -53,8 +53,8 @@ pub(crate) fn value_slot(starts: &[usize], value: &Expr, free: usize) -> usize
 }
 
 /// Whether the first of these operators has an operand without code on its right.
-pub(crate) fn takes_operand(starts: &[usize], operations: &[Operation]) -> bool
-    ensures { result ≡ takes_operand starts.now (operations_of operations.now) }
+pub(crate) fn takes_operand(starts: &Starts, operations: &[Operation]) -> bool
+    ensures { result ≡ takes_operand (view_starts starts.now) (operations_of operations.now) }
 {
     match operations.first() {
         Some(Operation::Compute { operand, .. }) => operand_of(starts, operand).is_some(),

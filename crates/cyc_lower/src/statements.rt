@@ -2,10 +2,10 @@
 ghost use Rattle.std.specs.Prelude.{◌≡◌, ◌+◌, ◌≤◌, [], ◌∷◌, length, option_map};
 ghost use Rattle.cyc_types.specs.TypedTreeView.{view_converted, view_expression, view_statement, items_of};
 ghost use Rattle.cyc_lower.specs.Lowering.{break_target, continue_target, return_code, declaration_code, statement_code, items_code};
-ghost use Rattle.cyc_lower.specs.Emission.{Appends, most_locals, item_code, loop_code};
+ghost use Rattle.cyc_lower.specs.Emission.{Appends, most_locals, item_code, loop_code, view_starts};
 
 use crate::emitter::Emitter;
-use crate::locals::slot_of;
+use crate::locals::{Starts, slot_of};
 use crate::operators::failing_jump;
 use cyc_plain::Instruction;
 use cyc_types::typed::{Converted, Expr, Item, Stmt};
@@ -15,12 +15,12 @@ impl Emitter {
     /// A return of a value in a slot.
     fn lower_return(
         &mut self,
-        starts: &[usize],
+        starts: &Starts,
         value: &Option<Converted>,
         free: usize,
     ) -> Result<(), AllocError>
         requires { free ≤ most_locals + length self.old.code.items }
-        ensures { Appends result self.old self.new (return_code starts.now (option_map view_converted value.now) (length self.old.code.items) free) }
+        ensures { Appends result self.old self.new (return_code (view_starts starts.now) (option_map view_converted value.now) (length self.old.code.items) free) }
     {
         let from = match value {
             Some(value) => self.convert_to_slot(starts, value, free)?,
@@ -32,13 +32,13 @@ impl Emitter {
     /// The declaration of a local, which gets its initial value if it has one.
     fn lower_declaration(
         &mut self,
-        starts: &[usize],
+        starts: &Starts,
         number: usize,
         value: &Option<Converted>,
         free: usize,
     ) -> Result<(), AllocError>
         requires { free ≤ most_locals + length self.old.code.items }
-        ensures { Appends result self.old self.new (declaration_code starts.now number (option_map view_converted value.now) (length self.old.code.items) free) }
+        ensures { Appends result self.old self.new (declaration_code (view_starts starts.now) number (option_map view_converted value.now) (length self.old.code.items) free) }
     {
         let Some(value) = value else {
             return Ok(());
@@ -67,13 +67,13 @@ impl Emitter {
     #[cycle(statement)]
     fn lower_loop(
         &mut self,
-        starts: &[usize],
+        starts: &Starts,
         body: &Stmt,
         condition: &Expr,
         free: usize,
     ) -> Result<(), AllocError>
         requires { free ≤ most_locals + length self.old.code.items }
-        ensures { Appends result self.old self.new (loop_code starts.now (view_expression condition.now) (view_statement body.now) (length self.old.code.items) free) }
+        ensures { Appends result self.old self.new (loop_code (view_starts starts.now) (view_expression condition.now) (view_statement body.now) (length self.old.code.items) free) }
     {
         let head = self.place();
         self.lower_continue(head)?;
@@ -90,14 +90,14 @@ impl Emitter {
     #[cycle(statement)]
     fn lower_statement(
         &mut self,
-        starts: &[usize],
+        starts: &Starts,
         statement: &Stmt,
         head: usize,
         free: usize,
     ) -> Result<(), AllocError>
         requires slots { free ≤ most_locals + length self.old.code.items }
         requires begun { head ≤ length self.old.code.items }
-        ensures { Appends result self.old self.new (statement_code starts.now (view_statement statement.now) (length self.old.code.items) head free) }
+        ensures { Appends result self.old self.new (statement_code (view_starts starts.now) (view_statement statement.now) (length self.old.code.items) head free) }
     {
         match statement {
             Stmt::Block { items, .. } => self.lower_items(starts, items, head, free),
@@ -133,14 +133,14 @@ impl Emitter {
     #[cycle(statement)]
     fn lower_item(
         &mut self,
-        starts: &[usize],
+        starts: &Starts,
         item: &Item,
         head: usize,
         free: usize,
     ) -> Result<(), AllocError>
         requires slots { free ≤ most_locals + length self.old.code.items }
         requires begun { head ≤ length self.old.code.items }
-        ensures { Appends result self.old self.new (item_code starts.now item.now (length self.old.code.items) head free) }
+        ensures { Appends result self.old self.new (item_code (view_starts starts.now) item.now (length self.old.code.items) head free) }
     {
         match item {
             Item::Execute { statement } => self.lower_statement(starts, statement, head, free),
@@ -155,14 +155,14 @@ impl Emitter {
     #[cycle(statement)]
     pub(crate) fn lower_items(
         &mut self,
-        starts: &[usize],
+        starts: &Starts,
         items: &[Item],
         head: usize,
         free: usize,
     ) -> Result<(), AllocError>
         requires slots { free ≤ most_locals + length self.old.code.items }
         requires begun { head ≤ length self.old.code.items }
-        ensures { Appends result self.old self.new (items_code starts.now (items_of items.now) (length self.old.code.items) head free) }
+        ensures { Appends result self.old self.new (items_code (view_starts starts.now) (items_of items.now) (length self.old.code.items) head free) }
     {
         for item in items {
             self.lower_item(starts, item, head, free)?;

@@ -1,7 +1,7 @@
-use Rattle.std.proofs.Common.{◌≡◌, ◌+◌, List, map, ap, ◌∙◌, arith}
+use Rattle.std.proofs.Common.{◌≡◌, ℕ, ◌+◌, List, map, ap, ◌∙◌, arith}
 use Rattle.cyc_types.specs.declared.typed.Item.{Item}
 use Rattle.cyc_types.specs.TypeView.{view_ty}
-use Rattle.cyc_types.specs.TypedTreeView.{view_function, items_of}
+use Rattle.cyc_types.specs.TypedTreeView.{view_struct, view_function, items_of}
 use Rattle.cyc_types.specs.declared.ty.Ty.{Ty}
 use Rattle.cyc_meaning.specs.FrameCount.{items_need, words_of_all}
 use Rattle.cyc_lower.specs.Lowering.{first_temporary, function_code, span_of_place}
@@ -9,7 +9,7 @@ use Rattle.cyc_lower.proofs.Routines.{few_locals, function_made}
 use Rattle.cyc_lower.proofs.functions.lower_function.Goals as goal
 
 pub lower_items-requires-clause-slots : goal.lower_items-requires-clause-slots
-lower_items-requires-clause-slots c = omega (arith, (few_locals c.args.function.now c.requires).1, c.in_ok-starts.ensures.1)
+lower_items-requires-clause-slots c = omega (arith, (few_locals c.args.function.now c.requires).1, c.in_ok-locals.ensures.1)
 
 pub words_of_all-requires : goal.words_of_all-requires
 words_of_all-requires c =
@@ -20,13 +20,13 @@ pub overflow_add-result : goal.overflow_add-result
 overflow_add-result c =
     let f = c.args.function.now in
     let body = ap (λ (js : List Item). items_need (items_of js)) c.deref-4.ensures.value in
-    omega (arith, (few_locals f c.requires).1, c.in_ok-starts.ensures.1, c.requires, body, c.items_need.ensures)
+    omega (arith, (few_locals f c.requires).1, c.in_ok-locals.ensures.1, c.requires, body, c.items_need.ensures)
 
 pub overflow_add-result-2 : goal.overflow_add-result-2
 overflow_add-result-2 c =
     let f = c.args.function.now in
     let body = ap (λ (js : List Item). items_need (items_of js)) c.deref-4.ensures.value in
-    omega (arith, (few_locals f c.requires).1, c.in_ok-starts.ensures.1, c.requires, body, c.items_need.ensures)
+    omega (arith, (few_locals f c.requires).1, c.in_ok-locals.ensures.1, c.requires, body, c.items_need.ensures)
 
 pub returns : goal.returns
 returns c =
@@ -34,10 +34,10 @@ returns c =
     let h = view_function f in
     let parameters : c.words_of_all.result ≡ words_of_all h.parameters = c.words_of_all.ensures ∙ ap (λ (ts : List Ty). words_of_all (map view_ty ts)) c.deref-3.ensures.value in
     let body = ap (λ (js : List Item). items_need (items_of js)) c.deref-4.ensures.value in
-    let slots : c.in_ok-starts.free + c.items_need.result + 3 ≡ first_temporary h + items_need h.body + 3 = omega (arith, c.in_ok-starts.ensures.1, c.items_need.ensures, body) in
-    let code : c.emit.new.self.code.items ≡ function_code h =
-    function_made h c.deref.result.now c.in_ok-starts.free (items_of c.deref-2.result.now) c.new-emitter.result.code.items c.lower_items.new.self.code.items c.emit.new.self.code.items
-    (c.deref.ensures.value ∙ c.in_ok-starts.ensures.0) c.in_ok-starts.ensures.1 (ap (λ (js : List Item). items_of js) c.deref-2.ensures.value) c.new-emitter.ensures c.in_ok-lower_items.ensures c.in_ok-emit.ensures in
+    let slots : c.in_ok-locals.free + c.items_need.result + 3 ≡ first_temporary h + items_need h.body + 3 = omega (arith, c.in_ok-locals.ensures.1, c.items_need.ensures, body) in
+    let code : c.emit.new.self.code.items ≡ function_code (map view_struct c.args.structs.now) h =
+    function_made (map view_struct c.args.structs.now) h _ c.in_ok-locals.free (items_of c.deref-2.result.now) c.new-emitter.result.code.items c.lower_items.new.self.code.items c.emit.new.self.code.items
+    (ap (λ (l : List ℕ). record { locals = l; structs = map view_struct c.args.structs.now }) (c.deref.ensures.value ∙ c.in_ok-locals.ensures.0)) c.in_ok-locals.ensures.1 (ap (λ (js : List Item). items_of js) c.deref-2.ensures.value) c.new-emitter.ensures c.in_ok-lower_items.ensures c.in_ok-emit.ensures in
     λ i. record {
       name = span_of_place h.place;
       parameters = parameters i;

@@ -1,4 +1,5 @@
-use Rattle.cyc_types.specs.TypedTreeView.{view_function}
+use Rattle.std.specs.Prelude.{map}
+use Rattle.cyc_types.specs.TypedTreeView.{view_struct, view_function}
 use Rattle.cyc_plain.specs.Program.{routine_of}
 use Rattle.cyc_lower.specs.Lowering.{lower_function}
 use Rattle.cyc_lower.proofs.Routines.{numbered_at, one_more}
@@ -11,5 +12,5 @@ lower_function-requires c =
 
 pub loop-function-preserved : goal.loop-function-preserved
 loop-function-preserved c =
-    one_more routine_of lower_function view_function c.loop-function.lowered.items c.push.new.self.items c.args.functions.now c.loop-function.function-index c.in_ok-lower_function.field-0 c.function-item.result
+    one_more routine_of (lower_function (map view_struct c.args.structs.now)) view_function c.loop-function.lowered.items c.push.new.self.items c.args.functions.now c.loop-function.function-index c.in_ok-lower_function.field-0 c.function-item.result
     c.loop-function-test.true c.function-item.is c.in_ok-push.ensures.items c.in_ok-lower_function.ensures c.loop-function.invariant

@@ -10,7 +10,7 @@ use Rattle.cyc_types.specs.TypedTreeView.{view_expression, operations_of}
 use Rattle.cyc_plain.specs.declared.instruction.Operand.TheVariants as operands
 use Rattle.cyc_plain.specs.declared.instruction.Instruction.{Instruction}
 use Rattle.cyc_lower.specs.Lowering.{copy_code, expression_code, conversion_code, test_jump, next_slot}
-use Rattle.cyc_lower.specs.Emission.{HasRoom, operation_code}
+use Rattle.cyc_lower.specs.Emission.{HasRoom, operation_code, view_starts}
 use Rattle.cyc_lower.proofs.Emitting.{Remains, all_arguments, one_argument, next_argument, arguments_lower, all_operations, one_operation, next_operation, operations_lower, goes_on, joined, passed_on, made_putchar, made_call, made_called, made_binary, room_behind, made_left_alone, made_left_first, made_compute, made_test, room_after, slot_by_count, made_print, made_assigned}
 use Rattle.cyc_lower.proofs.emitter.Emitter.+expression.Goals.{lower_left-then-is_empty, lower_left-else-is_empty, lower_operations-then-behind-eq0, lower_operations-else-behind-eq0}
 use Rattle.cyc_lower.proofs.emitter.Emitter.+expression.Goals as goal
@@ -25,10 +25,10 @@ lower_arguments-loop-argument-preserved t c =
     let i = c.loop-argument.argument-index in
     let x = c.argument-item.result in
     let words = passed_on c.args.arguments.now i slot c.args.first x c.loop-argument-test.true c.argument-item.is c.loop-argument.invariant.2 in
-    let added = joined code (expression_code c.args.starts.now (view_expression x.value) (length code) slot slot) (λ (p : ℕ). conversion_code x.to (operands.Slot slot) p) made new c.in_ok-lower_expression.ensures c.in_ok-convert.ensures in
+    let added = joined code (expression_code (view_starts c.args.starts.now) (view_expression x.value) (length code) slot slot) (λ (p : ℕ). conversion_code x.to (operands.Slot slot) p) made new c.in_ok-lower_expression.ensures c.in_ok-convert.ensures in
     let next = c.in_ok-slot.ensures in (
-      subst (λ (n : ℕ). Remains (all_arguments c.args.starts.now) old c.args.arguments.now c.args.first (i + 1) new n) (sym next.0)
-          (goes_on (all_arguments c.args.starts.now) (one_argument c.args.starts.now) (next_argument c.args.starts.now) (arguments_lower c.args.starts.now) old c.args.arguments.now c.args.first i code new slot x c.loop-argument-test.true c.argument-item.is added c.loop-argument.invariant.0),
+      subst (λ (n : ℕ). Remains (all_arguments (view_starts c.args.starts.now)) old c.args.arguments.now c.args.first (i + 1) new n) (sym next.0)
+          (goes_on (all_arguments (view_starts c.args.starts.now)) (one_argument (view_starts c.args.starts.now)) (next_argument (view_starts c.args.starts.now)) (arguments_lower (view_starts c.args.starts.now)) old c.args.arguments.now c.args.first i code new slot x c.loop-argument-test.true c.argument-item.is added c.loop-argument.invariant.0),
       omega (arith, next.1),
       omega (arith, words, next.0),
     )
@@ -36,33 +36,33 @@ lower_arguments-loop-argument-preserved t c =
 pub call-returns-in_ok-byte-in-Putchar : goal.call-returns-in_ok-byte-in-Putchar
 call-returns-in_ok-byte-in-Putchar t c =
     on_ok_weaker c.emit.result
-    (made_putchar c.args.starts.now c.args.callee c.args.arguments.now c.args.self.now.code.items c.print.new.self.code.items c.emit.new.self.code.items c.args.slot c.args.free c.in_ok-byte-in-Putchar.byte c.in-Putchar.is c.in_ok-byte-in-Putchar.ensures.0 c.in_ok-byte-in-Putchar.ensures.1)
+    (made_putchar (view_starts c.args.starts.now) c.args.callee c.args.arguments.now c.args.self.now.code.items c.print.new.self.code.items c.emit.new.self.code.items c.args.slot c.args.free c.in_ok-byte-in-Putchar.byte c.in-Putchar.is c.in_ok-byte-in-Putchar.ensures.0 c.in_ok-byte-in-Putchar.ensures.1)
     c.emit.ensures
 
 pub call-returns-in_ok-count-in-Function : goal.call-returns-in_ok-count-in-Function
 call-returns-in_ok-count-in-Function t c =
     on_ok_weaker c.emit-in-Function.result
-    (made_call c.args.starts.now c.args.callee c.args.arguments.now c.args.self.now.code.items c.lower_arguments-in-Function.new.self.code.items c.emit-in-Function.new.self.code.items c.args.slot c.args.free c.in-Function.number c.in_ok-count-in-Function.count c.in-Function.is c.in_ok-count-in-Function.ensures.0 c.in_ok-count-in-Function.ensures.1)
+    (made_call (view_starts c.args.starts.now) c.args.callee c.args.arguments.now c.args.self.now.code.items c.lower_arguments-in-Function.new.self.code.items c.emit-in-Function.new.self.code.items c.args.slot c.args.free c.in-Function.number c.in_ok-count-in-Function.count c.in-Function.is c.in_ok-count-in-Function.ensures.0 c.in_ok-count-in-Function.ensures.1)
     c.emit-in-Function.ensures
 
 pub lower_expression-lower_operations-requires : goal.lower_expression-lower_operations-requires
 lower_expression-lower_operations-requires t c =
     let same = c.deref-in-Binary-2.ensures.value ∙ sym c.deref-in-Binary-3.ensures.value in
-    let room = room_behind c.args.starts.now (view_expression c.deref-in-Binary.result.now) (operations_of c.deref-in-Binary-2.result.now) c.args.self.now.code.items c.lower_left.new.self.code.items c.args.slot c.args.free c.requires c.in_ok-left-in-Binary.ensures.1 in (
+    let room = room_behind (view_starts c.args.starts.now) (view_expression c.deref-in-Binary.result.now) (operations_of c.deref-in-Binary-2.result.now) c.args.self.now.code.items c.lower_left.new.self.code.items c.args.slot c.args.free c.requires c.in_ok-left-in-Binary.ensures.1 in (
       search (rules, types.the_lemmas, expressions.the_lemmas, get_or_read),
-      (room.0, subst (λ (os : List Operation). HasRoom c.args.starts.now (operations_of os) c.args.free (length c.lower_left.new.self.code.items)) same room.1),
+      (room.0, subst (λ (os : List Operation). HasRoom (view_starts c.args.starts.now) (operations_of os) c.args.free (length c.lower_left.new.self.code.items)) same room.1),
     )
 
 pub lower_expression-returns-in-Call : goal.lower_expression-returns-in-Call
 lower_expression-returns-in-Call t c =
     on_ok_weaker c.call.result
-    (made_called c.args.starts.now c.args.value.now c.in-Call.callee c.in-Call.arguments c.in-Call.result c.deref.result.now c.args.self.now.code.items c.call.new.self.code.items c.args.slot c.args.free c.in-Call.is c.deref.ensures.value)
+    (made_called (view_starts c.args.starts.now) c.args.value.now c.in-Call.callee c.in-Call.arguments c.in-Call.result c.deref.result.now c.args.self.now.code.items c.call.new.self.code.items c.args.slot c.args.free c.in-Call.is c.deref.ensures.value)
     c.call.ensures
 
 pub lower_expression-returns-in_ok-left-in-Binary : goal.lower_expression-returns-in_ok-left-in-Binary
 lower_expression-returns-in_ok-left-in-Binary t c =
     on_ok_weaker c.lower_operations.result
-    (made_binary c.args.starts.now c.args.value.now c.in-Binary.first c.in-Binary.rest c.in-Binary.of_type c.deref-in-Binary.result.now c.deref-in-Binary-2.result.now c.deref-in-Binary-3.result.now c.args.self.now.code.items c.lower_left.new.self.code.items c.lower_operations.new.self.code.items c.in_ok-left-in-Binary.left c.args.slot c.args.free
+    (made_binary (view_starts c.args.starts.now) c.args.value.now c.in-Binary.first c.in-Binary.rest c.in-Binary.of_type c.deref-in-Binary.result.now c.deref-in-Binary-2.result.now c.deref-in-Binary-3.result.now c.args.self.now.code.items c.lower_left.new.self.code.items c.lower_operations.new.self.code.items c.in_ok-left-in-Binary.left c.args.slot c.args.free
     c.in-Binary.is c.deref-in-Binary.ensures c.deref-in-Binary-2.ensures.value c.deref-in-Binary-3.ensures.value c.in_ok-left-in-Binary.ensures.0 c.in_ok-left-in-Binary.ensures.1)
     c.lower_operations.ensures
 
@@ -75,14 +75,14 @@ lower_left-returns t c =
     let to = c.if-is_empty.to in
     let plain = sym c.takes_operand.ensures ∙ c.if-takes_operand.false in
     elim c.if-is_empty.branch [
-      | lower_left-then-is_empty w ↦ made_left_alone c.args.starts.now a os old new c.args.slot c.args.free to plain (sym c.is_empty.ensures ∙ w.if-is_empty.true) w.to-is c.in_ok-lower_expression.ensures
-      | lower_left-else-is_empty w ↦ made_left_first c.args.starts.now a os old new c.args.slot c.args.free to plain (sym c.is_empty.ensures ∙ w.if-is_empty.false) w.to-is c.in_ok-lower_expression.ensures
+      | lower_left-then-is_empty w ↦ made_left_alone (view_starts c.args.starts.now) a os old new c.args.slot c.args.free to plain (sym c.is_empty.ensures ∙ w.if-is_empty.true) w.to-is c.in_ok-lower_expression.ensures
+      | lower_left-else-is_empty w ↦ made_left_first (view_starts c.args.starts.now) a os old new c.args.slot c.args.free to plain (sym c.is_empty.ensures ∙ w.if-is_empty.false) w.to-is c.in_ok-lower_expression.ensures
     ]
 
 pub lower_operation-returns-in_ok-right-in-Compute : goal.lower_operation-returns-in_ok-right-in-Compute
 lower_operation-returns-in_ok-right-in-Compute t c =
     on_ok_weaker c.lower_operator.result
-    (made_compute c.args.starts.now c.args.operation.now c.in-Compute.operator c.in-Compute.operand c.args.self.now.code.items c.lower_operand.new.self.code.items c.lower_operator.new.self.code.items c.args.left c.in_ok-right-in-Compute.right c.args.slot c.args.free c.in-Compute.is c.in_ok-right-in-Compute.ensures.0 c.in_ok-right-in-Compute.ensures.1)
+    (made_compute (view_starts c.args.starts.now) c.args.operation.now c.in-Compute.operator c.in-Compute.operand c.args.self.now.code.items c.lower_operand.new.self.code.items c.lower_operator.new.self.code.items c.args.left c.in_ok-right-in-Compute.right c.args.slot c.args.free c.in-Compute.is c.in_ok-right-in-Compute.ensures.0 c.in_ok-right-in-Compute.ensures.1)
     c.lower_operator.ensures
 
 pub lower_operation-returns-in_ok-lower_expression-in-Test : goal.lower_operation-returns-in_ok-lower_expression-in-Test
@@ -92,7 +92,7 @@ lower_operation-returns-in_ok-lower_expression-in-Test t c =
     let made = c.lower_expression.new.self.code.items in
     let patched : c.patch.new.self.code.items ≡ set made c.place-jump.result (test_jump o free c.place-behind.result) = c.patch.ensures ∙ ap (λ (j : Instruction). set made c.place-jump.result j) c.test_jump-in-Test.ensures in
     on_ok_weaker c.make_truth.result
-    (made_test c.args.starts.now c.args.operation.now o c.in-Test.operand c.in-Test.is c.args.self.now.code.items c.test_jump.result c.emit.new.self.code.items made c.patch.new.self.code.items c.make_truth.new.self.code.items c.args.left c.args.slot free c.place-jump.result c.place-behind.result c.place-jump.ensures c.in_ok-emit-in-Test.ensures c.in_ok-lower_expression-in-Test.ensures c.place-behind.ensures patched)
+    (made_test (view_starts c.args.starts.now) c.args.operation.now o c.in-Test.operand c.in-Test.is c.args.self.now.code.items c.test_jump.result c.emit.new.self.code.items made c.patch.new.self.code.items c.make_truth.new.self.code.items c.args.left c.args.slot free c.place-jump.result c.place-behind.result c.place-jump.ensures c.in_ok-emit-in-Test.ensures c.in_ok-lower_expression-in-Test.ensures c.place-behind.ensures patched)
     c.make_truth.ensures
 
 pub lower_operations-loop-operation-preserved : goal.lower_operations-loop-operation-preserved
@@ -114,10 +114,10 @@ lower_operations-loop-operation-preserved t c =
       | lower_operations-then-behind-eq0 w ↦ slot (λ none. w.to-is) (λ some. absurd (omega (arith, some, w.if-behind-eq0.true)))
       | lower_operations-else-behind-eq0 w ↦ slot (λ none. absurd (omega (arith, none, w.if-behind-eq0.false))) (λ some. w.to-is)
     ] in
-    let added = c.in_ok-lower_operation.ensures ∙ ap (λ (n : ℕ). code ++ operation_code c.args.starts.now x (length code) left n free) there in
-    let room = room_after c.args.starts.now x (operations_of (drop (i + 1) xs)) code new left to free c.loop-operation.invariant.2 c.in_ok-lower_operation.ensures in (
-      subst (λ (n : ℕ). Remains (all_operations c.args.starts.now d free) old xs c.args.first (i + 1) new (operands.Slot n)) (sym there)
-          (goes_on (all_operations c.args.starts.now d free) (one_operation c.args.starts.now d free) (next_operation c.args.starts.now d free) (operations_lower c.args.starts.now d free) old xs c.args.first i code new left x c.loop-operation-test.true c.operation-item.is added c.loop-operation.invariant.0),
+    let added = c.in_ok-lower_operation.ensures ∙ ap (λ (n : ℕ). code ++ operation_code (view_starts c.args.starts.now) x (length code) left n free) there in
+    let room = room_after (view_starts c.args.starts.now) x (operations_of (drop (i + 1) xs)) code new left to free c.loop-operation.invariant.2 c.in_ok-lower_operation.ensures in (
+      subst (λ (n : ℕ). Remains (all_operations (view_starts c.args.starts.now) d free) old xs c.args.first (i + 1) new (operands.Slot n)) (sym there)
+          (goes_on (all_operations (view_starts c.args.starts.now) d free) (one_operation (view_starts c.args.starts.now) d free) (next_operation (view_starts c.args.starts.now) d free) (operations_lower (view_starts c.args.starts.now) d free) old xs c.args.first i code new left x c.loop-operation-test.true c.operation-item.is added c.loop-operation.invariant.0),
       counted,
       room.0,
       room.1,
@@ -125,13 +125,13 @@ lower_operations-loop-operation-preserved t c =
 
 pub print-returns : goal.print-returns
 print-returns t c =
-    made_print c.args.starts.now c.args.arguments.now c.args.self.now.code.items c.loop-argument.self.code.items c.emit.new.self.code.items c.loop-argument.argument-index c.loop-argument.byte c.args.free c.loop-argument-test.false
+    made_print (view_starts c.args.starts.now) c.args.arguments.now c.args.self.now.code.items c.loop-argument.self.code.items c.emit.new.self.code.items c.loop-argument.argument-index c.loop-argument.byte c.args.free c.loop-argument-test.false
     c.loop-argument.invariant.0 c.loop-argument.invariant.1 c.in_ok-emit.ensures
 
 pub lower_expression-returns-in_ok-assigned-in-Assign : goal.lower_expression-returns-in_ok-assigned-in-Assign
 lower_expression-returns-in_ok-assigned-in-Assign t c =
     let same = c.deref-in-Assign-2.ensures ∙ sym c.deref-in-Assign.ensures in
     on_ok_weaker c.copy.result
-    (λ e. made_assigned c.args.starts.now c.args.value.now c.in-Assign.target c.in-Assign.value c.in-Assign.result c.in-Assign.is c.deref-in-Assign.result.now c.deref-in-Assign.ensures c.args.self.now.code.items c.lower_assignment.new.self.code.items c.copy.new.self.code.items c.in_ok-assigned-in-Assign.assigned c.args.slot c.args.free c.in_ok-assigned-in-Assign.ensures.0 c.in_ok-assigned-in-Assign.ensures.1
+    (λ e. made_assigned (view_starts c.args.starts.now) c.args.value.now c.in-Assign.target c.in-Assign.value c.in-Assign.result c.in-Assign.is c.deref-in-Assign.result.now c.deref-in-Assign.ensures c.args.self.now.code.items c.lower_assignment.new.self.code.items c.copy.new.self.code.items c.in_ok-assigned-in-Assign.assigned c.args.slot c.args.free c.in_ok-assigned-in-Assign.ensures.0 c.in_ok-assigned-in-Assign.ensures.1
     (e ∙ ap (λ (z : ConvertedCode). c.lower_assignment.new.self.code.items ++ copy_code (words_of_kind z.to) c.in_ok-assigned-in-Assign.assigned c.args.slot) same))
     c.copy.ensures

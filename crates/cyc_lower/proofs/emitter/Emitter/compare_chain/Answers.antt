@@ -4,6 +4,7 @@ use Rattle.cyc_types.specs.TypedTrees.{Expression}
 use Rattle.cyc_types.specs.TypedTreeView.{view_expression}
 use Rattle.cyc_plain.specs.declared.instruction.Comparison.TheVariants as comparisons
 use Rattle.cyc_lower.specs.Lowering.{with_zero, compared_of}
+use Rattle.cyc_lower.specs.Emission.{view_starts}
 use Rattle.cyc_lower.proofs.Conditions.{not_single, made_alone, room_for_first, made_compared}
 use Rattle.cyc_lower.proofs.emitter.Emitter.compare_chain.Goals as goal
 
@@ -14,18 +15,18 @@ returns-then-rest-ne1 c =
     let alone = not_single (view_expression c.args.first.now) c.args.rest.now ty (λ one. omega (arith, one, c.if-rest-ne1.true)) in
     let is : compared_of whole ≡ with_zero comparisons.Equal whole = ap compared_of chain ∙ alone ∙ ap (λ (x : Expression). with_zero comparisons.Equal x) (sym chain) in
     IfOk-weaker c.compare_with_zero.result _ _
-    (λ answer made. made_alone c.args.starts.now whole whole comparisons.Equal answer c.args.self.now.code.items c.compare_with_zero.new.self.code.items c.args.free is made)
+    (λ answer made. made_alone (view_starts c.args.starts.now) whole whole comparisons.Equal answer c.args.self.now.code.items c.compare_with_zero.new.self.code.items c.args.free is made)
     c.compare_with_zero.ensures
 
 pub lower_operand-requires : goal.lower_operand-requires
 lower_operand-requires c =
-    room_for_first c.args.starts.now (view_expression c.args.first.now) c.args.rest.now c.in-Some-Compute.field-0.now c.in-Some-Compute.operator c.in-Some-Compute.operand c.args.self.now.code.items c.lower_left.new.self.code.items c.args.free
+    room_for_first (view_starts c.args.starts.now) (view_expression c.args.first.now) c.args.rest.now c.in-Some-Compute.field-0.now c.in-Some-Compute.operator c.in-Some-Compute.operand c.args.self.now.code.items c.lower_left.new.self.code.items c.args.free
     c.in-Some-Compute.ensures.value c.in-Some-Compute.field-0-is c.requires.low c.in_ok-left.ensures.1
 
 pub returns-in-Some : goal.returns-in-Some
 returns-in-Some c =
     let (ty, chain) = c.requires.chain in
-    made_compared c.args.starts.now (view_expression c.args.value.now) (view_expression c.args.first.now) c.args.rest.now c.in-Some-Compute.field-0.now c.in-Some-Compute.operator c.in-Some-Compute.operand ty c.in-Some.failing c.in_ok-left.left c.in_ok-right.right
+    made_compared (view_starts c.args.starts.now) (view_expression c.args.value.now) (view_expression c.args.first.now) c.args.rest.now c.in-Some-Compute.field-0.now c.in-Some-Compute.operator c.in-Some-Compute.operand ty c.in-Some.failing c.in_ok-left.left c.in_ok-right.right
     c.args.self.now.code.items c.lower_left.new.self.code.items c.lower_operand.new.self.code.items c.args.free
     chain (omega (arith, c.if-rest-ne1.false)) c.in-Some-Compute.ensures.value c.in-Some-Compute.field-0-is (sym c.failing_comparison.ensures ∙ c.in-Some.is)
     c.in_ok-left.ensures.0 c.in_ok-left.ensures.1 c.in_ok-right.ensures.0 c.in_ok-right.ensures.1
