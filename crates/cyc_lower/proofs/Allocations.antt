@@ -1,8 +1,9 @@
 -- The steps that make objects: the store is asked for a block, and then each cell is written.
 use Rattle.std.proofs.Common.{◌≡◌, ℕ, zero, suc, ◌+◌, ◌*◌, ◌≤◌, ◌<◌, max, Bool, true, false, List, [], ◌∷◌, ◌++◌, length, reverse, Option, None, Some, slice_get, refl, sym, ap, subst, ◌∙◌, inl, inr, arith, length-append, append_assoc}
+use Rattle.std.proofs.lemmas.List.{length-reverse}
 use Rattle.std.specs.Prelude.{nat_le, nat_lt, ◌&&◌, if◌then◌else◌}
 use Rattle.std.proofs.lemmas.Bool.{le-leb, and_from, false_from_ne_true, leb-true, ltb-true, cases_Bool}
-use Rattle.std.proofs.Math.Nat.{le-max_left, le-max_right}
+use Rattle.std.proofs.Math.Nat.{le-max_left, mod-eq_of_lt}
 use Rattle.cyc_words.specs.Ending.{Full}
 use Rattle.cyc_words.specs.Word.{add_of}
 use Rattle.cyc_words.specs.Word as words
@@ -50,12 +51,16 @@ use Rattle.cyc_lower.specs.Lowering.{all_passed, passed_words, lower_program}
 use Rattle.cyc_lower.proofs.Widths.{kind_positive, Outside}
 use Rattle.cyc_lower.proofs.Stands.{StoresAt, ObjectAt, ArgumentsAt}
 use Rattle.cyc_lower.proofs.Weights.{weight, stack_weight, arguments_weight}
-use Rattle.cyc_lower.proofs.Relation.{IsIn, IsHandleOf, IsObject, words_held, height, Holds, HoldsFrom, held, callers, homes, silent, DataIn, SharedAt, in_temporary, into_slot, LandsStack, ValueStack, Related, Matches, code_of, bounds_at, types_at, base_of, top}
-use Rattle.cyc_lower.proofs.Data.{Is-same, height-least, height-is, one_word, Holds-same, Holds-grows, HoldsFrom-grows, in_order, words-reverse, data_above, data_grows, variables_grow, contents_made}
+use Rattle.cyc_lower.proofs.Relation.{IsWord, IsIn, IsHandleOf, IsObject, words_held, height, Holds, HoldsFrom, held, callers, homes, silent, DataIn, SharedAt, in_temporary, into_slot, LandsStack, ValueStack, Related, Matches, code_of, bounds_at, types_at, base_of, top}
+use Rattle.cyc_lower.proofs.Data.{Is-same, height-least, height-is, one_word, Holds-same, Holds-rest, Holds-grows, HoldsFrom-grows, in_order, words-reverse, data_above, data_grows, variables_grow, contents_made}
 use Rattle.cyc_lower.proofs.Accesses.{IsWell, is_fitting}
 use Rattle.cyc_lower.proofs.CellWrites.{SameVariables, data_beside, cell_is_there, saves_there, shared_saved, data_saved}
 use Rattle.cyc_lower.proofs.Matched.{IsMatched, above, below, silently, by_places, by_one, shared_way, shared_within, place_in, known, Executes, lands_depth}
 use Rattle.cyc_lower.proofs.Evaluations.{IsStep, landed_moved}
+
+-- a sum that does not wrap
+add_is : (a b : ℕ) → a + b < 4294967296 → add_of a b ≡ a + b
+add_is a b below = mod-eq_of_lt below
 
 -- ---- words and cells of values
 
@@ -302,3 +307,138 @@ module _ (source : Program) (pages calls : ℕ) where
     where
       past_pages : (n : ℕ) (b : Bool) → nat_lt pages n ≡ true → (nat_le n pages && b) ≡ false
       past_pages n b over = ap (λ x. x && b) (false_from_ne_true (nat_le n pages) (λ h. absurd (omega (arith, leb-true n pages h, ltb-true pages n over))))
+
+  -- ---- what waits for the values of an object
+
+  -- the value of its only cell
+  pub plain_made : (owner : Owner) (kind : Kind) (v : Kinded) (o : Operand) (k : List Entry) (e : Environment) (w : World) (c : Configuration)
+      → IsWell (step source (Running (Given v) (Needs (MakePlain owner kind) ∷ k) e w)) → (shared : SharedAt source pages calls k e w c) → DataIn source shared.tables c.active.slots k e w c
+      → IsIn shared.tables v c.active.slots o → Holds shared.tables c.active.slots (base_of source c.active.function) (held k)
+      → ValueStack source c.active.function e.locals v.kind o c.active.next c.frames (Needs (MakePlain owner kind) ∷ k)
+      → IsMatched source pages calls (Running (Given v) (Needs (MakePlain owner kind) ∷ k) e w) (plain.Running c)
+  plain_made (InRegion region) kind v o k e w c well shared facts is holds (handle, d, q, (region_is, handle_is), there, (m, single, some, few, ask, stores, move, end), lands) =
+      let g = c.active.function in
+      let t = top source g k in
+      let makes = makes_of (InRegion region) (v ∷ []) k e w in
+      let does : step source (Running (Given v) (Needs (MakePlain (InRegion region) kind) ∷ k) e w) ≡ makes = ap (λ (b : Bool). if b then makes else wrong w) (is_fitting (is_kind v.kind kind) makes w well) in
+      let at_heap : makes ≡ makes_of (InRegion heap_number) (v ∷ []) k e w = ap (λ r. makes_of (InRegion r) (v ∷ []) k e w) region_is in
+      let words : words_of_kind v.kind ≡ words_held (v ∷ []) = omega arith in
+      heap_object (Given v) (Needs (MakePlain (InRegion region) kind) ∷ k) k e w c (v ∷ []) d q (does ∙ at_heap) (subst IsWell (does ∙ at_heap) well) shared shared facts holds
+      (subst (IsIn shared.tables v c.active.slots) there is, tt)
+      (subst (λ n. ObjectAt (code_of source g) (bounds_at source g) (types_at source g) HEAP 1 n t d c.active.next q) words
+      (subst (λ h. ObjectAt (code_of source g) (bounds_at source g) (types_at source g) h 1 (words_of_kind v.kind) t d c.active.next q) handle_is (m, single, some, few, ask, stores, move, end)))
+      lands
+  plain_made (Unique live) kind v o k e w c well shared facts is holds (handle, d, q, owned, there, at, lands) = absurd owned
+
+  -- the next of its fields is evaluated, or it is made of all
+  pub fields_made : (owner : Owner) (earlier : List Kinded) (cs : Arguments) (v : Kinded) (o : Operand) (k : List Entry) (e : Environment) (w : World) (c : Configuration)
+      → IsWell (step source (Running (Given v) (Needs (MakeFields owner earlier cs) ∷ k) e w)) → (shared : SharedAt source pages calls k e w c) → DataIn source shared.tables c.active.slots k e w c
+      → IsIn shared.tables v c.active.slots o → Holds shared.tables c.active.slots (base_of source c.active.function) (earlier ++ held k)
+      → ValueStack source c.active.function e.locals v.kind o c.active.next c.frames (Needs (MakeFields owner earlier cs) ∷ k)
+      → IsMatched source pages calls (Running (Given v) (Needs (MakeFields owner earlier cs) ∷ k) e w) (plain.Running c)
+  fields_made (InRegion region) earlier NoArguments v o k e w c well shared facts is holds (handle, d, p, q, all, (region_is, handle_is), there, none, (m, single, some, few, ask, stores, move, end), long, lands) =
+      let g = c.active.function in
+      let base = base_of source g in
+      let t = top source g k in
+      let values = reverse (v ∷ earlier) in
+      let held_all : Holds shared.tables c.active.slots base ((v ∷ earlier) ++ held k) = (subst (IsIn shared.tables v c.active.slots) there is, holds) in
+      let at_heap : step source (Running (Given v) (Needs (MakeFields (InRegion region) earlier NoArguments) ∷ k) e w) ≡ makes_of (InRegion heap_number) values k e w = ap (λ r. makes_of (InRegion r) values k e w) region_is in
+      let words : all ≡ words_held values = omega (arith, long, words-reverse (v ∷ earlier)) in
+      let count : length earlier + suc 0 ≡ length values = omega (arith, length-reverse (v ∷ earlier)) in
+      heap_object (Given v) (Needs (MakeFields (InRegion region) earlier NoArguments) ∷ k) k e w c values d q at_heap (subst IsWell at_heap well) shared shared facts (Holds-rest shared.tables c.active.slots base (v ∷ earlier) (held k) held_all)
+      (in_order shared.tables c.active.slots base (v ∷ earlier) (held k) held_all)
+      (subst (λ n. ObjectAt (code_of source g) (bounds_at source g) (types_at source g) HEAP n (words_held values) t d c.active.next q) count
+      (subst (λ n. ObjectAt (code_of source g) (bounds_at source g) (types_at source g) HEAP (length earlier + suc 0) n t d c.active.next q) words
+      (subst (λ h. ObjectAt (code_of source g) (bounds_at source g) (types_at source g) h (length earlier + suc 0) all t d c.active.next q) handle_is
+      (subst (λ x. ObjectAt (code_of source g) (bounds_at source g) (types_at source g) handle (length earlier + suc 0) all t d x q) (sym none) (m, single, some, few, ask, stores, move, end)))))
+      lands
+  fields_made owner earlier (MoreArguments (Convert from to a) cs) v o k e w c well shared facts is holds (handle, d, p, q, all, owned, there, (r, (s, at_a, at_to), at_cs), (m, single, some, few, ask, stores, move, end), long, lands) =
+      let g = c.active.function in
+      silently source pages calls (Running (Given v) (Needs (MakeFields owner earlier (MoreArguments (Convert from to a) cs)) ∷ k) e w)
+      (Running (Evaluating a) (Needs (ConvertTo from to (target_by a)) ∷ Needs (MakeFields owner (v ∷ earlier) cs) ∷ k) e w) (plain.Running c) refl
+      (
+        shared,
+        facts,
+        into_slot (height (base_of source g) (v ∷ earlier ++ held k)) s at_a (subst (IsIn shared.tables v c.active.slots) there is, holds)
+            (in_temporary (omega arith) (r, at_to, (handle, d, p, q, all, owned, refl, at_cs, (m, omega (arith, single), some, few, ask, stores, move, end), omega (arith, long), lands))),
+      )
+      (omega arith)
+  fields_made (Unique live) earlier NoArguments v o k e w c well shared facts is holds (handle, d, p, q, all, owned, there, none, at, long, lands) = absurd owned
+
+  -- ---- its cells are written
+
+  -- the next cell, which stands behind those that are written already
+  cell_next : (t : Tables) (object address : ℕ) (done rest : List Kind) (kind : Kind) → IsObject t object address (done ++ kind ∷ rest) → Points t object (length done) (add_of address (4 * words_of_kinds done))
+  cell_next t object address done rest kind is = record {
+    address = address;
+    kinds = done ++ kind ∷ rest;
+    row = is.row;
+    range = is.range;
+    inside = omega (arith, length-append done (kind ∷ rest));
+    at =
+        let fits : address + 4 * words_of_kinds (done ++ kind ∷ rest) < 4294967296 = is.range.high in
+        add_is address (4 * words_of_kinds done) (omega (arith, fits, words_joined done (kind ∷ rest), kind_positive kind)) ∙ ap (λ n. address + 4 * n) (sym (before_is done (kind ∷ rest)));
+  }
+
+  -- a cell of a new object is written, and behind the last the pointer to it comes to its slot
+  pub writing : (writes : List Write) (result : Option Kinded) (k : List Entry) (e : Environment) (w : World) (c : Configuration) → plain.HoldsWords (plain.Running c)
+      → IsStep source pages calls (Writing writes result) k e w c
+  writing writes None k e w c words well (shared, facts, at) = absurd at
+  writing [] (Some pointer) k e w c words well (shared, facts, (object, done, [], address, slot, d, m, q, are, is, there, single, held_in, at, move, end, holds, lands)) =
+      let points : Points shared.tables object 0 (c.active.slots address) = first_cell shared.tables object (c.active.slots address) (done ++ []) there in
+      let v : Kinded = record { kind = kinds.NonNull; value = Thin object 0 } in
+      by_one source pages calls (ap (λ (x : Kinded). Running (Given x) k e w) is) shared (subst (λ p. At (code_of source c.active.function) p (instructions.Move d (operands.Slot address))) (sym at) move)
+      (λ choice. landed_moved source pages calls v (operands.Slot address) d k e w c q choice shared points facts holds (omega (arith, at, end)) lands)
+    where
+      first_cell : (t : Tables) (object address : ℕ) (kinds : List Kind) → IsObject t object address kinds → Points t object 0 address
+      first_cell t object address kinds is = record { address = address; kinds = kinds; row = is.row; range = is.range; inside = is.some; at = omega arith }
+  writing [] (Some pointer) k e w c words well (shared, facts, (object, done, u ∷ us, address, slot, d, m, q, are, is, there, single, held_in, at, move, end, holds, lands)) = absurd (let f : [] ≡ writes_from object (length done) (u ∷ us) = are in cc)
+  writing (x ∷ writes) (Some pointer) k e w c words well (shared, facts, (object, done, [], address, slot, d, m, q, are, is, there, single, held_in, at, move, end, holds, lands)) = absurd (let f : x ∷ writes ≡ [] = are in cc)
+  writing (x ∷ writes) (Some pointer) k e w c words well (shared, facts, (object, done, u ∷ us, address, slot, d, m, q, are, is, there, single, (is_u, held_in), at, move, end, holds, lands)) =
+      let g = c.active.function in
+      let tables = shared.tables in
+      let slots = c.active.slots in
+      let rest : List Kind = kinds_of (blanks_of us) in
+      let (one, ones) = one_each u us single in
+      let first : List Write = writes_from object (length done) (u ∷ us) in
+      let next : Focus = Writing (writes_from object (suc (length done)) us) (Some pointer) in
+      let does : step source (Running (Writing (x ∷ writes) (Some pointer)) k e w) ≡ stored (cell_at w object (length done)) object (length done) u next k e w
+      = ap (λ (l : List Write). step source (Running (Writing l (Some pointer)) k e w)) are in
+      let (cell, found, same, gives) = cell_is_there (cell_at w object (length done)) object (length done) u next k e w (subst IsWell does well) in
+      let word = slots slot in
+      let place = add_of (slots address) (4 * words_of_kinds done) in
+      let points : Points tables object (length done) place = cell_next tables object (slots address) done rest u.kind there in
+      let single_cell : words_of_kind cell.cell.kind ≡ 1 = ap words_of_kind same ∙ one in
+      let is_word : IsWord tables cell.cell.kind u.value word = subst (λ i. IsWord tables i u.value word) (sym same) (one_word tables u.kind u.value slots slot one is_u) in
+      let (store, more) = subst (λ n. StoresAt (code_of source g) (bounds_at source g) (types_at source g) n address (4 * words_of_kinds done) slot c.active.next m) (let e : words_held us + words_of_kind u.kind ≡ suc (words_held us) = omega (arith, one) in e) at in
+      let after : Configuration = advanced (with_memory c place word) in
+      let later = shared_saved source pages calls k e w c shared object (length done) place word cell u.value found points single_cell is_word (words.0 slot) in
+      let longer : length (done ++ u.kind ∷ []) ≡ suc (length done) = omega (arith, length-append done (u.kind ∷ [])) in
+      let wider : 4 * words_of_kinds (done ++ u.kind ∷ []) ≡ 4 * words_of_kinds done + 4 = omega (arith, words_joined done (u.kind ∷ []), one) in
+      by_one source pages calls (does ∙ gives) shared store
+      (λ choice. subst (Matches source pages calls (Running next k e (written w object (length done) cell u.value)))
+      (sym (saves_there source pages calls k e w c shared object (length done) place word cell u.value found points single_cell is_word (words.0 slot)))
+      (
+        later,
+        data_saved source pages calls k e w c shared object (length done) place word cell u.value found points single_cell is_word (words.0 slot) facts,
+        (
+          object,
+          done ++ u.kind ∷ [],
+          us,
+          address,
+          suc slot,
+          d,
+          m,
+          q,
+          ap (λ n. writes_from object n us) (sym longer),
+          is,
+          subst (IsObject tables object (slots address)) (sym (append_assoc done (u.kind ∷ []) rest)) there,
+          ones,
+          subst (λ n. HoldsFrom tables slots n us) (let e : slot + words_of_kind u.kind ≡ suc slot = omega (arith, one) in e) held_in,
+          subst (λ n. StoresAt (code_of source g) (bounds_at source g) (types_at source g) (words_held us) address n (suc slot) (c.active.next + 1) m) (sym wider) more,
+          move,
+          end,
+          holds,
+          lands,
+        ),
+      ))

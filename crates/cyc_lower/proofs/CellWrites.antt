@@ -2,7 +2,7 @@
 use Rattle.std.proofs.Common.{◌≡◌, ◌≢◌, ℕ, suc, ◌+◌, ◌*◌, ◌≤◌, ◌<◌, true, List, [], ◌∷◌, ◌++◌, length, set, Option, None, Some, slice_get, refl, sym, ap, subst, ◌∙◌, arith, length-set}
 use Rattle.std.specs.Prelude.{if◌then◌else◌}
 use Rattle.cyc_words.specs.Word as words
-use Rattle.cyc_types.specs.Types.{Ty}
+use Rattle.cyc_lower.specs.Slots.{Types}
 use Rattle.cyc_types.specs.TypedTrees.{Program}
 use Rattle.cyc_store.specs.State.{Memory, put, StoreState, demand, word_at, saved}
 use Rattle.cyc_store.proofs.LookupLemmas.{when_equal, when_other}
@@ -30,7 +30,7 @@ module _ (t : Tables) where
   abbrev pub SameVariables : (objects others : List Object) → Type 0
   SameVariables objects others = (o : ℕ) → slice_get t.rows o ≡ Some Variable → contents others o ≡ contents objects o
 
-  locals_beside : (types : List Ty) (objects others : List Object) (locals : ℕ → Option ℕ) (low high : ℕ) (slots : Words) → SameVariables objects others
+  locals_beside : (types : Types) (objects others : List Object) (locals : ℕ → Option ℕ) (low high : ℕ) (slots : Words) → SameVariables objects others
       → LocalsHold t types objects locals low high slots → LocalsHold t types others locals low high slots
   locals_beside types objects others locals low high slots same hold = record {
     within = hold.within;
