@@ -1,5 +1,5 @@
 -- The code of a construct stands where its list of instructions does.
-use Rattle.std.proofs.Common.{◌≡◌, ℕ, zero, suc, ◌+◌, ◌<◌, Bool, true, false, List, [], ◌∷◌, ◌++◌, length, map, Option, None, Some, slice_get, refl, sym, ap, subst, ◌∙◌, arith, length-append}
+use Rattle.std.proofs.Common.{◌≡◌, ℕ, zero, suc, ◌+◌, ◌≤◌, ◌<◌, Bool, true, false, List, [], ◌∷◌, ◌++◌, length, map, Option, None, Some, slice_get, refl, sym, ap, subst, ◌∙◌, arith, length-append}
 use Rattle.std.proofs.lemmas.Option.{same_Some, none-some, get_or_from_slice_get, slice_get-map}
 use Rattle.std.specs.Prelude.{option_map, if◌then◌else◌}
 use Rattle.cyc_meaning.specs.Operators.{null_exception, division_by_zero}
@@ -10,7 +10,7 @@ use Rattle.cyc_types.specs.declared.typed.UnaryOperator.TheVariants as unary
 use Rattle.cyc_types.specs.declared.typed.Operator.{Operator}
 use Rattle.cyc_types.specs.declared.typed.Operator.TheVariants as operators
 use Rattle.cyc_types.specs.Types.{Ty, words_of}
-use Rattle.cyc_types.specs.TypedTrees.{Load, Dereference, Target, Lvalue, Local, Global, Expression, Number, NullPointer, Copy, Call, Unary, Binary, Assign, Converted, Convert, Arguments, NoArguments, MoreArguments, Operations, NoOperations, ThenCompute, ThenTest, ThenPointer, Statement, Block, Empty, Evaluate, If, While, Return, Break, Continue, Items, NoItems, MoreItems, Execute, Declare, Signature, StructType, Function, Program}
+use Rattle.cyc_types.specs.TypedTrees.{Load, New, OnHeap, AsUnique, ByHandle, Initial, Plain, Fields, Dereference, Target, Lvalue, Local, Global, Expression, Number, NullPointer, Copy, Call, Unary, Binary, Assign, Converted, Convert, Arguments, NoArguments, MoreArguments, Operations, NoOperations, ThenCompute, ThenTest, ThenPointer, Statement, Block, Empty, Evaluate, If, While, Return, Break, Continue, Items, NoItems, MoreItems, Execute, Declare, Signature, StructType, Function, Program}
 use Rattle.cyc_types.specs.Numbered.{Numbering, argument_count, numbering_of, signatures_of}
 use Rattle.cyc_plain.specs.declared.instruction.Comparison.{Comparison}
 use Rattle.cyc_plain.specs.declared.instruction.Operand.{Operand}
@@ -20,13 +20,14 @@ use Rattle.cyc_plain.specs.declared.instruction.Instruction.TheVariants as instr
 use Rattle.cyc_plain.specs.Program.{Routine, no_routine, routine_at}
 use Rattle.cyc_plain.specs.Straight.{At, HasAt}
 use Rattle.cyc_plain.proofs.Straight.{has_front, has_back, has_whole}
+use Rattle.cyc_store.specs.declared.range.TheConstants.{MOST_BLOCK_WORDS, HEAP}
 use Rattle.cyc_meaning.specs.Values.{kind_of, words_of_kind}
 use Rattle.cyc_meaning.specs.FrameCount.{words_of_all}
-use Rattle.cyc_lower.specs.Slots.{starts_of, slot_of, Types}
-use Rattle.cyc_lower.specs.Lowering.{types_of, converts_there, passed_words, source_of, source_slot, moved_by, move_of, pointer_instruction, operand_of, operand_or, code_unless, slot_or, code_unless_slot, left_with, left_of, value_slot, next_slot, slot_with, left_slot, value_operand, converted_operand, printed_operand, jump_if_nonzero, check_code, conversion_code, divisor_code, checked_code, operator_code, truth_code, load_code, low_byte, test_code, is_in, copy_code, expression_code, arguments_code, converted_code, converted_operand_code, printed_code, dereference_code, initial_code, assignment_code, assigned_operand, operations_code, discarded_code, failing_comparison, compared_or, compared_of, first_operand, first_code, second_code, pair_code, condition_code, condition_of, failing_jump, break_target, continue_target, return_code, declaration_code, statement_code, items_code, function_code, first_temporary, results_of, lower_function, lower_program}
-use Rattle.cyc_lower.proofs.Stands.{OperandBy, CheckAt, ConversionAt, DivisorAt, CheckedAt, OperatorAt, LoadAt, DereferenceAt, CopyBy, ExpressionAt, InitialAt, InitialBy, ConvertedAt, ConvertedOperandAt, PrintedAt, ArgumentsAt, OperationsAt, PairAt, ConditionAt, AssignmentAt, DiscardedAt, ReturnedAt, ReturnAt, DeclarationAt, StatementAt, ItemsAt}
+use Rattle.cyc_lower.specs.Slots.{Types, starts_of, slot_of}
+use Rattle.cyc_lower.specs.Lowering.{stores_code, object_code, made_code, types_of, are_as_wide, converts_there, passed_words, source_of, source_slot, moved_by, move_of, pointer_instruction, operand_of, operand_or, code_unless, slot_or, code_unless_slot, left_with, left_of, value_slot, next_slot, slot_with, left_slot, value_operand, converted_operand, printed_operand, jump_if_nonzero, check_code, conversion_code, divisor_code, checked_code, operator_code, truth_code, load_code, low_byte, test_code, is_in, copy_code, expression_code, arguments_code, converted_code, converted_operand_code, printed_code, dereference_code, initial_code, assignment_code, assigned_operand, operations_code, discarded_code, failing_comparison, compared_or, compared_of, first_operand, first_code, second_code, pair_code, condition_code, condition_of, failing_jump, break_target, continue_target, return_code, declaration_code, statement_code, items_code, function_code, first_temporary, results_of, lower_function, lower_program}
+use Rattle.cyc_lower.proofs.Stands.{OperandBy, CheckAt, ConversionBy, ConversionAt, DivisorAt, CheckedAt, OperatorAt, StoresAt, ObjectAt, MadeAt, LoadAt, CopyBy, ExpressionAt, InitialAt, InitialBy, ConvertedAt, ConvertedOperandAt, PrintedAt, ArgumentsAt, OperationsAt, PairAt, ConditionAt, AssignmentAt, DiscardedAt, ReturnedAt, ReturnAt, DeclarationAt, StatementAt, ItemsAt}
 use Rattle.cyc_lower.proofs.Widths.{kind_of_result, given, passed_kind, type_words}
-use Rattle.cyc_lower.proofs.Fitting.{FitsPlace, FitsCell, Fits, FitsConverted, FitArguments, FitOperations, FitsReturn, FitsInitial, FitsStatement, FitItems, AreFitting, IsFitting}
+use Rattle.cyc_lower.proofs.Fitting.{FitsPlace, FitsStored, FitsCell, FitsObject, Fits, FitsConverted, FitArguments, FitOperations, FitsReturn, FitsInitial, FitsStatement, FitItems, AreFitting, IsFitting}
 use Rattle.cyc_lower.proofs.Values.{as_wide}
 use Rattle.cyc_lower.proofs.Relation.{bounds_in, types_in}
 use Rattle.cyc_lower.proofs.Calls.{FunctionsStand}
@@ -88,9 +89,12 @@ module _ (code : List Instruction) (b : Numbering) (types : Types) where
   check_stands : (tag : ℕ) (o : Operand) (p q : ℕ) → p + 2 ≡ q → HasAt code p (check_code tag o p) → CheckAt code b types tag o p q
   check_stands tag o p q end (jump, (uncaught, none)) = (subst (λ t. At code p (jump_if_nonzero o t)) end jump, uncaught, end)
 
-  conversion_stands : (to : Kind) (o : Operand) (p q : ℕ) → p + length (conversion_code to o p) ≡ q → HasAt code p (conversion_code to o p) → ConversionAt code b types to o p q
-  conversion_stands kinds.NonNull o p q end has = check_stands null_exception o p q end has
-  conversion_stands to o p q end has = omega (arith, end)
+  conversion_by : (to : Kind) (o : Operand) (p q : ℕ) → p + length (conversion_code to o p) ≡ q → HasAt code p (conversion_code to o p) → ConversionBy code b types to o p q
+  conversion_by kinds.NonNull o p q end has = check_stands null_exception o p q end has
+  conversion_by to o p q end has = omega (arith, end)
+
+  conversion_stands : (from to : Kind) (o : Operand) (p q : ℕ) → are_as_wide from to ≡ true → p + length (conversion_code to o p) ≡ q → HasAt code p (conversion_code to o p) → ConversionAt code b types from to o p q
+  conversion_stands from to o p q wide end has = (wide, conversion_by to o p q end has)
 
   divisor_stands : (o : Operand) (p q : ℕ) → p + length (divisor_code o p) ≡ q → HasAt code p (divisor_code o p) → DivisorAt code b types o p q
   divisor_stands (operands.Word (suc n)) p q end has = omega (arith, end)
@@ -113,6 +117,19 @@ module _ (code : List Instruction) (b : Numbering) (types : Types) where
   load_stands (Local w n) kind words d p q few end (here, none) = (here, end)
   load_stands (Global n) kind words d p q few end (here, none) = (few, here, end)
 
+  stores_stand : (many address offset slot p q : ℕ) → p + length (stores_code many address offset slot) ≡ q → HasAt code p (stores_code many address offset slot) → StoresAt code b types many address offset slot p q
+  stores_stand zero address offset slot p q end has = omega (arith, end)
+  stores_stand (suc many) address offset slot p q end (here, rest) = (here, stores_stand many address (offset + 4) (suc slot) (p + 1) q (omega (arith, end)) rest)
+
+  object_stands : (handle words d t p q : ℕ) → 1 ≤ words → words ≤ MOST_BLOCK_WORDS → p + length (object_code handle words d t) ≡ q → HasAt code p (object_code handle words d t)
+      → ObjectAt code b types handle words words t d p q
+  object_stands handle words d t p q some few end (ask, rest) =
+      let stores = stores_code words (t + words) 0 t in
+      let move = instructions.Move d (operands.Slot (t + words)) ∷ [] in
+      let m = p + 1 + length stores in
+      let (here, none) = has_back code (p + 1) stores move rest in
+      (m, refl, some, few, ask, stores_stand words (t + words) 0 t (p + 1) m refl (has_front code (p + 1) stores move rest), here, omega (arith, end, length-append stores move))
+
   copy_by : (is : Bool) (words : ℕ) (o : Operand) (d p q : ℕ) → p + length (if is then [] else move_of words d o ∷ []) ≡ q → HasAt code p (if is then [] else move_of words d o ∷ []) → CopyBy code is words o d p q
   copy_by true words o d p q end has = omega (arith, end)
   copy_by false words o d p q end (here, none) = (here, end)
@@ -120,13 +137,13 @@ module _ (code : List Instruction) (b : Numbering) (types : Types) where
   words_kept : (from to : Kind) (a : Expression) → from ≡ given b.functions a → converts_there from to ≡ true → words_of_kind (given b.functions a) ≡ words_of_kind to
   words_kept from to a kind lands = ap words_of_kind (sym kind) ∙ as_wide from to lands
 
-  initial_by : (there : Bool) (from to : Kind) (a : Expression) (d t p q : ℕ) → from ≡ given b.functions a → converts_there from to ≡ there
+  initial_by : (there : Bool) (from to : Kind) (a : Expression) (d t p q : ℕ) → from ≡ given b.functions a → are_as_wide from to ≡ true → converts_there from to ≡ there
       → ((slot r : ℕ) → p + length (expression_code (starts_of types) a p slot t) ≡ r → HasAt code p (expression_code (starts_of types) a p slot t) → ExpressionAt code b types a slot t p r)
       → p + length (if there then expression_code (starts_of types) a p d t else moved_by (source_of (starts_of types) (Convert from to a)) (expression_code (starts_of types) a p (source_slot (starts_of types) (Convert from to a) t) t) to (converted_operand (starts_of types) (Convert from to a) t) p d) ≡ q
       → HasAt code p (if there then expression_code (starts_of types) a p d t else moved_by (source_of (starts_of types) (Convert from to a)) (expression_code (starts_of types) a p (source_slot (starts_of types) (Convert from to a) t) t) to (converted_operand (starts_of types) (Convert from to a) t) p d)
       → InitialBy code b types there from to a d t p q
-  initial_by true from to a d t p q kind lands stands end has = (words_kept from to a kind lands, stands d q end has)
-  initial_by false from to a d t p q kind lands stands end has =
+  initial_by true from to a d t p q kind wide lands stands end has = (words_kept from to a kind lands, stands d q end has)
+  initial_by false from to a d t p q kind wide lands stands end has =
       let known = source_of (starts_of types) (Convert from to a) in
       let slot = source_slot (starts_of types) (Convert from to a) t in
       let o = converted_operand (starts_of types) (Convert from to a) t in
@@ -138,7 +155,7 @@ module _ (code : List Instruction) (b : Numbering) (types : Types) where
       let r = p + length both in
       let has_both = has_front code p both _ has in
       let (here, none) = has_back code p both _ has in
-      (o, m, r, operand_by known _ inner slot p m refl (has_front code p front conversion has_both) (λ e h. stands slot m e h), conversion_stands to o m r (cut p r front conversion refl) (has_back code p front conversion has_both), here, cut p q both _ end)
+      (o, m, r, operand_by known _ inner slot p m refl (has_front code p front conversion has_both) (λ e h. stands slot m e h), conversion_stands from to o m r wide (cut p r front conversion refl) (has_back code p front conversion has_both), here, cut p q both _ end)
 
   mutual
     expression_stands : (a : Expression) (d t p q : ℕ) → Fits b types a → p + length (expression_code (starts_of types) a p d t) ≡ q → HasAt code p (expression_code (starts_of types) a p d t) → ExpressionAt code b types a d t p q
@@ -178,7 +195,7 @@ module _ (code : List Instruction) (b : Numbering) (types : Types) where
         let back = copy_code (passed_words c) o d in
         let m = p + length front in
         (o, m, (refl, room, initial_stands c (slot_of (starts_of types) n) t p m numbered refl (has_front code p front back has)), copy_by (is_in o d) (passed_words c) o d m q (cut p q front back end) (has_back code p front back has))
-    expression_stands (Assign (Global n) c ty) d t p q (few, numbered) end has =
+    expression_stands (Assign (Global n) c ty) d t p q ((few, single), numbered) end has =
         let o = converted_operand (starts_of types) c t in
         let front = converted_operand_code (starts_of types) c p t in
         let both = front ++ instructions.StoreGlobal n o ∷ [] in
@@ -186,12 +203,15 @@ module _ (code : List Instruction) (b : Numbering) (types : Types) where
         let m = p + length both in
         let has_both = has_front code p both back has in
         let (here, none) = has_back code p front _ has_both in
-        (o, m, (p + length front, converted_operand_stands c t p (p + length front) numbered refl (has_front code p front _ has_both), few, here, cut p m front _ refl), copy_by (is_in o d) (passed_words c) o d m q (cut p q both back end) (has_back code p both back has))
+        (o, m, (p + length front, converted_operand_stands c t p (p + length front) numbered refl (has_front code p front _ has_both), few, single, here, cut p m front _ refl), copy_by (is_in o d) (passed_words c) o d m q (cut p q both back end) (has_back code p both back has))
     expression_stands (Load x) d t p q numbered end has = dereference_stands x d t p q numbered end has
+    expression_stands (New OnHeap i ty) d t p q numbered end has = made_stands i HEAP d t p q numbered end has
+    expression_stands (New AsUnique i ty) d t p q numbered end has = absurd numbered
+    expression_stands (New (ByHandle h) i ty) d t p q numbered end has = absurd numbered
     expression_stands a d t p q numbered end has = absurd numbered
 
-    dereference_stands : (x : Dereference) (d t p q : ℕ) → FitsCell b types x → p + length (dereference_code (starts_of types) x p d t) ≡ q → HasAt code p (dereference_code (starts_of types) x p d t) → DereferenceAt code b types x d t p q
-    dereference_stands (Target k a ty) d t p q numbered end has =
+    dereference_stands : (x : Dereference) (d t p q : ℕ) → FitsCell b types x → p + length (dereference_code (starts_of types) x p d t) ≡ q → HasAt code p (dereference_code (starts_of types) x p d t) → ExpressionAt code b types (Load x) d t p q
+    dereference_stands (Target k a ty) d t p q (thin, single, numbered) end has =
         let slot = value_slot (starts_of types) a t in
         let o = value_operand (starts_of types) a t in
         let inner = expression_code (starts_of types) a p slot t in
@@ -201,29 +221,64 @@ module _ (code : List Instruction) (b : Numbering) (types : Types) where
         let both = front ++ check in
         let r = p + length both in
         let has_both = has_front code p both _ has in
-        let (here, none) = has_back code p both _ has in
-        (o, m, r, operand_by (operand_of (starts_of types) a) _ inner slot p m refl (has_front code p front check has_both) (λ e h. expression_stands a slot t p m numbered e h), check_stands null_exception o m r (cut p r front check refl) (has_back code p front check has_both), here, cut p q both _ end)
+        let (here, none) = has_back code p both _ has in (
+          o,
+          0,
+          r,
+          (
+            m,
+            operand_by (operand_of (starts_of types) a) _ inner slot p m refl (has_front code p front check has_both) (λ e h. expression_stands a slot t p m numbered e h),
+            thin,
+            check_stands null_exception o m r (cut p r front check refl) (has_back code p front check has_both),
+            refl,
+          ),
+          single,
+          here,
+          cut p q both _ end,
+        )
     dereference_stands x d t p q numbered end has = absurd numbered
 
+    made_stands : (i : Initial) (handle d t p q : ℕ) → FitsObject b types i → p + length (made_code (starts_of types) i handle p d t) ≡ q → HasAt code p (made_code (starts_of types) i handle p d t) → MadeAt code b types i handle d t p q
+    made_stands (Plain kind a) handle d t p q (single, kind_is, numbered) end has =
+        let front = expression_code (starts_of types) a p t t in
+        let back = object_code handle 1 d t in
+        let m = p + length front in
+        (
+          m,
+          expression_stands a t t p m numbered refl (has_front code p front back has),
+          ap words_of_kind (sym kind_is),
+          subst (λ n. ObjectAt code b types handle 1 n t d m q) (sym single) (object_stands handle 1 d t m q (omega arith) (omega arith) (cut p q front back end) (has_back code p front back has)),
+        )
+    made_stands (Fields cs) handle d t p q (single, some, few, numbered) end has =
+        let front = arguments_code (starts_of types) cs p t in
+        let back = object_code handle (argument_count cs) d t in
+        let m = p + length front in
+        (
+          m,
+          arguments_stand cs t p m numbered refl (has_front code p front back has),
+          subst (λ n. ObjectAt code b types handle (argument_count cs) n t d m q) single (object_stands handle (argument_count cs) d t m q some few (cut p q front back end) (has_back code p front back has)),
+        )
+    made_stands i handle d t p q numbered end has = absurd numbered
+
     initial_stands : (c : Converted) (d t p q : ℕ) → FitsConverted b types c → p + length (initial_code (starts_of types) c p d t) ≡ q → HasAt code p (initial_code (starts_of types) c p d t) → InitialAt code b types c d t p q
-    initial_stands (Convert from to a) d t p q (kind, numbered) end has =
-        initial_by (converts_there from to) from to a d t p q kind refl (λ slot r e h. expression_stands a slot t p r numbered e h) end has
+    initial_stands (Convert from to a) d t p q (kind, wide, numbered) end has =
+        initial_by (converts_there from to) from to a d t p q kind wide refl (λ slot r e h. expression_stands a slot t p r numbered e h) end has
 
     converted_stands : (c : Converted) (t p q : ℕ) → FitsConverted b types c → p + length (converted_code (starts_of types) c p t) ≡ q → HasAt code p (converted_code (starts_of types) c p t) → ConvertedAt code b types c t p q
-    converted_stands (Convert from to a) t p q (kind, numbered) end has =
+    converted_stands (Convert from to a) t p q (kind, wide, numbered) end has =
         let front = expression_code (starts_of types) a p t t in
         let back = conversion_code to (operands.Slot t) (p + length front) in
-        (p + length front, expression_stands a t t p (p + length front) numbered refl (has_front code p front back has), conversion_stands to (operands.Slot t) (p + length front) q (cut p q front back end) (has_back code p front back has))
+        (p + length front, expression_stands a t t p (p + length front) numbered refl (has_front code p front back has), conversion_stands from to (operands.Slot t) (p + length front) q wide (cut p q front back end) (has_back code p front back has))
 
     converted_operand_stands : (c : Converted) (t p q : ℕ) → FitsConverted b types c → p + length (converted_operand_code (starts_of types) c p t) ≡ q → HasAt code p (converted_operand_code (starts_of types) c p t) → ConvertedOperandAt code b types c t (converted_operand (starts_of types) c t) p q
-    converted_operand_stands (Convert from to a) t p q (kind, numbered) end has =
+    converted_operand_stands (Convert from to a) t p q (kind, wide, numbered) end has =
         let slot = source_slot (starts_of types) (Convert from to a) t in
         let known = source_of (starts_of types) (Convert from to a) in
         let inner = expression_code (starts_of types) a p slot t in
         let front = code_unless known inner in
         let m = p + length front in
         let back = conversion_code to (converted_operand (starts_of types) (Convert from to a) t) m in
-        (m, operand_by known _ inner slot p m refl (has_front code p front back has) (λ e h. expression_stands a slot t p m numbered e h), conversion_stands to (converted_operand (starts_of types) (Convert from to a) t) m q (cut p q front back end) (has_back code p front back has))
+        (m, operand_by known _ inner slot p m refl (has_front code p front back has) (λ e h. expression_stands a slot t p m numbered e h), conversion_stands from to (converted_operand (starts_of types) (Convert from to a) t) m q wide (cut p q front back end) (has_back code p front back has))
 
     printed_stands : (cs : Arguments) (o : Operand) (t p q : ℕ) → argument_count cs ≡ 1 → FitArguments b types cs → p + length (printed_code (starts_of types) cs p t) ≡ q → HasAt code p (printed_code (starts_of types) cs p t) → PrintedAt code b types cs t (printed_operand (starts_of types) cs o t) p q
     printed_stands NoArguments o t p q single numbered end has = absurd (omega (arith, single))
@@ -279,12 +334,12 @@ module _ (code : List Instruction) (b : Numbering) (types : Types) where
         (left, test, subst (λ x. At code p (pointer_instruction o x next)) left here, operations_stand os (operands.Slot next) d t (p + 1) q rest (next_left os d t) (omega (arith, end)) has)
     operations_stand os l d t p q numbered is end has = absurd numbered
 
-  assignment_stands : (l : Lvalue) (c : Converted) (t p q : ℕ) → FitsPlace b types l (passed_kind c) → FitsConverted b types c → p + length (assignment_code (starts_of types) l c p t) ≡ q → HasAt code p (assignment_code (starts_of types) l c p t) → AssignmentAt code b types l c (assigned_operand (starts_of types) l c t) t p q
+  assignment_stands : (l : Lvalue) (c : Converted) (t p q : ℕ) → FitsStored b types l (passed_kind c) → FitsConverted b types c → p + length (assignment_code (starts_of types) l c p t) ≡ q → HasAt code p (assignment_code (starts_of types) l c p t) → AssignmentAt code b types l c (assigned_operand (starts_of types) l c t) t p q
   assignment_stands (Local w n) c t p q (few, room) numbered end has = (refl, room, initial_stands c (slot_of (starts_of types) n) t p q numbered end has)
-  assignment_stands (Global n) c t p q few numbered end has =
+  assignment_stands (Global n) c t p q (few, single) numbered end has =
       let front = converted_operand_code (starts_of types) c p t in
       let (here, none) = has_back code p front _ has in
-      (p + length front, converted_operand_stands c t p (p + length front) numbered refl (has_front code p front _ has), few, here, cut p q front _ end)
+      (p + length front, converted_operand_stands c t p (p + length front) numbered refl (has_front code p front _ has), few, single, here, cut p q front _ end)
 
   discarded_stands : (a : Expression) (t p q : ℕ) → Fits b types a → p + length (discarded_code (starts_of types) a p t) ≡ q → HasAt code p (discarded_code (starts_of types) a p t) → DiscardedAt code b types a t p q
   discarded_stands (Call callees.Putchar cs ty) t p q (s, signature, many, passed, result, numbered) end has =
@@ -349,12 +404,13 @@ module _ (code : List Instruction) (b : Numbering) (types : Types) where
       let r = p + length both in
       let has_both = has_front code p both _ has in
       let (here, none) = has_back code p both _ has in
+      let (from_is, wide, fitting) = returns_numbered b.result (Convert from to a) numbered in
       let (words, kind) = returns_kind b.result (Convert from to a) numbered in (
         s,
         m,
         r,
-        returned_by known _ inner t p m refl (has_front code p front conversion has_both) (λ e h. expression_stands a t t p m (returns_numbered b.result (Convert from to a) numbered).1 e h),
-        conversion_stands to (operands.Slot s) m r (cut p r front conversion refl) (has_back code p front conversion has_both),
+        returned_by known _ inner t p m refl (has_front code p front conversion has_both) (λ e h. expression_stands a t t p m fitting e h),
+        conversion_stands from to (operands.Slot s) m r wide (cut p r front conversion refl) (has_back code p front conversion has_both),
         here,
         words,
         kind,

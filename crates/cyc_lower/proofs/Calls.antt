@@ -120,8 +120,7 @@ module _ (source : Program) (pages calls : ℕ) where
 
   pub entering : (h : Function) (arguments : List Kinded) (k : List Entry) (e : Environment) (w : World) (c : Configuration) → IsStep source pages calls (Entering h arguments) k e w c
   entering h arguments k e w c well (shared, facts, (m, items, stack, holds, own)) =
-      silently source pages calls (Running (Entering h arguments) k e w) (Running (Binding 0 h.parameters arguments h.body) (region_end e w ∷ k) (inside e w) (opened w)) (plain.Running c) refl
-      (
+      silently source pages calls (Running (Entering h arguments) k e w) (Running (Binding 0 h.parameters arguments h.body) (region_end e w ∷ k) (inside e w) (opened w)) (plain.Running c) refl (
         shared_opened source pages calls k e w c shared,
         data_grows shared.tables (with_handle shared.tables None) (Grows-handle shared.tables None) source c.active.function w.objects e.locals (callers k) c.active.slots c.globals c.frames facts,
         (m, [], items, stack, HoldsFrom-grows shared.tables (with_handle shared.tables None) (Grows-handle shared.tables None) c.active.slots 0 arguments holds, own, refl),

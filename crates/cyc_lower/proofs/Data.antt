@@ -371,14 +371,16 @@ module _ (t : Tables) where
               (locals_kept (types_at source g) objects others locals low (length objects) slots (λ o from to. same o (not o (omega (arith, above, from)))) hold),
           frames_kept objects others low frames outer (λ o from to. same o (not o from)) waiting,
           λ n less.
-              let (row, held) = words n less in
-              (row, λ u has. elim (cases_eq n number) [
-                | inl equal ↦
-                    let u_is : v ≡ u = same_Some v u (sym now ∙ sym (ap (contents others) equal) ∙ has) in
-                    subst (λ (x : Operand). IsWord t x.kind x.value (put globals number w n)) u_is
-                    (subst (IsWord t v.kind v.value) (sym (ap (put globals number w) equal ∙ put-same globals number w)) is)
-                | inr other ↦ subst (IsWord t u.kind u.value) (sym (put-other globals number n w other)) (held u (sym (same n other) ∙ has))
-              ]),
+              let (row, held) = words n less in (
+                row,
+                λ u has. elim (cases_eq n number) [
+                  | inl equal ↦
+                      let u_is : v ≡ u = same_Some v u (sym now ∙ sym (ap (contents others) equal) ∙ has) in
+                      subst (λ (x : Operand). IsWord t x.kind x.value (put globals number w n)) u_is
+                      (subst (IsWord t v.kind v.value) (sym (ap (put globals number w) equal ∙ put-same globals number w)) is)
+                  | inr other ↦ subst (IsWord t u.kind u.value) (sym (put-other globals number n w other)) (held u (sym (same n other) ∙ has))
+                ],
+              ),
         )
 
     pub data_declared : (g : ℕ) (objects : List Object) (e : Environment) (outer : List Waiting) (slots other globals : Words) (frames : List Frame) (number many : ℕ) (x : Object)

@@ -10,7 +10,7 @@ use Rattle.cyc_types.specs.declared.typed.Kind.TheVariants as kinds
 use Rattle.cyc_types.specs.declared.typed.UnaryOperator.TheVariants as unary
 use Rattle.cyc_types.specs.declared.typed.Operator.{Operator}
 use Rattle.cyc_types.specs.Types.{Ty, ValueType}
-use Rattle.cyc_types.specs.TypedTrees.{Dereference, Target, Lvalue, Local, Global, Expression, Number, Copy, Call, Unary, Binary, Assign, Converted, Convert, Arguments, NoArguments, MoreArguments, Operations, NoOperations, ThenCompute, ThenTest, ThenPointer, Function, Program}
+use Rattle.cyc_types.specs.TypedTrees.{type_of_place, Dereference, Target, Lvalue, Local, Global, Expression, Number, Copy, Call, Unary, Binary, Assign, Converted, Convert, Arguments, NoArguments, MoreArguments, Operations, NoOperations, ThenCompute, ThenTest, ThenPointer, Function, Program}
 use Rattle.cyc_types.specs.TypedTrees as typed
 use Rattle.cyc_plain.specs.declared.instruction.Comparison.{Comparison}
 use Rattle.cyc_plain.specs.declared.instruction.Comparison.TheVariants as comparisons
@@ -36,7 +36,7 @@ use Rattle.cyc_lower.proofs.Weights.{weight, stack_weight, expression_weight, ar
 use Rattle.cyc_lower.proofs.Stands.{CopyBy, CopyAt, OperandBy, InitialBy, ExpressionAt, ArgumentsAt, ObjectAt, ValueAt, PairAt, ConditionAt, AssignmentAt, PrintedAt, DiscardedAt}
 use Rattle.cyc_objects.specs.Tables.{Tables}
 use Rattle.cyc_objects.specs.Words.{Is}
-use Rattle.cyc_lower.proofs.Relation.{IsIn, types_at, starts_at, given_at, called_at, words_held, height, Holds, held, contents, callers, in_temporary, in_local, drops, leaves, copies, prints_only, gives_byte, DataIn, SharedAt, CallAt, to_slot, to_jump, ValueStack, ConditionStack, DroppedStack, AheadStack, LandsStack, HandsOnStack, PrintsStack, RightAt, EvaluatingAt, as_operand, into_slot, for_effect, as_right, as_condition, in_operand, ahead, with_left, Related, Matches, code_of, bounds_in, bounds_at, base_of, top}
+use Rattle.cyc_lower.proofs.Relation.{IsIn, types_at, starts_at, given_at, called_at, words_held, height, Holds, held, contents, callers, in_temporary, in_local, drops, leaves, copies, prints_only, gives_byte, DataIn, SharedAt, CallAt, to_slot, to_jump, ValueStack, PlaceStack, ConditionStack, DroppedStack, AheadStack, LandsStack, HandsOnStack, PrintsStack, RightAt, EvaluatingAt, as_operand, into_slot, for_effect, as_right, as_condition, in_operand, ahead, with_left, Related, Matches, code_of, bounds_in, bounds_at, base_of, top}
 use Rattle.cyc_lower.proofs.Data.{IsWord-is, height-least, Holds-same, Holds-above, data_above}
 use Rattle.cyc_lower.proofs.Accesses.{IsWell, is_loaded}
 use Rattle.cyc_lower.proofs.Matched.{IsMatched, silently, by_one}
@@ -351,9 +351,10 @@ module _ (source : Program) (pages calls : ℕ) where
   comes (Binary a os t) k e w c d q known (l, m, at_a, at) lands = absurd at
   comes (Assign (Local p n) (Convert from to a) t) k e w c d q known (o, m, at, copy) lands = assigns (Local p n) from to a t k e w c (object_of e (Local p n)) o m refl known at (copies d q copy lands)
   comes (Assign (Global n) (Convert from to a) t) k e w c d q known (o, m, at, copy) lands = assigns (Global n) from to a t k e w c (object_of e (Global n)) o m refl known at (copies d q copy lands)
-  comes (typed.Load (Target pointer a ty)) k e w c d q (well, shared, facts, holds) (o, m, r, at_a, check, load, end) lands =
-      silently source pages calls (Running (Evaluating (typed.Load (Target pointer a ty))) k e w) (Running (Locating (Target pointer a ty)) (NeedsPlace (LoadFrom (kind_of ty)) ∷ k) e w) (plain.Running c) refl
-      (shared, facts, (o, m, at_a, holds, (r, check, (d, load, lands_at c.active.function e.locals (kind_of ty) d (r + 1) q c.frames k end lands))))
+  comes (typed.Load x) k e w c d q (well, shared, facts, holds) (o, offset, r, at, single, load, end) lands =
+      let kind = kind_of (type_of_place x) in
+      silently source pages calls (Running (Evaluating (typed.Load x)) k e w) (Running (Locating x) (NeedsPlace (LoadFrom kind) ∷ k) e w) (plain.Running c) refl
+      (shared, facts, (o, offset, r, at, holds, (d, load, type_words (type_of_place x) ∙ single, lands_at c.active.function e.locals kind d (r + 1) q c.frames k end lands)))
       (omega arith)
   comes (typed.New typed.OnHeap (typed.Plain kind a) t) k e w c d q (well, shared, facts, holds) (m, at_a, wide, object) lands =
       let g = c.active.function in
@@ -490,11 +491,11 @@ module _ (source : Program) (pages calls : ℕ) where
 
   -- a place that a pointer leads to: the pointer is evaluated
   pub locating : (x : Dereference) (k : List Entry) (e : Environment) (w : World) (c : Configuration) → IsStep (Locating x) k e w c
-  locating (Target pointer a t) k e w c well (shared, facts, (o, m, at_a, holds, stack)) =
+  locating (Target pointer a t) k e w c well (shared, facts, (o, offset, q, (m, at_a, thin, check, none), holds, place)) =
       silently source pages calls (Running (Locating (Target pointer a t)) k e w) (Running (Evaluating a) (Needs (Follow pointer (target_of t)) ∷ k) e w) (plain.Running c) refl
-      (shared, facts, as_operand o m at_a holds stack)
+      (shared, facts, as_operand o m at_a holds (q, thin, check, subst (λ b. PlaceStack source c.active.function e.locals o b q c.frames k) none place))
       (omega arith)
-  locating x k e w c well (shared, facts, at) = absurd at
+  locating x k e w c well (shared, facts, (o, offset, q, at, holds, place)) = absurd at
 
   pub evaluating : (a : Expression) (k : List Entry) (e : Environment) (w : World) (c : Configuration) → IsStep (Evaluating a) k e w c
   evaluating a k e w c well (shared, facts, as_operand o q at holds stack) = operand a k e w c o q (well, shared, facts, holds) at stack

@@ -3,6 +3,7 @@
 use Rattle.std.proofs.Common.{◌≡◌, ◌⊎◌, ℕ, ◌≤◌, ◌<◌, Bool, true, false, List, [], ◌∷◌, length, map, Option, None, Some, slice_get, refl, sym, ap, subst, ◌∙◌, arith, inl, inr}
 use Rattle.std.specs.Prelude.{option_map, if◌then◌else◌}
 use Rattle.std.proofs.lemmas.Option.{same_Some}
+use Rattle.cyc_syntax.specs.declared.tree.PointerKind.{PointerKind}
 use Rattle.cyc_syntax.specs.declared.tree.PointerKind.TheVariants as marks
 use Rattle.cyc_types.specs.declared.region.Region.{Region}
 use Rattle.cyc_types.specs.declared.typed.Kind.{Kind}
@@ -14,27 +15,32 @@ use Rattle.cyc_types.specs.declared.typed.PointerOperator.{PointerOperator}
 use Rattle.cyc_types.specs.declared.typed.PointerOperator.TheVariants as pointers
 use Rattle.cyc_types.specs.Types.{Ty, words_of, substituted_ty, ValueType, Void, Value, result_type}
 use Rattle.cyc_types.specs.Types as type_forms
-use Rattle.cyc_types.specs.TypedTrees.{Load, Dereference, Target, Lvalue, Local, Global, Expression, Number, NullPointer, Copy, Peek, Call, Unary, Binary, Assign, Converted, Convert, Arguments, NoArguments, MoreArguments, Operations, NoOperations, ThenCompute, ThenTest, ThenPointer, Statement, Block, Empty, Evaluate, If, While, Return, Break, Continue, Items, NoItems, MoreItems, Execute, Declare, Signature, StructType, Function, Program}
+use Rattle.cyc_types.specs.TypedTrees.{Load, New, OnHeap, AsUnique, ByHandle, Initial, Plain, Fields, Array, Dereference, Target, Lvalue, Local, Global, Expression, Number, NullPointer, Copy, Peek, Call, Unary, Binary, Assign, Converted, Convert, Arguments, NoArguments, MoreArguments, Operations, NoOperations, ThenCompute, ThenTest, ThenPointer, Statement, Block, Empty, Evaluate, If, While, Return, Break, Continue, Items, NoItems, MoreItems, Execute, Declare, Signature, StructType, Function, Program}
 use Rattle.cyc_types.specs.typing.Scopes.{signature_of_ints}
 use Rattle.cyc_types.specs.typing.Tests as tests
 use Rattle.cyc_types.specs.typing.Expressions.{instantiated}
 use Rattle.cyc_types.specs.typing.WellTyped.{Context, PointerOperation, thin_null, thin_there, fat_null, fat_there, IsCallee, Converts, IsPeek, IsLeft, WellTyped, IsConverted, ArePassed, IsChain, IsCondition, IsReturned, IsInitial, WellTypedStatement, WellTypedItems, behind, in_block, in_body, with_local, body_context, AreWellTypedFunctions, AreWellTypedGlobals, IsWellTypedProgram}
 use Rattle.cyc_types.specs.Numbered.{Numbering, signatures_of, IsSignature, argument_count, numbering_of}
 use Rattle.cyc_lower.specs.Lowerable.{is_null_test, IsLowerable, IsLowerableConverted, AreLowerableArguments, AreLowerableOperations, IsLowerableReturn, IsLowerableInitial, IsLowerableStatement, AreLowerableItems, AreLowerableFunctions, IsLowerableProgram}
-use Rattle.cyc_meaning.specs.Values.{kind_of, words_of_kind}
+use Rattle.cyc_store.specs.declared.range.TheConstants.{MOST_BLOCK_WORDS}
+use Rattle.cyc_meaning.specs.Values.{kind_of, is_thin, words_of_kind}
 use Rattle.cyc_meaning.specs.FrameCount.{result_words, words_of_all}
 use Rattle.cyc_lower.specs.Slots.{Types}
-use Rattle.cyc_lower.specs.Lowering.{types_of, passed_words, all_passed, results_of}
+use Rattle.cyc_lower.specs.Lowering.{types_of, are_as_wide, passed_words, all_passed, results_of}
 use Rattle.cyc_lower.proofs.Widths.{kind_of_result, result_kind, called_kind, given, passed_kind, type_words, HasRoom}
 use Rattle.cyc_lower.proofs.Slots.{words-there}
 
 -- ---- what is asked
 
 module _ (b : Numbering) (types : Types) where
-  -- a variable with room for a value of a kind; a global has one word yet
+  -- a variable that is read as a value of a kind, and one that such a value is stored in: a global has one word yet
   abbrev pub FitsPlace : Lvalue → Kind → Type 0
   FitsPlace (Local p n) kind = (n < b.locals) × HasRoom types n kind
   FitsPlace (Global n) kind = n < b.globals
+
+  abbrev pub FitsStored : Lvalue → Kind → Type 0
+  FitsStored (Local p n) kind = (n < b.locals) × HasRoom types n kind
+  FitsStored (Global n) kind = (n < b.globals) × (words_of_kind kind ≡ 1)
 
   abbrev mutual
     pub Fits : Expression → Type 0
@@ -46,16 +52,23 @@ module _ (b : Numbering) (types : Types) where
         × (results_of s.result ≤ result_words t) × FitArguments cs
     Fits (Unary o a) = Fits a
     Fits (Binary a os t) = Fits a × FitOperations os
-    Fits (Assign l c t) = FitsPlace l (passed_kind c) × FitsConverted c
+    Fits (Assign l c t) = FitsStored l (passed_kind c) × FitsConverted c
     Fits (Load x) = FitsCell x
+    Fits (New OnHeap i t) = FitsObject i
     Fits a = ⊥
 
     pub FitsCell : Dereference → Type 0
-    FitsCell (Target k a t) = Fits a
+    FitsCell (Target k a t) = (is_thin k ≡ true) × (words_of t ≡ 1) × Fits a
     FitsCell x = ⊥
 
+    -- what a new object holds
+    pub FitsObject : Initial → Type 0
+    FitsObject (Plain kind a) = (words_of_kind kind ≡ 1) × (kind ≡ given b.functions a) × Fits a
+    FitsObject (Fields cs) = (argument_count cs ≡ all_passed cs) × (1 ≤ argument_count cs) × (argument_count cs ≤ MOST_BLOCK_WORDS) × FitArguments cs
+    FitsObject i = ⊥
+
     pub FitsConverted : Converted → Type 0
-    FitsConverted (Convert from to a) = (from ≡ given b.functions a) × Fits a
+    FitsConverted (Convert from to a) = (from ≡ given b.functions a) × (are_as_wide from to ≡ true) × Fits a
 
     pub FitArguments : Arguments → Type 0
     FitArguments NoArguments = Unit {0}
@@ -217,6 +230,10 @@ module _ (b : Numbering) (types : Types) where
       by true = tt
       by false = kind
 
+  -- the pointer to a new object is never null
+  pointer_given : (mark : PointerKind) (u : Ty) (r : Region) (t : Ty) (v : ValueType) → mark ≡ marks.NonNull → t ≡ type_forms.Pointer mark u r → v ≡ Value t → IsGiven kinds.NonNull v
+  pointer_given mark u r t v mark_is t_is is = subst (IsGiven kinds.NonNull) (sym is) (sym (ap kind_of (t_is ∙ ap (λ m. type_forms.Pointer m u r) mark_is)))
+
   passed_is : (d : Converted) → passed_words d ≡ words_of_kind (passed_kind d)
   passed_is (Convert from to a) = refl
 
@@ -264,20 +281,28 @@ module _ (b : Numbering) (types : Types) where
     fits (Assign (Local p n) d u) c v suits (few, numbered) (t, r, (m, place, home, there), converted, u_is, is) =
         let (kind, fitting) = fits_converted d c t suits numbered converted in
         (assigned_given (Local p n) d u t v kind (is ∙ u_is), ((few, room_in c n t (passed_kind d) suits there kind), fitting))
-    fits (Assign (Global n) d u) c v suits (few, numbered) (t, r, (home, there), converted, u_is, is) =
+    fits (Assign (Global n) d u) c v suits ((few, single), numbered) (t, r, (home, there), converted, u_is, is) =
         let (kind, fitting) = fits_converted d c t suits numbered converted in
-        (assigned_given (Global n) d u t v kind (is ∙ u_is), (few, fitting))
-    fits (Load (Target k a t)) c v suits numbered (u, r, (m, well, live, kind, same), flat, shared, is) = (
+        (assigned_given (Global n) d u t v kind (is ∙ u_is), ((few, sym (passed_is d) ∙ single), fitting))
+    fits (Load (Target k a t)) c v suits (thin, single, numbered) (u, r, (m, well, live, kind, same), flat, shared, is) = (
       subst (IsGiven (kind_of t)) (sym (is ∙ ap Value same)) refl,
-      (fits a c (Value (type_forms.Pointer m t r)) suits numbered (looked a c (Value (type_forms.Pointer m t r)) numbered well)).1,
+      (thin, single, (fits a c (Value (type_forms.Pointer m t r)) suits numbered (looked a c (Value (type_forms.Pointer m t r)) numbered well)).1),
     )
     fits (Load x) c v suits numbered well = absurd numbered
+    fits (New OnHeap (Plain kind a) t) c v suits (single, numbered) (mark, u, r, place, (well, unlocked, kind_is, mark_is), t_is, is) =
+        let (given_is, fitting) = fits a c (Value u) suits numbered well in
+        (pointer_given mark u r t v mark_is t_is is, (single, kind_is ∙ sym (kinds_same u) ∙ sym given_is, fitting))
+    fits (New OnHeap (Fields cs) t) c v suits (single, some, few, numbered) (mark, u, r, place, (n, rs, s, there, many, passed, u_is, mark_is), t_is, is) =
+        (pointer_given mark u r t v mark_is t_is is, (single, some, few, (fit_arguments cs c (map (substituted_ty rs) s.fields) suits numbered passed).1))
+    fits (New OnHeap (Array p level n kind a) t) c v suits numbered well = absurd numbered
+    fits (New AsUnique i t) c v suits numbered well = absurd numbered
+    fits (New (ByHandle h) i t) c v suits numbered well = absurd numbered
     fits a c v suits numbered well = absurd numbered
 
     fits_converted : (d : Converted) (c : Context) (t : Ty) → Suits c → IsLowerableConverted b d → IsConverted c d t → (passed_kind d ≡ kind_of t) × FitsConverted b types d
-    fits_converted (Convert from to a) c t suits numbered (v, well, converts, from_is, to_is) =
+    fits_converted (Convert from to a) c t suits (wide, numbered) (v, well, converts, from_is, to_is) =
         let (kind, fitting) = fits a c v suits numbered well in
-        (to_is ∙ sym (kinds_same t), (from_given v converts from_is kind, fitting))
+        (to_is ∙ sym (kinds_same t), (from_given v converts from_is kind, wide, fitting))
       where
         from_given : (w : ValueType) → Converts c w t → from ≡ tests.kind_of_value w → IsGiven (given b.functions a) w → from ≡ given b.functions a
         from_given Void can is kind = absurd can

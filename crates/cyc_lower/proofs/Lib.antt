@@ -16,6 +16,8 @@ pub mod Data
 pub mod Sharing
 pub mod CellWrites
 pub mod Allocations
+pub mod PlaceWords
+pub mod PlaceSteps
 pub mod Values
 pub mod Evaluations
 pub mod Accesses

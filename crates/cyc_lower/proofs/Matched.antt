@@ -8,8 +8,8 @@ use Rattle.cyc_types.specs.declared.typed.Kind.{Kind}
 use Rattle.cyc_types.specs.declared.typed.Kind.TheVariants as kinds
 use Rattle.cyc_types.specs.declared.typed.Callee.TheVariants as callees
 use Rattle.cyc_types.specs.declared.typed.Operator.{Operator}
-use Rattle.cyc_types.specs.TypedTrees.{Target, Expression, NoOperations, Program}
-use Rattle.cyc_meaning.specs.Values.{Operand as Kinded}
+use Rattle.cyc_types.specs.TypedTrees.{Expression, NoOperations, Program}
+use Rattle.cyc_meaning.specs.Values.{Thin, Operand as Kinded}
 use Rattle.cyc_plain.specs.declared.instruction.Comparison.{Comparison}
 use Rattle.cyc_plain.specs.declared.instruction.Comparison.TheVariants as comparisons
 use Rattle.cyc_plain.specs.declared.instruction.Operand.{Operand}
@@ -27,7 +27,7 @@ use Rattle.cyc_words.proofs.Matching.{by_none, way_before}
 use Rattle.cyc_plain.proofs.Steps.{step_performs, place_known}
 use Rattle.cyc_plain.specs.Straight.{At}
 use Rattle.cyc_words.specs.Demand.{demand_of}
-use Rattle.cyc_meaning.specs.State.{World, Environment, ConvertTo, Operate, Chain, Apply, ApplyPointer, Follow, LoadFrom, Decide, Store, Pass, MakePlain, MakeFields, Initialise, Choose, Test, Return, Entry, Needs, NeedsPlace, Discard, Rest, Join, Loop, CloseRegion, Caller, Main, counted, calls_in, Focus, Evaluating, Locating, Given, Executing, Proceeding, Calling, Entering, Binding, Writing, Breaking, Continuing, Returning, Throwing, State, Running, Ended, Dead, Wrong, output_of, input_of, status_of}
+use Rattle.cyc_meaning.specs.State.{World, Environment, ConvertTo, Operate, Chain, Apply, ApplyPointer, Follow, LoadFrom, Decide, Store, Pass, MakePlain, MakeFields, Initialise, Choose, Test, Return, Entry, Needs, NeedsPlace, Discard, Rest, Join, Loop, CloseRegion, Caller, Main, counted, calls_in, Focus, Evaluating, Locating, Given, Executing, Proceeding, Calling, Entering, Binding, Writing, Breaking, Continuing, Returning, Throwing, State, Running, Ended, Dead, Wrong, output_of, input_of, status_of, GivenPlace}
 use Rattle.cyc_meaning.specs.Step.{target_of, step}
 use Rattle.cyc_meaning.specs.Run.{is_within, limited_step}
 use Rattle.cyc_objects.specs.Tables.{Tables}
@@ -97,14 +97,14 @@ module _ (source : Program) where
     value_depth g locals kind o p frames (Needs (Choose s t) ∷ k) (loop, r, q, at, at_s, jump, at_t, stack) = statement_depth g loop q frames k stack
     value_depth g locals kind o p frames (Needs (Test a s) ∷ k) (loop, outer, q, at, r, jump, body, back, stack) = statement_depth g outer q frames k stack
     value_depth g locals kind o p frames (Needs Return ∷ k) (loop, q, s, is, at, one, stack) = statement_depth g loop q frames k stack
-    value_depth g locals kind o p frames (Needs (Follow pointer target) ∷ k) (q, check, place) = place_depth g locals o q frames k place
+    value_depth g locals kind o p frames (Needs (Follow pointer target) ∷ k) (q, thin, check, place) = place_depth g locals o 0 q frames k place
     value_depth g locals kind o p frames (Discard ∷ k) (loop, stack) = statement_depth g loop p frames k stack
     value_depth g locals kind o p frames (entry ∷ k) stack = absurd stack
 
-    pub place_depth : (g : ℕ) (locals : ℕ → Option ℕ) (o : Operand) (p : ℕ) (frames : List Frame) (k : List Entry) → PlaceStack source g locals o p frames k → HasDepth frames k
-    place_depth g locals o p frames (NeedsPlace (LoadFrom cell) ∷ k) (d, at, lands) =
+    pub place_depth : (g : ℕ) (locals : ℕ → Option ℕ) (o : Operand) (c p : ℕ) (frames : List Frame) (k : List Entry) → PlaceStack source g locals o c p frames k → HasDepth frames k
+    place_depth g locals o c p frames (NeedsPlace (LoadFrom cell) ∷ k) (d, at, single, lands) =
         by_lands lands (λ stack. value_depth g locals cell (operands.Slot d) (p + 1) frames k stack) (λ stack. ahead_depth g locals cell d (p + 1) frames k stack)
-    place_depth g locals o p frames k place = absurd place
+    place_depth g locals o c p frames k place = absurd place
 
     pub condition_depth : (g : ℕ) (failing : Comparison) (l r : Operand) (p : ℕ) (frames : List Frame) (k : List Entry) → ConditionStack source g failing l r p frames k → HasDepth frames k
     condition_depth g failing l r p frames (Needs (Chain NoOperations) ∷ k) stack = condition_depth g failing l r p frames k stack
@@ -175,14 +175,14 @@ module _ (source : Program) where
     value_plain g locals kind o p frames (Needs (Choose s t) ∷ k) (loop, r, q, at, at_s, jump, at_t, stack) = statement_plain g loop q frames k stack
     value_plain g locals kind o p frames (Needs (Test a s) ∷ k) (loop, outer, q, at, r, jump, body, back, stack) = statement_plain g outer q frames k stack
     value_plain g locals kind o p frames (Needs Return ∷ k) (loop, q, s, is, at, one, stack) = statement_plain g loop q frames k stack
-    value_plain g locals kind o p frames (Needs (Follow pointer target) ∷ k) (q, check, place) = place_plain g locals o q frames k place
+    value_plain g locals kind o p frames (Needs (Follow pointer target) ∷ k) (q, thin, check, place) = place_plain g locals o 0 q frames k place
     value_plain g locals kind o p frames (Discard ∷ k) (loop, stack) = statement_plain g loop p frames k stack
     value_plain g locals kind o p frames (entry ∷ k) stack = absurd stack
 
-    pub place_plain : (g : ℕ) (locals : ℕ → Option ℕ) (o : Operand) (p : ℕ) (frames : List Frame) (k : List Entry) → PlaceStack source g locals o p frames k → IsPlainStack k
-    place_plain g locals o p frames (NeedsPlace (LoadFrom cell) ∷ k) (d, at, lands) =
+    pub place_plain : (g : ℕ) (locals : ℕ → Option ℕ) (o : Operand) (c p : ℕ) (frames : List Frame) (k : List Entry) → PlaceStack source g locals o c p frames k → IsPlainStack k
+    place_plain g locals o c p frames (NeedsPlace (LoadFrom cell) ∷ k) (d, at, single, lands) =
         by_lands lands (λ stack. value_plain g locals cell (operands.Slot d) (p + 1) frames k stack) (λ stack. ahead_plain g locals cell d (p + 1) frames k stack)
-    place_plain g locals o p frames k place = absurd place
+    place_plain g locals o c p frames k place = absurd place
 
     pub condition_plain : (g : ℕ) (failing : Comparison) (l r : Operand) (p : ℕ) (frames : List Frame) (k : List Entry) → ConditionStack source g failing l r p frames k → IsPlainStack k
     condition_plain g failing l r p frames (Needs (Chain NoOperations) ∷ k) stack = condition_plain g failing l r p frames k stack
@@ -253,7 +253,8 @@ module _ (source : Program) where
 
   depth_going : (t : Tables) (focus : Focus) (k : List Entry) (locals : ℕ → Option ℕ) (g p : ℕ) (slots : ℕ → ℕ) (frames : List Frame) → FocusAt source t focus k locals g p slots frames → HasDepth frames k
   depth_going t (Evaluating a) k locals g p slots frames at = evaluating_depth t a locals g p slots frames k at
-  depth_going t (Locating (Target pointer a ty)) k locals g p slots frames (o, m, at, holds, stack) = value_depth g locals (given_at source g a) o m frames (Needs (Follow pointer (target_of ty)) ∷ k) stack
+  depth_going t (Locating x) k locals g p slots frames (o, c, q, at, holds, place) = place_depth g locals o c q frames k place
+  depth_going t (GivenPlace (Thin object offset)) k locals g p slots frames (o, c, points, holds, place) = place_depth g locals o c p frames k place
   depth_going t (Executing s) k locals g p slots frames (loop, q, at, stack) = statement_depth g loop q frames k stack
   depth_going t (Calling callees.Putchar before) k locals g p slots frames (v, o, single, is, holds, prints) = prints_depth g locals o p frames k prints
   depth_going t (Calling callees.Getchar before) k locals g p slots frames (d, q, at, holds, lands) = lands_depth g locals kinds.Int d q frames k lands

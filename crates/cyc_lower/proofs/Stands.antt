@@ -5,7 +5,7 @@ use Rattle.cyc_types.specs.declared.typed.Kind.TheVariants as kinds
 use Rattle.cyc_types.specs.declared.typed.Callee.TheVariants as callees
 use Rattle.cyc_types.specs.declared.typed.Operator.{Operator}
 use Rattle.cyc_types.specs.declared.typed.Operator.TheVariants as operators
-use Rattle.cyc_types.specs.TypedTrees.{Load, New, OnHeap, Initial, Plain, Fields, Dereference, Target, Lvalue, Local, Global, Expression, Number, NullPointer, Copy, Call, Unary, Binary, Assign, Converted, Convert, Arguments, NoArguments, MoreArguments, Operations, NoOperations, ThenCompute, ThenTest, ThenPointer, Statement, Block, Empty, Evaluate, If, While, Return, Break, Continue, Items, NoItems, MoreItems, Execute, Declare}
+use Rattle.cyc_types.specs.TypedTrees.{Load, New, OnHeap, Initial, Plain, Fields, Dereference, Target, Lvalue, Local, Global, Expression, Number, NullPointer, Copy, Call, Unary, Binary, Assign, Converted, Convert, Arguments, NoArguments, MoreArguments, Operations, NoOperations, ThenCompute, ThenTest, ThenPointer, Statement, Block, Empty, Evaluate, If, While, Return, Break, Continue, Items, NoItems, MoreItems, Execute, Declare, type_of_place}
 use Rattle.cyc_types.specs.Types.{Ty, words_of}
 use Rattle.cyc_types.specs.Numbered.{Numbering, argument_count}
 use Rattle.cyc_plain.specs.declared.instruction.UnaryOperator.TheVariants as plain_unary
@@ -18,10 +18,10 @@ use Rattle.cyc_plain.specs.declared.instruction.Instruction.TheVariants as instr
 use Rattle.cyc_plain.specs.Straight.{At}
 use Rattle.cyc_store.specs.declared.range.TheConstants.{MOST_BLOCK_WORDS, HEAP}
 use Rattle.cyc_meaning.specs.Operators.{null_exception, division_by_zero}
-use Rattle.cyc_meaning.specs.Values.{words_of_kind}
-use Rattle.cyc_lower.specs.Slots.{starts_of, slot_of, Types}
+use Rattle.cyc_meaning.specs.Values.{is_thin, words_of_kind}
+use Rattle.cyc_lower.specs.Slots.{Types, starts_of, slot_of}
 use Rattle.cyc_lower.specs.Lowerable.{is_null_test}
-use Rattle.cyc_lower.specs.Lowering.{unary_operator, binary_operator, operand_of, source_of, source_slot, failing_comparison, left_with, left_of, value_slot, next_slot, slot_with, left_slot, is_in, jump_if_nonzero, move_of, pointer_instruction, test_jump, converts_there, passed_words, all_passed, compared_of, low_byte, break_target, continue_target, results_of}
+use Rattle.cyc_lower.specs.Lowering.{unary_operator, binary_operator, operand_of, source_of, source_slot, failing_comparison, left_with, left_of, value_slot, next_slot, slot_with, left_slot, is_in, jump_if_nonzero, move_of, pointer_instruction, test_jump, are_as_wide, converts_there, passed_words, all_passed, compared_of, low_byte, break_target, continue_target, results_of}
 use Rattle.cyc_lower.proofs.Widths.{kind_of_result, given, passed_kind, HasRoom}
 
 -- ---- expressions
@@ -51,9 +51,13 @@ module _ (code : List Instruction) (bounds : Numbering) (types : Types) where
   abbrev pub CheckAt : (tag : ℕ) → Operand → (p q : ℕ) → Type 0
   CheckAt tag o p q = At code p (jump_if_nonzero o q) × At code (p + 1) (instructions.Uncaught tag o) × (p + 2 ≡ q)
 
-  abbrev pub ConversionAt : Kind → Operand → (p q : ℕ) → Type 0
-  ConversionAt kinds.NonNull o p q = CheckAt null_exception o p q
-  ConversionAt to o p q = p ≡ q
+  abbrev pub ConversionBy : (to : Kind) → Operand → (p q : ℕ) → Type 0
+  ConversionBy kinds.NonNull o p q = CheckAt null_exception o p q
+  ConversionBy to o p q = p ≡ q
+
+  -- a value is converted where it is, and keeps its number of words
+  abbrev pub ConversionAt : (from to : Kind) → Operand → (p q : ℕ) → Type 0
+  ConversionAt from to o p q = (are_as_wide from to ≡ true) × ConversionBy to o p q
 
   abbrev pub DivisorAt : Operand → (p q : ℕ) → Type 0
   DivisorAt (operands.Word (suc n)) p q = p ≡ q
@@ -113,7 +117,8 @@ module _ (code : List Instruction) (bounds : Numbering) (types : Types) where
         (o : Operand) × (m : ℕ)
         × ((r : ℕ) × ConvertedOperandAt c t o p r × (n < bounds.globals) × (words_of_kind (passed_kind c) ≡ 1) × At code r (instructions.StoreGlobal n o) × (r + 1 ≡ m))
         × CopyAt code (passed_words c) o d m q
-    ExpressionAt (Load x) d t p q = DereferenceAt x d t p q
+    ExpressionAt (Load x) d t p q =
+        (o : Operand) × (c : ℕ) × (r : ℕ) × PlaceAt x o c t p r × (words_of (type_of_place x) ≡ 1) × At code r (instructions.Load d o c) × (r + 1 ≡ q)
     ExpressionAt (New OnHeap i ty) d t p q = MadeAt i HEAP d t p q
     ExpressionAt a d t p q = ⊥
 
@@ -124,11 +129,12 @@ module _ (code : List Instruction) (bounds : Numbering) (types : Types) where
     MadeAt (Fields cs) handle d t p q = (m : ℕ) × ArgumentsAt cs t p m × ObjectAt handle (argument_count cs) (all_passed cs) t d m q
     MadeAt i handle d t p q = ⊥
 
-    pub DereferenceAt : Dereference → (d t p q : ℕ) → Type 0
-    DereferenceAt (Target k a ty) d t p q =
-        (o : Operand) × (m : ℕ) × (r : ℕ) × OperandBy (operand_of (starts_of types) a) (ExpressionAt a (value_slot (starts_of types) a t) t p m) (value_slot (starts_of types) a t) o p m
-        × CheckAt null_exception o m r × At code r (instructions.Load d o 0) × (r + 1 ≡ q)
-    DereferenceAt x d t p q = ⊥
+    -- The address of a place comes to an operand, but for so many bytes that are to be added to it.
+    pub PlaceAt : Dereference → Operand → (c t p q : ℕ) → Type 0
+    PlaceAt (Target k a ty) o c t p q =
+        (m : ℕ) × OperandBy (operand_of (starts_of types) a) (ExpressionAt a (value_slot (starts_of types) a t) t p m) (value_slot (starts_of types) a t) o p m
+        × (is_thin k ≡ true) × CheckAt null_exception o m q × (c ≡ 0)
+    PlaceAt x o c t p q = ⊥
 
     -- the value comes to slot d, converted
     pub InitialAt : Converted → (d t p q : ℕ) → Type 0
@@ -136,17 +142,17 @@ module _ (code : List Instruction) (bounds : Numbering) (types : Types) where
         EitherBy (converts_there from to) ((words_of_kind (given bounds.functions a) ≡ words_of_kind to) × ExpressionAt a d t p q)
         ((o : Operand) × (m : ℕ) × (r : ℕ)
         × OperandBy (source_of (starts_of types) (Convert from to a)) (ExpressionAt a (source_slot (starts_of types) (Convert from to a) t) t p m) (source_slot (starts_of types) (Convert from to a) t) o p m
-        × ConversionAt to o m r × At code r (move_of (words_of_kind to) d o) × (r + 1 ≡ q))
+        × ConversionAt from to o m r × At code r (move_of (words_of_kind to) d o) × (r + 1 ≡ q))
 
     -- the value comes to slot t and is converted there
     pub ConvertedAt : Converted → (t p q : ℕ) → Type 0
-    ConvertedAt (Convert from to a) t p q = (m : ℕ) × ExpressionAt a t t p m × ConversionAt to (operands.Slot t) m q
+    ConvertedAt (Convert from to a) t p q = (m : ℕ) × ExpressionAt a t t p m × ConversionAt from to (operands.Slot t) m q
 
     -- the value is converted where it is
     pub ConvertedOperandAt : Converted → (t : ℕ) → Operand → (p q : ℕ) → Type 0
     ConvertedOperandAt (Convert from to a) t o p q =
         (m : ℕ) × OperandBy (source_of (starts_of types) (Convert from to a)) (ExpressionAt a (source_slot (starts_of types) (Convert from to a) t) t p m) (source_slot (starts_of types) (Convert from to a) t) o p m
-        × ConversionAt to o m q
+        × ConversionAt from to o m q
 
     -- the only argument of `putchar`
     pub PrintedAt : Arguments → (t : ℕ) → Operand → (p q : ℕ) → Type 0
@@ -178,7 +184,7 @@ module _ (code : List Instruction) (bounds : Numbering) (types : Types) where
       EitherBy there ((words_of_kind (given bounds.functions a) ≡ words_of_kind to) × ExpressionAt a d t p q)
       ((o : Operand) × (m : ℕ) × (r : ℕ)
       × OperandBy (source_of (starts_of types) (Convert from to a)) (ExpressionAt a (source_slot (starts_of types) (Convert from to a) t) t p m) (source_slot (starts_of types) (Convert from to a) t) o p m
-      × ConversionAt to o m r × At code r (move_of (words_of_kind to) d o) × (r + 1 ≡ q))
+      × ConversionAt from to o m r × At code r (move_of (words_of_kind to) d o) × (r + 1 ≡ q))
 
   -- where the value of an expression stands that is an operand
   abbrev pub ValueAt : Expression → (t : ℕ) → Operand → (p q : ℕ) → Type 0
@@ -227,7 +233,7 @@ module _ (code : List Instruction) (bounds : Numbering) (types : Types) where
   abbrev pub ReturnAt : Option Converted → (t p : ℕ) → Type 0
   ReturnAt None t p = (s : ℕ) × At code p (instructions.Return s)
   ReturnAt (Some (Convert from to a)) t p =
-      (s : ℕ) × (m : ℕ) × (r : ℕ) × ReturnedAt (source_of (starts_of types) (Convert from to a)) (ExpressionAt a t t p m) t s p m × ConversionAt to (operands.Slot s) m r
+      (s : ℕ) × (m : ℕ) × (r : ℕ) × ReturnedAt (source_of (starts_of types) (Convert from to a)) (ExpressionAt a t t p m) t s p m × ConversionAt from to (operands.Slot s) m r
       × At code r (instructions.Return s) × (results_of bounds.result ≡ words_of_kind to) × (to ≡ kind_of_result bounds.result)
 
   abbrev pub DeclarationAt : ℕ → Option Converted → (t p q : ℕ) → Type 0

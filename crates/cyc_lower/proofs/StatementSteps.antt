@@ -71,8 +71,7 @@ module _ (source : Program) (pages calls : ℕ) where
 
   pub executing : (s : Statement) (k : List Entry) (e : Environment) (w : World) (c : Configuration) → IsStep source pages calls (Executing s) k e w c
   executing (Block r js) k e w c well (shared, facts, (loop, q, items, stack)) =
-      silently source pages calls (Running (Executing (Block r js)) k e w) (Running Proceeding (Rest js ∷ region_end e w ∷ k) (inside e w) (opened w)) (plain.Running c) refl
-      (
+      silently source pages calls (Running (Executing (Block r js)) k e w) (Running Proceeding (Rest js ∷ region_end e w ∷ k) (inside e w) (opened w)) (plain.Running c) refl (
         shared_opened source pages calls k e w c shared,
         behind_statement loop
             (data_grows shared.tables (with_handle shared.tables None) (Grows-handle shared.tables None) source c.active.function w.objects e.locals (callers k) c.active.slots c.globals c.frames facts)

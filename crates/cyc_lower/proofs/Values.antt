@@ -36,11 +36,12 @@ use Rattle.cyc_plain.specs.Step as plain_step
 use Rattle.cyc_plain.proofs.SlotLaws.{put-same}
 use Rattle.cyc_plain.specs.Straight.{At}
 use Rattle.cyc_types.specs.Types.{Ty}
-use Rattle.cyc_meaning.specs.Values.{Value, Int, Null, Thin, Fat, Handle, Key, Operand as Kinded, is_kind, words_of_kind}
+use Rattle.cyc_meaning.specs.Values.{Value, Int, Null, Thin, Fat, Handle, Key, Operand as Kinded, is_kind, is_thin, words_of_kind}
 use Rattle.cyc_meaning.specs.Operators.{Result, Gives, Raises, Misfits, has_no_result, binary_word, is_zero, unary_result, truth_result, truth_of, division_by_zero, array_bounds}
-use Rattle.cyc_meaning.specs.Pointers.{takes_kind, followed}
+use Rattle.cyc_meaning.specs.Pointers.{null_test, takes_kind, followed}
+use Rattle.cyc_meaning.specs.Places.{arrives}
 use Rattle.cyc_meaning.specs.Conversion.{conversion}
-use Rattle.cyc_meaning.specs.State.{Region, World, Environment, with_local, made, variable, written, region_at, Awaiting, ConvertTo, Operate, Chain, Apply, ApplyPointer, Follow, Decide, Store, Pass, Initialise, Choose, Test, Return, Entry, Needs, Discard, Rest, Join, Loop, Focus, Evaluating, Given, Executing, Proceeding, Calling, Returning, Throwing, State, Running}
+use Rattle.cyc_meaning.specs.State.{Region, World, Environment, with_local, made, variable, written, region_at, Awaiting, ConvertTo, Operate, Chain, Apply, ApplyPointer, Follow, Decide, Store, Pass, MakePlain, MakeFields, Initialise, Choose, Test, Return, Entry, Needs, Discard, Rest, Join, Loop, Focus, Evaluating, Given, GivenPlace, Executing, Proceeding, Calling, Returning, Throwing, State, Running}
 use Rattle.cyc_meaning.specs.Step.{leads_to, wrong, object_of, computed, stored_at, declared, passes, tested, awaits_right, chosen, looped, step}
 use Rattle.cyc_meaning.specs.State.{status_of}
 use Rattle.cyc_meaning.specs.SourceMachine.{status_in}
@@ -53,16 +54,18 @@ use Rattle.cyc_lower.specs.Lowering.{unary_operator, binary_operator, failing_co
 use Rattle.cyc_lower.proofs.Stands.{OperandBy, CopyBy, CopyAt, CheckAt, CheckedAt, OperatorAt, TruthAt, ExpressionAt, OperationsAt}
 use Rattle.cyc_objects.specs.Tables.{Tables}
 use Rattle.cyc_objects.specs.Words.{Points, IsPartOf, Is}
-use Rattle.cyc_objects.proofs.Pointers.{not-null, part-not-null}
+use Rattle.cyc_objects.proofs.Pointers.{not-null, part-not-null, thin-null_test, fat-null_test}
 use Rattle.cyc_objects.specs.Tables.{Variable, with_row}
 use Rattle.cyc_objects.proofs.Values.{Grows-row, Is-grows}
 use Rattle.cyc_lower.proofs.Sharing.{shared_declared, row_declared, shared_written}
 use Rattle.cyc_lower.proofs.Relation.{IsWord, IsIn, with_kind, types_at, starts_at, Holds, held, contents, callers, in_place, by_jump, in_temporary, in_local, drops, leaves, copies, DataIn, SharedAt, StoreAt, to_slot, to_jump, ValueStack, ConditionStack, DroppedStack, AheadStack, LandsStack, HandsOnStack, AppliedStack, ReadyAt, as_operand, into_slot, as_right, in_operand, nowhere, ahead, compared, with_left, behind_statement, Related, Matches, code_of, bounds_at, base_of, top}
 use Rattle.cyc_lower.proofs.Data.{IsWord-is, one_word, height-least, Holds-same, Holds-above, data_above, data_assigned, data_assigned_global, data_declared, data_grows}
 use Rattle.cyc_lower.proofs.Accesses.{IsWell, is_fitting, is_stored, written_here, written_elsewhere, written_length, is_declared, home_there}
+use Rattle.cyc_lower.proofs.PlaceWords.{stays}
 use Rattle.cyc_lower.proofs.Weights.{weight}
 use Rattle.cyc_lower.proofs.Relation.{StatementStack}
 use Rattle.cyc_lower.proofs.Matched.{IsMatched, silently, by_one, by_two, by_three, shared_way, shared_within, lands_depth, value_depth, place_depth, lands_plain, value_plain, place_plain}
+use Rattle.cyc_lower.proofs.Allocations.{plain_made, fields_made}
 use Rattle.cyc_lower.proofs.Evaluations.{IsStep, landed_word, landed_moved, lands_at, passes_related, passes_weight, object_of_same, global_there}
 
 -- an operand of a kind, and an int
@@ -144,6 +147,38 @@ module _ (t : Tables) where
   part_at : (kind : Kind) (object start many index : ℕ) (words : Words) (p : ℕ) → Is t kind (Fat object start many index) words p → Is t kinds.Fat (Fat object start many index) words p
   part_at kinds.Fat object start many index words p is = is
   part_at kind object start many index words p is = absurd is
+
+  -- a thin pointer has one word, and a fat one three
+  thin_words : (kind : Kind) (object offset : ℕ) (words : Words) (p : ℕ) → Is t kind (Thin object offset) words p → words_of_kind kind ≡ 1
+  thin_words kinds.Nullable object offset words p is = refl
+  thin_words kinds.NonNull object offset words p is = refl
+  thin_words kind object offset words p is = absurd is
+
+  fat_words : (kind : Kind) (object start many index : ℕ) (words : Words) (p : ℕ) → Is t kind (Fat object start many index) words p → words_of_kind kind ≡ 3
+  fat_words kinds.Fat object start many index words p is = refl
+  fat_words kind object start many index words p is = absurd is
+
+  not_widened : (kind : Kind) (object offset : ℕ) (words : Words) (p : ℕ) → Is t kind (Thin object offset) words p → words_of_kind kind ≡ words_of_kind kinds.Fat → ⊥
+  not_widened kind object offset words p is wide = omega (arith, wide, thin_words kind object offset words p is)
+
+  not_narrowed : (kind : Kind) (object start many index : ℕ) (words : Words) (p : ℕ) → Is t kind (Fat object start many index) words p → words_of_kind kind ≡ 1 → ⊥
+  not_narrowed kind object start many index words p is wide = omega (arith, wide, fat_words kind object start many index words p is)
+
+  -- a thin kind has no fat pointer
+  not_fat : (kind : Kind) (object start many index : ℕ) (words : Words) (p : ℕ) → is_thin kind ≡ true → Is t kind (Fat object start many index) words p → ⊥
+  not_fat kinds.Fat object start many index words p thin is = let f : false ≡ true = thin in cc
+  not_fat kind object start many index words p thin is = is
+
+  -- a pointer is compared with null by its first word
+  null_tested : (negated : Bool) (kind : Kind) (v : Value) (words : Words) (p : ℕ) → (null_test negated v ≡ Misfits → ⊥) → Is t kind v words p
+      → null_test negated v ≡ Gives (Int (truth (if words p == 0 then not negated else negated)))
+  null_tested negated kinds.Nullable v words p some is = thin-null_test t negated kinds.Nullable v words p refl is
+  null_tested negated kinds.NonNull v words p some is = thin-null_test t negated kinds.NonNull v words p refl is
+  null_tested negated kinds.Fat v words p some is = fat-null_test t negated v words p is
+  null_tested negated kinds.Int (Int a) words p some is = absurd (some refl)
+  null_tested negated kinds.Handle (Handle region) words p some is = absurd (some refl)
+  null_tested negated kinds.Key (Key region) words p some is = absurd (some refl)
+  null_tested negated kind v words p some is = absurd is
 
   handle_at : (kind : Kind) (region : ℕ) (words : Words) (p : ℕ) → Is t kind (Handle region) words p → Is t kinds.Handle (Handle region) words p
   handle_at kinds.Handle region words p is = is
@@ -284,13 +319,19 @@ module _ (source : Program) (pages calls : ℕ) where
   converts_kind from to target v k e w well =
       ap (λ (b : Bool). if b then computed to (conversion to v.value) k e w else wrong w) (is_fitting (is_kind v.kind from && leads_to w target (followed v.value)) (computed to (conversion to v.value) k e w) w well)
 
+  -- its kind is that one
+  converted_from : (from to : Kind) (target : Option Kind) (v : Kinded) (k : List Entry) (e : Environment) (w : World) → IsWell (step source (Running (Given v) (Needs (ConvertTo from to target) ∷ k) e w)) → v.kind ≡ from
+  converted_from from to target v k e w well =
+      same_kind v.kind from
+      (first_holds (is_kind v.kind from) (leads_to w target (followed v.value)) (is_fitting (is_kind v.kind from && leads_to w target (followed v.value)) (computed to (conversion to v.value) k e w) w well))
+
   converted : (from to : Kind) (target : Option Kind) (i : Kind) (v : Value) (o : Operand) (k : List Entry) (e : Environment) (w : World) (c : Configuration) → IsWell (computed to (conversion to v) k e w)
-      → step source (Running (Given (of_kind i v)) (Needs (ConvertTo from to target) ∷ k) e w) ≡ computed to (conversion to v) k e w → Stands (of_kind i v) o k e w c
+      → step source (Running (Given (of_kind i v)) (Needs (ConvertTo from to target) ∷ k) e w) ≡ computed to (conversion to v) k e w → words_of_kind i ≡ words_of_kind to → Stands (of_kind i v) o k e w c
       → ValueStack source c.active.function e.locals i o c.active.next c.frames (Needs (ConvertTo from to target) ∷ k) → GoesBehind (of_kind i v) (Needs (ConvertTo from to target) ∷ k) e w c
-  converted from kinds.Int target i (Int a) o k e w c well does stands (q, end, stack) = kept_value from kinds.Int target i (Int a) o k e w c q refl does stands end stack
-  converted from kinds.Nullable target i Null o k e w c well does stands (q, end, stack) = kept_value from kinds.Nullable target i Null o k e w c q refl does stands end stack
-  converted from kinds.Fat target i Null o k e w c well does stands (q, end, stack) = kept_value from kinds.Fat target i Null o k e w c q refl does stands end stack
-  converted from kinds.NonNull target i Null o k e w c well does (shared, facts, is, holds) (q, (jump, uncaught, end), stack) =
+  converted from kinds.Int target i (Int a) o k e w c well does wide stands (q, (same, end), stack) = kept_value from kinds.Int target i (Int a) o k e w c q refl does stands end stack
+  converted from kinds.Nullable target i Null o k e w c well does wide stands (q, (same, end), stack) = kept_value from kinds.Nullable target i Null o k e w c q refl does stands end stack
+  converted from kinds.Fat target i Null o k e w c well does wide stands (q, (same, end), stack) = kept_value from kinds.Fat target i Null o k e w c q refl does stands end stack
+  converted from kinds.NonNull target i Null o k e w c well does wide (shared, facts, is, holds) (q, (same, (jump, uncaught, end)), stack) =
       let zero_word = null_is shared.tables i c.active.slots o is in
       by_one source pages calls does shared jump
       (λ choice. not_taken (Running (Throwing 1 0) k e w) c (not (operand_word c.active.slots o == 0)) q (ap (λ x. not (x == 0)) zero_word) (
@@ -301,32 +342,51 @@ module _ (source : Program) (pages calls : ℕ) where
         uncaught,
         zero_word,
       ))
-  converted from to target i (Thin object offset) o k e w c well does (shared, facts, is, holds) stack = absurd (no_pointer i object offset c.active.slots o is)
-  converted from to target i (Fat object start many index) o k e w c well does (shared, facts, is, holds) stack = absurd (no_part i object start many index c.active.slots o is)
-  converted from to target i (Handle region) o k e w c well does (shared, facts, is, holds) stack = absurd (no_handle i region c.active.slots o is)
-  converted from to target i (Key region) o k e w c well does (shared, facts, is, holds) stack = absurd (no_key i region c.active.slots o is)
-  converted from to target i v o k e w c well does stands stack = absurd (well refl)
+  converted from kinds.Nullable target i (Thin object offset) o k e w c well does wide stands (q, (same, end), stack) = kept_value from kinds.Nullable target i (Thin object offset) o k e w c q refl does stands end stack
+  converted from kinds.NonNull target i (Thin object offset) o k e w c well does wide (shared, facts, is, holds) (q, (same, (jump, uncaught, end)), stack) =
+      by_one source pages calls does shared jump
+      (λ choice. taken (Running (Given (of_kind kinds.NonNull (Thin object offset))) k e w) c (not (operand_word c.active.slots o == 0)) q
+      (ap not (not_zero shared.tables i object offset c.active.slots o is))
+      (shared, in_operand o facts (kept_in shared.tables i kinds.NonNull (Thin object offset) c.active.slots o refl is) holds stack))
+  converted from kinds.Fat target i (Thin object offset) o k e w c well does wide (shared, facts, is, holds) stack =
+      let (words, p, same, is_it) = in_words shared.tables (of_kind i (Thin object offset)) c.active.slots o is in
+      absurd (not_widened shared.tables i object offset words p is_it wide)
+  converted from kinds.Fat target i (Fat object start many index) o k e w c well does wide stands (q, (same, end), stack) =
+      kept_value from kinds.Fat target i (Fat object start many index) o k e w c q refl does stands end stack
+  converted from kinds.Nullable target i (Fat object start many index) o k e w c well does wide (shared, facts, is, holds) stack =
+      let (words, p, same, is_it) = in_words shared.tables (of_kind i (Fat object start many index)) c.active.slots o is in
+      absurd (not_narrowed shared.tables i object start many index words p is_it wide)
+  converted from kinds.NonNull target i (Fat object start many index) o k e w c well does wide (shared, facts, is, holds) stack =
+      let (words, p, same, is_it) = in_words shared.tables (of_kind i (Fat object start many index)) c.active.slots o is in
+      absurd (not_narrowed shared.tables i object start many index words p is_it wide)
+  converted from kinds.Handle target i (Handle region) o k e w c well does wide stands (q, (same, end), stack) = kept_value from kinds.Handle target i (Handle region) o k e w c q refl does stands end stack
+  converted from kinds.Key target i (Key region) o k e w c well does wide stands (q, (same, end), stack) = kept_value from kinds.Key target i (Key region) o k e w c q refl does stands end stack
+  converted from to target i v o k e w c well does wide stands stack = absurd (well refl)
 
   converts : (from to : Kind) (target : Option Kind) (v : Kinded) (o : Operand) (k : List Entry) (e : Environment) (w : World) (c : Configuration)
       → IsWell (step source (Running (Given v) (Needs (ConvertTo from to target) ∷ k) e w)) → Stands v o k e w c
       → ValueStack source c.active.function e.locals v.kind o c.active.next c.frames (Needs (ConvertTo from to target) ∷ k) → GoesBehind v (Needs (ConvertTo from to target) ∷ k) e w c
-  converts from to target v o k e w c well stands stack =
+  converts from to target v o k e w c well stands (q, (wide, at), stack) =
       let does = converts_kind from to target v k e w well in
-      converted from to target v.kind v.value o k e w c (subst IsWell does well) does stands stack
+      converted from to target v.kind v.value o k e w c (subst IsWell does well) does
+      (ap words_of_kind (converted_from from to target v k e w well) ∙ eqb-true (words_of_kind from) (words_of_kind to) wide)
+      stands (q, (wide, at), stack)
 
   -- a conversion that raises nothing, of a value in the slots of a local that is about to get it
   converted_ahead : (t : Tables) (from to i : Kind) (v : Value) (words : Words) (n : ℕ) (k : List Entry) (e : Environment) (w : World)
-      → IsWell (computed to (conversion to v) k e w) → converts_there from to ≡ true → Is t i v words n
+      → IsWell (computed to (conversion to v) k e w) → converts_there from to ≡ true → words_of_kind i ≡ words_of_kind to → Is t i v words n
       → (computed to (conversion to v) k e w ≡ Running (Given (of_kind to v)) k e w) × Is t to v words n
-  converted_ahead t from kinds.Int i (Int a) words n k e w well quiet is = (refl, kept_at t i kinds.Int (Int a) words n refl is)
-  converted_ahead t from kinds.Nullable i Null words n k e w well quiet is = (refl, kept_at t i kinds.Nullable Null words n refl is)
-  converted_ahead t from kinds.Fat i Null words n k e w well quiet is = (refl, kept_at t i kinds.Fat Null words n refl is)
-  converted_ahead t from kinds.NonNull i Null words n k e w well quiet is = absurd (let f : false ≡ true = quiet in cc)
-  converted_ahead t from to i (Thin object offset) words n k e w well quiet is = absurd (no_pointer i object offset words (operands.Slot n) is)
-  converted_ahead t from to i (Fat object start many index) words n k e w well quiet is = absurd (no_part i object start many index words (operands.Slot n) is)
-  converted_ahead t from to i (Handle region) words n k e w well quiet is = absurd (no_handle i region words (operands.Slot n) is)
-  converted_ahead t from to i (Key region) words n k e w well quiet is = absurd (no_key i region words (operands.Slot n) is)
-  converted_ahead t from to i v words n k e w well quiet is = absurd (well refl)
+  converted_ahead t from kinds.NonNull i v words n k e w well quiet wide is = absurd (let f : false ≡ true = quiet in cc)
+  converted_ahead t from kinds.Int i (Int a) words n k e w well quiet wide is = (refl, kept_at t i kinds.Int (Int a) words n refl is)
+  converted_ahead t from kinds.Nullable i Null words n k e w well quiet wide is = (refl, kept_at t i kinds.Nullable Null words n refl is)
+  converted_ahead t from kinds.Fat i Null words n k e w well quiet wide is = (refl, kept_at t i kinds.Fat Null words n refl is)
+  converted_ahead t from kinds.Nullable i (Thin object offset) words n k e w well quiet wide is = (refl, kept_at t i kinds.Nullable (Thin object offset) words n refl is)
+  converted_ahead t from kinds.Fat i (Thin object offset) words n k e w well quiet wide is = absurd (not_widened t i object offset words n is wide)
+  converted_ahead t from kinds.Nullable i (Fat object start many index) words n k e w well quiet wide is = absurd (not_narrowed t i object start many index words n is wide)
+  converted_ahead t from kinds.Fat i (Fat object start many index) words n k e w well quiet wide is = (refl, kept_at t i kinds.Fat (Fat object start many index) words n refl is)
+  converted_ahead t from kinds.Handle i (Handle region) words n k e w well quiet wide is = (refl, kept_at t i kinds.Handle (Handle region) words n refl is)
+  converted_ahead t from kinds.Key i (Key region) words n k e w well quiet wide is = (refl, kept_at t i kinds.Key (Key region) words n refl is)
+  converted_ahead t from to i v words n k e w well quiet wide is = absurd (well refl)
 
   -- its kind is the one that it is converted from, and it has as many words behind
   converts_ahead : (t : Tables) (from to : Kind) (target : Option Kind) (v : Kinded) (n : ℕ) (k : List Entry) (e : Environment) (w : World) (c : Configuration)
@@ -335,9 +395,9 @@ module _ (source : Program) (pages calls : ℕ) where
       × (words_of_kind v.kind ≡ words_of_kind to)
   converts_ahead t from to target v n k e w c well quiet is =
       let does = converts_kind from to target v k e w well in
-      let (goes, now) = converted_ahead t from to v.kind v.value c.active.slots n k e w (subst IsWell does well) quiet is in
-      let fits = first_holds (is_kind v.kind from) (leads_to w target (followed v.value)) (is_fitting (is_kind v.kind from && leads_to w target (followed v.value)) (computed to (conversion to v.value) k e w) w well) in
-      (does ∙ goes, now, ap words_of_kind (same_kind v.kind from fits) ∙ as_wide from to quiet)
+      let wide = ap words_of_kind (converted_from from to target v k e w well) ∙ as_wide from to quiet in
+      let (goes, now) = converted_ahead t from to v.kind v.value c.active.slots n k e w (subst IsWell does well) quiet wide is in
+      (does ∙ goes, now, wide)
 
   -- ---- operators
 
@@ -490,6 +550,14 @@ module _ (source : Program) (pages calls : ℕ) where
       → ReadyAt source shared.tables v e.locals c.active.function c.active.next c.active.slots c.frames (Needs (Apply u left) ∷ k) → GoesBehind v (Needs (Apply u left) ∷ k) e w c
   applies u left v k e w c well shared facts ready = applies_values u left.kind v.kind left.value v.value k e w c well shared facts ready
 
+  null_told : (b : Bool) → b ≡ (if b then not false else false)
+  null_told true = refl
+  null_told false = refl
+
+  other_told : (b : Bool) → not b ≡ (if b then not true else true)
+  other_told true = refl
+  other_told false = refl
+
   -- a pointer is compared with null
   compares_null : (u : PointerOperator) (peek : Option ℕ) (i j : Kind) (left v : Value) (d : ℕ) (k : List Entry) (e : Environment) (w : World) (c : Configuration)
       → IsWell (step source (Running (Given (of_kind j v)) (Needs (ApplyPointer peek u (of_kind i left)) ∷ k) e w)) → is_null_test u ≡ true
@@ -497,29 +565,32 @@ module _ (source : Program) (pages calls : ℕ) where
       → Is shared.tables i left c.active.slots (top source c.active.function k) → Holds shared.tables c.active.slots (base_of source c.active.function) (held k)
       → At (code_of source c.active.function) c.active.next (pointer_instruction u (operands.Slot (top source c.active.function k)) d)
       → LandsStack source c.active.function e.locals kinds.Int d (c.active.next + 1) c.frames k → GoesBehind (of_kind j v) (Needs (ApplyPointer peek u (of_kind i left)) ∷ k) e w c
-  compares_null u peek i j (Thin object offset) v d k e w c well test shared facts is holds here lands = absurd (no_pointer_at i object offset c.active.slots (top source c.active.function k) is)
-  compares_null u peek i j (Fat object start many index) v d k e w c well test shared facts is holds here lands = absurd (no_part_at i object start many index c.active.slots (top source c.active.function k) is)
-  compares_null pointers.ThinIsNull peek i j Null Null d k e w c well test shared facts is holds here lands =
-      by_one source pages calls refl shared here
-      (λ choice. landed_word source pages calls 1 (truth (c.active.slots (top source c.active.function k) == 0)) d k e w c (c.active.next + 1) (ap (λ x. truth (x == 0)) (null_at shared.tables i c.active.slots (top source c.active.function k) is)) shared facts holds refl lands)
-  compares_null pointers.ThinIsNotNull peek i j Null Null d k e w c well test shared facts is holds here lands =
-      by_one source pages calls refl shared here
-      (λ choice. landed_word source pages calls 0 (truth (not (c.active.slots (top source c.active.function k) == 0))) d k e w c (c.active.next + 1) (ap (λ x. truth (not (x == 0))) (null_at shared.tables i c.active.slots (top source c.active.function k) is)) shared facts holds refl lands)
-  compares_null pointers.FatIsNull peek i j Null Null d k e w c well test shared facts is holds here lands =
-      by_one source pages calls refl shared here
-      (λ choice. landed_word source pages calls 1 (truth (c.active.slots (top source c.active.function k) == 0)) d k e w c (c.active.next + 1) (ap (λ x. truth (x == 0)) (null_at shared.tables i c.active.slots (top source c.active.function k) is)) shared facts holds refl lands)
-  compares_null pointers.FatIsNotNull peek i j Null Null d k e w c well test shared facts is holds here lands =
-      by_one source pages calls refl shared here
-      (λ choice. landed_word source pages calls 0 (truth (not (c.active.slots (top source c.active.function k) == 0))) d k e w c (c.active.next + 1) (ap (λ x. truth (not (x == 0))) (null_at shared.tables i c.active.slots (top source c.active.function k) is)) shared facts holds refl lands)
+  compares_null pointers.ThinIsNull peek i j left Null d k e w c well test shared facts is holds here lands =
+      let x = c.active.slots (top source c.active.function k) in
+      by_one source pages calls
+      (ap (λ r. computed kinds.Int r k e w) (null_tested shared.tables false i left c.active.slots (top source c.active.function k) (λ none. well (ap (λ r. status_in (status_of (computed kinds.Int r k e w))) none)) is)) shared here
+      (λ choice. landed_word source pages calls (truth (if x == 0 then not false else false)) (truth (x == 0)) d k e w c (c.active.next + 1) (ap truth (null_told (x == 0))) shared facts holds refl lands)
+  compares_null pointers.ThinIsNotNull peek i j left Null d k e w c well test shared facts is holds here lands =
+      let x = c.active.slots (top source c.active.function k) in
+      by_one source pages calls
+      (ap (λ r. computed kinds.Int r k e w) (null_tested shared.tables true i left c.active.slots (top source c.active.function k) (λ none. well (ap (λ r. status_in (status_of (computed kinds.Int r k e w))) none)) is)) shared here
+      (λ choice. landed_word source pages calls (truth (if x == 0 then not true else true)) (truth (not (x == 0))) d k e w c (c.active.next + 1) (ap truth (other_told (x == 0))) shared facts holds refl lands)
+  compares_null pointers.FatIsNull peek i j left Null d k e w c well test shared facts is holds here lands =
+      let x = c.active.slots (top source c.active.function k) in
+      by_one source pages calls
+      (ap (λ r. computed kinds.Int r k e w) (null_tested shared.tables false i left c.active.slots (top source c.active.function k) (λ none. well (ap (λ r. status_in (status_of (computed kinds.Int r k e w))) none)) is)) shared here
+      (λ choice. landed_word source pages calls (truth (if x == 0 then not false else false)) (truth (x == 0)) d k e w c (c.active.next + 1) (ap truth (null_told (x == 0))) shared facts holds refl lands)
+  compares_null pointers.FatIsNotNull peek i j left Null d k e w c well test shared facts is holds here lands =
+      let x = c.active.slots (top source c.active.function k) in
+      by_one source pages calls
+      (ap (λ r. computed kinds.Int r k e w) (null_tested shared.tables true i left c.active.slots (top source c.active.function k) (λ none. well (ap (λ r. status_in (status_of (computed kinds.Int r k e w))) none)) is)) shared here
+      (λ choice. landed_word source pages calls (truth (if x == 0 then not true else true)) (truth (not (x == 0))) d k e w c (c.active.next + 1) (ap truth (other_told (x == 0))) shared facts holds refl lands)
   compares_null pointers.AddFat peek i j left v d k e w c well test shared facts is holds here lands = absurd (let f : false ≡ true = test in cc)
   compares_null pointers.SubtractFat peek i j left v d k e w c well test shared facts is holds here lands = absurd (let f : false ≡ true = test in cc)
   compares_null pointers.EqualThin peek i j left v d k e w c well test shared facts is holds here lands = absurd (let f : false ≡ true = test in cc)
   compares_null pointers.NotEqualThin peek i j left v d k e w c well test shared facts is holds here lands = absurd (let f : false ≡ true = test in cc)
   compares_null pointers.NullIs peek i j left v d k e w c well test shared facts is holds here lands = absurd (let f : false ≡ true = test in cc)
   compares_null pointers.NullIsNot peek i j left v d k e w c well test shared facts is holds here lands = absurd (let f : false ≡ true = test in cc)
-  compares_null u peek i j (Int a) Null d k e w c well test shared facts is holds here lands = absurd (well refl)
-  compares_null u peek i j (Handle region) Null d k e w c well test shared facts is holds here lands = absurd (well refl)
-  compares_null u peek i j (Key region) Null d k e w c well test shared facts is holds here lands = absurd (well refl)
   compares_null u peek i j left v d k e w c well test shared facts is holds here lands = absurd (well refl)
 
   -- ---- truth values
@@ -945,28 +1016,39 @@ module _ (source : Program) (pages calls : ℕ) where
 
   -- ---- all that waits for a value
 
-  -- an access through null raises an exception
-  follows_null : (pointer : Kind) (target : Option Kind) (i : Kind) (v : Value) (o : Operand) (k : List Entry) (e : Environment) (w : World) (c : Configuration)
+  -- an access through null raises an exception, and through another thin pointer its place is found
+  follows : (pointer : Kind) (target : Option Kind) (i : Kind) (v : Value) (o : Operand) (k : List Entry) (e : Environment) (w : World) (c : Configuration)
       → IsWell (step source (Running (Given (of_kind i v)) (Needs (Follow pointer target) ∷ k) e w)) → Stands (of_kind i v) o k e w c
       → ValueStack source c.active.function e.locals i o c.active.next c.frames (Needs (Follow pointer target) ∷ k) → GoesBehind (of_kind i v) (Needs (Follow pointer target) ∷ k) e w c
-  follows_null pointer target i Null o k e w c well (shared, facts, is, holds) (q, (jump, uncaught, end), place) =
+  follows pointer target i Null o k e w c well (shared, facts, is, holds) (q, thin, (jump, uncaught, end), place) =
       let zero_word = null_is shared.tables i c.active.slots o is in
       let does : step source (Running (Given (of_kind i Null)) (Needs (Follow pointer target) ∷ k) e w) ≡ Running (Throwing 1 0) k e w
       = ap (λ (b : Bool). if b then Running (Throwing 1 0) k e w else wrong w) (is_fitting (is_kind i pointer && leads_to w target (followed Null)) (Running (Throwing 1 0) k e w) w well) in
       by_one source pages calls does shared jump
       (λ choice. not_taken (Running (Throwing 1 0) k e w) c (not (operand_word c.active.slots o == 0)) q (ap (λ x. not (x == 0)) zero_word) (
         shared,
-        omega (arith, place_depth source c.active.function e.locals o q c.frames k place, shared.fits),
-        place_plain source c.active.function e.locals o q c.frames k place,
+        omega (arith, place_depth source c.active.function e.locals o 0 q c.frames k place, shared.fits),
+        place_plain source c.active.function e.locals o 0 q c.frames k place,
         o,
         uncaught,
         zero_word,
       ))
-  follows_null pointer target i (Thin object offset) o k e w c well (shared, facts, is, holds) stack = absurd (no_pointer i object offset c.active.slots o is)
-  follows_null pointer target i (Fat object start many index) o k e w c well (shared, facts, is, holds) stack = absurd (no_part i object start many index c.active.slots o is)
-  follows_null pointer target i (Int a) o k e w c well stands stack = absurd (goes_wrong (is_kind i pointer && leads_to w target (followed (Int a))) w well)
-  follows_null pointer target i (Handle region) o k e w c well stands stack = absurd (goes_wrong (is_kind i pointer && leads_to w target (followed (Handle region))) w well)
-  follows_null pointer target i (Key region) o k e w c well stands stack = absurd (goes_wrong (is_kind i pointer && leads_to w target (followed (Key region))) w well)
+  follows pointer target i (Thin object offset) o k e w c well (shared, facts, is, holds) (q, thin, (jump, uncaught, end), place) =
+      let there = Running (GivenPlace (Thin object offset)) k e w in
+      let does : step source (Running (Given (of_kind i (Thin object offset))) (Needs (Follow pointer target) ∷ k) e w) ≡ there
+      = ap (λ (b : Bool). if b then there else wrong w) (is_fitting (is_kind i pointer && leads_to w target (followed (Thin object offset))) there w well) in
+      by_one source pages calls does shared jump
+      (λ choice. taken there c (not (operand_word c.active.slots o == 0)) q (ap not (not_zero shared.tables i object offset c.active.slots o is))
+      (shared, facts, (o, 0, stays (points_in shared.tables i object offset c.active.slots o is), holds, place)))
+  follows pointer target i (Fat object start many index) o k e w c well (shared, facts, is, holds) (q, thin, check, place) =
+      let reach = followed (Fat object start many index) in
+      let fits = is_fitting (is_kind i pointer && leads_to w target reach) (arrives reach k e w) w well in
+      let kind : i ≡ pointer = same_kind i pointer (first_holds (is_kind i pointer) (leads_to w target reach) fits) in
+      let (words, p, same, is_it) = in_words shared.tables (of_kind i (Fat object start many index)) c.active.slots o is in
+      absurd (not_fat shared.tables i object start many index words p (ap is_thin kind ∙ thin) is_it)
+  follows pointer target i (Int a) o k e w c well stands stack = absurd (goes_wrong (is_kind i pointer && leads_to w target (followed (Int a))) w well)
+  follows pointer target i (Handle region) o k e w c well stands stack = absurd (goes_wrong (is_kind i pointer && leads_to w target (followed (Handle region))) w well)
+  follows pointer target i (Key region) o k e w c well stands stack = absurd (goes_wrong (is_kind i pointer && leads_to w target (followed (Key region))) w well)
 
   -- where the value stands in an operand
   stands_given : (v : Kinded) (o : Operand) (k : List Entry) (e : Environment) (w : World) (c : Configuration) → IsWell (step source (Running (Given v) k e w)) → Stands v o k e w c
@@ -982,6 +1064,8 @@ module _ (source : Program) (pages calls : ℕ) where
   stands_given v o (Needs Decide ∷ k) e w c well stands stack = decides_truth v o k e w c well stands stack
   stands_given v o (Needs (Store place) ∷ k) e w c well stands stack = stores_at place v o k e w c well stands stack
   stands_given v o (Needs (Pass f before cs) ∷ k) e w c well stands stack = hands_on f before cs v o k e w c stands stack
+  stands_given v o (Needs (MakePlain owner kind) ∷ k) e w c well (shared, facts, is, holds) stack = plain_made source pages calls owner kind v o k e w c well shared facts is holds stack
+  stands_given v o (Needs (MakeFields owner before cs) ∷ k) e w c well (shared, facts, is, holds) stack = fields_made source pages calls owner before cs v o k e w c well shared facts is holds stack
   stands_given v o (Needs (Initialise n kind js) ∷ k) e w c well stands stack = initialises n kind js v o k e w c well stands stack
   stands_given v o (Needs (Choose s t) ∷ k) e w c well (shared, facts, is, holds) stack =
       chooses s t v (operand_word c.active.slots o == 0) comparisons.Equal o (operands.Word 0) k e w c (zero_is shared.tables v c.active.slots o (λ none. well (ap (λ x. status_in (status_of (chosen x s t k e w))) none)) is) refl shared facts stack
@@ -991,7 +1075,7 @@ module _ (source : Program) (pages calls : ℕ) where
       silently source pages calls (Running (Given v) (Needs Return ∷ k) e w) (Running (Returning (Some v)) k e w) (plain.Running c) refl
       (shared, facts, (loop, q, s, here, subst (IsIn shared.tables v c.active.slots) there is, single, stack))
       (omega arith)
-  stands_given v o (Needs (Follow pointer target) ∷ k) e w c well stands stack = follows_null pointer target v.kind v.value o k e w c well stands stack
+  stands_given v o (Needs (Follow pointer target) ∷ k) e w c well stands stack = follows pointer target v.kind v.value o k e w c well stands stack
   stands_given v o (Discard ∷ k) e w c well (shared, facts, is, holds) (loop, stack) =
       silently source pages calls (Running (Given v) (Discard ∷ k) e w) (Running Proceeding k e w) (plain.Running c) refl
       (shared, behind_statement loop facts stack)

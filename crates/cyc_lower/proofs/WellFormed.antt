@@ -11,9 +11,9 @@ use Rattle.cyc_types.specs.declared.typed.Operator.TheVariants as operators
 use Rattle.cyc_types.specs.declared.typed.LogicalOperator.{LogicalOperator}
 use Rattle.cyc_types.specs.declared.typed.LogicalOperator.TheVariants as logical
 use Rattle.cyc_types.specs.Types.{Ty, words_of, ValueType, Void, Null, Value}
-use Rattle.cyc_types.specs.TypedTrees.{Load, Dereference, Target, type_of_place, Lvalue, Local, Global, Expression, Number, NullPointer, Copy, Call, Unary, Binary, Assign, Converted, Convert, Arguments, NoArguments, MoreArguments, Operations, NoOperations, ThenCompute, ThenTest, ThenPointer, type_of, Statement, Block, Empty, Evaluate, If, While, Return, Break, Continue, Items, NoItems, MoreItems, Execute, Declare, GlobalVariable, Signature, StructType, Function, Program}
+use Rattle.cyc_types.specs.TypedTrees.{Load, New, OnHeap, AsUnique, ByHandle, Initial, Plain, Fields, Array, Dereference, Target, type_of_place, Lvalue, Local, Global, Expression, Number, NullPointer, Copy, Call, Unary, Binary, Assign, Converted, Convert, Arguments, NoArguments, MoreArguments, Operations, NoOperations, ThenCompute, ThenTest, ThenPointer, type_of, Statement, Block, Empty, Evaluate, If, While, Return, Break, Continue, Items, NoItems, MoreItems, Execute, Declare, GlobalVariable, Signature, StructType, Function, Program}
 use Rattle.cyc_types.specs.typing.WellTyped.{signature_of}
-use Rattle.cyc_types.specs.Numbered.{Numbering, signatures_of, numbering_of}
+use Rattle.cyc_types.specs.Numbered.{Numbering, argument_count, signatures_of, numbering_of}
 use Rattle.cyc_plain.specs.declared.instruction.Comparison.{Comparison}
 use Rattle.cyc_plain.specs.declared.instruction.BinaryOperator.{BinaryOperator as PlainBinary}
 use Rattle.cyc_plain.specs.declared.instruction.Operand.{Operand}
@@ -26,12 +26,13 @@ use Rattle.cyc_plain.specs.WellFormed.{IsOperand, IsInRange, IsRoutine, IsWellFo
 use Rattle.std.specs.Prelude.{◌==◌, max, if◌then◌else◌}
 use Rattle.std.proofs.lemmas.Bool.{eqb-true}
 use Rattle.cyc_meaning.specs.Operators.{null_exception, division_by_zero}
+use Rattle.cyc_store.specs.declared.range.TheConstants.{HEAP}
 use Rattle.cyc_meaning.specs.Values.{kind_of, words_of_kind}
-use Rattle.cyc_meaning.specs.FrameCount.{result_words, operand_words, converted_words, argument_words, expression_need, dereference_need, converted_need, arguments_need, operations_need, initial_need, statement_need, items_need, words_of_all}
+use Rattle.cyc_meaning.specs.FrameCount.{result_words, operand_words, converted_words, argument_words, expression_need, dereference_need, initial_value_need, converted_need, arguments_need, operations_need, initial_need, statement_need, items_need, words_of_all}
 use Rattle.cyc_lower.specs.Slots.{starts_of, slot_of, Types}
-use Rattle.cyc_lower.specs.Lowering.{types_of, spare_slots, are_as_wide, converts_there, passed_words, all_passed, source_of, source_slot, moved_by, move_of, null_operator, compared_with_null, unary_operator, binary_operator, operand_of, operand_or, code_unless, slot_or, code_unless_slot, left_with, left_of, value_slot, next_slot, slot_with, left_slot, value_operand, converted_operand, printed_operand, check_code, conversion_code, divisor_code, checked_code, operator_code, truth_code, load_code, low_byte, test_code, is_in, copy_code, expression_code, arguments_code, converted_code, converted_operand_code, printed_code, dereference_code, initial_code, assignment_code, operations_code, discarded_code, failing_comparison, compared_or, first_operand, first_code, second_code, pair_code, condition_code, condition_of, failing_jump, break_target, continue_target, return_code, declaration_code, statement_code, items_code, first_temporary, results_of, lower_function, lower_global, lower_program}
-use Rattle.cyc_lower.proofs.Widths.{kind_positive, kind_few, type_words, kind_of_result, result_kind, given, passed_kind, words_in}
-use Rattle.cyc_lower.proofs.Fitting.{FitsPlace, FitsCell, Fits, FitsConverted, FitArguments, FitOperations, FitsReturn, FitsInitial, FitsStatement, FitItems, AreFitting, IsFitting}
+use Rattle.cyc_lower.specs.Lowering.{stores_code, object_code, made_code, types_of, spare_slots, are_as_wide, converts_there, passed_words, all_passed, source_of, source_slot, moved_by, move_of, null_operator, compared_with_null, unary_operator, binary_operator, operand_of, operand_or, code_unless, slot_or, code_unless_slot, left_with, left_of, value_slot, next_slot, slot_with, left_slot, value_operand, converted_operand, printed_operand, check_code, conversion_code, divisor_code, checked_code, operator_code, truth_code, load_code, low_byte, test_code, is_in, copy_code, expression_code, arguments_code, converted_code, converted_operand_code, printed_code, dereference_code, initial_code, assignment_code, operations_code, discarded_code, failing_comparison, compared_or, first_operand, first_code, second_code, pair_code, condition_code, condition_of, failing_jump, break_target, continue_target, return_code, declaration_code, statement_code, items_code, first_temporary, results_of, lower_function, lower_global, lower_program}
+use Rattle.cyc_lower.proofs.Widths.{kind_positive, kind_few, type_words, kind_of_result, result_kind, made_kind, given, passed_kind, words_in}
+use Rattle.cyc_lower.proofs.Fitting.{FitsPlace, FitsStored, FitsCell, FitsObject, Fits, FitsConverted, FitArguments, FitOperations, FitsReturn, FitsInitial, FitsStatement, FitItems, AreFitting, IsFitting}
 use Rattle.cyc_lower.proofs.Values.{as_wide}
 use Rattle.cyc_lower.proofs.Slots.{words_positive, slot-room, slot_types-many, slots-few}
 
@@ -145,6 +146,11 @@ module _ (program : PlainProgram) (r : Routine) (b : Numbering) (types : Types) 
   given_needs (Assign l (Convert from to a) t) numbered = omega arith
   given_needs (Load (Target k a t)) numbered = omega (arith, type_words t)
   given_needs (Load x) numbered = absurd numbered
+  given_needs (New OnHeap (Plain kind a) t) numbered = omega arith
+  given_needs (New OnHeap (Fields cs) t) numbered = omega arith
+  given_needs (New OnHeap (Array p level n kind a) t) numbered = absurd numbered
+  given_needs (New AsUnique i t) numbered = absurd numbered
+  given_needs (New (ByHandle h) i t) numbered = absurd numbered
   given_needs a numbered = absurd numbered
 
   slot_fits : (a : Expression) (t : ℕ) → Fits b types a → t + words_of_kind (kind_at a) ≤ r.slots → value_slot (starts_of types) a t + words_of_kind (kind_at a) ≤ r.slots
@@ -164,14 +170,14 @@ module _ (program : PlainProgram) (r : Routine) (b : Numbering) (types : Types) 
   -- a value that is converted has room before and after
   source_fits : (from to : Kind) (a : Expression) (t : ℕ) → FitsConverted b types (Convert from to a) → t + converted_words (Convert from to a) ≤ r.slots
       → source_slot (starts_of types) (Convert from to a) t + words_of_kind (kind_at a) ≤ r.slots
-  source_fits from to a t (kind, numbered) few = by (are_as_wide from to)
+  source_fits from to a t (kind, wide, numbered) few = by (are_as_wide from to)
     where
       by : (same : Bool) → (if same then value_slot (starts_of types) a t else t) + words_of_kind (kind_at a) ≤ r.slots
       by true = slot_fits a t numbered (omega (arith, few, ap words_of_kind kind))
       by false = omega (arith, few, ap words_of_kind kind)
 
   converted_room : (c : Converted) (t : ℕ) → FitsConverted b types c → t + converted_words c ≤ r.slots → HasOperand (converted_operand (starts_of types) c t) (words_of_kind (passed_kind c))
-  converted_room (Convert from to a) t (kind, numbered) few = by (are_as_wide from to) refl
+  converted_room (Convert from to a) t (kind, wide, numbered) few = by (are_as_wide from to) refl
     where
       by : (same : Bool) → are_as_wide from to ≡ same
           → HasOperand (operand_or (if same then operand_of (starts_of types) a else None) (if same then value_slot (starts_of types) a t else t)) (words_of_kind to)
@@ -286,14 +292,24 @@ module _ (program : PlainProgram) (r : Routine) (b : Numbering) (types : Types) 
       let long = length-append operand (truth_code t d) in
       ((room, tt, omega (arith, short, long)), append operand (truth_code t d) inside ((room, room), ((few, room), tt)))
 
+  stores_in : (many address offset slot : ℕ) → address < r.slots → slot + many ≤ r.slots → AreIn (stores_code many address offset slot)
+  stores_in zero address offset slot room few = tt
+  stores_in (suc many) address offset slot room few = ((room, omega (arith, few)), stores_in many address (offset + 4) (suc slot) room (omega (arith, few)))
+
+  object_in : (handle words d t : ℕ) → d < r.slots → t + words + 1 ≤ r.slots → AreIn (object_code handle words d t)
+  object_in handle words d t room few = (
+    record { answer_in_range = few; first_in_range = tt; second_in_range = tt },
+    append (stores_code words (t + words) 0 t) (instructions.Move d (operands.Slot (t + words)) ∷ []) (stores_in words (t + words) 0 t (omega (arith, few)) (omega (arith, few))) ((room, omega (arith, few)), tt),
+  )
+
   -- ---- expressions
 
-  initial_by : (there : Bool) (from to : Kind) (a : Expression) (p d t : ℕ) → from ≡ kind_at a → Fits b types a → d + words_of_kind to ≤ r.slots → t + converted_words (Convert from to a) ≤ r.slots → converts_there from to ≡ there
+  initial_by : (there : Bool) (from to : Kind) (a : Expression) (p d t : ℕ) → from ≡ kind_at a → are_as_wide from to ≡ true → Fits b types a → d + words_of_kind to ≤ r.slots → t + converted_words (Convert from to a) ≤ r.slots → converts_there from to ≡ there
       → ((slot : ℕ) → slot + words_of_kind (kind_at a) ≤ r.slots → p + length (expression_code (starts_of types) a p slot t) < length r.code → AreIn (expression_code (starts_of types) a p slot t))
       → p + length (if there then expression_code (starts_of types) a p d t else moved_by (source_of (starts_of types) (Convert from to a)) (expression_code (starts_of types) a p (source_slot (starts_of types) (Convert from to a) t) t) to (converted_operand (starts_of types) (Convert from to a) t) p d) < length r.code
       → AreIn (if there then expression_code (starts_of types) a p d t else moved_by (source_of (starts_of types) (Convert from to a)) (expression_code (starts_of types) a p (source_slot (starts_of types) (Convert from to a) t) t) to (converted_operand (starts_of types) (Convert from to a) t) p d)
-  initial_by true from to a p d t kind numbered room free lands inside short = inside d (omega (arith, room, ap words_of_kind kind, as_wide from to lands)) short
-  initial_by false from to a p d t kind numbered room free lands inside short =
+  initial_by true from to a p d t kind wide numbered room free lands inside short = inside d (omega (arith, room, ap words_of_kind kind, as_wide from to lands)) short
+  initial_by false from to a p d t kind wide numbered room free lands inside short =
       let c = Convert from to a in
       let known = source_of (starts_of types) c in
       let slot = source_slot (starts_of types) c t in
@@ -305,8 +321,8 @@ module _ (program : PlainProgram) (r : Routine) (b : Numbering) (types : Types) 
       let long = length-append (front ++ conversion) move in
       let long_front = length-append front conversion in
       append (front ++ conversion) move
-      (append front conversion (unless_in known inner p (omega (arith, short, long, long_front)) (λ less. inside slot (source_fits from to a t (kind, numbered) free) less))
-      (conversion_in to o (p + length front) (converted_value_in c t (kind, numbered) free) (omega (arith, short, long, long_front)))) (move_in to d o room (converted_room c t (kind, numbered) free), tt)
+      (append front conversion (unless_in known inner p (omega (arith, short, long, long_front)) (λ less. inside slot (source_fits from to a t (kind, wide, numbered) free) less))
+      (conversion_in to o (p + length front) (converted_value_in c t (kind, wide, numbered) free) (omega (arith, short, long, long_front)))) (move_in to d o room (converted_room c t (kind, wide, numbered) free), tt)
 
   mutual
     expression_in : (a : Expression) (p d t : ℕ) → Fits b types a → d + words_of_kind (kind_at a) ≤ r.slots → t + expression_need a ≤ r.slots → p + length (expression_code (starts_of types) a p d t) < length r.code → AreIn (expression_code (starts_of types) a p d t)
@@ -363,7 +379,7 @@ module _ (program : PlainProgram) (r : Routine) (b : Numbering) (types : Types) 
         let there : slot_of (starts_of types) n + words_of_kind (passed_kind c) ≤ r.slots = omega (arith, locals n within, own) in
         append front back (initial_in c p (slot_of (starts_of types) n) t numbered there (omega (arith, few)) (omega (arith, few)) (omega (arith, short, length-append front back)))
         (copy_in (is_in o d) c o d there (omega (arith, room, ap words_of_kind (assigned_kind (Local w n) c ty))))
-    expression_in (Assign (Global n) c ty) p d t (within, numbered) room few short =
+    expression_in (Assign (Global n) c ty) p d t ((within, single), numbered) room few short =
         let o = converted_operand (starts_of types) c t in
         let front = converted_operand_code (starts_of types) c p t in
         let store = instructions.StoreGlobal n o ∷ [] in
@@ -372,10 +388,28 @@ module _ (program : PlainProgram) (r : Routine) (b : Numbering) (types : Types) 
         (append front store (converted_operand_in c p t numbered (omega (arith, few)) (omega (arith, few)) (omega (arith, short, length-append (front ++ store) back, length-append front store))) ((omega (arith, within, globals), converted_value_in c t numbered (omega (arith, few))), tt))
         (copy_in (is_in o d) c o d (converted_room c t numbered (omega (arith, few))) (omega (arith, room, ap words_of_kind (assigned_kind (Global n) c ty))))
     expression_in (Load x) p d t numbered room few short = dereference_in x p d t numbered (omega (arith, room, kind_positive (kind_of (type_of_place x)))) few short
+    expression_in (New OnHeap i ty) p d t numbered room few short = made_in i HEAP ty p d t numbered (omega (arith, room, kind_positive (made_kind i))) (omega (arith, few)) short
+    expression_in (New AsUnique i ty) p d t numbered room few short = absurd numbered
+    expression_in (New (ByHandle h) i ty) p d t numbered room few short = absurd numbered
     expression_in a p d t numbered room few short = absurd numbered
 
+    made_in : (i : Initial) (handle : ℕ) (ty : Ty) (p d t : ℕ) → FitsObject b types i → d < r.slots → t + initial_value_need i 0 (words_of ty) ≤ r.slots → p + length (made_code (starts_of types) i handle p d t) < length r.code → AreIn (made_code (starts_of types) i handle p d t)
+    made_in (Plain kind a) handle ty p d t (single, kind_is, numbered) room few short =
+        let front = expression_code (starts_of types) a p t t in
+        let back = object_code handle 1 d t in
+        append front back
+        (expression_in a p t t numbered (omega (arith, few, single, ap words_of_kind kind_is, words_positive ty)) (omega (arith, few)) (omega (arith, short, length-append front back)))
+        (object_in handle 1 d t room (omega (arith, few, single, words_positive ty)))
+    made_in (Fields cs) handle ty p d t (single, some, many, numbered) room few short =
+        let front = arguments_code (starts_of types) cs p t in
+        let back = object_code handle (argument_count cs) d t in
+        append front back
+        (arguments_in cs p t t 0 numbered (omega arith) (omega (arith, few)) (omega (arith, few)) (omega (arith, short, length-append front back)))
+        (object_in handle (argument_count cs) d t room (omega (arith, few, single, arguments_words cs, words_positive ty)))
+    made_in i handle ty p d t numbered room few short = absurd numbered
+
     dereference_in : (x : Dereference) (p d t : ℕ) → FitsCell b types x → d < r.slots → t + dereference_need x (words_of (type_of_place x)) ≤ r.slots → p + length (dereference_code (starts_of types) x p d t) < length r.code → AreIn (dereference_code (starts_of types) x p d t)
-    dereference_in (Target k a ty) p d t numbered room few short =
+    dereference_in (Target k a ty) p d t (thin, single, numbered) room few short =
         let slot = value_slot (starts_of types) a t in
         let o = value_operand (starts_of types) a t in
         let inner = expression_code (starts_of types) a p slot t in
@@ -392,18 +426,18 @@ module _ (program : PlainProgram) (r : Routine) (b : Numbering) (types : Types) 
     dereference_in x p d t numbered room few short = absurd numbered
 
     initial_in : (c : Converted) (p d t : ℕ) → FitsConverted b types c → d + words_of_kind (passed_kind c) ≤ r.slots → t + converted_words c ≤ r.slots → t + converted_need c ≤ r.slots → p + length (initial_code (starts_of types) c p d t) < length r.code → AreIn (initial_code (starts_of types) c p d t)
-    initial_in (Convert from to a) p d t (kind, numbered) room free few short =
-        initial_by (converts_there from to) from to a p d t kind numbered room free refl (λ slot fits less. expression_in a p slot t numbered fits few less) short
+    initial_in (Convert from to a) p d t (kind, wide, numbered) room free few short =
+        initial_by (converts_there from to) from to a p d t kind wide numbered room free refl (λ slot fits less. expression_in a p slot t numbered fits few less) short
 
     converted_in : (c : Converted) (p t : ℕ) → FitsConverted b types c → t + converted_words c ≤ r.slots → t + converted_need c ≤ r.slots → p + length (converted_code (starts_of types) c p t) < length r.code → AreIn (converted_code (starts_of types) c p t)
-    converted_in (Convert from to a) p t (kind, numbered) room few short =
+    converted_in (Convert from to a) p t (kind, wide, numbered) room few short =
         let front = expression_code (starts_of types) a p t t in
         let back = conversion_code to (operands.Slot t) (p + length front) in
         append front back (expression_in a p t t numbered (omega (arith, room, ap words_of_kind kind)) few (omega (arith, short, length-append front back)))
         (conversion_in to (operands.Slot t) (p + length front) (omega (arith, room, kind_positive to)) (omega (arith, short, length-append front back)))
 
     converted_operand_in : (c : Converted) (p t : ℕ) → FitsConverted b types c → t + converted_words c ≤ r.slots → t + converted_need c ≤ r.slots → p + length (converted_operand_code (starts_of types) c p t) < length r.code → AreIn (converted_operand_code (starts_of types) c p t)
-    converted_operand_in (Convert from to a) p t (kind, numbered) room few short =
+    converted_operand_in (Convert from to a) p t (kind, wide, numbered) room few short =
         let known = source_of (starts_of types) (Convert from to a) in
         let slot = source_slot (starts_of types) (Convert from to a) t in
         let o = converted_operand (starts_of types) (Convert from to a) t in
@@ -411,8 +445,8 @@ module _ (program : PlainProgram) (r : Routine) (b : Numbering) (types : Types) 
         let front = code_unless known inner in
         let back = conversion_code to o (p + length front) in
         append front back
-        (unless_in known inner p (omega (arith, short, length-append front back)) (λ less. expression_in a p slot t numbered (source_fits from to a t (kind, numbered) room) few less))
-        (conversion_in to o (p + length front) (converted_value_in (Convert from to a) t (kind, numbered) room) (omega (arith, short, length-append front back)))
+        (unless_in known inner p (omega (arith, short, length-append front back)) (λ less. expression_in a p slot t numbered (source_fits from to a t (kind, wide, numbered) room) few less))
+        (conversion_in to o (p + length front) (converted_value_in (Convert from to a) t (kind, wide, numbered) room) (omega (arith, short, length-append front back)))
 
     -- the arguments of `putchar`, which all are evaluated with the same temporaries
     printed_in : (cs : Arguments) (p t first before : ℕ) → FitArguments b types cs → t + argument_words cs ≤ r.slots → t ≤ first + before → first + arguments_need cs before ≤ r.slots → p + length (printed_code (starts_of types) cs p t) < length r.code → AreIn (printed_code (starts_of types) cs p t)
@@ -470,9 +504,9 @@ module _ (program : PlainProgram) (r : Routine) (b : Numbering) (types : Types) 
         (pointer_in (null_operator o) l next next_few inside, operations_in os ty (p + 1) (operands.Slot next) d t (words_of ty) rest room next_few (words_positive ty) (omega (arith, few)) (omega (arith, short)))
     operations_in os ty p l d t left numbered room inside some few short = absurd numbered
 
-  assignment_in : (l : Lvalue) (c : Converted) (p t : ℕ) → FitsPlace b types l (passed_kind c) → FitsConverted b types c → t + converted_words c ≤ r.slots → t + converted_need c ≤ r.slots → p + length (assignment_code (starts_of types) l c p t) < length r.code → AreIn (assignment_code (starts_of types) l c p t)
+  assignment_in : (l : Lvalue) (c : Converted) (p t : ℕ) → FitsStored b types l (passed_kind c) → FitsConverted b types c → t + converted_words c ≤ r.slots → t + converted_need c ≤ r.slots → p + length (assignment_code (starts_of types) l c p t) < length r.code → AreIn (assignment_code (starts_of types) l c p t)
   assignment_in (Local w n) c p t (within, own) numbered free few short = initial_in c p (slot_of (starts_of types) n) t numbered (omega (arith, locals n within, own)) free few short
-  assignment_in (Global n) c p t within numbered free few short =
+  assignment_in (Global n) c p t (within, single) numbered free few short =
       let front = converted_operand_code (starts_of types) c p t in
       let store = instructions.StoreGlobal n (converted_operand (starts_of types) c t) ∷ [] in
       append front store (converted_operand_in c p t numbered free few (omega (arith, short, length-append front store))) ((omega (arith, within, globals), converted_value_in c t numbered free), tt)
@@ -549,7 +583,7 @@ module _ (program : PlainProgram) (r : Routine) (b : Numbering) (types : Types) 
     where
       value_of : (result : Option Ty) → FitsReturn b types result (Some (Convert from to a)) → (results_of result ≡ words_of_kind to) × (from ≡ kind_at a) × Fits b types a
       value_of None numbered = absurd numbered
-      value_of (Some ty) (same, (kind, numbered)) = (sym (type_words ty) ∙ ap words_of_kind (sym same), kind, numbered)
+      value_of (Some ty) (same, (kind, wide, numbered)) = (sym (type_words ty) ∙ ap words_of_kind (sym same), kind, numbered)
 
       slot_there : (known : Option Operand) → HasOperand (operand_or known t) (words_of_kind to) → slot_or known t + words_of_kind to ≤ r.slots
       slot_there (Some (operands.Slot n)) inside = inside

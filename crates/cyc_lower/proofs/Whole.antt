@@ -1,5 +1,5 @@
 -- Each run of the plain program is one of the source.
-use Rattle.std.proofs.Common.{◌≡◌, ℕ, zero, suc, ◌≤◌, Bool, true, false, List, [], ◌∷◌, length, map, Option, None, Some, slice_get, slice_index, refl, sym, ap, subst, ◌∙◌, arith, inl, inr}
+use Rattle.std.proofs.Common.{◌≡◌, ℕ, zero, suc, ◌≤◌, ◌<◌, Bool, true, false, List, [], ◌∷◌, length, map, Option, None, Some, slice_get, slice_index, refl, sym, ap, subst, ◌∙◌, arith, inl, inr}
 use Rattle.std.specs.Prelude.{◌==◌, if◌then◌else◌}
 use Rattle.std.proofs.lemmas.Bool.{le-leb, and_from}
 use Rattle.std.proofs.lemmas.Option.{same_Some, none-some}
@@ -11,84 +11,102 @@ use Rattle.cyc_types.specs.Types.{Ty}
 use Rattle.cyc_types.specs.Types as types
 use Rattle.cyc_types.specs.typing.WellTyped.{IsWellTypedGlobal, AreWellTypedGlobals}
 use Rattle.cyc_words.specs.Simulation as simulation
-use Rattle.cyc_words.specs.Simulation.{Failed, NeverFails, Follows, Steps}
+use Rattle.cyc_words.specs.Simulation.{Failed, Matching, NeverFails, Follows, Steps}
 use Rattle.cyc_store.specs.State.{StoreState, sizes_in}
 use Rattle.cyc_store.specs.New.{IsNew}
+use Rattle.cyc_store.specs.declared.range.TheConstants.{MOST_PAGES}
 use Rattle.cyc_store.proofs.NewStores.{new_demand}
 use Rattle.cyc_plain.specs.State as plain
 use Rattle.cyc_plain.specs.State.{Configuration}
 use Rattle.cyc_plain.specs.Step as plain_step
 use Rattle.cyc_plain.proofs.RunLaws.{lawful}
+use Rattle.cyc_plain.proofs.WordLaws.{words_stay, words_at_start}
+use Rattle.cyc_plain.specs.WellFormed.{HasWords}
+use Rattle.cyc_store.specs.State as stores
+use Rattle.std.specs.List.{AllByRecursion}
 use Rattle.cyc_words.proofs.Simulation.{simulates}
 use Rattle.cyc_meaning.specs.Values.{Int, Null, Operand as Kinded, kind_of}
-use Rattle.cyc_meaning.specs.State.{World, Environment, no_locals, constant_value, global_object, first_world, Entry, Main, Focus, Evaluating, Locating, Given, Executing, Proceeding, Calling, Entering, Binding, Breaking, Continuing, Returning, Throwing, State, Running, Ended, Dead, Wrong, output_of, input_of, status_of}
+use Rattle.cyc_meaning.specs.State.{World, Environment, no_locals, constant_value, global_object, first_world, Entry, Main, Focus, Evaluating, Locating, Given, GivenPlace, Executing, Proceeding, Calling, Entering, Binding, Writing, Breaking, Continuing, Returning, Throwing, State, Running, Ended, Dead, Wrong, output_of, input_of, status_of}
 use Rattle.cyc_meaning.specs.Step.{wrong, called, step}
 use Rattle.cyc_meaning.specs.Run.{start, is_within, limited_step}
 use Rattle.cyc_lower.specs.Lowering.{initial_word, lower_global, lower_program}
 use Rattle.cyc_lower.specs.Lowered.{FollowsSource}
 use Rattle.cyc_meaning.specs.SourceMachine.{status_in}
-use Rattle.cyc_lower.proofs.Relation.{Is, contents, Related, Matches}
+use Rattle.cyc_objects.specs.Tables.{Variable, Tables, first_tables}
+use Rattle.cyc_objects.specs.Related as objects
+use Rattle.cyc_objects.proofs.Start.{start-related}
+use Rattle.cyc_lower.proofs.Relation.{IsWord, silent, contents, Related, Matches}
 use Rattle.cyc_lower.proofs.Fitting.{IsFitting}
-use Rattle.cyc_lower.proofs.Data.{Is-first, no_locals_hold}
+use Rattle.cyc_lower.proofs.Data.{no_locals_hold}
 use Rattle.cyc_lower.proofs.Accesses.{IsWell}
 use Rattle.cyc_lower.proofs.Matched.{IsMatched, above, below, matching}
 use Rattle.cyc_lower.proofs.Evaluations.{evaluating, locating}
+use Rattle.cyc_lower.proofs.Keeping.{keeping, stepped_keeping}
+use Rattle.cyc_lower.proofs.Allocations.{writing}
 use Rattle.cyc_lower.proofs.Values.{given}
+use Rattle.cyc_lower.proofs.PlaceSteps.{given_place}
 use Rattle.cyc_lower.proofs.StatementSteps.{executing, proceeding, breaking, continuing, returning, throwing}
 use Rattle.cyc_lower.proofs.Calls.{FunctionsStand, calling, entering, binding, entered}
 use Rattle.cyc_lower.proofs.Bridge.{functions_stand}
 
 -- ---- the globals at the start
 
-globals_start : (gs : List GlobalVariable) (number : ℕ) (v : Kinded) → AreWellTypedGlobals gs → contents (map global_object gs) number ≡ Some v → Is v.kind v.value (λ i. slice_index (map lower_global gs) i) number
-globals_start [] number v well has = absurd (none-some v has)
-globals_start (g ∷ gs) zero v (well, rest) has = first g.value g.of_type well has
+globals_start : (t : Tables) (gs : List GlobalVariable) (number : ℕ) (v : Kinded) → AreWellTypedGlobals gs → contents (map global_object gs) number ≡ Some v → IsWord t v.kind v.value (slice_index (map lower_global gs) number)
+globals_start t [] number v well has = absurd (none-some v has)
+globals_start t (g ∷ gs) zero v (well, rest) has = first g.value g.of_type well has
   where
-    first : (constant : Constant) (t : Ty) → IsWellTypedGlobal (record { name = g.name; of_type = t; value = constant }) → Some (record { kind = kind_of t; value = constant_value constant }) ≡ Some v
-        → Is v.kind v.value (λ i. slice_index (initial_word constant ∷ map lower_global gs) i) zero
-    first constant t (inl (int, (n, word))) e =
+    first : (constant : Constant) (u : Ty) → IsWellTypedGlobal (record { name = g.name; of_type = u; value = constant }) → Some (record { kind = kind_of u; value = constant_value constant }) ≡ Some v
+        → IsWord t v.kind v.value (initial_word constant)
+    first constant u (inl (int, (n, word))) e =
         let v_is : record { kind = kinds.Int; value = Int n } ≡ v
-        = sym (ap (λ (u : Ty). let x : Kinded = record { kind = kind_of u; value = Int n } in x) int) ∙ sym (ap (λ (c : Constant). let x : Kinded = record { kind = kind_of t; value = constant_value c } in x) word)
-        ∙ same_Some (record { kind = kind_of t; value = constant_value constant }) v e in
-        subst (λ (x : Kinded). Is x.kind x.value (λ i. slice_index (initial_word constant ∷ map lower_global gs) i) zero) v_is (ap initial_word word)
-    first constant (types.Pointer marks.Nullable t r) (inr (k, u, s, is, non_null, null)) e =
+        = sym (ap (λ (z : Ty). let x : Kinded = record { kind = kind_of z; value = Int n } in x) int) ∙ sym (ap (λ (c : Constant). let x : Kinded = record { kind = kind_of u; value = constant_value c } in x) word)
+        ∙ same_Some (record { kind = kind_of u; value = constant_value constant }) v e in
+        subst (λ (x : Kinded). IsWord t x.kind x.value (initial_word constant)) v_is (ap initial_word word)
+    first constant (types.Pointer marks.Nullable y r) (inr (k, u, s, is, non_null, null)) e =
         let v_is : record { kind = kinds.Nullable; value = Null } ≡ v
         = sym (ap (λ (c : Constant). let x : Kinded = record { kind = kinds.Nullable; value = constant_value c } in x) null) ∙ same_Some (record { kind = kinds.Nullable; value = constant_value constant }) v e in
-        subst (λ (x : Kinded). Is x.kind x.value (λ i. slice_index (initial_word constant ∷ map lower_global gs) i) zero) v_is (ap initial_word null)
-    first constant (types.Pointer marks.Fat t r) (inr (k, u, s, is, non_null, null)) e =
+        subst (λ (x : Kinded). IsWord t x.kind x.value (initial_word constant)) v_is (ap initial_word null)
+    first constant (types.Pointer marks.Fat y r) (inr (k, u, s, is, non_null, null)) e =
         let v_is : record { kind = kinds.Fat; value = Null } ≡ v
         = sym (ap (λ (c : Constant). let x : Kinded = record { kind = kinds.Fat; value = constant_value c } in x) null) ∙ same_Some (record { kind = kinds.Fat; value = constant_value constant }) v e in
-        subst (λ (x : Kinded). Is x.kind x.value (λ i. slice_index (initial_word constant ∷ map lower_global gs) i) zero) v_is (ap initial_word null)
-    first constant (types.Pointer marks.NonNull t r) (inr (k, u, s, is, non_null, null)) e = absurd (let f : true ≡ false = non_null in cc)
+        subst (λ (x : Kinded). IsWord t x.kind x.value (initial_word constant)) v_is (ap initial_word null)
+    first constant (types.Pointer marks.NonNull y r) (inr (k, u, s, is, non_null, null)) e = absurd (let f : true ≡ false = non_null in cc)
     first constant types.Int (inr (k, u, s, is, non_null, null)) e = absurd (let f : types.Int ≡ types.Pointer k u s = is in cc)
     first constant (types.Handle r) (inr (k, u, s, is, non_null, null)) e = absurd (let f : types.Handle r ≡ types.Pointer k u s = is in cc)
     first constant (types.Key r) (inr (k, u, s, is, non_null, null)) e = absurd (let f : types.Key r ≡ types.Pointer k u s = is in cc)
     first constant (types.Struct n rs) (inr (k, u, s, is, non_null, null)) e = absurd (let f : types.Struct n rs ≡ types.Pointer k u s = is in cc)
-globals_start (g ∷ gs) (suc number) v (well, rest) has =
-    Is-first v.kind v.value (λ i. slice_index (map lower_global gs) i) (λ i. slice_index (map lower_global (g ∷ gs)) i) number (suc number) refl (globals_start gs number v rest has)
+globals_start t (g ∷ gs) (suc number) v (well, rest) has = globals_start t gs number v rest has
+
+-- each global is a variable
+globals_rows : (gs : List GlobalVariable) (number : ℕ) → number < length gs → slice_get (map (λ (g : GlobalVariable). Variable) gs) number ≡ Some Variable
+globals_rows [] number few = absurd (omega (arith, few))
+globals_rows (g ∷ gs) zero few = refl
+globals_rows (g ∷ gs) (suc number) few = globals_rows gs number (omega (arith, few))
 
 globals_many : (gs : List GlobalVariable) → length gs ≤ length (map global_object gs)
 globals_many [] = omega arith
 globals_many (g ∷ gs) = omega (arith, globals_many gs)
 
-module _ (source : Program) (pages calls : ℕ) (well_typed : AreWellTypedGlobals source.globals) (stand : FunctionsStand source pages calls) where
+module _ (source : Program) (pages calls : ℕ) (well_typed : AreWellTypedGlobals source.globals) (stand : FunctionsStand source pages calls) (of_words : HasWords (lower_program source)) where
   -- ---- all steps
 
-  stepping : (focus : Focus) (k : List Entry) (e : Environment) (w : World) (c : Configuration) → IsWell (step source (Running focus k e w)) → Related source pages calls focus k e w c
+  stepping : (focus : Focus) (k : List Entry) (e : Environment) (w : World) (c : Configuration) → IsWell (step source (Running focus k e w)) → plain.HoldsWords (plain.Running c) → Related source pages calls focus k e w c
       → IsMatched source pages calls (Running focus k e w) (plain.Running c)
-  stepping (Evaluating a) k e w c well related = evaluating source pages calls a k e w c well related
-  stepping (Locating x) k e w c well related = locating source pages calls x k e w c well related
-  stepping (Given v) k e w c well related = given source pages calls v k e w c well related
-  stepping (Executing s) k e w c well related = executing source pages calls s k e w c well related
-  stepping Proceeding k e w c well related = proceeding source pages calls k e w c well related
-  stepping (Calling f before) k e w c well related = calling source pages calls stand f before k e w c well related
-  stepping (Entering h arguments) k e w c well related = entering source pages calls h arguments k e w c well related
-  stepping (Binding n types arguments body) k e w c well related = binding source pages calls n types arguments body k e w c well related
-  stepping Breaking k e w c well related = breaking source pages calls k e w c well related
-  stepping Continuing k e w c well related = continuing source pages calls k e w c well related
-  stepping (Returning v) k e w c well related = returning source pages calls v k e w c well related
-  stepping (Throwing tag value) k e w c well related = throwing source pages calls tag value k e w c well related
-  stepping focus k e w c well (shared, facts, at) = absurd at
+  stepping (Evaluating a) k e w c well words related = evaluating source pages calls a k e w c well related
+  stepping (Locating x) k e w c well words related = locating source pages calls x k e w c well related
+  stepping (Given v) k e w c well words related = given source pages calls v k e w c well related
+  stepping (Executing s) k e w c well words related = executing source pages calls s k e w c well related
+  stepping Proceeding k e w c well words related = proceeding source pages calls k e w c well related
+  stepping (Calling f before) k e w c well words related = calling source pages calls stand f before k e w c well related
+  stepping (Entering h arguments) k e w c well words related = entering source pages calls h arguments k e w c well related
+  stepping (Binding n types arguments body) k e w c well words related = binding source pages calls n types arguments body k e w c well related
+  stepping Breaking k e w c well words related = breaking source pages calls k e w c well related
+  stepping Continuing k e w c well words related = continuing source pages calls k e w c well related
+  stepping (Returning v) k e w c well words related = returning source pages calls v k e w c well related
+  stepping (Throwing tag value) k e w c well words related = throwing source pages calls tag value k e w c well related
+  stepping (GivenPlace place) k e w c well words related = given_place source pages calls place k e w c well related
+  stepping (Writing writes result) k e w c well words related = writing source pages calls writes result k e w c words well related
+  stepping focus k e w c well words (shared, facts, at) = absurd at
 
   -- what fails is within all limits
   failed_within : (s : State) → status_in (status_of s) ≡ Failed → is_within pages calls s ≡ true
@@ -101,37 +119,50 @@ module _ (source : Program) (pages calls : ℕ) (well_typed : AreWellTypedGlobal
   goes_well s never failed =
       never (step source s) (sym (ap (λ (b : Bool). if b then step source s else Ended Full (output_of s) (input_of s)) (failed_within (step source s) failed))) failed
 
-  steps : Steps (above source pages calls) (below source pages calls) (matching source pages calls)
-  steps (Running focus k e w) (plain.Running c) related running never = stepping focus k e w c (goes_well (Running focus k e w) never) related
-  steps (Running focus k e w) (plain.Ended ending output input) related running never = absurd related
-  steps (Running focus k e w) (plain.Stuck output input) related running never = absurd related
+  -- values stay words
+  words_kept : (old new : plain.State) → plain.HoldsWords old → plain_step.Step (lower_program source) pages calls old new → plain.HoldsWords new
+  words_kept old new words stepped = words_stay (lower_program source) pages calls 1 old new of_words words (new, stepped, refl)
+
+  -- a state of the plain program that matches one, and whose values are words
+  abbrev matching_words : Matching (above source pages calls) (below source pages calls)
+  matching_words = keeping (above source pages calls) (below source pages calls) (matching source pages calls) plain.HoldsWords words_kept
+
+  steps : Steps (above source pages calls) (below source pages calls) matching_words
+  steps (Running focus k e w) (plain.Running c) (related, words) running never =
+      stepped_keeping (above source pages calls) (below source pages calls) (matching source pages calls) plain.HoldsWords words_kept (Running focus k e w) (plain.Running c) words
+      (stepping focus k e w c (goes_well (Running focus k e w) never) words related)
+  steps (Running focus k e w) (plain.Ended ending output input) (related, words) running never = absurd related
+  steps (Running focus k e w) (plain.Stuck output input) (related, words) running never = absurd related
   steps (Ended ending output input) t related running never = absurd (let f : simulation.Ended ending ≡ simulation.Running = running in cc)
-  steps (Dead output input) t related running never = absurd related
-  steps (Wrong output input) t related running never = absurd related
+  steps (Dead output input) t (related, words) running never = absurd related
+  steps (Wrong output input) t (related, words) running never = absurd related
 
   -- ---- the start
 
-  start_related : (h : Function) (store : StoreState) (input : List ℕ) → slice_get source.functions source.main ≡ Some h → IsNew pages store → 1 ≤ pages → 1 ≤ calls
+  start_related : (h : Function) (store : StoreState) (input : List ℕ) → slice_get source.functions source.main ≡ Some h → IsNew pages store → 1 ≤ pages → pages ≤ MOST_PAGES → 1 ≤ calls
       → Matches source pages calls (Running (Entering h []) (Main ∷ []) no_locals (first_world source input)) (plain_step.start (lower_program source) store input)
-  start_related h store input there new some_page some_call =
+  start_related h store input there new some_page few_pages some_call =
+      let t = first_tables source in
       let w = first_world source input in
       let words : ℕ → ℕ = λ global. slice_index (map lower_global source.globals) global in
       let slots : ℕ → ℕ = λ slot. 0 in
       entered source pages calls stand source.main h [] (Main ∷ []) w slots words [] [] store [] input there
       (record {
+        tables = t;
         same_output = refl;
         same_input = refl;
-        quiet = (tt, (tt, tt));
-        same_sizes = ap (λ (s : StoreState). sizes_in s.regions) new.2;
-        same_classes = ap (λ (s : StoreState). s.classes) new.2;
+        same_pages = ap (λ (s : StoreState). s.pages) new.2;
+        related = subst (objects.Related t (silent w)) (sym new.2) (start-related source [] pages new.0 new.1 some_page few_pages);
+        globals = refl;
+        variables = (refl, tt);
         few_pages = omega (arith, new_demand pages store new, some_page);
         fits = omega (arith, some_call);
       }) (
         length w.objects,
         omega arith,
-        no_locals_hold _ w.objects (length w.objects) (length w.objects) slots,
+        no_locals_hold t _ w.objects (length w.objects) (length w.objects) slots,
         globals_many source.globals,
-        λ number v few has. globals_start source.globals number v well_typed has,
+        λ number few. (globals_rows source.globals number few, λ v has. globals_start t source.globals number v well_typed has),
       )
       tt (λ m end. (_, end, tt))
 
@@ -150,16 +181,19 @@ module _ (source : Program) (pages calls : ℕ) (well_typed : AreWellTypedGlobal
         is,
       )
 
-  follows_source : (store : StoreState) (input : List ℕ) → IsNew pages store → 1 ≤ pages → 1 ≤ calls → FollowsSource source (lower_program source) pages calls store input
-  follows_source store input new some_page some_call never =
+  follows_source : (store : StoreState) (input : List ℕ) → IsNew pages store → 1 ≤ pages → pages ≤ MOST_PAGES → 1 ≤ calls → AllByRecursion (λ b. b < 256) input → FollowsSource source (lower_program source) pages calls store input
+  follows_source store input new some_page few_pages some_call bytes never =
       let (h, starts, there) = from_start (slice_get source.functions source.main) input refl some_call (never 0 (start source input) refl) in
-      simulates (above source pages calls) (below source pages calls) (matching source pages calls) steps (lawful (lower_program source) pages calls) [] (start source input) never
+      simulates (above source pages calls) (below source pages calls) matching_words steps (lawful (lower_program source) pages calls) [] (start source input) never
       (plain_step.start (lower_program source) store input)
       (ap (λ s. status_in (status_of s)) starts)
-      (subst (λ s. Matches source pages calls s (plain_step.start (lower_program source) store input)) (sym starts) (start_related h store input there new some_page some_call))
+      (
+        subst (λ s. Matches source pages calls s (plain_step.start (lower_program source) store input)) (sym starts) (start_related h store input there new some_page few_pages some_call),
+        words_at_start (lower_program source) store input of_words (subst (λ (s : StoreState). stores.AreWords s.memory) (sym new.2) new.1) bytes,
+      )
 
 -- The lowered program of one that fits does what that does.
-pub follows : (source : Program) → IsFitting source → (pages calls : ℕ) (store : StoreState) (input : List ℕ) → IsNew pages store → 1 ≤ pages → 1 ≤ calls
+pub follows : (source : Program) → IsFitting source → HasWords (lower_program source) → (pages calls : ℕ) (store : StoreState) (input : List ℕ) → IsNew pages store → 1 ≤ pages → pages ≤ MOST_PAGES → 1 ≤ calls → AllByRecursion (λ b. b < 256) input
     → FollowsSource source (lower_program source) pages calls store input
-follows source fitting pages calls store input new some_page some_call =
-    follows_source source pages calls fitting.globals (functions_stand source pages calls fitting) store input new some_page some_call
+follows source fitting of_words pages calls store input new some_page few_pages some_call bytes =
+    follows_source source pages calls fitting.globals (functions_stand source pages calls fitting) of_words store input new some_page few_pages some_call bytes

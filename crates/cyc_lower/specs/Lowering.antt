@@ -19,6 +19,7 @@ use Rattle.cyc_types.specs.declared.typed.PointerOperator.TheVariants as pointer
 use Rattle.cyc_types.specs.declared.typed.LogicalOperator.{LogicalOperator}
 use Rattle.cyc_types.specs.declared.typed.LogicalOperator.TheVariants as logical
 use Rattle.cyc_types.specs.Types.{Ty, words_of}
+use Rattle.cyc_types.specs.Numbered.{argument_count}
 use Rattle.cyc_types.specs.TypedTrees.{Load, New, OnHeap, Initial, Plain, Fields, Dereference, Target, Lvalue, Local, Global, Expression, Number, NullPointer, Copy, Call, Unary, Binary, Assign, Converted, Convert, Arguments, NoArguments, MoreArguments, Operations, NoOperations, ThenCompute, ThenTest, ThenPointer, ThenPointerPeek, Statement, Block, Empty, Evaluate, If, While, Return, Break, Continue, Items, NoItems, MoreItems, Execute, Declare, Constant, Word, Null, GlobalVariable, StructType, Function, Program}
 use Rattle.cyc_plain.specs.declared.instruction.UnaryOperator.{UnaryOperator as PlainUnary}
 use Rattle.cyc_plain.specs.declared.instruction.UnaryOperator.TheVariants as plain_unary
@@ -392,10 +393,10 @@ module _ (starts : Starts) where
         ∷ []
     dereference_code x p d t = instructions.Move d (operands.Word 0) ∷ []
 
-    -- a new object in the region of this handle
+    -- A new object in the region of this handle. Each of its cells has one word yet.
     pub made_code : Initial → (handle p d t : ℕ) → List Instruction
-    made_code (Plain kind a) handle p d t = expression_code a p t t ++ object_code handle (words_of_kind kind) d t
-    made_code (Fields cs) handle p d t = arguments_code cs p t ++ object_code handle (all_passed cs) d t
+    made_code (Plain kind a) handle p d t = expression_code a p t t ++ object_code handle 1 d t
+    made_code (Fields cs) handle p d t = arguments_code cs p t ++ object_code handle (argument_count cs) d t
     made_code i handle p d t = instructions.Move d (operands.Word 0) ∷ []
 
     -- each argument comes into the slots behind those of the one before

@@ -254,7 +254,8 @@ impl Emitter {
         }
     }
 
-    /// A new object in the region of a handle: its values come to slots, it is made of them, and its address comes to a slot.
+    /// A new object in the region of a handle: its values come to slots, it is made of them, and its address comes to a
+    /// slot. Each of its cells has one word yet.
     #[cycle(expression)]
     fn lower_object(
         &mut self,
@@ -268,13 +269,13 @@ impl Emitter {
         ensures { Appends result self.old self.new (made_code (view_starts starts.now) (view_initial initial.now) handle (length self.old.code.items) slot free) }
     {
         match initial {
-            Initial::Plain { kind, value } => {
+            Initial::Plain { value, .. } => {
                 self.lower_expression(starts, value, free, free)?;
-                self.make_object(handle, words_of_kind(*kind), slot, free)
+                self.make_object(handle, 1, slot, free)
             }
             Initial::Fields { values } => {
-                let count = self.lower_arguments(starts, values, free)?;
-                self.make_object(handle, count, slot, free)
+                self.lower_arguments(starts, values, free)?;
+                self.make_object(handle, values.len(), slot, free)
             }
             Initial::Array { .. } => self.emit_missing(slot),
         }
