@@ -24,18 +24,18 @@ use Rattle.cyc_types.proofs.WeightLemmas.{declarations_counted}
 use Rattle.cyc_types.proofs.BuiltLemmas.{built_numbered}
 use Rattle.cyc_types.proofs.typing.ProgramLemmas.{program_well}
 use Rattle.cyc_types.proofs.typing.WeightLemmas.{program_lighter}
-use Rattle.cyc_lower.proofs.LowerableLemmas.{AreNarrow, lowerable_program}
+use Rattle.cyc_lower.proofs.LowerableLemmas.{lowerable_program}
 use Rattle.cyc_lower.specs.Lowered.{CanBeLowered}
 use Rattle.cyc_lower.proofs.TreeConstants.{IsOfWordsTerminal, AreOfWordsSymbols, tree_constants}
 use Rattle.cyc_lower.proofs.TypedConstants.{typed_constants}
 
-pub can_be_lowered : AreNarrow → (texts : List (List ℕ)) (symbols : List Symbol) (tree : List Declaration) (p : Program)
+pub can_be_lowered : (texts : List (List ℕ)) (symbols : List Symbol) (tree : List Declaration) (p : Program)
     → HasTree symbols tree → AreOfWordsSymbols symbols → tree_weight tree ≤ max_tokens → IsTypedProgram texts tree p → is_built p ≡ true → CanBeLowered p
-can_be_lowered are_narrow texts symbols tree p has words light typed built =
+can_be_lowered texts symbols tree p has words light typed built =
     let fewer : program_weight p ≤ tree_weight tree = program_lighter texts tree p typed in
     let counted : 3 * length p.globals + 6 * length p.functions ≤ program_weight p = declarations_counted p in
     record {
-      lowerable = lowerable_program are_narrow p (built_numbered p (program_well texts tree p typed) built);
+      lowerable = lowerable_program p (built_numbered p (program_well texts tree p typed) built);
       of_words = typed_constants texts tree p typed built (tree_constants symbols tree has words);
       few_globals = omega arith;
     }
@@ -113,9 +113,9 @@ pub text_constants : (text : List ℕ) (tokens : List Token) → HasTokens text 
 text_constants text tokens (parts, cut, e) within =
     symbol_constants (distinct_texts (texts_in tokens)) tokens (recursion_from_All (λ t. IsSmall t.kind) tokens within.numbers) (subst AreByteTokens e (cut_bytes [] parts text [] cut))
 
-pub accepted_can_be_lowered : AreNarrow → (texts : List (List ℕ)) (text : List ℕ) (tokens : List Token) (tree : List Declaration) (p : Program)
+pub accepted_can_be_lowered : (texts : List (List ℕ)) (text : List ℕ) (tokens : List Token) (tree : List Declaration) (p : Program)
     → HasTokens text tokens → IsWithinLimits tokens → HasTree (symbols_of tokens) tree → IsTypedProgram texts tree p → is_built p ≡ true → CanBeLowered p
-accepted_can_be_lowered are_narrow texts text tokens tree p rule within has typed built =
+accepted_can_be_lowered texts text tokens tree p rule within has typed built =
     let weight : tree_weight tree ≡ length (symbols_of tokens) = tree_weight-length (symbols_of tokens) tree has in
     let same : length (symbols_of tokens) ≡ length tokens = length-map tokens (symbol_of (distinct_texts (texts_in tokens))) in
-    can_be_lowered are_narrow texts (symbols_of tokens) tree p has (text_constants text tokens rule within) (omega (arith, within.count)) typed built
+    can_be_lowered texts (symbols_of tokens) tree p has (text_constants text tokens rule within) (omega (arith, within.count)) typed built

@@ -10,7 +10,7 @@ use Rattle.cyc_types.specs.declared.typed.UnaryOperator.TheVariants as unary
 use Rattle.cyc_types.specs.declared.typed.Operator.{Operator}
 use Rattle.cyc_types.specs.declared.typed.Operator.TheVariants as operators
 use Rattle.cyc_types.specs.Types.{Ty, words_of}
-use Rattle.cyc_types.specs.TypedTrees.{Load, New, OnHeap, AsUnique, ByHandle, Initial, Plain, Fields, Dereference, Target, Lvalue, Local, Global, Expression, Number, NullPointer, Copy, Call, Unary, Binary, Assign, Converted, Convert, Arguments, NoArguments, MoreArguments, Operations, NoOperations, ThenCompute, ThenTest, ThenPointer, Statement, Block, Empty, Evaluate, If, While, Return, Break, Continue, Items, NoItems, MoreItems, Execute, Declare, Signature, StructType, Function, Program}
+use Rattle.cyc_types.specs.TypedTrees.{Load, New, OnHeap, AsUnique, ByHandle, Initial, Plain, Fields, Dereference, Target, Lvalue, Local, Global, Expression, Number, NullPointer, Copy, Call, Unary, Binary, Assign, Converted, Convert, Arguments, NoArguments, MoreArguments, Operations, NoOperations, ThenCompute, ThenTest, ThenPointer, Statement, Block, Empty, Evaluate, If, While, Return, Break, Continue, Items, NoItems, MoreItems, Execute, Declare, Signature, StructType, Function, Program, Move, Peek, ThenPointerPeek, type_of}
 use Rattle.cyc_types.specs.Numbered.{Numbering, argument_count, numbering_of, signatures_of}
 use Rattle.cyc_plain.specs.declared.instruction.Comparison.{Comparison}
 use Rattle.cyc_plain.specs.declared.instruction.Operand.{Operand}
@@ -22,9 +22,9 @@ use Rattle.cyc_plain.specs.Straight.{At, HasAt}
 use Rattle.cyc_plain.proofs.Straight.{has_front, has_back, has_whole}
 use Rattle.cyc_store.specs.declared.range.TheConstants.{MOST_BLOCK_WORDS, HEAP}
 use Rattle.cyc_meaning.specs.Values.{kind_of, words_of_kind}
-use Rattle.cyc_meaning.specs.FrameCount.{words_of_all}
+use Rattle.cyc_meaning.specs.FrameCount.{words_of_all, operand_words}
 use Rattle.cyc_lower.specs.Slots.{Types, starts_of, slot_of}
-use Rattle.cyc_lower.specs.Lowering.{stores_code, object_code, made_code, types_of, are_as_wide, converts_there, passed_words, source_of, source_slot, moved_by, move_of, pointer_instruction, operand_of, operand_or, code_unless, slot_or, code_unless_slot, left_with, left_of, value_slot, next_slot, slot_with, left_slot, value_operand, converted_operand, printed_operand, jump_if_nonzero, check_code, conversion_code, divisor_code, checked_code, operator_code, truth_code, load_code, low_byte, test_code, is_in, copy_code, expression_code, arguments_code, converted_code, converted_operand_code, printed_code, dereference_code, initial_code, assignment_code, assigned_operand, operations_code, discarded_code, failing_comparison, compared_or, compared_of, first_operand, first_code, second_code, pair_code, condition_code, condition_of, failing_jump, break_target, continue_target, return_code, declaration_code, statement_code, items_code, function_code, first_temporary, results_of, lower_function, lower_program}
+use Rattle.cyc_lower.specs.Lowering.{stores_code, object_code, made_code, types_of, are_as_wide, converts_there, passed_words, source_of, source_slot, moved_by, move_of, pointer_instruction, operand_of, operand_or, code_unless, slot_or, code_unless_slot, left_with, left_of, value_slot, next_slot, slot_with, left_slot, value_operand, converted_operand, printed_operand, jump_if_nonzero, check_code, conversion_code, divisor_code, checked_code, operator_code, truth_code, load_code, low_byte, test_code, is_in, copy_code, expression_code, arguments_code, converted_code, converted_operand_code, printed_code, dereference_code, initial_code, assignment_code, assigned_operand, operations_code, discarded_code, failing_comparison, compared_or, compared_of, first_operand, first_code, second_code, pair_code, condition_code, condition_of, failing_jump, break_target, continue_target, return_code, declaration_code, statement_code, items_code, function_code, first_temporary, results_of, lower_function, lower_program, behind_left, pointer_code}
 use Rattle.cyc_lower.proofs.Stands.{OperandBy, CheckAt, ConversionBy, ConversionAt, DivisorAt, CheckedAt, OperatorAt, StoresAt, ObjectAt, MadeAt, LoadAt, CopyBy, ExpressionAt, InitialAt, InitialBy, ConvertedAt, ConvertedOperandAt, PrintedAt, ArgumentsAt, OperationsAt, PairAt, ConditionAt, AssignmentAt, DiscardedAt, ReturnedAt, ReturnAt, DeclarationAt, StatementAt, ItemsAt}
 use Rattle.cyc_lower.proofs.Widths.{kind_of_result, given, passed_kind, type_words}
 use Rattle.cyc_lower.proofs.Fitting.{FitsPlace, FitsStored, FitsCell, FitsObject, Fits, FitsConverted, FitArguments, FitOperations, FitsReturn, FitsInitial, FitsStatement, FitItems, AreFitting, IsFitting}
@@ -162,6 +162,8 @@ module _ (code : List Instruction) (b : Numbering) (types : Types) where
     expression_stands (Number n) d t p q numbered end (here, none) = (here, end)
     expression_stands NullPointer d t p q numbered end (here, none) = (here, end)
     expression_stands (Copy l ty) d t p q numbered end has = load_stands l (kind_of ty) (words_of ty) d p q numbered end has
+    expression_stands (Move w n ty) d t p q numbered end has = load_stands (Local w n) (kind_of ty) (words_of ty) d p q numbered end has
+    expression_stands (Peek w n ty) d t p q numbered end has = load_stands (Local w n) (kind_of ty) (words_of ty) d p q numbered end has
     expression_stands (Call callees.Putchar cs ty) d t p q (s, signature, many, passed, result, numbered) end has =
         let front = printed_code (starts_of types) cs p t in
         let (write, (low, none)) = has_back code p front _ has in
@@ -188,7 +190,7 @@ module _ (code : List Instruction) (b : Numbering) (types : Types) where
         let m = p + length front in
         let l = operand_or (left_of (starts_of types) a os) (left_slot (starts_of types) a os d t) in
         let back = operations_code (starts_of types) os m l d t in
-        (l, m, operand_by (left_of (starts_of types) a os) _ inner (left_slot (starts_of types) a os d t) p m refl (has_front code p front back has) (λ e h. expression_stands a (left_slot (starts_of types) a os d t) t p m numbered e h), operations_stand os l d t m q rest (first_left a os d t) (cut p q front back end) (has_back code p front back has))
+        (l, m, operand_by (left_of (starts_of types) a os) _ inner (left_slot (starts_of types) a os d t) p m refl (has_front code p front back has) (λ e h. expression_stands a (left_slot (starts_of types) a os d t) t p m numbered e h), operations_stand os l d t m q (operand_words (type_of a)) ty rest (first_left a os d t) (cut p q front back end) (has_back code p front back has))
     expression_stands (Assign (Local w n) c ty) d t p q ((few, room), numbered) end has =
         let o = operands.Slot (slot_of (starts_of types) n) in
         let front = initial_code (starts_of types) c p (slot_of (starts_of types) n) t in
@@ -294,9 +296,9 @@ module _ (code : List Instruction) (b : Numbering) (types : Types) where
         let back = arguments_code (starts_of types) cs (p + length front) (t + passed_words c) in
         (p + length front, converted_stands c t p (p + length front) numbered refl (has_front code p front back has), arguments_stand cs (t + passed_words c) (p + length front) q rest (cut p q front back end) (has_back code p front back has))
 
-    operations_stand : (os : Operations) (l : Operand) (d t p q : ℕ) → FitOperations b types os → IsLeft os l d t → p + length (operations_code (starts_of types) os p l d t) ≡ q → HasAt code p (operations_code (starts_of types) os p l d t) → OperationsAt code b types os l d t p q
-    operations_stand NoOperations l d t p q numbered left end has = (left, omega (arith, end))
-    operations_stand (ThenCompute o a os) l d t p q (numbered, rest) left end has =
+    operations_stand : (os : Operations) (l : Operand) (d t p q left : ℕ) (ty : Ty) → FitOperations b types left ty os → IsLeft os l d t → p + length (operations_code (starts_of types) os p l d t) ≡ q → HasAt code p (operations_code (starts_of types) os p l d t) → OperationsAt code b types os l d t p q
+    operations_stand NoOperations l d t p q words ty numbered left end has = (left, omega (arith, end))
+    operations_stand (ThenCompute o a os) l d t p q words ty (numbered, rest) left end has =
         let inner = expression_code (starts_of types) a p (value_slot (starts_of types) a (suc t)) (suc t) in
         let operand = code_unless (operand_of (starts_of types) a) inner in
         let r = value_operand (starts_of types) a (suc t) in
@@ -311,9 +313,9 @@ module _ (code : List Instruction) (b : Numbering) (types : Types) where
           s,
           right_by (operand_of (starts_of types) a) (l ≡ operands.Slot t) _ inner (value_slot (starts_of types) a (suc t)) p m left refl (has_front code p operand operator front_has) (λ e h. expression_stands a (value_slot (starts_of types) a (suc t)) (suc t) p m numbered e h),
           operator_stands o l r next m s (cut p s operand operator refl) (has_back code p operand operator front_has),
-          operations_stand os (operands.Slot next) d t s q rest (next_left os d t) (cut p q (operand ++ operator) back end) (has_back code p (operand ++ operator) back has),
+          operations_stand os (operands.Slot next) d t s q (words_of ty) ty rest (next_left os d t) (cut p q (operand ++ operator) back end) (has_back code p (operand ++ operator) back has),
         )
-    operations_stand (ThenTest o a os) l d t p q (numbered, rest) left end has =
+    operations_stand (ThenTest o a os) l d t p q words ty (numbered, rest) left end has =
         let operand = expression_code (starts_of types) a (p + 1) t t in
         let next = next_slot os d t in
         let front = test_code o operand p next t in
@@ -327,12 +329,46 @@ module _ (code : List Instruction) (b : Numbering) (types : Types) where
           jump,
           expression_stands a t t (p + 1) (p + 1 + length operand) numbered refl (has_front code (p + 1) operand (truth_code t next) inner),
           (first, second, omega (arith, long)),
-          operations_stand os (operands.Slot next) d t (p + length front) q rest (next_left os d t) (cut p q front back end) (has_back code p front back has),
+          operations_stand os (operands.Slot next) d t (p + length front) q (words_of ty) ty rest (next_left os d t) (cut p q front back end) (has_back code p front back has),
         )
-    operations_stand (ThenPointer o NullPointer os) l d t p q (test, rest) left end (here, has) =
+    operations_stand (ThenPointer o a os) l d t p q words ty (test, wide, numbered, rest) left end has =
+        let inner = expression_code (starts_of types) a p (value_slot (starts_of types) a (behind_left o t)) (behind_left o t) in
         let next = next_slot os d t in
-        (left, test, subst (λ x. At code p (pointer_instruction o x next)) left here, operations_stand os (operands.Slot next) d t (p + 1) q rest (next_left os d t) (omega (arith, end)) has)
-    operations_stand os l d t p q numbered is end has = absurd numbered
+        let r = value_operand (starts_of types) a (behind_left o t) in
+        let front = code_unless (operand_of (starts_of types) a) inner in
+        let m = p + length front in
+        let both = pointer_code o l r front next in
+        let back = operations_code (starts_of types) os (p + length both) (operands.Slot next) d t in
+        let (here, none) = has_back code p front _ (has_front code p both back has) in
+        let long : p + length both ≡ m + 1 = sym (cut p (p + length both) front (pointer_instruction o l r next ∷ []) refl) in (
+          r,
+          m,
+          left,
+          test,
+          operand_by (operand_of (starts_of types) a) _ inner (value_slot (starts_of types) a (behind_left o t)) p m refl (has_front code p front _ (has_front code p both back has)) (λ e h. expression_stands a (value_slot (starts_of types) a (behind_left o t)) (behind_left o t) p m numbered e h),
+          subst (λ x. At code m (pointer_instruction o x r next)) left here,
+          subst (λ n. OperationsAt code b types os (operands.Slot next) d t n q) long
+              (operations_stand os (operands.Slot next) d t (p + length both) q (words_of ty) ty rest (next_left os d t) (cut p q both back end) (has_back code p both back has)),
+        )
+    operations_stand (ThenPointerPeek n o a os) l d t p q words ty (test, wide, numbered, rest) left end has =
+        let inner = expression_code (starts_of types) a p (value_slot (starts_of types) a (behind_left o t)) (behind_left o t) in
+        let next = next_slot os d t in
+        let r = value_operand (starts_of types) a (behind_left o t) in
+        let front = code_unless (operand_of (starts_of types) a) inner in
+        let m = p + length front in
+        let both = pointer_code o l r front next in
+        let back = operations_code (starts_of types) os (p + length both) (operands.Slot next) d t in
+        let (here, none) = has_back code p front _ (has_front code p both back has) in
+        let long : p + length both ≡ m + 1 = sym (cut p (p + length both) front (pointer_instruction o l r next ∷ []) refl) in (
+          r,
+          m,
+          left,
+          test,
+          operand_by (operand_of (starts_of types) a) _ inner (value_slot (starts_of types) a (behind_left o t)) p m refl (has_front code p front _ (has_front code p both back has)) (λ e h. expression_stands a (value_slot (starts_of types) a (behind_left o t)) (behind_left o t) p m numbered e h),
+          subst (λ x. At code m (pointer_instruction o x r next)) left here,
+          subst (λ n. OperationsAt code b types os (operands.Slot next) d t n q) long
+              (operations_stand os (operands.Slot next) d t (p + length both) q (words_of ty) ty rest (next_left os d t) (cut p q both back end) (has_back code p both back has)),
+        )
 
   assignment_stands : (l : Lvalue) (c : Converted) (t p q : ℕ) → FitsStored b types l (passed_kind c) → FitsConverted b types c → p + length (assignment_code (starts_of types) l c p t) ≡ q → HasAt code p (assignment_code (starts_of types) l c p t) → AssignmentAt code b types l c (assigned_operand (starts_of types) l c t) t p q
   assignment_stands (Local w n) c t p q (few, room) numbered end has = (refl, room, initial_stands c (slot_of (starts_of types) n) t p q numbered end has)

@@ -6,6 +6,7 @@ use Rattle.std.proofs.lemmas.List.{reverse-append}
 use Rattle.std.proofs.lemmas.Option.{same_Some, none-some}
 use Rattle.cyc_types.specs.TypedTrees.{Program}
 use Rattle.cyc_plain.specs.State.{Words, put, copied, Frame}
+use Rattle.cyc_plain.specs.Step.{operand_word}
 use Rattle.cyc_plain.proofs.SlotLaws.{put-same, put-other, copied-inside}
 use Rattle.cyc_types.specs.declared.typed.Kind.{Kind}
 use Rattle.cyc_types.specs.declared.typed.Kind.TheVariants as kinds
@@ -108,6 +109,11 @@ module _ (t : Tables) where
   IsWord-is kinds.Handle (Handle region) word words p same is = is ∙ ap (λ x. Some (Some x)) (sym same)
   IsWord-is kinds.Key (Key region) word words p same is = is ∙ ap (λ x. Some (Some x)) (sym same)
   IsWord-is kind v word words p same is = absurd is
+
+  -- the words of an operand, which are a value
+  pub in_words : (v : Operand) (slots : Words) (o : Place) → IsIn t v slots o → (words : Words) × (p : ℕ) × (words p ≡ operand_word slots o) × Is t v.kind v.value words p
+  in_words v slots (operands.Slot n) is = (slots, n, refl, is)
+  in_words v slots (operands.Word w) is = ((λ (i : ℕ). w), 0, refl, IsWord-is v.kind v.value w (λ (i : ℕ). w) 0 refl is)
 
   -- a value of one word is told by it
   pub one_word : (kind : Kind) (v : Value) (words : Words) (p : ℕ) → words_of_kind kind ≡ 1 → Is t kind v words p → IsWord t kind v (words p)

@@ -9,8 +9,8 @@ use Rattle.cyc_types.specs.declared.typed.Kind.{Kind}
 use Rattle.cyc_types.specs.declared.typed.Kind.TheVariants as kinds
 use Rattle.cyc_types.specs.declared.typed.UnaryOperator.TheVariants as unary
 use Rattle.cyc_types.specs.declared.typed.Operator.{Operator}
-use Rattle.cyc_types.specs.Types.{Ty, ValueType}
-use Rattle.cyc_types.specs.TypedTrees.{type_of_place, Dereference, Target, Lvalue, Local, Global, Expression, Number, Copy, Call, Unary, Binary, Assign, Converted, Convert, Arguments, NoArguments, MoreArguments, Operations, NoOperations, ThenCompute, ThenTest, ThenPointer, Function, Program}
+use Rattle.cyc_types.specs.Types.{Ty, ValueType, words_of}
+use Rattle.cyc_types.specs.TypedTrees.{type_of_place, Dereference, Target, Lvalue, Local, Global, Expression, Number, Copy, Call, Unary, Binary, Assign, Converted, Convert, Arguments, NoArguments, MoreArguments, Operations, NoOperations, ThenCompute, ThenTest, ThenPointer, Function, Program, ThenPointerPeek}
 use Rattle.cyc_types.specs.TypedTrees as typed
 use Rattle.cyc_plain.specs.declared.instruction.Comparison.{Comparison}
 use Rattle.cyc_plain.specs.declared.instruction.Comparison.TheVariants as comparisons
@@ -26,7 +26,7 @@ use Rattle.cyc_meaning.specs.Values.{Int, Null, Thin, Operand as Kinded, kind_of
 use Rattle.cyc_store.specs.declared.range.TheConstants.{HEAP}
 use Rattle.cyc_meaning.specs.SourceMachine.{status_in}
 use Rattle.cyc_meaning.specs.State.{status_of, InRegion, World, heap_number, Environment, ConvertTo, Operate, Chain, Apply, Store, Pass, MakePlain, MakeFields, Choose, Test, Follow, LoadFrom, Entry, Needs, NeedsPlace, Discard, Focus, Evaluating, Locating, Given, Running}
-use Rattle.cyc_meaning.specs.Step.{target_of, target_by, object_of, assigned, passes, step}
+use Rattle.cyc_meaning.specs.Step.{target_of, target_by, object_of, assigned, passes, step, loaded_from}
 use Rattle.cyc_lower.specs.Slots.{slot_of}
 use Rattle.cyc_lower.proofs.Slots.{slot-room}
 use Rattle.cyc_lower.proofs.Widths.{kind_positive, type_words, HasRoom, Outside}
@@ -115,6 +115,22 @@ module _ (source : Program) (pages calls : ℕ) where
     pub same : value.kind ≡ given_at source c.active.function a
     pub some : expression_weight a ≡ 1
 
+  -- such as that of a local
+  reads_local : (tables : Tables) (a : Expression) (n : ℕ) (t : Ty) (o : Operand) (k : List Entry) (e : Environment) (w : World) (c : Configuration)
+      → step source (Running (Evaluating a) k e w) ≡ loaded_from (kind_of t) (e.locals n) k e w → kind_of t ≡ given_at source c.active.function a → expression_weight a ≡ 1
+      → Some (operands.Slot (slot_of (starts_at source c.active.function) n)) ≡ Some o → IsWell (loaded_from (kind_of t) (e.locals n) k e w)
+      → DataIn source tables c.active.slots k e w c → IsRead tables a o k e w c
+  reads_local tables a n t o k e w c does same some known well (low, below, hold, waiting, words) =
+      let found = is_loaded (kind_of t) (e.locals n) k e w well in
+      let v : Kinded = record { kind = kind_of t; value = found.value } in
+      record {
+        value = v;
+        gives = does ∙ found.gives;
+        is = subst (IsIn tables v c.active.slots) (same_Some (operands.Slot (slot_of (starts_at source c.active.function) n)) o known) (hold.holds n found.number v found.there found.has).0;
+        same = same;
+        some = some;
+      }
+
   pub reads : (tables : Tables) (a : Expression) (o : Operand) (k : List Entry) (e : Environment) (w : World) (c : Configuration) → operand_of (starts_at source c.active.function) a ≡ Some o → IsWell (step source (Running (Evaluating a) k e w))
       → DataIn source tables c.active.slots k e w c → IsRead tables a o k e w c
   reads tables (Number n) o k e w c known well facts =
@@ -133,16 +149,9 @@ module _ (source : Program) (pages calls : ℕ) where
         same = refl;
         some = refl;
       }
-  reads tables (Copy (Local p n) t) o k e w c known well (low, below, hold, waiting, words) =
-      let found = is_loaded (kind_of t) (e.locals n) k e w well in
-      record {
-        value = record { kind = kind_of t; value = found.value };
-        gives = found.gives;
-        is = subst (IsIn tables (record { kind = kind_of t; value = found.value }) c.active.slots) (same_Some (operands.Slot (slot_of (starts_at source c.active.function) n)) o known)
-            (hold.holds n found.number (record { kind = kind_of t; value = found.value }) found.there found.has).0;
-        same = refl;
-        some = refl;
-      }
+  reads tables (Copy (Local p n) t) o k e w c known well facts = reads_local tables (Copy (Local p n) t) n t o k e w c refl refl refl known well facts
+  reads tables (typed.Move p n t) o k e w c known well facts = reads_local tables (typed.Move p n t) n t o k e w c refl refl refl known well facts
+  reads tables (typed.Peek p n t) o k e w c known well facts = reads_local tables (typed.Peek p n t) n t o k e w c refl refl refl known well facts
   reads tables a o k e w c known well facts = absurd (none-some o known)
 
   -- ---- calls
@@ -306,6 +315,20 @@ module _ (source : Program) (pages calls : ℕ) where
       (shared, facts, into_slot (top source g k) m at holds (in_temporary (omega arith) (subst (λ x. ValueStack source g e.locals (given_at source g a) x m c.frames (Needs (Chain os) ∷ k)) is stack)))
       (omega arith)
 
+  -- the value of a local is moved
+  comes_from : (a : Expression) (n : ℕ) (t : Ty) (k : List Entry) (e : Environment) (w : World) (c : Configuration) (d q : ℕ)
+      → step source (Running (Evaluating a) k e w) ≡ loaded_from (kind_of t) (e.locals n) k e w → IsWell (loaded_from (kind_of t) (e.locals n) k e w)
+      → (shared : SharedAt source pages calls k e w c) → DataIn source shared.tables c.active.slots k e w c → Holds shared.tables c.active.slots (base_of source c.active.function) (held k)
+      → CodeAt (code_of source c.active.function) c.active.next (move_of (words_of t) d (operands.Slot (slot_of (starts_at source c.active.function) n))) → c.active.next + 1 ≡ q
+      → LandsStack source c.active.function e.locals (kind_of t) d q c.frames k → IsBegun a k e w c
+  comes_from a n t k e w c d q does well shared facts holds at end lands =
+      let g = c.active.function in
+      let found = is_loaded (kind_of t) (e.locals n) k e w well in
+      let v : Kinded = record { kind = kind_of t; value = found.value } in
+      let o = operands.Slot (slot_of (starts_at source g) n) in
+      by_one source pages calls (does ∙ found.gives) shared (subst (λ x. CodeAt (code_of source g) c.active.next (move_of x d o)) (sym (type_words t)) at)
+      (λ choice. landed_moved v o d k e w c q choice shared (facts.2.holds n found.number v found.there found.has).0 facts holds end lands)
+
   comes : (a : Expression) (k : List Entry) (e : Environment) (w : World) (c : Configuration) (d q : ℕ) → At_step a k e w c
       → ExpressionAt (code_of source c.active.function) (bounds_at source c.active.function) (types_at source c.active.function) a d (top source c.active.function k) c.active.next q
       → LandsStack source c.active.function e.locals (given_at source c.active.function a) d q c.frames k → IsBegun a k e w c
@@ -314,13 +337,9 @@ module _ (source : Program) (pages calls : ℕ) where
   comes typed.NullPointer k e w c d q (well, shared, facts, holds) (at, end) lands =
       let v : Kinded = record { kind = kinds.Nullable; value = Null } in
       by_one source pages calls refl shared at (λ choice. landed_moved v (operands.Word 0) d k e w c q choice shared refl facts holds end lands)
-  comes (Copy (Local p n) t) k e w c d q (well, shared, facts, holds) (at, end) lands =
-      let g = c.active.function in
-      let found = is_loaded (kind_of t) (e.locals n) k e w well in
-      let v : Kinded = record { kind = kind_of t; value = found.value } in
-      let o = operands.Slot (slot_of (starts_at source g) n) in
-      by_one source pages calls found.gives shared (subst (λ x. CodeAt (code_of source g) c.active.next (move_of x d o)) (sym (type_words t)) at)
-      (λ choice. landed_moved v o d k e w c q choice shared (facts.2.holds n found.number v found.there found.has).0 facts holds end lands)
+  comes (Copy (Local p n) t) k e w c d q (well, shared, facts, holds) (at, end) lands = comes_from (Copy (Local p n) t) n t k e w c d q refl well shared facts holds at end lands
+  comes (typed.Move p n t) k e w c d q (well, shared, facts, holds) (at, end) lands = comes_from (typed.Move p n t) n t k e w c d q refl well shared facts holds at end lands
+  comes (typed.Peek p n t) k e w c d q (well, shared, facts, holds) (at, end) lands = comes_from (typed.Peek p n t) n t k e w c d q refl well shared facts holds at end lands
   comes (Copy (Global n) t) k e w c d q (well, shared, facts, holds) (few, at, end) lands =
       let found = is_loaded (kind_of t) (Some n) k e w well in
       let v : Kinded = record { kind = kind_of t; value = found.value } in
@@ -346,9 +365,9 @@ module _ (source : Program) (pages calls : ℕ) where
       chain_begins (operand_of (starts_at source c.active.function) b) a (ThenCompute o b os) t k e w c l m known at_a (to_slot (d, q, at, lands))
   comes (Binary a (ThenTest o b os) t) k e w c d q known (l, m, at_a, at) lands =
       chain_begins None a (ThenTest o b os) t k e w c l m known at_a (to_slot (d, q, at, lands))
-  comes (Binary a (ThenPointer o typed.NullPointer os) t) k e w c d q known (l, m, at_a, at) lands =
-      chain_begins None a (ThenPointer o typed.NullPointer os) t k e w c l m known at_a (to_slot (d, q, at, lands))
-  comes (Binary a os t) k e w c d q known (l, m, at_a, at) lands = absurd at
+  comes (Binary a (ThenPointer o b os) t) k e w c d q known (l, m, at_a, at) lands = chain_begins None a (ThenPointer o b os) t k e w c l m known at_a (to_slot (d, q, at, lands))
+  comes (Binary a (ThenPointerPeek n o b os) t) k e w c d q known (l, m, at_a, at) lands =
+      chain_begins None a (ThenPointerPeek n o b os) t k e w c l m known at_a (to_slot (d, q, at, lands))
   comes (Assign (Local p n) (Convert from to a) t) k e w c d q known (o, m, at, copy) lands = assigns (Local p n) from to a t k e w c (object_of e (Local p n)) o m refl known at (copies d q copy lands)
   comes (Assign (Global n) (Convert from to a) t) k e w c d q known (o, m, at, copy) lands = assigns (Global n) from to a t k e w c (object_of e (Global n)) o m refl known at (copies d q copy lands)
   comes (typed.Load x) k e w c d q (well, shared, facts, holds) (o, offset, r, at, single, load, end) lands =
@@ -399,6 +418,8 @@ module _ (source : Program) (pages calls : ℕ) where
   operand (Number n) k e w c o q known (is, end) stack = known_operand (Number n) o k e w c q (ap Some (sym is)) end known stack
   operand typed.NullPointer k e w c o q known (is, end) stack = known_operand typed.NullPointer o k e w c q (ap Some (sym is)) end known stack
   operand (Copy (Local p n) t) k e w c o q known (is, end) stack = known_operand (Copy (Local p n) t) o k e w c q (ap Some (sym is)) end known stack
+  operand (typed.Move p n t) k e w c o q known (is, end) stack = known_operand (typed.Move p n t) o k e w c q (ap Some (sym is)) end known stack
+  operand (typed.Peek p n t) k e w c o q known (is, end) stack = known_operand (typed.Peek p n t) o k e w c q (ap Some (sym is)) end known stack
   operand (Copy (Global n) t) k e w c o q known at stack = in_top (Copy (Global n) t) k e w c o q known at stack
   operand (Call f cs t) k e w c o q known at stack = in_top (Call f cs t) k e w c o q known at stack
   operand (Unary u a) k e w c o q known at stack = in_top (Unary u a) k e w c o q known at stack
@@ -430,8 +451,8 @@ module _ (source : Program) (pages calls : ℕ) where
   for_its_effect typed.NullPointer k e w c q known (o, at) stack = operand typed.NullPointer k e w c o q known at (dropped_value c.active.function e.locals (given_at source c.active.function typed.NullPointer) o q c.frames k stack)
   for_its_effect typed.HeapRegion k e w c q known (o, (is, at)) stack = absurd at
   for_its_effect (typed.Counter level) k e w c q known (o, (is, at)) stack = absurd at
-  for_its_effect (typed.Move p n t) k e w c q known (o, (is, at)) stack = absurd at
-  for_its_effect (typed.Peek p n t) k e w c q known (o, (is, at)) stack = absurd at
+  for_its_effect (typed.Move p n t) k e w c q known (o, at) stack = operand (typed.Move p n t) k e w c o q known at (dropped_value c.active.function e.locals (given_at source c.active.function (typed.Move p n t)) o q c.frames k stack)
+  for_its_effect (typed.Peek p n t) k e w c q known (o, at) stack = operand (typed.Peek p n t) k e w c o q known at (dropped_value c.active.function e.locals (given_at source c.active.function (typed.Peek p n t)) o q c.frames k stack)
   for_its_effect (typed.Load x) k e w c q known (o, at) stack = in_top (typed.Load x) k e w c o q known at (dropped_value c.active.function e.locals (given_at source c.active.function (typed.Load x)) o q c.frames k stack)
   for_its_effect (typed.AddressOf l t) k e w c q known (o, (is, at)) stack = absurd at
   for_its_effect (typed.AddressOfCell x t) k e w c q known (o, (is, at)) stack = absurd at

@@ -13,22 +13,22 @@ use Rattle.cyc_types.specs.declared.typed.Callee.TheVariants as callees
 use Rattle.cyc_types.specs.declared.typed.UnaryOperator.TheVariants as unary
 use Rattle.cyc_types.specs.declared.typed.PointerOperator.{PointerOperator}
 use Rattle.cyc_types.specs.declared.typed.PointerOperator.TheVariants as pointers
-use Rattle.cyc_types.specs.Types.{Ty, words_of, substituted_ty, ValueType, Void, Value, result_type}
+use Rattle.cyc_types.specs.Types.{Ty, words_of, words_of_mark, substituted_ty, ValueType, Void, Value, result_type}
 use Rattle.cyc_types.specs.Types as type_forms
-use Rattle.cyc_types.specs.TypedTrees.{Load, New, OnHeap, AsUnique, ByHandle, Initial, Plain, Fields, Array, Dereference, Target, Lvalue, Local, Global, Expression, Number, NullPointer, Copy, Peek, Call, Unary, Binary, Assign, Converted, Convert, Arguments, NoArguments, MoreArguments, Operations, NoOperations, ThenCompute, ThenTest, ThenPointer, Statement, Block, Empty, Evaluate, If, While, Return, Break, Continue, Items, NoItems, MoreItems, Execute, Declare, Signature, StructType, Function, Program}
+use Rattle.cyc_types.specs.TypedTrees.{Load, New, OnHeap, AsUnique, ByHandle, Initial, Plain, Fields, Array, Dereference, Target, Lvalue, Local, Global, Expression, Number, NullPointer, Copy, Peek, Call, Unary, Binary, Assign, Converted, Convert, Arguments, NoArguments, MoreArguments, Operations, NoOperations, ThenCompute, ThenTest, ThenPointer, Statement, Block, Empty, Evaluate, If, While, Return, Break, Continue, Items, NoItems, MoreItems, Execute, Declare, Signature, StructType, Function, Program, Store, Member, Element, type_of_place, type_of, HeapRegion, Counter, Move, AddressOf, AddressOfCell, NumberOfElements, FreeUnique, FreeKey, ThenPointerPeek}
 use Rattle.cyc_types.specs.typing.Scopes.{signature_of_ints}
 use Rattle.cyc_types.specs.typing.Tests as tests
 use Rattle.cyc_types.specs.typing.Expressions.{instantiated}
-use Rattle.cyc_types.specs.typing.WellTyped.{Context, PointerOperation, thin_null, thin_there, fat_null, fat_there, IsCallee, Converts, IsPeek, IsLeft, WellTyped, IsConverted, ArePassed, IsChain, IsCondition, IsReturned, IsInitial, WellTypedStatement, WellTypedItems, behind, in_block, in_body, with_local, body_context, AreWellTypedFunctions, AreWellTypedGlobals, IsWellTypedProgram}
+use Rattle.cyc_types.specs.typing.WellTyped.{Context, PointerOperation, adds, subtracts, equals, differs, thin_null, thin_there, fat_null, fat_there, null_is, null_is_not, IsCallee, Converts, IsPeek, WellTyped, IsCell, IsConverted, ArePassed, IsChain, IsCondition, IsReturned, IsInitial, WellTypedStatement, WellTypedItems, behind, in_block, in_body, with_local, body_context, AreWellTypedFunctions, AreWellTypedGlobals, IsWellTypedProgram}
 use Rattle.cyc_types.specs.Numbered.{Numbering, signatures_of, IsSignature, argument_count, numbering_of}
-use Rattle.cyc_lower.specs.Lowerable.{is_null_test, IsLowerable, IsLowerableConverted, AreLowerableArguments, AreLowerableOperations, IsLowerableReturn, IsLowerableInitial, IsLowerableStatement, AreLowerableItems, AreLowerableFunctions, IsLowerableProgram}
+use Rattle.cyc_lower.specs.Lowerable.{IsLowerable, IsLowerableConverted, AreLowerableArguments, AreLowerableOperations, IsLowerableReturn, IsLowerableInitial, IsLowerableStatement, AreLowerableItems, AreLowerableFunctions, IsLowerableProgram, is_comparison}
 use Rattle.cyc_store.specs.declared.range.TheConstants.{MOST_BLOCK_WORDS}
 use Rattle.cyc_meaning.specs.Values.{kind_of, is_thin, words_of_kind}
-use Rattle.cyc_meaning.specs.FrameCount.{result_words, words_of_all}
+use Rattle.cyc_meaning.specs.FrameCount.{result_words, words_of_all, operand_words}
 use Rattle.cyc_lower.specs.Slots.{Types}
-use Rattle.cyc_lower.specs.Lowering.{types_of, are_as_wide, passed_words, all_passed, results_of}
+use Rattle.cyc_lower.specs.Lowering.{types_of, are_as_wide, passed_words, all_passed, results_of, left_kind}
 use Rattle.cyc_lower.proofs.Widths.{kind_of_result, result_kind, called_kind, given, passed_kind, type_words, HasRoom}
-use Rattle.cyc_lower.proofs.Slots.{words-there}
+use Rattle.cyc_lower.proofs.Slots.{words-there, words_positive}
 
 -- ---- what is asked
 
@@ -47,11 +47,13 @@ module _ (b : Numbering) (types : Types) where
     Fits (Number n) = Unit {0}
     Fits NullPointer = Unit {0}
     Fits (Copy l t) = FitsPlace l (kind_of t)
+    Fits (Move p n t) = FitsPlace (Local p n) (kind_of t)
+    Fits (Peek p n t) = FitsPlace (Local p n) (kind_of t)
     Fits (Call f cs t) =
         (s : Signature) × IsSignature b f s × (argument_count cs ≡ length s.parameters) × (all_passed cs ≡ words_of_all s.parameters)
         × (results_of s.result ≤ result_words t) × FitArguments cs
     Fits (Unary o a) = Fits a
-    Fits (Binary a os t) = Fits a × FitOperations os
+    Fits (Binary a os t) = Fits a × FitOperations (operand_words (type_of a)) t os
     Fits (Assign l c t) = FitsStored l (passed_kind c) × FitsConverted c
     Fits (Load x) = FitsCell x
     Fits (New OnHeap i t) = FitsObject i
@@ -74,12 +76,13 @@ module _ (b : Numbering) (types : Types) where
     FitArguments NoArguments = Unit {0}
     FitArguments (MoreArguments c cs) = FitsConverted c × FitArguments cs
 
-    pub FitOperations : Operations → Type 0
-    FitOperations NoOperations = Unit {0}
-    FitOperations (ThenCompute o a os) = Fits a × FitOperations os
-    FitOperations (ThenTest o a os) = Fits a × FitOperations os
-    FitOperations (ThenPointer o NullPointer os) = (is_null_test o ≡ true) × FitOperations os
-    FitOperations os = ⊥
+    -- behind a left operand of so many words, in a chain of this type
+    pub FitOperations : (left : ℕ) → Ty → Operations → Type 0
+    FitOperations left t NoOperations = Unit {0}
+    FitOperations left t (ThenCompute o a os) = Fits a × FitOperations (words_of t) t os
+    FitOperations left t (ThenTest o a os) = Fits a × FitOperations (words_of t) t os
+    FitOperations left t (ThenPointer o a os) = (is_comparison o ≡ true) × (words_of_kind (left_kind o) ≤ left) × Fits a × FitOperations (words_of t) t os
+    FitOperations left t (ThenPointerPeek n o a os) = (is_comparison o ≡ true) × (words_of_kind (left_kind o) ≤ left) × Fits a × FitOperations (words_of t) t os
 
   abbrev pub FitsReturn : Option Ty → Option Converted → Type 0
   FitsReturn None None = Unit {0}
@@ -162,6 +165,57 @@ given_result : (m : List Region) (t : Option Ty) (u : ValueType) → u ≡ resul
 given_result m None u is = subst (IsGiven kinds.Int) (sym is) tt
 given_result m (Some t) u is = subst (IsGiven (kind_of t)) (sym is) (sym (kind_substituted m t))
 
+-- an expression has the type of what it gives
+cell_type : (x : Dereference) (c : Context) (t : Ty) (r : Region) → IsCell c x t r → type_of_place x ≡ t
+cell_type (Target k a u) c t r (m, well, live, kind, same) = sym same
+cell_type (Member k a n f u) c t r (m, rs, s, v, well, thin, live, kind, there, field, substituted, same) = sym same
+cell_type (Element a i u) c t r (well, index, live, same) = sym same
+
+type_given : (a : Expression) (c : Context) (v : ValueType) → WellTyped c a v ⊎ IsPeek c a v → type_of a ≡ v
+type_given (Number n) c v (inl is) = sym is
+type_given NullPointer c v (inl is) = sym is
+type_given HeapRegion c v (inl is) = sym is
+type_given (Counter l) c v (inl (few, is)) = sym is
+type_given (Copy l t) c v (inl (there, stays, is)) = sym is
+type_given (Move p n t) c v (inl (there, moved, is)) = sym is
+type_given (Peek p n t) c v (inl well) = absurd well
+type_given (Peek p n t) c v (inr (there, unique, is)) = sym is
+type_given (Load x) c v (inl (u, r, cell, flat, shared, is)) = ap Value (cell_type x c u r cell) ∙ sym is
+type_given (AddressOf l t) c v (inl (u, r, place, stays, same, is)) = sym is
+type_given (AddressOfCell x t) c v (inl (u, r, cell, stays, shared, same, is)) = sym is
+type_given (NumberOfElements a) c v (inl (u, r, well, is)) = sym is
+type_given (FreeUnique a) c v (inl (k, u, well, is)) = sym is
+type_given (FreeKey a) c v (inl (r, well, is)) = sym is
+type_given (Call f cs t) c v (inl (s, m, callee, long, regions, passed, live, outliving, same, is)) = sym is
+type_given (Unary o a) c v (inl (w, well, is)) = sym is
+type_given (Binary a os t) c v (inl (w, well, chain, is)) = sym is
+type_given (Assign l d t) c v (inl (u, r, place, converted, same, is)) = sym is
+type_given (Store x d t) c v (inl (u, r, cell, converted, same, is)) = sym is
+type_given (New w i t) c v (inl (k, u, r, placed, made, same, is)) = sym is
+type_given a c v (inr peek) = absurd peek
+
+fat_words : (k : PointerKind) → tests.is_thin_mark k ≡ false → 3 ≤ words_of_mark k
+fat_words marks.Fat is = omega arith
+fat_words marks.Nullable is = absurd (let f : true ≡ false = is in cc)
+fat_words marks.NonNull is = absurd (let f : true ≡ false = is in cc)
+
+-- no int is a left operand of these operators
+abbrev IsNoInt : ValueType → Type 0
+IsNoInt (Value type_forms.Int) = ⊥
+IsNoInt v = Unit {0}
+
+no_int_left : (c : Context) (o : PointerOperator) (left right result : ValueType) → PointerOperation c o left right result → IsNoInt left
+no_int_left c o left right result (adds t r other) = tt
+no_int_left c o left right result (subtracts t r other) = tt
+no_int_left c o left right result (equals k l t r s is also live other) = tt
+no_int_left c o left right result (differs k l t r s is also live other) = tt
+no_int_left c o left right result (thin_null k t r is) = tt
+no_int_left c o left right result (thin_there k t r is) = tt
+no_int_left c o left right result (fat_null k t r is) = tt
+no_int_left c o left right result (fat_there k t r is) = tt
+no_int_left c o left right result (null_is k t r) = tt
+no_int_left c o left right result (null_is_not k t r) = tt
+
 -- ---- what a well typed tree has
 
 module _ (b : Numbering) (types : Types) where
@@ -186,39 +240,40 @@ module _ (b : Numbering) (types : Types) where
   called_is callees.Getchar s is = sym (ap (λ (x : Signature). kind_of_result x.result) is)
   called_is (callees.Function n) s is = ap result_kind is
 
-  -- a tree of the int language has no peeks
-  looked : (a : Expression) (c : Context) (v : ValueType) → IsLowerable b a → WellTyped c a v ⊎ IsPeek c a v → WellTyped c a v
-  looked (Peek p n u) c v numbered well = absurd numbered
-  looked a c v numbered (inl well) = well
-  looked a c v numbered (inr peek) = absurd peek
+  -- a comparison of pointers gives an int
+  comparison_gives : (o : PointerOperator) (c : Context) (left right result : ValueType) → is_comparison o ≡ true → PointerOperation c o left right result → result ≡ Value type_forms.Int
+  comparison_gives pointers.ThinIsNull c left right result test (thin_null k t r is) = refl
+  comparison_gives pointers.ThinIsNotNull c left right result test (thin_there k t r is) = refl
+  comparison_gives pointers.FatIsNull c left right result test (fat_null k t r is) = refl
+  comparison_gives pointers.FatIsNotNull c left right result test (fat_there k t r is) = refl
+  comparison_gives pointers.EqualThin c left right result test (equals k l t r s is also live other) = refl
+  comparison_gives pointers.NotEqualThin c left right result test (differs k l t r s is also live other) = refl
+  comparison_gives pointers.NullIs c left right result test (null_is k t r) = refl
+  comparison_gives pointers.NullIsNot c left right result test (null_is_not k t r) = refl
+  comparison_gives pointers.AddFat c left right result test operation = absurd (let f : false ≡ true = test in cc)
+  comparison_gives pointers.SubtractFat c left right result test operation = absurd (let f : false ≡ true = test in cc)
 
-  left_well : (os : Operations) (a : Expression) (c : Context) (v : ValueType) → IsLowerable b a → AreLowerableOperations b os → IsLeft (WellTyped c a v) c a v os → WellTyped c a v
-  left_well NoOperations a c v numbered all well = well
-  left_well (ThenCompute o x os) a c v numbered all well = well
-  left_well (ThenTest o x os) a c v numbered all well = looked a c v numbered well
-  left_well (ThenPointer o NullPointer os) a c v numbered all well = well
-  left_well os a c v numbered all well = absurd all
-
-  -- a comparison with null gives an int
-  null_gives : (o : PointerOperator) (c : Context) (left right result : ValueType) → is_null_test o ≡ true → PointerOperation c o left right result → result ≡ Value type_forms.Int
-  null_gives pointers.ThinIsNull c left right result test (thin_null k t r is) = refl
-  null_gives pointers.ThinIsNotNull c left right result test (thin_there k t r is) = refl
-  null_gives pointers.FatIsNull c left right result test (fat_null k t r is) = refl
-  null_gives pointers.FatIsNotNull c left right result test (fat_there k t r is) = refl
-  null_gives pointers.AddFat c left right result test operation = absurd (let f : false ≡ true = test in cc)
-  null_gives pointers.SubtractFat c left right result test operation = absurd (let f : false ≡ true = test in cc)
-  null_gives pointers.EqualThin c left right result test operation = absurd (let f : false ≡ true = test in cc)
-  null_gives pointers.NotEqualThin c left right result test operation = absurd (let f : false ≡ true = test in cc)
-  null_gives pointers.NullIs c left right result test operation = absurd (let f : false ≡ true = test in cc)
-  null_gives pointers.NullIsNot c left right result test operation = absurd (let f : false ≡ true = test in cc)
+  -- its left operand has the words that the code counts
+  left_least : (o : PointerOperator) (c : Context) (left right result : ValueType) → PointerOperation c o left right result → words_of_kind (left_kind o) ≤ operand_words left
+  left_least pointers.AddFat c left right result (adds t r other) = omega arith
+  left_least pointers.SubtractFat c left right result (subtracts t r other) = omega arith
+  left_least pointers.EqualThin c left right result (equals k l t r s is also live other) = words_positive (type_forms.Pointer k t r)
+  left_least pointers.NotEqualThin c left right result (differs k l t r s is also live other) = words_positive (type_forms.Pointer k t r)
+  left_least pointers.ThinIsNull c left right result (thin_null k t r is) = words_positive (type_forms.Pointer k t r)
+  left_least pointers.ThinIsNotNull c left right result (thin_there k t r is) = words_positive (type_forms.Pointer k t r)
+  left_least pointers.FatIsNull c left right result (fat_null k t r is) = fat_words k is
+  left_least pointers.FatIsNotNull c left right result (fat_there k t r is) = fat_words k is
+  left_least pointers.NullIs c left right result (null_is k t r) = omega arith
+  left_least pointers.NullIsNot c left right result (null_is_not k t r) = omega arith
 
   chain_int : (os : Operations) (c : Context) (u : Ty) → AreLowerableOperations b os → IsChain c (Value type_forms.Int) os u → Value type_forms.Int ≡ Value u
   chain_int NoOperations c u all is = is
   chain_int (ThenCompute o x os) c u (one, all) (left, right, rest) = chain_int os c u all rest
   chain_int (ThenTest o x os) c u (one, all) (left, right, rest) = chain_int os c u all rest
-  chain_int (ThenPointer o NullPointer os) c u (test, all) (v, w, right, operation, rest) =
-      chain_int os c u all (subst (λ (x : ValueType). IsChain c x os u) (null_gives o c (Value type_forms.Int) v w test operation) rest)
-  chain_int os c u all is = absurd all
+  chain_int (ThenPointer o x os) c u (test, one, all) (v, w, right, operation, rest) =
+      chain_int os c u all (subst (λ (y : ValueType). IsChain c y os u) (comparison_gives o c (Value type_forms.Int) v w test operation) rest)
+  chain_int (ThenPointerPeek n o x os) c u (test, one, all) (v, w, right, operation, rest) =
+      chain_int os c u all (subst (λ (y : ValueType). IsChain c y os u) (comparison_gives o c (Value type_forms.Int) v w test operation) rest)
 
   int_given : (u : Ty) (v : ValueType) → Value type_forms.Int ≡ Value u → v ≡ Value u → IsGiven kinds.Int v
   int_given u v same is = subst (IsGiven kinds.Int) (same ∙ sym is) refl
@@ -237,11 +292,20 @@ module _ (b : Numbering) (types : Types) where
   passed_is : (d : Converted) → passed_words d ≡ words_of_kind (passed_kind d)
   passed_is (Convert from to a) = refl
 
+  -- a value that is looked at is one that is given, or a peek
+  looked_fits : (a : Expression) (c : Context) (v : ValueType) → Suits c → IsLowerable b a → (WellTyped c a v → IsGiven (given b.functions a) v × Fits b types a) → WellTyped c a v ⊎ IsPeek c a v
+      → IsGiven (given b.functions a) v × Fits b types a
+  looked_fits (Peek p n u) c v suits few well_fits (inr (there, unique, is)) = (subst (IsGiven (kind_of u)) (sym is) refl, (few, room_in c n u (kind_of u) suits there.1 refl))
+  looked_fits a c v suits few well_fits (inl well) = well_fits well
+  looked_fits a c v suits few well_fits (inr peek) = absurd peek
+
   mutual
     fits : (a : Expression) (c : Context) (v : ValueType) → Suits c → IsLowerable b a → WellTyped c a v → IsGiven (given b.functions a) v × Fits b types a
     fits (Number n) c v suits numbered is = (subst (IsGiven kinds.Int) (sym is) refl, tt)
     fits NullPointer c v suits numbered is = (subst (IsGiven kinds.Nullable) (sym is) refl, tt)
     fits (Copy (Local p n) t) c v suits few (there, stays, is) = (subst (IsGiven (kind_of t)) (sym is) refl, (few, room_in c n t (kind_of t) suits there.1 refl))
+    fits (Move p n t) c v suits few (there, moved, is) = (subst (IsGiven (kind_of t)) (sym is) refl, (few, room_in c n t (kind_of t) suits there.1 refl))
+    fits (Peek p n t) c v suits few well = absurd well
     fits (Copy (Global n) t) c v suits few (there, stays, is) = (subst (IsGiven (kind_of t)) (sym is) refl, few)
     fits (Call f cs u) c v suits (s, signature, many, numbered) (s', m, callee, long, regions, passed, live, outliving, u_is, v_is) =
         let agree = same_signature f c s' s suits callee signature in
@@ -257,7 +321,7 @@ module _ (b : Numbering) (types : Types) where
             fitting,
           ),
         )
-    fits (Unary unary.Not a) c v suits numbered (w, (well, tested), is) = (subst (IsGiven kinds.Int) (sym is) refl, (fits a c w suits numbered (looked a c w numbered well)).1)
+    fits (Unary unary.Not a) c v suits numbered (w, (well, tested), is) = (subst (IsGiven kinds.Int) (sym is) refl, (looked_fits a c w suits numbered (λ h. fits a c w suits numbered h) well).1)
     fits (Unary unary.Negate a) c v suits numbered (w, (well, int), is) = (subst (IsGiven kinds.Int) (sym is) refl, (fits a c w suits numbered well).1)
     fits (Unary unary.Complement a) c v suits numbered (w, (well, int), is) = (subst (IsGiven kinds.Int) (sym is) refl, (fits a c w suits numbered well).1)
     fits (Binary a NoOperations u) c v suits (numbered, all) (w, well, chain, is) =
@@ -265,19 +329,30 @@ module _ (b : Numbering) (types : Types) where
         (subst (IsGiven (given b.functions a)) (chain ∙ sym is) kind, (fitting, tt))
     fits (Binary a (ThenCompute o x os) u) c v suits (numbered, (one, all)) (w, well, (left, right, rest), is) = (
       int_given u v (chain_int os c u all rest) is,
-      ((fits a c w suits numbered well).1, ((fits x c (Value type_forms.Int) suits one right).1, fit_operations os c (Value type_forms.Int) u suits all rest)),
+      ((fits a c w suits numbered well).1, ((fits x c (Value type_forms.Int) suits one right).1, fit_next os c u suits all rest)),
     )
     fits (Binary a (ThenTest o x os) u) c v suits (numbered, (one, all)) (w, well, (left, (y, right, tested), rest), is) = (
       int_given u v (chain_int os c u all rest) is,
       (
-        (fits a c w suits numbered (looked a c w numbered well)).1,
-        ((fits x c y suits one (looked x c y one right)).1, fit_operations os c (Value type_forms.Int) u suits all rest),
+        (looked_fits a c w suits numbered (λ h. fits a c w suits numbered h) well).1,
+        ((looked_fits x c y suits one (λ h. fits x c y suits one h) right).1, fit_next os c u suits all rest),
       ),
     )
-    fits (Binary a (ThenPointer o NullPointer os) u) c v suits (numbered, (test, all)) (w, well, (x, y, right, operation, rest), is) =
-        let int = subst (λ (z : ValueType). IsChain c z os u) (null_gives o c w x y test operation) rest in
-        (int_given u v (chain_int os c u all int) is, ((fits a c w suits numbered well).1, (test, fit_operations os c (Value type_forms.Int) u suits all int)))
-    fits (Binary a os u) c v suits (numbered, all) well = absurd all
+    fits (Binary a (ThenPointer o x os) u) c v suits (numbered, (test, one, all)) (w, well, (y, z, right, operation, rest), is) =
+        let int = subst (λ (i : ValueType). IsChain c i os u) (comparison_gives o c w y z test operation) rest in
+        let words = subst (λ (i : ValueType). words_of_kind (left_kind o) ≤ operand_words i) (sym (type_given a c w (inl well))) (left_least o c w y z operation) in (
+          int_given u v (chain_int os c u all int) is,
+          ((fits a c w suits numbered well).1, (test, words, (looked_fits x c y suits one (λ h. fits x c y suits one h) right).1, fit_next os c u suits all int)),
+        )
+    fits (Binary a (ThenPointerPeek n o x os) u) c v suits (numbered, (test, one, all)) (w, (peek, of), (y, z, right, operation, rest), is) =
+        let int = subst (λ (i : ValueType). IsChain c i os u) (comparison_gives o c w y z test operation) rest in
+        let words = subst (λ (i : ValueType). words_of_kind (left_kind o) ≤ operand_words i) (sym (type_given a c w (inr peek))) (left_least o c w y z operation) in (
+          int_given u v (chain_int os c u all int) is,
+          (
+            (looked_fits a c w suits numbered (λ h. fits a c w suits numbered h) (inr peek)).1,
+            (test, words, (looked_fits x c y suits one (λ h. fits x c y suits one h) right).1, fit_next os c u suits all int),
+          ),
+        )
     fits (Assign (Local p n) d u) c v suits (few, numbered) (t, r, (m, place, home, there), converted, u_is, is) =
         let (kind, fitting) = fits_converted d c t suits numbered converted in
         (assigned_given (Local p n) d u t v kind (is ∙ u_is), ((few, room_in c n t (passed_kind d) suits there kind), fitting))
@@ -286,7 +361,7 @@ module _ (b : Numbering) (types : Types) where
         (assigned_given (Global n) d u t v kind (is ∙ u_is), ((few, sym (passed_is d) ∙ single), fitting))
     fits (Load (Target k a t)) c v suits (thin, single, numbered) (u, r, (m, well, live, kind, same), flat, shared, is) = (
       subst (IsGiven (kind_of t)) (sym (is ∙ ap Value same)) refl,
-      (thin, single, (fits a c (Value (type_forms.Pointer m t r)) suits numbered (looked a c (Value (type_forms.Pointer m t r)) numbered well)).1),
+      (thin, single, (looked_fits a c (Value (type_forms.Pointer m t r)) suits numbered (λ h. fits a c (Value (type_forms.Pointer m t r)) suits numbered h) well).1),
     )
     fits (Load x) c v suits numbered well = absurd numbered
     fits (New OnHeap (Plain kind a) t) c v suits (single, numbered) (mark, u, r, place, (well, unlocked, kind_is, mark_is), t_is, is) =
@@ -318,16 +393,16 @@ module _ (b : Numbering) (types : Types) where
         let (words, others) = fit_arguments ds c ts suits all rest in
         (omega (arith, words, passed_is d, ap words_of_kind kind, type_words t), (fitting, others))
 
-    fit_operations : (os : Operations) (c : Context) (left : ValueType) (u : Ty) → Suits c → AreLowerableOperations b os → IsChain c left os u → FitOperations b types os
-    fit_operations NoOperations c left u suits all is = tt
-    fit_operations (ThenCompute o x os) c left u suits (one, all) (is, right, rest) = ((fits x c (Value type_forms.Int) suits one right).1, fit_operations os c (Value type_forms.Int) u suits all rest)
-    fit_operations (ThenTest o x os) c left u suits (one, all) (is, (y, right, tested), rest) = ((fits x c y suits one (looked x c y one right)).1, fit_operations os c (Value type_forms.Int) u suits all rest)
-    fit_operations (ThenPointer o NullPointer os) c left u suits (test, all) (v, w, right, operation, rest) =
-        (test, fit_operations os c (Value type_forms.Int) u suits all (subst (λ (x : ValueType). IsChain c x os u) (null_gives o c left v w test operation) rest))
-    fit_operations os c left u suits all is = absurd all
+    -- all operators behind one give an int
+    fit_next : (os : Operations) (c : Context) (u : Ty) → Suits c → AreLowerableOperations b os → IsChain c (Value type_forms.Int) os u → FitOperations b types (words_of u) u os
+    fit_next NoOperations c u suits all is = tt
+    fit_next (ThenCompute o x os) c u suits (one, all) (is, right, rest) = ((fits x c (Value type_forms.Int) suits one right).1, fit_next os c u suits all rest)
+    fit_next (ThenTest o x os) c u suits (one, all) (is, (y, right, tested), rest) = ((looked_fits x c y suits one (λ h. fits x c y suits one h) right).1, fit_next os c u suits all rest)
+    fit_next (ThenPointer o x os) c u suits (test, one, all) (v, w, right, operation, rest) = absurd (no_int_left c o (Value type_forms.Int) v w operation)
+    fit_next (ThenPointerPeek n o x os) c u suits (test, one, all) (v, w, right, operation, rest) = absurd (no_int_left c o (Value type_forms.Int) v w operation)
 
   fits_condition : (a : Expression) (c : Context) → Suits c → IsLowerable b a → IsCondition c a → Fits b types a
-  fits_condition a c suits numbered (v, well, tested) = (fits a c v suits numbered (looked a c v numbered well)).1
+  fits_condition a c suits numbered (v, well, tested) = (looked_fits a c v suits numbered (λ h. fits a c v suits numbered h) well).1
 
   fits_return : (result : Option Ty) (v : Option Converted) (c : Context) → Suits c → IsLowerableReturn b result v → IsReturned c result v → FitsReturn b types result v
   fits_return None None c suits numbered well = tt

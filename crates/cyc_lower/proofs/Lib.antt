@@ -19,6 +19,7 @@ pub mod Allocations
 pub mod PlaceWords
 pub mod PlaceSteps
 pub mod Values
+pub mod PointerSteps
 pub mod Evaluations
 pub mod Accesses
 pub mod Branching

@@ -1,5 +1,9 @@
 -- A tree of the int language whose numbers are in range is lowered.
-use Rattle.std.proofs.Common.{◌≡◌, ℕ, Bool, true, List, [], ◌∷◌, length, Option, None, Some}
+use Rattle.std.proofs.Common.{◌≡◌, ℕ, Bool, true, List, [], ◌∷◌, length, Option, None, Some, refl, sym, ◌∙◌}
+use Rattle.std.proofs.lemmas.Bool.{eq-eqb}
+use Rattle.cyc_types.specs.declared.typed.Kind.{Kind}
+use Rattle.cyc_types.specs.declared.typed.Kind.TheVariants as kinds
+use Rattle.cyc_types.specs.Built.{is_built_kind}
 use Rattle.cyc_types.specs.Types.{Ty}
 use Rattle.cyc_types.specs.TypedTrees.{Lvalue, Local, Global, Expression, Number, Copy, Call, Unary, Binary, Assign, Converted, Convert, Arguments, NoArguments, MoreArguments, Operations, NoOperations, ThenCompute, ThenTest, Statement, Block, Empty, Evaluate, If, While, Return, Break, Continue, Items, NoItems, MoreItems, Execute, Declare, Signature, Function, Program}
 use Rattle.cyc_types.specs.Numbered.{Numbering, IsWithin, signatures_of, IsNumbered, IsNumberedConverted, AreNumberedArguments, AreNumberedOperations, IsNumberedReturn, IsNumberedInitial, IsNumberedStatement, AreNumberedItems, numbering_of, AreNumberedFunctions, IsNumberedProgram}
@@ -7,19 +11,26 @@ use Rattle.cyc_meaning.specs.Values.{words_of_kind}
 use Rattle.cyc_lower.specs.Lowering.{are_as_wide, passed_words}
 use Rattle.cyc_lower.specs.Lowerable.{HasPlace, IsLowerable, IsLowerableConverted, AreLowerableArguments, AreLowerableOperations, IsLowerableReturn, IsLowerableInitial, IsLowerableStatement, AreLowerableItems, AreLowerableFunctions, IsLowerableProgram}
 
+-- a kind that is built has one word
+one_word : (kind : Kind) → is_built_kind kind ≡ true → words_of_kind kind ≡ 1
+one_word kinds.Int built = refl
+one_word kinds.Nullable built = refl
+one_word kinds.NonNull built = refl
+one_word kind built = absurd (cc)
+
 -- a conversion between kinds of one word
-abbrev pub IsNarrow : Converted → Type 0
+abbrev IsNarrow : Converted → Type 0
 IsNarrow (Convert from to a) = (are_as_wide from to ≡ true) × (words_of_kind to ≡ 1)
 
--- what is built has no other conversions
-abbrev pub AreNarrow : Type 0
-AreNarrow = (b : Numbering) (c : Converted) → IsNumberedConverted b c → IsNarrow c
+narrow_converted : (b : Numbering) (c : Converted) → IsNumberedConverted b c → IsNarrow c
+narrow_converted b (Convert from to a) (numbered, built_from, built_to) =
+    (eq-eqb (words_of_kind from) (words_of_kind to) (one_word from built_from ∙ sym (one_word to built_to)), one_word to built_to)
 
 has_place : (b : Numbering) (l : Lvalue) (c : Converted) → IsWithin b l → IsNarrow c → HasPlace b l (passed_words c)
 has_place b (Local p n) (Convert from to a) within narrow = within
 has_place b (Global n) (Convert from to a) within (wide, single) = (within, single)
 
-module _ (are_narrow : AreNarrow) (b : Numbering) where
+module _ (b : Numbering) where
   mutual
     lowerable : (a : Expression) → IsNumbered b a → IsLowerable b a
     lowerable (Number n) numbered = tt
@@ -27,11 +38,11 @@ module _ (are_narrow : AreNarrow) (b : Numbering) where
     lowerable (Call f cs t) (s, signature, many, same, numbered) = (s, signature, many, lowerable_arguments cs numbered)
     lowerable (Unary o a) numbered = lowerable a numbered
     lowerable (Binary a os t) (one, all) = (lowerable a one, lowerable_operations os all)
-    lowerable (Assign l c t) (within, numbered) = (has_place b l c within (are_narrow b c numbered), lowerable_converted c numbered)
+    lowerable (Assign l c t) (within, numbered) = (has_place b l c within (narrow_converted b c numbered), lowerable_converted c numbered)
     lowerable a numbered = absurd numbered
 
     lowerable_converted : (c : Converted) → IsNumberedConverted b c → IsLowerableConverted b c
-    lowerable_converted (Convert from to a) numbered = ((are_narrow b (Convert from to a) numbered).0, lowerable a numbered)
+    lowerable_converted (Convert from to a) (numbered, built_from, built_to) = ((narrow_converted b (Convert from to a) (numbered, built_from, built_to)).0, lowerable a numbered)
 
     lowerable_arguments : (cs : Arguments) → AreNumberedArguments b cs → AreLowerableArguments b cs
     lowerable_arguments NoArguments numbered = tt
@@ -71,12 +82,12 @@ module _ (are_narrow : AreNarrow) (b : Numbering) where
     lowerable_items (MoreItems (Declare n t v) js) l (few, one, all) = (few, lowerable_initial v one, lowerable_items js l all)
     lowerable_items js l numbered = absurd numbered
 
-lowerable_functions : (are_narrow : AreNarrow) (globals : ℕ) (signatures : List Signature) (hs : List Function) → AreNumberedFunctions globals signatures hs → AreLowerableFunctions globals signatures hs
-lowerable_functions are_narrow globals signatures [] numbered = tt
-lowerable_functions are_narrow globals signatures (h ∷ hs) (one, all) = (lowerable_items are_narrow (numbering_of globals signatures h) h.body _ one, lowerable_functions are_narrow globals signatures hs all)
+lowerable_functions : (globals : ℕ) (signatures : List Signature) (hs : List Function) → AreNumberedFunctions globals signatures hs → AreLowerableFunctions globals signatures hs
+lowerable_functions globals signatures [] numbered = tt
+lowerable_functions globals signatures (h ∷ hs) (one, all) = (lowerable_items (numbering_of globals signatures h) h.body _ one, lowerable_functions globals signatures hs all)
 
-pub lowerable_program : AreNarrow → (p : Program) → IsNumberedProgram p → IsLowerableProgram p
-lowerable_program are_narrow p numbered = record {
-  functions = lowerable_functions are_narrow (length p.globals) (signatures_of p.functions) p.functions numbered.functions;
+pub lowerable_program : (p : Program) → IsNumberedProgram p → IsLowerableProgram p
+lowerable_program p numbered = record {
+  functions = lowerable_functions (length p.globals) (signatures_of p.functions) p.functions numbered.functions;
   main = numbered.main;
 }

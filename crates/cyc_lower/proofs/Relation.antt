@@ -34,7 +34,7 @@ use Rattle.cyc_meaning.specs.Step.{target_of, object_of}
 use Rattle.cyc_meaning.specs.Operators.{null_exception, is_zero}
 use Rattle.cyc_meaning.specs.FrameCount.{words_of_all}
 use Rattle.cyc_lower.specs.Slots.{Types, Starts, starts_of, slot_of}
-use Rattle.cyc_lower.specs.Lowerable.{is_null_test}
+use Rattle.cyc_lower.specs.Lowerable.{is_comparison}
 use Rattle.cyc_lower.specs.Lowering.{types_of, unary_operator, failing_comparison, operand_of, move_of, pointer_instruction, low_byte, converts_there, all_passed, compared_of, break_target, continue_target, results_of, lower_program}
 use Rattle.cyc_lower.proofs.Widths.{kind_of_result, given, called_kind, HasRoom, Outside}
 use Rattle.cyc_lower.proofs.Stands.{CheckAt, ConversionAt, OperatorAt, TruthAt, CopyAt, ExpressionAt, ArgumentsAt, OperationsAt, StoresAt, ObjectAt, ValueAt, ConditionAt, FailingAt, ComparesAt, DiscardedAt, StatementAt, ItemsAt, PlaceAt}
@@ -353,7 +353,7 @@ module _ (source : Program) where
         × Lands (base_of g) (top g k) d 1 (ValueStack g locals kinds.Int (operands.Slot d) q frames k) (AheadStack g locals kinds.Int d q frames k))
         ((failing : Comparison) × (failing_comparison operator ≡ Some failing) × ConditionStack g failing (operands.Slot (top g k)) o p frames k)
     ValueStack g locals kind o p frames (Needs (ApplyPointer peek operator left) ∷ k) =
-        (d : ℕ) × (is_null_test operator ≡ true) × At (code_of g) p (pointer_instruction operator (operands.Slot (top g k)) d)
+        (d : ℕ) × (is_comparison operator ≡ true) × At (code_of g) p (pointer_instruction operator (operands.Slot (top g k)) o d)
         × Lands (base_of g) (top g k) d 1 (ValueStack g locals kinds.Int (operands.Slot d) (p + 1) frames k) (AheadStack g locals kinds.Int d (p + 1) frames k)
     ValueStack g locals kind o p frames (Needs Decide ∷ k) =
         (d : ℕ) × (q : ℕ) × (o ≡ operands.Slot (top g k)) × TruthAt (code_of g) (bounds_at g) (types_at g) (top g k) d p q

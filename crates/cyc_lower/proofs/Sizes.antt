@@ -12,7 +12,7 @@ use Rattle.cyc_types.specs.declared.typed.PointerOperator.{PointerOperator}
 use Rattle.cyc_types.specs.declared.typed.PointerOperator.TheVariants as pointers
 use Rattle.cyc_types.specs.declared.typed.LogicalOperator.{LogicalOperator}
 use Rattle.cyc_types.specs.declared.typed.LogicalOperator.TheVariants as logical
-use Rattle.cyc_types.specs.TypedTrees.{Load, New, OnHeap, AsUnique, ByHandle, Initial, Plain, Fields, Array, Dereference, Target, Member, Element, Lvalue, Local, Global, Expression, Number, Copy, Call, Unary, Binary, Assign, Converted, Convert, Arguments, NoArguments, MoreArguments, Operations, NoOperations, ThenCompute, ThenTest, ThenPointer, ThenPointerPeek, Statement, Block, Empty, Evaluate, If, While, Return, Break, Continue, Items, NoItems, MoreItems, Execute, Declare, StructType, Function}
+use Rattle.cyc_types.specs.TypedTrees.{Load, New, OnHeap, AsUnique, ByHandle, Initial, Plain, Fields, Array, Dereference, Target, Member, Element, Lvalue, Local, Global, Expression, Number, Copy, Call, Unary, Binary, Assign, Converted, Convert, Arguments, NoArguments, MoreArguments, Operations, NoOperations, ThenCompute, ThenTest, ThenPointer, ThenPointerPeek, Statement, Block, Empty, Evaluate, If, While, Return, Break, Continue, Items, NoItems, MoreItems, Execute, Declare, StructType, Function, Move, Peek}
 use Rattle.cyc_types.specs.Types.{Ty, words_of}
 use Rattle.cyc_types.specs.Numbered.{argument_count}
 use Rattle.cyc_types.proofs.WeightLemmas.{some_token}
@@ -28,7 +28,7 @@ use Rattle.cyc_lower.specs.Slots.{starts_of, slot_of, Starts}
 use Rattle.cyc_store.specs.declared.range.TheConstants.{HEAP}
 use Rattle.cyc_meaning.specs.Values.{kind_of, words_of_kind}
 use Rattle.cyc_lower.proofs.Widths.{kind_few, type_words}
-use Rattle.cyc_lower.specs.Lowering.{stores_code, object_code, made_code, types_of, converts_there, passed_words, all_passed, source_of, source_slot, converted_by, moved_by, move_of, pointer_instruction, unary_operator, binary_operator, operand_of, operand_or, code_unless, slot_or, code_unless_slot, left_of, value_slot, next_slot, left_slot, value_operand, converted_operand, printed_operand, conversion_code, divisor_code, checked_code, operator_code, truth_code, load_code, low_byte, test_code, is_in, copy_code, expression_code, arguments_code, converted_code, converted_operand_code, printed_code, dereference_code, initial_code, assignment_code, operations_code, discarded_code, failing_comparison, compared_or, left_with, slot_with, first_code, second_code, pair_code, condition_code, condition_of, failing_jump, break_target, continue_target, return_code, declaration_code, statement_code, items_code, first_temporary, jump_if_zero, jump_if_nonzero, lower_function}
+use Rattle.cyc_lower.specs.Lowering.{stores_code, object_code, made_code, types_of, converts_there, passed_words, all_passed, source_of, source_slot, converted_by, moved_by, move_of, pointer_instruction, unary_operator, binary_operator, operand_of, operand_or, code_unless, slot_or, code_unless_slot, left_of, value_slot, next_slot, left_slot, value_operand, converted_operand, printed_operand, conversion_code, divisor_code, checked_code, operator_code, truth_code, load_code, low_byte, test_code, is_in, copy_code, expression_code, arguments_code, converted_code, converted_operand_code, printed_code, dereference_code, initial_code, assignment_code, operations_code, discarded_code, failing_comparison, compared_or, left_with, slot_with, first_code, second_code, pair_code, condition_code, condition_of, failing_jump, break_target, continue_target, return_code, declaration_code, statement_code, items_code, first_temporary, jump_if_zero, jump_if_nonzero, lower_function, behind_left, pointer_code}
 use Rattle.cyc_lower.specs.Lowered.{size_per_weight}
 
 abbrev code_size : List Instruction → ℕ
@@ -102,12 +102,17 @@ initial_by_size true known at_once inner to o p d bound few other = omega (arith
 initial_by_size false known at_once inner to o p d bound few other =
     omega (arith, both (converted_by known inner to o p) (move_of (words_of_kind to) d o ∷ []), converted_by_size known inner to o p bound other, move_size (words_of_kind to) d o (kind_few to))
 
-pointer_size : (o : PointerOperator) (l : Operand) (d : ℕ) → instruction_size (pointer_instruction o l d) ≤ 11
-pointer_size pointers.ThinIsNull l d = omega arith
-pointer_size pointers.ThinIsNotNull l d = omega arith
-pointer_size pointers.FatIsNull l d = omega arith
-pointer_size pointers.FatIsNotNull l d = omega arith
-pointer_size o l d = omega arith
+pointer_size : (o : PointerOperator) (l r : Operand) (d : ℕ) → instruction_size (pointer_instruction o l r d) ≤ 11
+pointer_size pointers.AddFat l r d = omega arith
+pointer_size pointers.SubtractFat l r d = omega arith
+pointer_size pointers.ThinIsNull l r d = omega arith
+pointer_size pointers.ThinIsNotNull l r d = omega arith
+pointer_size pointers.FatIsNull l r d = omega arith
+pointer_size pointers.FatIsNotNull l r d = omega arith
+pointer_size pointers.NullIs l r d = omega arith
+pointer_size pointers.NullIsNot l r d = omega arith
+pointer_size pointers.EqualThin l r d = omega arith
+pointer_size pointers.NotEqualThin l r d = omega arith
 
 test_size : (o : LogicalOperator) (operand : List Instruction) (p d t : ℕ) → code_size (test_code o operand p d t) ≤ 25 + code_size operand
 test_size logical.AndThen operand p d t = omega (arith, both operand (truth_code t d), cons (jump_if_zero (operands.Slot t) (p + 1 + length operand)) (operand ++ truth_code t d))
@@ -140,10 +145,23 @@ module _ (starts : Starts) where
   load_size (Local w n) t d = move_size (words_of t) d (operands.Slot (slot_of starts n)) (omega (arith, type_words t, kind_few (kind_of t)))
   load_size (Global n) t d = omega arith
 
+  -- an operator on pointers with its right operand, and what stands behind
+  right_size : (o : PointerOperator) (a : Expression) (p : ℕ) (l : Operand) (d t : ℕ) (back : List Instruction)
+      → code_size (expression_code starts a p (value_slot starts a (behind_left o t)) (behind_left o t)) ≤ size_per_weight * expression_weight a
+      → code_size (pointer_code o l (value_operand starts a (behind_left o t)) (code_unless (operand_of starts a) (expression_code starts a p (value_slot starts a (behind_left o t)) (behind_left o t))) d ++ back)
+      ≤ size_per_weight * expression_weight a + 11 + code_size back
+  right_size o a p l d t back few =
+      let r = value_operand starts a (behind_left o t) in
+      let inner = expression_code starts a p (value_slot starts a (behind_left o t)) (behind_left o t) in
+      let operand = code_unless (operand_of starts a) inner in
+      omega (arith, both (pointer_code o l r operand d) back, both operand (pointer_instruction o l r d ∷ []), unless_size (operand_of starts a) inner, pointer_size o l r d, few)
+
   mutual
     expression_size : (a : Expression) (p d t : ℕ) → code_size (expression_code starts a p d t) ≤ size_per_weight * expression_weight a
     expression_size (Number n) p d t = omega arith
     expression_size (Copy l ty) p d t = omega (arith, load_size l ty d)
+    expression_size (Move w n ty) p d t = omega (arith, load_size (Local w n) ty d)
+    expression_size (Peek w n ty) p d t = omega (arith, load_size (Local w n) ty d)
     expression_size (Call callees.Putchar cs ty) p d t =
         let o = printed_operand starts cs (operands.Slot t) t in
         omega (arith, both (printed_code starts cs p t) (instructions.WriteByte o ∷ low_byte o d ∷ []), printed_size cs p t)
@@ -262,11 +280,15 @@ module _ (starts : Starts) where
         let q = p + length front in
         omega (arith, both front (operations_code starts os q (operands.Slot next) d t), test_size o operand p next t, expression_size a (p + 1) t t, operations_size os q (operands.Slot next) d t)
     operations_size (ThenPointer o a os) p l d t =
+        let slot = value_slot starts a (behind_left o t) in
         let next = next_slot os d t in
-        omega (arith, cons (pointer_instruction o l next) (operations_code starts os (p + 1) (operands.Slot next) d t), pointer_size o l next, operations_size os (p + 1) (operands.Slot next) d t)
+        let q = p + length (pointer_code o l (value_operand starts a (behind_left o t)) (code_unless (operand_of starts a) (expression_code starts a p slot (behind_left o t))) next) in
+        omega (arith, right_size o a p l next t (operations_code starts os q (operands.Slot next) d t) (expression_size a p slot (behind_left o t)), operations_size os q (operands.Slot next) d t)
     operations_size (ThenPointerPeek n o a os) p l d t =
+        let slot = value_slot starts a (behind_left o t) in
         let next = next_slot os d t in
-        omega (arith, cons (instructions.Move next (operands.Word 0)) (operations_code starts os (p + 1) (operands.Slot next) d t), operations_size os (p + 1) (operands.Slot next) d t)
+        let q = p + length (pointer_code o l (value_operand starts a (behind_left o t)) (code_unless (operand_of starts a) (expression_code starts a p slot (behind_left o t))) next) in
+        omega (arith, right_size o a p l next t (operations_code starts os q (operands.Slot next) d t) (expression_size a p slot (behind_left o t)), operations_size os q (operands.Slot next) d t)
 
   assignment_size : (l : Lvalue) (c : Converted) (p t : ℕ) → code_size (assignment_code starts l c p t) ≤ size_per_weight * converted_weight c + 38
   assignment_size (Local w n) c p t = initial_size c p (slot_of starts n) t

@@ -5,7 +5,7 @@ use Rattle.cyc_types.specs.declared.typed.Kind.TheVariants as kinds
 use Rattle.cyc_types.specs.declared.typed.Callee.TheVariants as callees
 use Rattle.cyc_types.specs.declared.typed.Operator.{Operator}
 use Rattle.cyc_types.specs.declared.typed.Operator.TheVariants as operators
-use Rattle.cyc_types.specs.TypedTrees.{Load, New, OnHeap, Initial, Plain, Fields, Dereference, Target, Lvalue, Local, Global, Expression, Number, NullPointer, Copy, Call, Unary, Binary, Assign, Converted, Convert, Arguments, NoArguments, MoreArguments, Operations, NoOperations, ThenCompute, ThenTest, ThenPointer, Statement, Block, Empty, Evaluate, If, While, Return, Break, Continue, Items, NoItems, MoreItems, Execute, Declare, type_of_place}
+use Rattle.cyc_types.specs.TypedTrees.{Load, New, OnHeap, Initial, Plain, Fields, Dereference, Target, Lvalue, Local, Global, Expression, Number, NullPointer, Copy, Call, Unary, Binary, Assign, Converted, Convert, Arguments, NoArguments, MoreArguments, Operations, NoOperations, ThenCompute, ThenTest, ThenPointer, Statement, Block, Empty, Evaluate, If, While, Return, Break, Continue, Items, NoItems, MoreItems, Execute, Declare, type_of_place, Move, Peek, ThenPointerPeek}
 use Rattle.cyc_types.specs.Types.{Ty, words_of}
 use Rattle.cyc_types.specs.Numbered.{Numbering, argument_count}
 use Rattle.cyc_plain.specs.declared.instruction.UnaryOperator.TheVariants as plain_unary
@@ -20,8 +20,8 @@ use Rattle.cyc_store.specs.declared.range.TheConstants.{MOST_BLOCK_WORDS, HEAP}
 use Rattle.cyc_meaning.specs.Operators.{null_exception, division_by_zero}
 use Rattle.cyc_meaning.specs.Values.{is_thin, words_of_kind}
 use Rattle.cyc_lower.specs.Slots.{Types, starts_of, slot_of}
-use Rattle.cyc_lower.specs.Lowerable.{is_null_test}
-use Rattle.cyc_lower.specs.Lowering.{unary_operator, binary_operator, operand_of, source_of, source_slot, failing_comparison, left_with, left_of, value_slot, next_slot, slot_with, left_slot, is_in, jump_if_nonzero, move_of, pointer_instruction, test_jump, are_as_wide, converts_there, passed_words, all_passed, compared_of, low_byte, break_target, continue_target, results_of}
+use Rattle.cyc_lower.specs.Lowerable.{is_comparison}
+use Rattle.cyc_lower.specs.Lowering.{unary_operator, binary_operator, operand_of, source_of, source_slot, failing_comparison, left_with, left_of, value_slot, next_slot, slot_with, left_slot, is_in, jump_if_nonzero, move_of, pointer_instruction, test_jump, are_as_wide, converts_there, passed_words, all_passed, compared_of, low_byte, break_target, continue_target, results_of, behind_left}
 use Rattle.cyc_lower.proofs.Widths.{kind_of_result, given, passed_kind, HasRoom}
 
 -- ---- expressions
@@ -99,6 +99,8 @@ module _ (code : List Instruction) (bounds : Numbering) (types : Types) where
     ExpressionAt (Number n) d t p q = At code p (instructions.Move d (operands.Word n)) × (p + 1 ≡ q)
     ExpressionAt NullPointer d t p q = At code p (instructions.Move d (operands.Word 0)) × (p + 1 ≡ q)
     ExpressionAt (Copy l ty) d t p q = LoadAt (words_of ty) l d p q
+    ExpressionAt (Move w n ty) d t p q = LoadAt (words_of ty) (Local w n) d p q
+    ExpressionAt (Peek w n ty) d t p q = LoadAt (words_of ty) (Local w n) d p q
     ExpressionAt (Call callees.Putchar cs ty) d t p q =
         (o : Operand) × (m : ℕ) × PrintedAt cs t o p m × At code m (instructions.WriteByte o) × At code (m + 1) (low_byte o d) × (m + 1 + 1 ≡ q)
     ExpressionAt (Call callees.Getchar cs ty) d t p q = (m : ℕ) × ArgumentsAt cs t p m × At code m (instructions.ReadByte d) × (m + 1 ≡ q)
@@ -173,10 +175,14 @@ module _ (code : List Instruction) (bounds : Numbering) (types : Types) where
     OperationsAt (ThenTest o a os) l d t p q =
         (m : ℕ) × (r : ℕ) × (l ≡ operands.Slot t) × At code p (test_jump o t m) × ExpressionAt a t t (p + 1) m × TruthAt t (next_slot os d t) m r
         × OperationsAt os (operands.Slot (next_slot os d t)) d t r q
-    OperationsAt (ThenPointer o NullPointer os) l d t p q =
-        (l ≡ operands.Slot t) × (is_null_test o ≡ true) × At code p (pointer_instruction o (operands.Slot t) (next_slot os d t))
-        × OperationsAt os (operands.Slot (next_slot os d t)) d t (p + 1) q
-    OperationsAt os l d t p q = ⊥
+    OperationsAt (ThenPointer o a os) l d t p q =
+        (r : Operand) × (m : ℕ) × (l ≡ operands.Slot t) × (is_comparison o ≡ true)
+        × OperandBy (operand_of (starts_of types) a) (ExpressionAt a (value_slot (starts_of types) a (behind_left o t)) (behind_left o t) p m) (value_slot (starts_of types) a (behind_left o t)) r p m
+        × At code m (pointer_instruction o (operands.Slot t) r (next_slot os d t)) × OperationsAt os (operands.Slot (next_slot os d t)) d t (m + 1) q
+    OperationsAt (ThenPointerPeek n o a os) l d t p q =
+        (r : Operand) × (m : ℕ) × (l ≡ operands.Slot t) × (is_comparison o ≡ true)
+        × OperandBy (operand_of (starts_of types) a) (ExpressionAt a (value_slot (starts_of types) a (behind_left o t)) (behind_left o t) p m) (value_slot (starts_of types) a (behind_left o t)) r p m
+        × At code m (pointer_instruction o (operands.Slot t) r (next_slot os d t)) × OperationsAt os (operands.Slot (next_slot os d t)) d t (m + 1) q
 
   -- a value that comes to slot d, where it is told whether it does so before it is converted
   abbrev pub InitialBy : Bool → (from to : Kind) → Expression → (d t p q : ℕ) → Type 0

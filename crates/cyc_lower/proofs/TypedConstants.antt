@@ -16,11 +16,11 @@ use Rattle.cyc_types.specs.TypedTrees.{Lvalue, Side, VariableSide, CellSide, Con
 use Rattle.cyc_types.specs.TypedTrees as typed
 use Rattle.cyc_types.specs.Rules.{Rule, Derives}
 use Rattle.cyc_types.specs.IntPart.{is_empty}
-use Rattle.cyc_types.specs.Built.{is_built_type, is_built_result, is_built_expression, are_built_arguments, are_built_operations, is_built_value, is_built_statement, are_built_items, is_built_global, is_built_function, is_built}
+use Rattle.cyc_types.specs.Built.{is_built_type, is_built_result, is_built_kind, is_built_expression, is_built_converted, are_built_arguments, are_built_operations, is_built_value, is_built_statement, are_built_items, is_built_global, is_built_function, is_built}
 use Rattle.cyc_types.specs.typing.Scopes.{Meaning, Unknown, Fixed, Counter, Routine, Scope, meaning_of, behind, in_block, in_labelled, in_body}
 use Rattle.cyc_types.specs.typing.Scopes as scopes
-use Rattle.cyc_types.specs.typing.Tests.{is_unique, is_moved, is_pointer}
-use Rattle.cyc_types.specs.typing.Expressions.{passed, variable_read, variable_looked, read, looked, rule_looked, pointed, pointer_to, address_of, assignment, is_looking, is_looking_first, operand, Joined, peeked_local, then_pointer, then_added, ints_joined, tests_joined, sums_joined, int_test, then_compared, equality_joined, joined, instance_of, instantiated, called, key_freed, rule, rule_all, rule_chain}
+use Rattle.cyc_types.specs.typing.Tests.{is_unique, is_moved, is_pointer, kind_of, kind_of_value}
+use Rattle.cyc_types.specs.typing.Expressions.{converted, passed, variable_read, variable_looked, read, looked, rule_looked, pointed, pointer_to, address_of, assignment, is_looking, is_looking_first, operand, Joined, peeked_local, then_pointer, then_added, ints_joined, tests_joined, sums_joined, int_test, then_compared, equality_joined, joined, instance_of, instantiated, called, key_freed, rule, rule_all, rule_chain}
 use Rattle.cyc_types.specs.typing.Statements.{rule_condition, returned, rule_returned, exception_among, rule_initial, behind_item, rule_statement, rule_body, rule_items}
 use Rattle.cyc_types.specs.typing.Heads.{signature_of}
 use Rattle.cyc_types.specs.typing.Programs.{Program, program_known, body_scope, rule_functions, constant_of, globals_of, IsTypedProgram}
@@ -84,7 +84,11 @@ operand_constants : (g : Scope) (seen : Bool) (e : Expression) → HasWords (rul
 operand_constants g true e w a i d = seen_constants g e (rule g e) w a i d
 operand_constants g false e w a i d = w a i d
 
--- so are those of values that are passed
+-- so are those of a value that is converted
+converted_words : (a : typed.Expression) (t : Ty) → (is_built_expression a ≡ true → IsOfWords a) → is_built_converted (converted a t) ≡ true → IsOfWords a
+converted_words a t w i = w (and_parts (is_built_expression a) (is_built_kind (kind_of_value (type_of a)) && is_built_kind (kind_of t)) i).0
+
+-- and of values that are passed
 abbrev ArePassedWords : List typed.Expression → Type 0
 ArePassedWords as' = (ts : List Ty) → are_built_arguments (passed as' ts) ≡ true → AreOfWordsArguments (passed as' ts)
 
@@ -108,7 +112,7 @@ address_unbuilt (VariableSide l u) t = refl
 address_unbuilt (CellSide c) t = refl
 
 assignment_constants : (s : Side) (b : typed.Expression) → (is_built_expression b ≡ true → IsOfWords b) → is_built_expression (assignment s b) ≡ true → IsOfWords (assignment s b)
-assignment_constants (VariableSide l t) b w i = w i
+assignment_constants (VariableSide l t) b w i = converted_words b t w i
 assignment_constants (CellSide c) b w i = absurd (cc)
 
 -- ---- operators
@@ -212,8 +216,8 @@ mutual
   expressions_constants g (MoreExpressions e es) (w, ws) as' (a, h, (bs, hs, (u, eq))) (t ∷ ts) i =
       subst (λ cs. are_built_arguments (passed cs (t ∷ ts)) ≡ true → AreOfWordsArguments (passed cs (t ∷ ts))) (sym eq)
       (λ (j : are_built_arguments (passed (a ∷ bs) (t ∷ ts)) ≡ true).
-      let (first, rest) = and_parts (is_built_expression a) (are_built_arguments (passed bs ts)) j in
-      (expression_constants g e w a first h, expressions_constants g es ws bs hs ts rest))
+      let (first, rest) = and_parts (is_built_converted (converted a t)) (are_built_arguments (passed bs ts)) j in
+      (converted_words a t (λ l. expression_constants g e w a l h) first, expressions_constants g es ws bs hs ts rest))
       i
 
   chain_constants : (g : Scope) (p : Place) (k : Option ℕ) (left : ValueType) (os : Operations) → AreOfWordsChain os → (bs : typed.Operations × Ty) → Derives (rule_chain g p k left os) bs
@@ -232,12 +236,12 @@ initial_constants : (g : Scope) (w : WrittenType) (x : Named) (v : Option Expres
     → is_built_value c.1 ≡ true → IsOfWordsInitial c.1
 initial_constants g t x None c w (k, eq) i = subst (λ (z : Ty × Option Converted). IsOfWordsInitial z.1) (sym eq) tt
 initial_constants g t x (Some e) c w (a, h, (k, eq)) i =
-    subst (λ (z : Ty × Option Converted). is_built_value z.1 ≡ true → IsOfWordsInitial z.1) (sym eq) (λ j. expression_constants g e w a j h) i
+    subst (λ (z : Ty × Option Converted). is_built_value z.1 ≡ true → IsOfWordsInitial z.1) (sym eq) (converted_words a _ (λ j. expression_constants g e w a j h)) i
 
 value_constants : (g : Scope) (r : Option Ty) (p q : Place) (a : typed.Expression) (c : Option Converted) → (is_built_expression a ≡ true → IsOfWords a) → Derives (returned g r p q a) c
     → is_built_value c ≡ true → IsOfWordsInitial c
 value_constants g None p q a c w d i = absurd d
-value_constants g (Some t) p q a c w (k, eq) i = subst (λ z. is_built_value z ≡ true → IsOfWordsInitial z) (sym eq) w i
+value_constants g (Some t) p q a c w (k, eq) i = subst (λ z. is_built_value z ≡ true → IsOfWordsInitial z) (sym eq) (converted_words a t w) i
 
 returned_constants : (g : Scope) (p : Place) (v : Option Expression) (c : Option Converted) → IsOfWordsValue v → Derives (rule_returned g p v) c → is_built_value c ≡ true → IsOfWordsInitial c
 returned_constants g p None c w (k, eq) i = subst IsOfWordsInitial (sym eq) tt

@@ -18,7 +18,7 @@ use Rattle.cyc_types.specs.declared.typed.PointerOperator.TheVariants as pointer
 use Rattle.cyc_types.specs.declared.typed.LogicalOperator.{LogicalOperator}
 use Rattle.cyc_types.specs.declared.typed.LogicalOperator.TheVariants as logical
 use Rattle.cyc_types.specs.declared.typed.Callee.TheVariants as callees
-use Rattle.cyc_types.specs.TypedTrees.{Lvalue, Local, Global, Expression, Arguments, NoArguments, MoreArguments, Operations, NoOperations, ThenCompute, ThenTest, ThenPointer, Statement, Items, Program}
+use Rattle.cyc_types.specs.TypedTrees.{Lvalue, Local, Global, Expression, Arguments, NoArguments, MoreArguments, Operations, NoOperations, ThenCompute, ThenTest, ThenPointer, ThenPointerPeek, Statement, Items, Program}
 use Rattle.cyc_types.specs.TypedTrees as typed
 use Rattle.cyc_plain.specs.declared.instruction.Comparison.{Comparison}
 use Rattle.cyc_plain.specs.declared.instruction.Comparison.TheVariants as comparisons
@@ -38,7 +38,7 @@ use Rattle.cyc_plain.specs.Straight.{At}
 use Rattle.cyc_types.specs.Types.{Ty}
 use Rattle.cyc_meaning.specs.Values.{Value, Int, Null, Thin, Fat, Handle, Key, Operand as Kinded, is_kind, is_thin, words_of_kind}
 use Rattle.cyc_meaning.specs.Operators.{Result, Gives, Raises, Misfits, has_no_result, binary_word, is_zero, unary_result, truth_result, truth_of, division_by_zero, array_bounds}
-use Rattle.cyc_meaning.specs.Pointers.{null_test, takes_kind, followed}
+use Rattle.cyc_meaning.specs.Pointers.{takes_kind, followed}
 use Rattle.cyc_meaning.specs.Places.{arrives}
 use Rattle.cyc_meaning.specs.Conversion.{conversion}
 use Rattle.cyc_meaning.specs.State.{Region, World, Environment, with_local, made, variable, written, region_at, Awaiting, ConvertTo, Operate, Chain, Apply, ApplyPointer, Follow, Decide, Store, Pass, MakePlain, MakeFields, Initialise, Choose, Test, Return, Entry, Needs, Discard, Rest, Join, Loop, Focus, Evaluating, Given, GivenPlace, Executing, Proceeding, Calling, Returning, Throwing, State, Running}
@@ -46,26 +46,26 @@ use Rattle.cyc_meaning.specs.Step.{leads_to, wrong, object_of, computed, stored_
 use Rattle.cyc_meaning.specs.State.{status_of}
 use Rattle.cyc_meaning.specs.SourceMachine.{status_in}
 use Rattle.cyc_lower.specs.Slots.{slot_of, Types}
-use Rattle.cyc_lower.specs.Lowerable.{is_null_test}
 use Rattle.cyc_lower.proofs.Slots.{slot-room, room-inside}
 use Rattle.cyc_lower.proofs.Widths.{kind_positive, same_kind, HasRoom, Outside}
 use Rattle.cyc_lower.proofs.Moves.{moved_slots, moves, put_elsewhere, moved_elsewhere, moved_is}
-use Rattle.cyc_lower.specs.Lowering.{unary_operator, binary_operator, failing_comparison, operand_of, value_slot, next_slot, is_in, jump_if_zero, jump_if_nonzero, move_of, pointer_instruction, converts_there, break_target, lower_program}
+use Rattle.cyc_lower.specs.Lowering.{unary_operator, binary_operator, failing_comparison, operand_of, value_slot, next_slot, is_in, jump_if_zero, jump_if_nonzero, move_of, converts_there, break_target, lower_program}
 use Rattle.cyc_lower.proofs.Stands.{OperandBy, CopyBy, CopyAt, CheckAt, CheckedAt, OperatorAt, TruthAt, ExpressionAt, OperationsAt}
 use Rattle.cyc_objects.specs.Tables.{Tables}
 use Rattle.cyc_objects.specs.Words.{Points, IsPartOf, Is}
-use Rattle.cyc_objects.proofs.Pointers.{not-null, part-not-null, thin-null_test, fat-null_test}
+use Rattle.cyc_objects.proofs.Pointers.{not-null, part-not-null}
 use Rattle.cyc_objects.specs.Tables.{Variable, with_row}
 use Rattle.cyc_objects.proofs.Values.{Grows-row, Is-grows}
 use Rattle.cyc_lower.proofs.Sharing.{shared_declared, row_declared, shared_written}
 use Rattle.cyc_lower.proofs.Relation.{IsWord, IsIn, with_kind, types_at, starts_at, Holds, held, contents, callers, in_place, by_jump, in_temporary, in_local, drops, leaves, copies, DataIn, SharedAt, StoreAt, to_slot, to_jump, ValueStack, ConditionStack, DroppedStack, AheadStack, LandsStack, HandsOnStack, AppliedStack, ReadyAt, as_operand, into_slot, as_right, in_operand, nowhere, ahead, compared, with_left, behind_statement, Related, Matches, code_of, bounds_at, base_of, top}
-use Rattle.cyc_lower.proofs.Data.{IsWord-is, one_word, height-least, Holds-same, Holds-above, data_above, data_assigned, data_assigned_global, data_declared, data_grows}
+use Rattle.cyc_lower.proofs.Data.{in_words, IsWord-is, one_word, height-least, Holds-same, Holds-above, data_above, data_assigned, data_assigned_global, data_declared, data_grows}
 use Rattle.cyc_lower.proofs.Accesses.{IsWell, is_fitting, is_stored, written_here, written_elsewhere, written_length, is_declared, home_there}
 use Rattle.cyc_lower.proofs.PlaceWords.{stays}
 use Rattle.cyc_lower.proofs.Weights.{weight}
 use Rattle.cyc_lower.proofs.Relation.{StatementStack}
 use Rattle.cyc_lower.proofs.Matched.{IsMatched, silently, by_one, by_two, by_three, shared_way, shared_within, lands_depth, value_depth, place_depth, lands_plain, value_plain, place_plain}
 use Rattle.cyc_lower.proofs.Allocations.{plain_made, fields_made}
+use Rattle.cyc_lower.proofs.PointerSteps.{compares_pointers, right_follows}
 use Rattle.cyc_lower.proofs.Evaluations.{IsStep, landed_word, landed_moved, lands_at, passes_related, passes_weight, object_of_same, global_there}
 
 -- an operand of a kind, and an int
@@ -94,14 +94,9 @@ module _ (t : Tables) where
   zero_at kinds.Key (Key region) words p some is = absurd (some refl)
   zero_at kind v words p some is = absurd is
 
-  -- the words of an operand, which are a value
-  pub in_words : (v : Kinded) (slots : Words) (o : Operand) → IsIn t v slots o → (words : Words) × (p : ℕ) × (words p ≡ operand_word slots o) × Is t v.kind v.value words p
-  in_words v slots (operands.Slot n) is = (slots, n, refl, is)
-  in_words v slots (operands.Word w) is = ((λ (i : ℕ). w), 0, refl, IsWord-is t v.kind v.value w (λ (i : ℕ). w) 0 refl is)
-
   pub zero_is : (v : Kinded) (slots : Words) (o : Operand) → (is_zero v.value ≡ None → ⊥) → IsIn t v slots o → is_zero v.value ≡ Some (operand_word slots o == 0)
   zero_is v slots o some is =
-      let (words, p, same, is_it) = in_words v slots o is in
+      let (words, p, same, is_it) = in_words t v slots o is in
       zero_at v.kind v.value words p some is_it ∙ ap (λ x. Some (x == 0)) same
 
   -- an int is its word, and null is 0
@@ -111,7 +106,7 @@ module _ (t : Tables) where
 
   pub int_is : (kind : Kind) (a : ℕ) (slots : Words) (o : Operand) → IsIn t (of_kind kind (Int a)) slots o → operand_word slots o ≡ a
   int_is kind a slots o is =
-      let (words, p, same, is_it) = in_words (of_kind kind (Int a)) slots o is in
+      let (words, p, same, is_it) = in_words t (of_kind kind (Int a)) slots o is in
       sym same ∙ int_at kind a words p is_it
 
   null_at : (kind : Kind) (words : Words) (p : ℕ) → Is t kind Null words p → words p ≡ 0
@@ -121,7 +116,7 @@ module _ (t : Tables) where
 
   pub null_is : (kind : Kind) (slots : Words) (o : Operand) → IsIn t (of_kind kind Null) slots o → operand_word slots o ≡ 0
   null_is kind slots o is =
-      let (words, p, same, is_it) = in_words (of_kind kind Null) slots o is in
+      let (words, p, same, is_it) = in_words t (of_kind kind Null) slots o is in
       sym same ∙ null_at kind words p is_it
 
   -- a value of one word is told by it
@@ -137,7 +132,7 @@ module _ (t : Tables) where
 
   pub points_in : (kind : Kind) (object offset : ℕ) (slots : Words) (o : Operand) → IsIn t (of_kind kind (Thin object offset)) slots o → Points t object offset (operand_word slots o)
   points_in kind object offset slots o is =
-      let (words, p, same, is_it) = in_words (of_kind kind (Thin object offset)) slots o is in
+      let (words, p, same, is_it) = in_words t (of_kind kind (Thin object offset)) slots o is in
       subst (Points t object offset) same (points_at kind object offset words p is_it)
 
   pub not_zero : (kind : Kind) (object offset : ℕ) (slots : Words) (o : Operand) → IsIn t (of_kind kind (Thin object offset)) slots o → (operand_word slots o == 0) ≡ false
@@ -168,17 +163,6 @@ module _ (t : Tables) where
   not_fat : (kind : Kind) (object start many index : ℕ) (words : Words) (p : ℕ) → is_thin kind ≡ true → Is t kind (Fat object start many index) words p → ⊥
   not_fat kinds.Fat object start many index words p thin is = let f : false ≡ true = thin in cc
   not_fat kind object start many index words p thin is = is
-
-  -- a pointer is compared with null by its first word
-  null_tested : (negated : Bool) (kind : Kind) (v : Value) (words : Words) (p : ℕ) → (null_test negated v ≡ Misfits → ⊥) → Is t kind v words p
-      → null_test negated v ≡ Gives (Int (truth (if words p == 0 then not negated else negated)))
-  null_tested negated kinds.Nullable v words p some is = thin-null_test t negated kinds.Nullable v words p refl is
-  null_tested negated kinds.NonNull v words p some is = thin-null_test t negated kinds.NonNull v words p refl is
-  null_tested negated kinds.Fat v words p some is = fat-null_test t negated v words p is
-  null_tested negated kinds.Int (Int a) words p some is = absurd (some refl)
-  null_tested negated kinds.Handle (Handle region) words p some is = absurd (some refl)
-  null_tested negated kinds.Key (Key region) words p some is = absurd (some refl)
-  null_tested negated kind v words p some is = absurd is
 
   handle_at : (kind : Kind) (region : ℕ) (words : Words) (p : ℕ) → Is t kind (Handle region) words p → Is t kinds.Handle (Handle region) words p
   handle_at kinds.Handle region words p is = is
@@ -550,49 +534,6 @@ module _ (source : Program) (pages calls : ℕ) where
       → ReadyAt source shared.tables v e.locals c.active.function c.active.next c.active.slots c.frames (Needs (Apply u left) ∷ k) → GoesBehind v (Needs (Apply u left) ∷ k) e w c
   applies u left v k e w c well shared facts ready = applies_values u left.kind v.kind left.value v.value k e w c well shared facts ready
 
-  null_told : (b : Bool) → b ≡ (if b then not false else false)
-  null_told true = refl
-  null_told false = refl
-
-  other_told : (b : Bool) → not b ≡ (if b then not true else true)
-  other_told true = refl
-  other_told false = refl
-
-  -- a pointer is compared with null
-  compares_null : (u : PointerOperator) (peek : Option ℕ) (i j : Kind) (left v : Value) (d : ℕ) (k : List Entry) (e : Environment) (w : World) (c : Configuration)
-      → IsWell (step source (Running (Given (of_kind j v)) (Needs (ApplyPointer peek u (of_kind i left)) ∷ k) e w)) → is_null_test u ≡ true
-      → (shared : SharedAt source pages calls k e w c) → DataIn source shared.tables c.active.slots k e w c
-      → Is shared.tables i left c.active.slots (top source c.active.function k) → Holds shared.tables c.active.slots (base_of source c.active.function) (held k)
-      → At (code_of source c.active.function) c.active.next (pointer_instruction u (operands.Slot (top source c.active.function k)) d)
-      → LandsStack source c.active.function e.locals kinds.Int d (c.active.next + 1) c.frames k → GoesBehind (of_kind j v) (Needs (ApplyPointer peek u (of_kind i left)) ∷ k) e w c
-  compares_null pointers.ThinIsNull peek i j left Null d k e w c well test shared facts is holds here lands =
-      let x = c.active.slots (top source c.active.function k) in
-      by_one source pages calls
-      (ap (λ r. computed kinds.Int r k e w) (null_tested shared.tables false i left c.active.slots (top source c.active.function k) (λ none. well (ap (λ r. status_in (status_of (computed kinds.Int r k e w))) none)) is)) shared here
-      (λ choice. landed_word source pages calls (truth (if x == 0 then not false else false)) (truth (x == 0)) d k e w c (c.active.next + 1) (ap truth (null_told (x == 0))) shared facts holds refl lands)
-  compares_null pointers.ThinIsNotNull peek i j left Null d k e w c well test shared facts is holds here lands =
-      let x = c.active.slots (top source c.active.function k) in
-      by_one source pages calls
-      (ap (λ r. computed kinds.Int r k e w) (null_tested shared.tables true i left c.active.slots (top source c.active.function k) (λ none. well (ap (λ r. status_in (status_of (computed kinds.Int r k e w))) none)) is)) shared here
-      (λ choice. landed_word source pages calls (truth (if x == 0 then not true else true)) (truth (not (x == 0))) d k e w c (c.active.next + 1) (ap truth (other_told (x == 0))) shared facts holds refl lands)
-  compares_null pointers.FatIsNull peek i j left Null d k e w c well test shared facts is holds here lands =
-      let x = c.active.slots (top source c.active.function k) in
-      by_one source pages calls
-      (ap (λ r. computed kinds.Int r k e w) (null_tested shared.tables false i left c.active.slots (top source c.active.function k) (λ none. well (ap (λ r. status_in (status_of (computed kinds.Int r k e w))) none)) is)) shared here
-      (λ choice. landed_word source pages calls (truth (if x == 0 then not false else false)) (truth (x == 0)) d k e w c (c.active.next + 1) (ap truth (null_told (x == 0))) shared facts holds refl lands)
-  compares_null pointers.FatIsNotNull peek i j left Null d k e w c well test shared facts is holds here lands =
-      let x = c.active.slots (top source c.active.function k) in
-      by_one source pages calls
-      (ap (λ r. computed kinds.Int r k e w) (null_tested shared.tables true i left c.active.slots (top source c.active.function k) (λ none. well (ap (λ r. status_in (status_of (computed kinds.Int r k e w))) none)) is)) shared here
-      (λ choice. landed_word source pages calls (truth (if x == 0 then not true else true)) (truth (not (x == 0))) d k e w c (c.active.next + 1) (ap truth (other_told (x == 0))) shared facts holds refl lands)
-  compares_null pointers.AddFat peek i j left v d k e w c well test shared facts is holds here lands = absurd (let f : false ≡ true = test in cc)
-  compares_null pointers.SubtractFat peek i j left v d k e w c well test shared facts is holds here lands = absurd (let f : false ≡ true = test in cc)
-  compares_null pointers.EqualThin peek i j left v d k e w c well test shared facts is holds here lands = absurd (let f : false ≡ true = test in cc)
-  compares_null pointers.NotEqualThin peek i j left v d k e w c well test shared facts is holds here lands = absurd (let f : false ≡ true = test in cc)
-  compares_null pointers.NullIs peek i j left v d k e w c well test shared facts is holds here lands = absurd (let f : false ≡ true = test in cc)
-  compares_null pointers.NullIsNot peek i j left v d k e w c well test shared facts is holds here lands = absurd (let f : false ≡ true = test in cc)
-  compares_null u peek i j left v d k e w c well test shared facts is holds here lands = absurd (well refl)
-
   -- ---- truth values
 
   truth_twice : (b : Bool) → truth (truth b == 0) ≡ truth (not b)
@@ -636,8 +577,8 @@ module _ (source : Program) (pages calls : ℕ) where
   chain_lands NoOperations g locals d p q frames k (is, end) lands = lands_at source pages calls g locals kinds.Int d p q frames k end lands
   chain_lands (ThenCompute u b os) g locals d p q frames k ops lands = in_temporary (omega arith) (to_slot (d, q, ops, lands))
   chain_lands (ThenTest u b os) g locals d p q frames k ops lands = in_temporary (omega arith) (to_slot (d, q, ops, lands))
-  chain_lands (ThenPointer u typed.NullPointer os) g locals d p q frames k ops lands = in_temporary (omega arith) (to_slot (d, q, ops, lands))
-  chain_lands os g locals d p q frames k ops lands = absurd ops
+  chain_lands (ThenPointer u b os) g locals d p q frames k ops lands = in_temporary (omega arith) (to_slot (d, q, ops, lands))
+  chain_lands (ThenPointerPeek n u b os) g locals d p q frames k ops lands = in_temporary (omega arith) (to_slot (d, q, ops, lands))
 
   -- where the left operand decides, the right one is jumped over
   decided_at_once : (u : LogicalOperator) (b : Expression) (os : Operations) (v : Kinded) (f : Bool) (k : List Entry) (e : Environment) (w : World) (c : Configuration) (i : Instruction) (d m r : ℕ)
@@ -755,17 +696,26 @@ module _ (source : Program) (pages calls : ℕ) where
   chains (ThenTest u b os) v o k e w c well (shared, facts, is, holds) (to_slot (d, q, (m, r, there, jump, at_b, truths, ops), lands)) =
       tests u b os v (c.active.slots (top source c.active.function k) == 0) k e w c d q well refl
       (shared, facts, subst (IsIn shared.tables v c.active.slots) there is, holds) (m, r, refl, jump, at_b, truths, ops) lands
-  chains (ThenPointer u typed.NullPointer os) v o k e w c well (shared, facts, is, holds) (to_slot (d, q, (there, test, here, ops), lands)) =
+  chains (ThenPointer u b os) v o k e w c well (shared, facts, is, holds) (to_slot (d, q, (r, m, there, test, at_b, here, ops), lands)) =
       let g = c.active.function in
-      silently source pages calls (Running (Given v) (Needs (Chain (ThenPointer u typed.NullPointer os)) ∷ k) e w) (Running (Evaluating typed.NullPointer) (Needs (ApplyPointer None u v) ∷ Needs (Chain os) ∷ k) e w) (plain.Running c)
-      (awaited (takes_kind u v.kind) (ApplyPointer None u v) typed.NullPointer os k e w well) (
+      silently source pages calls (Running (Given v) (Needs (Chain (ThenPointer u b os)) ∷ k) e w) (Running (Evaluating b) (Needs (ApplyPointer None u v) ∷ Needs (Chain os) ∷ k) e w) (plain.Running c)
+      (awaited (takes_kind u v.kind) (ApplyPointer None u v) b os k e w well) (
         shared,
         facts,
-        as_operand (operands.Word 0) c.active.next (refl, refl) (subst (IsIn shared.tables v c.active.slots) there is, holds)
-            (next_slot os d (top source g k), test, here, chain_lands os g e.locals d (c.active.next + 1) q c.frames k ops lands),
+        right_follows source pages calls None u b os v k e w c r m (next_slot os d (top source g k)) (awaited_fits (takes_kind u v.kind) (ApplyPointer None u v) b os k e w well) shared.tables
+            (subst (IsIn shared.tables v c.active.slots) there is) holds test at_b here (chain_lands os g e.locals d (m + 1) q c.frames k ops lands),
       )
       (omega arith)
-  chains os v o k e w c well stands (to_slot (d, q, at, lands)) = absurd at
+  chains (ThenPointerPeek n u b os) v o k e w c well (shared, facts, is, holds) (to_slot (d, q, (r, m, there, test, at_b, here, ops), lands)) =
+      let g = c.active.function in
+      silently source pages calls (Running (Given v) (Needs (Chain (ThenPointerPeek n u b os)) ∷ k) e w) (Running (Evaluating b) (Needs (ApplyPointer (Some n) u v) ∷ Needs (Chain os) ∷ k) e w) (plain.Running c)
+      (awaited (takes_kind u v.kind) (ApplyPointer (Some n) u v) b os k e w well) (
+        shared,
+        facts,
+        right_follows source pages calls (Some n) u b os v k e w c r m (next_slot os d (top source g k)) (awaited_fits (takes_kind u v.kind) (ApplyPointer (Some n) u v) b os k e w well) shared.tables
+            (subst (IsIn shared.tables v c.active.slots) there is) holds test at_b here (chain_lands os g e.locals d (m + 1) q c.frames k ops lands),
+      )
+      (omega arith)
   chains os v o k e w c well stands (to_jump (failing, r, q, at, stack)) = absurd at
 
   -- ---- assignments
@@ -1060,7 +1010,7 @@ module _ (source : Program) (pages calls : ℕ) where
   stands_given v o (Needs (Apply u left) ∷ k) e w c well (shared, facts, is, (is_left, holds)) applied =
       applies u left v k e w c well shared facts (operands.Slot (top source c.active.function k), o, is_left, is, holds, applied)
   stands_given v o (Needs (ApplyPointer peek u left) ∷ k) e w c well (shared, facts, is, (is_left, holds)) (d, test, here, lands) =
-      compares_null u peek left.kind v.kind left.value v.value d k e w c well test shared facts is_left holds here lands
+      compares_pointers source pages calls u peek left v o d k e w c well test shared facts is is_left holds here lands
   stands_given v o (Needs Decide ∷ k) e w c well stands stack = decides_truth v o k e w c well stands stack
   stands_given v o (Needs (Store place) ∷ k) e w c well stands stack = stores_at place v o k e w c well stands stack
   stands_given v o (Needs (Pass f before cs) ∷ k) e w c well stands stack = hands_on f before cs v o k e w c stands stack

@@ -1,6 +1,6 @@
 -- The weight of a source state, which falls with each step that the plain program makes no step for.
 use Rattle.std.proofs.Common.{ℕ, suc, ◌+◌, List, [], ◌∷◌, Option, None, Some, length}
-use Rattle.cyc_types.specs.TypedTrees.{Load, New, Initial, Plain, Fields, Dereference, Target, Expression, Number, NullPointer, Copy, Call, Unary, Binary, Assign, Converted, Convert, Arguments, NoArguments, MoreArguments, Operations, NoOperations, ThenCompute, ThenTest, ThenPointer, Statement, Block, Empty, Evaluate, If, While, Break, Continue, Items, NoItems, MoreItems, Execute, Declare}
+use Rattle.cyc_types.specs.TypedTrees.{Load, New, Initial, Plain, Fields, Dereference, Target, Expression, Number, NullPointer, Copy, Call, Unary, Binary, Assign, Converted, Convert, Arguments, NoArguments, MoreArguments, Operations, NoOperations, ThenCompute, ThenTest, ThenPointer, Statement, Block, Empty, Evaluate, If, While, Break, Continue, Items, NoItems, MoreItems, Execute, Declare, Move, Peek, ThenPointerPeek}
 use Rattle.cyc_types.specs.TypedTrees as typed
 use Rattle.cyc_meaning.specs.State.{Awaiting, Chain, Pass, MakeFields, Initialise, Entry, Needs, Rest, Focus, Evaluating, Locating, Executing, Entering, Binding, State, Running}
 
@@ -10,6 +10,8 @@ abbrev mutual
   expression_weight (Number n) = 1
   expression_weight NullPointer = 1
   expression_weight (Copy l t) = 1
+  expression_weight (Move p n t) = 1
+  expression_weight (Peek p n t) = 1
   expression_weight (Call f cs t) = suc (arguments_weight cs)
   expression_weight (Unary o a) = suc (suc (expression_weight a))
   expression_weight (Binary a os t) = suc (suc (expression_weight a + operations_weight os))
@@ -40,6 +42,7 @@ abbrev mutual
   operations_weight NoOperations = 0
   operations_weight (ThenCompute o a os) = suc (suc (expression_weight a + operations_weight os))
   operations_weight (ThenPointer o a os) = suc (suc (expression_weight a + operations_weight os))
+  operations_weight (ThenPointerPeek n o a os) = suc (suc (expression_weight a + operations_weight os))
   operations_weight os = 0
 
 abbrev pub initial_weight : Option Converted → ℕ

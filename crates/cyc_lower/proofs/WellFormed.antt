@@ -8,10 +8,11 @@ use Rattle.cyc_types.specs.declared.typed.Callee.TheVariants as callees
 use Rattle.cyc_types.specs.declared.typed.UnaryOperator.TheVariants as unary
 use Rattle.cyc_types.specs.declared.typed.Operator.{Operator}
 use Rattle.cyc_types.specs.declared.typed.Operator.TheVariants as operators
+use Rattle.cyc_types.specs.declared.typed.PointerOperator.{PointerOperator}
 use Rattle.cyc_types.specs.declared.typed.LogicalOperator.{LogicalOperator}
 use Rattle.cyc_types.specs.declared.typed.LogicalOperator.TheVariants as logical
 use Rattle.cyc_types.specs.Types.{Ty, words_of, ValueType, Void, Null, Value}
-use Rattle.cyc_types.specs.TypedTrees.{Load, New, OnHeap, AsUnique, ByHandle, Initial, Plain, Fields, Array, Dereference, Target, type_of_place, Lvalue, Local, Global, Expression, Number, NullPointer, Copy, Call, Unary, Binary, Assign, Converted, Convert, Arguments, NoArguments, MoreArguments, Operations, NoOperations, ThenCompute, ThenTest, ThenPointer, type_of, Statement, Block, Empty, Evaluate, If, While, Return, Break, Continue, Items, NoItems, MoreItems, Execute, Declare, GlobalVariable, Signature, StructType, Function, Program}
+use Rattle.cyc_types.specs.TypedTrees.{Load, New, OnHeap, AsUnique, ByHandle, Initial, Plain, Fields, Array, Dereference, Target, type_of_place, Lvalue, Local, Global, Expression, Number, NullPointer, Copy, Call, Unary, Binary, Assign, Converted, Convert, Arguments, NoArguments, MoreArguments, Operations, NoOperations, ThenCompute, ThenTest, ThenPointer, type_of, Statement, Block, Empty, Evaluate, If, While, Return, Break, Continue, Items, NoItems, MoreItems, Execute, Declare, GlobalVariable, Signature, StructType, Function, Program, Move, Peek, ThenPointerPeek}
 use Rattle.cyc_types.specs.typing.WellTyped.{signature_of}
 use Rattle.cyc_types.specs.Numbered.{Numbering, argument_count, signatures_of, numbering_of}
 use Rattle.cyc_plain.specs.declared.instruction.Comparison.{Comparison}
@@ -30,7 +31,7 @@ use Rattle.cyc_store.specs.declared.range.TheConstants.{HEAP}
 use Rattle.cyc_meaning.specs.Values.{kind_of, words_of_kind}
 use Rattle.cyc_meaning.specs.FrameCount.{result_words, operand_words, converted_words, argument_words, expression_need, dereference_need, initial_value_need, converted_need, arguments_need, operations_need, initial_need, statement_need, items_need, words_of_all}
 use Rattle.cyc_lower.specs.Slots.{starts_of, slot_of, Types}
-use Rattle.cyc_lower.specs.Lowering.{stores_code, object_code, made_code, types_of, spare_slots, are_as_wide, converts_there, passed_words, all_passed, source_of, source_slot, moved_by, move_of, null_operator, compared_with_null, unary_operator, binary_operator, operand_of, operand_or, code_unless, slot_or, code_unless_slot, left_with, left_of, value_slot, next_slot, slot_with, left_slot, value_operand, converted_operand, printed_operand, check_code, conversion_code, divisor_code, checked_code, operator_code, truth_code, load_code, low_byte, test_code, is_in, copy_code, expression_code, arguments_code, converted_code, converted_operand_code, printed_code, dereference_code, initial_code, assignment_code, operations_code, discarded_code, failing_comparison, compared_or, first_operand, first_code, second_code, pair_code, condition_code, condition_of, failing_jump, break_target, continue_target, return_code, declaration_code, statement_code, items_code, first_temporary, results_of, lower_function, lower_global, lower_program}
+use Rattle.cyc_lower.specs.Lowering.{stores_code, object_code, made_code, types_of, spare_slots, are_as_wide, converts_there, passed_words, all_passed, source_of, source_slot, moved_by, move_of, unary_operator, binary_operator, operand_of, operand_or, code_unless, slot_or, code_unless_slot, left_with, left_of, value_slot, next_slot, slot_with, left_slot, value_operand, converted_operand, printed_operand, check_code, conversion_code, divisor_code, checked_code, operator_code, truth_code, load_code, low_byte, test_code, is_in, copy_code, expression_code, arguments_code, converted_code, converted_operand_code, printed_code, dereference_code, initial_code, assignment_code, operations_code, discarded_code, failing_comparison, compared_or, first_operand, first_code, second_code, pair_code, condition_code, condition_of, failing_jump, break_target, continue_target, return_code, declaration_code, statement_code, items_code, first_temporary, results_of, lower_function, lower_global, lower_program, pointer_operator, left_kind, behind_left, first_words_by, pointer_instruction, pointer_code}
 use Rattle.cyc_lower.proofs.Widths.{kind_positive, kind_few, type_words, kind_of_result, result_kind, made_kind, given, passed_kind, words_in}
 use Rattle.cyc_lower.proofs.Fitting.{FitsPlace, FitsStored, FitsCell, FitsObject, Fits, FitsConverted, FitArguments, FitOperations, FitsReturn, FitsInitial, FitsStatement, FitItems, AreFitting, IsFitting}
 use Rattle.cyc_lower.proofs.Values.{as_wide}
@@ -133,6 +134,8 @@ module _ (program : PlainProgram) (r : Routine) (b : Numbering) (types : Types) 
   given_needs (Number n) numbered = omega arith
   given_needs NullPointer numbered = omega arith
   given_needs (Copy l t) numbered = omega (arith, type_words t)
+  given_needs (Move p n t) numbered = omega (arith, type_words t)
+  given_needs (Peek p n t) numbered = omega (arith, type_words t)
   given_needs (Call callees.Putchar cs t) numbered = omega arith
   given_needs (Call callees.Getchar cs t) numbered = omega arith
   given_needs (Call (callees.Function n) cs t) (s, signature, many, passed, result, numbered) =
@@ -141,8 +144,8 @@ module _ (program : PlainProgram) (r : Routine) (b : Numbering) (types : Types) 
   given_needs (Binary a NoOperations t) (numbered, none) = omega (arith, given_needs a numbered)
   given_needs (Binary a (ThenCompute o c os) t) numbered = omega arith
   given_needs (Binary a (ThenTest o c os) t) numbered = omega arith
-  given_needs (Binary a (ThenPointer o NullPointer os) t) numbered = omega arith
-  given_needs (Binary a os t) (numbered, all) = absurd all
+  given_needs (Binary a (ThenPointer o c os) t) numbered = omega arith
+  given_needs (Binary a (ThenPointerPeek n o c os) t) numbered = omega arith
   given_needs (Assign l (Convert from to a) t) numbered = omega arith
   given_needs (Load (Target k a t)) numbered = omega (arith, type_words t)
   given_needs (Load x) numbered = absurd numbered
@@ -161,6 +164,8 @@ module _ (program : PlainProgram) (r : Routine) (b : Numbering) (types : Types) 
   value_room (Number n) t numbered few = tt
   value_room NullPointer t numbered few = tt
   value_room (Copy (Local w n) ty) t (within, room) few = omega (arith, locals n within, room)
+  value_room (Move w n ty) t (within, room) few = omega (arith, locals n within, room)
+  value_room (Peek w n ty) t (within, room) few = omega (arith, locals n within, room)
   value_room (Assign (Local w n) (Convert from to a) ty) t ((within, room), numbered) few = omega (arith, locals n within, room)
   value_room a t numbered few = few
 
@@ -212,12 +217,12 @@ module _ (program : PlainProgram) (r : Routine) (b : Numbering) (types : Types) 
   HasRoom NoOperations t = Unit {0}
   HasRoom os t = t < r.slots
 
-  has_room : (os : Operations) (ty : Ty) (t left : ℕ) → FitOperations b types os → 1 ≤ left → t + operations_need os ty left ≤ r.slots → HasRoom os t
+  has_room : (os : Operations) (ty : Ty) (t left : ℕ) → FitOperations b types left ty os → 1 ≤ left → t + operations_need os ty left ≤ r.slots → HasRoom os t
   has_room NoOperations ty t left numbered some few = tt
   has_room (ThenCompute o a os) ty t left numbered some few = omega (arith, few, some)
   has_room (ThenTest o a os) ty t left numbered some few = omega (arith, few, some)
-  has_room (ThenPointer o NullPointer os) ty t left numbered some few = omega (arith, few, some)
-  has_room os ty t left numbered some few = absurd numbered
+  has_room (ThenPointer o a os) ty t left numbered some few = omega (arith, few, some)
+  has_room (ThenPointerPeek n o a os) ty t left numbered some few = omega (arith, few, some)
 
   slot_with_in : (known : Option Operand) (a : Expression) (t : ℕ) → Fits b types a → t + words_of_kind (kind_at a) ≤ r.slots → slot_with (starts_of types) known a t + words_of_kind (kind_at a) ≤ r.slots
   slot_with_in (Some o) a t numbered few = slot_fits a t numbered few
@@ -280,9 +285,9 @@ module _ (program : PlainProgram) (r : Routine) (b : Numbering) (types : Types) 
   copy_in true c o d inside few = tt
   copy_in false c o d inside few = (subst (λ words. IsInRange program r (move_of words d o)) (sym (passed_is c)) (move_in (passed_kind c) d o few inside), tt)
 
-  pointer_in : (o : Option PlainBinary) (l : Operand) (d : ℕ) → d < r.slots → IsOperand r l → IsInRange program r (compared_with_null o l d)
-  pointer_in (Some o) l d few inside = (few, inside, tt)
-  pointer_in None l d few inside = (few, tt)
+  pointer_in : (o : Option PlainBinary) (l m : Operand) (d : ℕ) → d < r.slots → IsOperand r l → IsOperand r m → IsInRange program r (first_words_by o l m d)
+  pointer_in (Some o) l m d few left right = (few, left, right)
+  pointer_in None l m d few left right = (few, tt)
 
   test_in : (o : LogicalOperator) (operand : List Instruction) (p d t : ℕ) → d < r.slots → t < r.slots → p + length (test_code o operand p d t) < length r.code → AreIn operand → AreIn (test_code o operand p d t)
   test_in logical.AndThen operand p d t few room short inside =
@@ -303,6 +308,24 @@ module _ (program : PlainProgram) (r : Routine) (b : Numbering) (types : Types) 
   )
 
   -- ---- expressions
+
+  -- an operator on pointers with its right operand, which stands behind the left one
+  right_in : (o : PointerOperator) (a : Expression) (ty : Ty) (p : ℕ) (l : Operand) (d t left : ℕ) → Fits b types a → words_of_kind (left_kind o) ≤ left → d < r.slots → IsOperand r l
+      → t + max (left + operand_words (type_of a) + words_of ty) (left + expression_need a) ≤ r.slots
+      → p + length (pointer_code o l (value_operand (starts_of types) a (behind_left o t)) (code_unless (operand_of (starts_of types) a) (expression_code (starts_of types) a p (value_slot (starts_of types) a (behind_left o t)) (behind_left o t))) d) < length r.code
+      → ((slot : ℕ) → slot + words_of_kind (kind_at a) ≤ r.slots → p + length (expression_code (starts_of types) a p slot (behind_left o t)) < length r.code → AreIn (expression_code (starts_of types) a p slot (behind_left o t)))
+      → AreIn (pointer_code o l (value_operand (starts_of types) a (behind_left o t)) (code_unless (operand_of (starts_of types) a) (expression_code (starts_of types) a p (value_slot (starts_of types) a (behind_left o t)) (behind_left o t))) d)
+  right_in o a ty p l d t left numbered wide room inside few short computed =
+      let u = behind_left o t in
+      let slot = value_slot (starts_of types) a u in
+      let inner = expression_code (starts_of types) a p slot u in
+      let operand = code_unless (operand_of (starts_of types) a) inner in
+      let m = value_operand (starts_of types) a u in
+      let back = pointer_instruction o l m d ∷ [] in
+      let free : u + words_of_kind (kind_at a) ≤ r.slots = omega (arith, few, wide, operand_positive (type_of a), words_positive ty, given_needs a numbered) in
+      append operand back
+      (unless_in (operand_of (starts_of types) a) inner p (omega (arith, short, length-append operand back)) (λ less. computed slot (slot_fits a u numbered free) less))
+      (pointer_in (pointer_operator o) l m d room inside (value_in a u numbered free), tt)
 
   initial_by : (there : Bool) (from to : Kind) (a : Expression) (p d t : ℕ) → from ≡ kind_at a → are_as_wide from to ≡ true → Fits b types a → d + words_of_kind to ≤ r.slots → t + converted_words (Convert from to a) ≤ r.slots → converts_there from to ≡ there
       → ((slot : ℕ) → slot + words_of_kind (kind_at a) ≤ r.slots → p + length (expression_code (starts_of types) a p slot t) < length r.code → AreIn (expression_code (starts_of types) a p slot t))
@@ -329,6 +352,8 @@ module _ (program : PlainProgram) (r : Routine) (b : Numbering) (types : Types) 
     expression_in (Number n) p d t numbered room few short = ((omega (arith, room), tt), tt)
     expression_in NullPointer p d t numbered room few short = ((omega (arith, room), tt), tt)
     expression_in (Copy l ty) p d t numbered room few short = load_in l ty d numbered room
+    expression_in (Move w n ty) p d t numbered room few short = load_in (Local w n) ty d numbered room
+    expression_in (Peek w n ty) p d t numbered room few short = load_in (Local w n) ty d numbered room
     expression_in (Call callees.Putchar cs ty) p d t (s, signature, many, passed, result, numbered) room few short =
         let o = printed_operand (starts_of types) cs (operands.Slot t) t in
         let front = printed_code (starts_of types) cs p t in
@@ -467,7 +492,7 @@ module _ (program : PlainProgram) (r : Routine) (b : Numbering) (types : Types) 
         (converted_in c p t numbered (omega (arith, few, place)) (omega (arith, needs, place)) (omega (arith, short, length-append front back)))
         (arguments_in cs (p + length front) (t + passed_words c) first (before + converted_words c) rest (omega (arith, place, passed_is c, converted_least c)) (omega (arith, few)) (omega (arith, needs)) (omega (arith, short, length-append front back)))
 
-    operations_in : (os : Operations) (ty : Ty) (p : ℕ) (l : Operand) (d t left : ℕ) → FitOperations b types os → d < r.slots → IsOperand r l → 1 ≤ left → t + operations_need os ty left ≤ r.slots → p + length (operations_code (starts_of types) os p l d t) < length r.code → AreIn (operations_code (starts_of types) os p l d t)
+    operations_in : (os : Operations) (ty : Ty) (p : ℕ) (l : Operand) (d t left : ℕ) → FitOperations b types left ty os → d < r.slots → IsOperand r l → 1 ≤ left → t + operations_need os ty left ≤ r.slots → p + length (operations_code (starts_of types) os p l d t) < length r.code → AreIn (operations_code (starts_of types) os p l d t)
     operations_in NoOperations ty p l d t left numbered room inside some few short = tt
     operations_in (ThenCompute o a os) ty p l d t left (numbered, rest) room inside some few short =
         let inner = expression_code (starts_of types) a p (value_slot (starts_of types) a (suc t)) (suc t) in
@@ -498,11 +523,28 @@ module _ (program : PlainProgram) (r : Routine) (b : Numbering) (types : Types) 
         append front back
         (test_in o operand p next t next_few free (omega (arith, short, long)) (expression_in a (p + 1) t t numbered (omega (arith, few, free, given_needs a numbered)) (omega (arith, few)) (omega (arith, short, long, long_front))))
         (operations_in os ty (p + length front) (operands.Slot next) d t (words_of ty) rest room next_few (words_positive ty) (omega (arith, few)) (omega (arith, short, long)))
-    operations_in (ThenPointer o NullPointer os) ty p l d t left (test, rest) room inside some few short =
+    operations_in (ThenPointer o a os) ty p l d t left (test, wide, numbered, rest) room inside some few short =
         let next = next_slot os d t in
+        let m = value_operand (starts_of types) a (behind_left o t) in
+        let operand = code_unless (operand_of (starts_of types) a) (expression_code (starts_of types) a p (value_slot (starts_of types) a (behind_left o t)) (behind_left o t)) in
+        let front = pointer_code o l m operand next in
+        let back = operations_code (starts_of types) os (p + length front) (operands.Slot next) d t in
+        let long = length-append front back in
         let next_few = next_in os d t room (omega (arith, few, some)) in
-        (pointer_in (null_operator o) l next next_few inside, operations_in os ty (p + 1) (operands.Slot next) d t (words_of ty) rest room next_few (words_positive ty) (omega (arith, few)) (omega (arith, short)))
-    operations_in os ty p l d t left numbered room inside some few short = absurd numbered
+        append front back
+        (right_in o a ty p l next t left numbered wide next_few inside (omega (arith, few)) (omega (arith, short, long)) (λ slot fits less. expression_in a p slot (behind_left o t) numbered fits (omega (arith, few, wide)) less))
+        (operations_in os ty (p + length front) (operands.Slot next) d t (words_of ty) rest room next_few (words_positive ty) (omega (arith, few)) (omega (arith, short, long)))
+    operations_in (ThenPointerPeek n o a os) ty p l d t left (test, wide, numbered, rest) room inside some few short =
+        let next = next_slot os d t in
+        let m = value_operand (starts_of types) a (behind_left o t) in
+        let operand = code_unless (operand_of (starts_of types) a) (expression_code (starts_of types) a p (value_slot (starts_of types) a (behind_left o t)) (behind_left o t)) in
+        let front = pointer_code o l m operand next in
+        let back = operations_code (starts_of types) os (p + length front) (operands.Slot next) d t in
+        let long = length-append front back in
+        let next_few = next_in os d t room (omega (arith, few, some)) in
+        append front back
+        (right_in o a ty p l next t left numbered wide next_few inside (omega (arith, few)) (omega (arith, short, long)) (λ slot fits less. expression_in a p slot (behind_left o t) numbered fits (omega (arith, few, wide)) less))
+        (operations_in os ty (p + length front) (operands.Slot next) d t (words_of ty) rest room next_few (words_positive ty) (omega (arith, few)) (omega (arith, short, long)))
 
   assignment_in : (l : Lvalue) (c : Converted) (p t : ℕ) → FitsStored b types l (passed_kind c) → FitsConverted b types c → t + converted_words c ≤ r.slots → t + converted_need c ≤ r.slots → p + length (assignment_code (starts_of types) l c p t) < length r.code → AreIn (assignment_code (starts_of types) l c p t)
   assignment_in (Local w n) c p t (within, own) numbered free few short = initial_in c p (slot_of (starts_of types) n) t numbered (omega (arith, locals n within, own)) free few short

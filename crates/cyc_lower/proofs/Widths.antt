@@ -8,7 +8,7 @@ use Rattle.cyc_types.specs.declared.typed.Callee.{Callee}
 use Rattle.cyc_types.specs.declared.typed.Callee.TheVariants as callees
 use Rattle.cyc_types.specs.Types.{Ty, words_of, words_of_mark}
 use Rattle.cyc_types.specs.Types as types
-use Rattle.cyc_types.specs.TypedTrees.{Load, New, Initial, Array, type_of_place, Expression, NullPointer, Copy, Call, Binary, Assign, Converted, Convert, NoOperations, Signature}
+use Rattle.cyc_types.specs.TypedTrees.{Load, New, Initial, Array, type_of_place, Expression, NullPointer, Copy, Call, Binary, Assign, Converted, Convert, NoOperations, Signature, Move, Peek}
 use Rattle.cyc_meaning.specs.Values.{kind_of, number_of_kind, is_kind, words_of_kind}
 use Rattle.cyc_lower.specs.Slots.{Types}
 
@@ -86,6 +86,8 @@ module _ (signatures : List Signature) where
   given (Load x) = kind_of (type_of_place x)
   given (Copy l t) = kind_of t
   given (New w i t) = made_kind i
+  given (Move p n t) = kind_of t
+  given (Peek p n t) = kind_of t
   given (Call f cs t) = called_kind f
   given (Binary a NoOperations t) = given a
   given (Assign l (Convert from to a) t) = to

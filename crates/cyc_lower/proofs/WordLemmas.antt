@@ -11,7 +11,7 @@ use Rattle.cyc_types.specs.declared.typed.Operator.{Operator}
 use Rattle.cyc_types.specs.declared.typed.Operator.TheVariants as operators
 use Rattle.cyc_types.specs.declared.typed.LogicalOperator.{LogicalOperator}
 use Rattle.cyc_types.specs.declared.typed.LogicalOperator.TheVariants as logical
-use Rattle.cyc_types.specs.TypedTrees.{Load, New, OnHeap, AsUnique, ByHandle, Initial, Plain, Fields, Dereference, Target, Lvalue, Local, Global, Expression, Number, NullPointer, Copy, Call, Unary, Binary, Assign, Converted, Convert, Arguments, NoArguments, MoreArguments, Operations, NoOperations, ThenCompute, ThenTest, ThenPointer, Statement, Block, Empty, Evaluate, If, While, Return, Break, Continue, Items, NoItems, MoreItems, Execute, Declare, Constant, Word, Null, GlobalVariable, StructType, Function, Program}
+use Rattle.cyc_types.specs.TypedTrees.{Load, New, OnHeap, AsUnique, ByHandle, Initial, Plain, Fields, Dereference, Target, Lvalue, Local, Global, Expression, Number, NullPointer, Copy, Call, Unary, Binary, Assign, Converted, Convert, Arguments, NoArguments, MoreArguments, Operations, NoOperations, ThenCompute, ThenTest, ThenPointer, Statement, Block, Empty, Evaluate, If, While, Return, Break, Continue, Items, NoItems, MoreItems, Execute, Declare, Constant, Word, Null, GlobalVariable, StructType, Function, Program, Move, Peek, ThenPointerPeek}
 use Rattle.cyc_plain.specs.declared.instruction.Comparison.{Comparison}
 use Rattle.cyc_plain.specs.declared.instruction.BinaryOperator.{BinaryOperator as PlainBinary}
 use Rattle.cyc_plain.specs.declared.instruction.Operand.{Operand}
@@ -26,7 +26,7 @@ use Rattle.cyc_types.specs.Types.{words_of}
 use Rattle.cyc_types.specs.Numbered.{argument_count}
 use Rattle.cyc_store.specs.declared.range.TheConstants.{HEAP}
 use Rattle.cyc_meaning.specs.Values.{words_of_kind}
-use Rattle.cyc_lower.specs.Lowering.{stores_code, object_code, made_code, types_of, are_as_wide, converts_there, passed_words, source_of, source_slot, converted_by, moved_by, move_of, null_operator, compared_with_null, operand_of, operand_or, code_unless, slot_or, code_unless_slot, left_with, left_of, value_slot, next_slot, left_slot, value_operand, converted_operand, printed_operand, check_code, conversion_code, divisor_code, checked_code, operator_code, truth_code, load_code, test_code, is_in, copy_code, expression_code, arguments_code, converted_code, converted_operand_code, printed_code, dereference_code, initial_code, assignment_code, operations_code, discarded_code, failing_comparison, compared_or, compared_of, slot_with, first_code, second_code, pair_code, condition_code, condition_of, return_code, declaration_code, statement_code, items_code, first_temporary, initial_word, lower_function, lower_global, lower_program}
+use Rattle.cyc_lower.specs.Lowering.{stores_code, object_code, made_code, types_of, are_as_wide, converts_there, passed_words, source_of, source_slot, converted_by, moved_by, move_of, operand_of, operand_or, code_unless, slot_or, code_unless_slot, left_with, left_of, value_slot, next_slot, left_slot, value_operand, converted_operand, printed_operand, check_code, conversion_code, divisor_code, checked_code, operator_code, truth_code, load_code, test_code, is_in, copy_code, expression_code, arguments_code, converted_code, converted_operand_code, printed_code, dereference_code, initial_code, assignment_code, operations_code, discarded_code, failing_comparison, compared_or, compared_of, slot_with, first_code, second_code, pair_code, condition_code, condition_of, return_code, declaration_code, statement_code, items_code, first_temporary, initial_word, lower_function, lower_global, lower_program, pointer_operator, behind_left, first_words_by, pointer_instruction, pointer_code}
 use Rattle.cyc_lower.proofs.WellFormed.{all_append, all_of}
 
 abbrev HaveWords : List Instruction → Type 0
@@ -90,9 +90,9 @@ initial_by_words : (there : Bool) (known : Option Operand) (at_once inner : List
 initial_by_words true known at_once inner to o p d all other word = all
 initial_by_words false known at_once inner to o p d all other word = append (converted_by known inner to o p) _ (converted_by_words known inner to o p other word) (move_words (words_of_kind to) d o word)
 
-pointer_word : (o : Option PlainBinary) (l : Operand) (d : ℕ) → IsOfWord l → HasWord (compared_with_null o l d)
-pointer_word (Some o) l d word = (word, omega arith)
-pointer_word None l d word = omega arith
+pointer_word : (o : Option PlainBinary) (l r : Operand) (d : ℕ) → IsOfWord l → IsOfWord r → HasWord (first_words_by o l r d)
+pointer_word (Some o) l r d left right = (left, right)
+pointer_word None l r d left right = omega arith
 
 test_words : (o : LogicalOperator) (operand : List Instruction) (p d t : ℕ) → HaveWords operand → HaveWords (test_code o operand p d t)
 test_words logical.AndThen operand p d t all = ((tt, omega arith), append operand (truth_code t d) all (tt, (tt, tt)))
@@ -118,6 +118,8 @@ module _ (starts : Starts) where
   known_word (Number n) slot word = word
   known_word NullPointer slot words = omega arith
   known_word (Copy (Local w n) ty) slot words = tt
+  known_word (Move w n ty) slot words = tt
+  known_word (Peek w n ty) slot words = tt
   known_word a slot words = tt
 
   converted_word : (c : Converted) (t : ℕ) → IsOfWordsConverted c → IsOfWord (converted_operand starts c t)
@@ -149,6 +151,8 @@ module _ (starts : Starts) where
     expression_words (Number n) p d t word = (word, tt)
     expression_words NullPointer p d t words = (omega arith, tt)
     expression_words (Copy l ty) p d t words = load_words (words_of ty) l d
+    expression_words (Move w n ty) p d t words = load_words (words_of ty) (Local w n) d
+    expression_words (Peek w n ty) p d t words = load_words (words_of ty) (Local w n) d
     expression_words (Call callees.Putchar cs ty) p d t words =
         let byte = printed_word cs (operands.Slot t) t words tt in
         append (printed_code starts cs p t) _ (printed_words cs p t words) (byte, ((byte, omega arith), tt))
@@ -240,8 +244,23 @@ module _ (starts : Starts) where
         append (test_code o operand p next t) (operations_code starts os q (operands.Slot next) d t) (test_words o operand p next t (expression_words a (p + 1) t t first))
         (operations_words os q (operands.Slot next) d t tt rest)
     operations_words (ThenPointer o a os) p l d t left (first, rest) =
-        (pointer_word (null_operator o) l (next_slot os d t) left, operations_words os (p + 1) (operands.Slot (next_slot os d t)) d t tt rest)
-    operations_words os p l d t left words = absurd words
+        let slot = value_slot starts a (behind_left o t) in
+        let inner = expression_code starts a p slot (behind_left o t) in
+        let operand = code_unless (operand_of starts a) inner in
+        let next = next_slot os d t in
+        let front = pointer_code o l (value_operand starts a (behind_left o t)) operand next in
+        append front (operations_code starts os (p + length front) (operands.Slot next) d t)
+        (append operand _ (unless_words (operand_of starts a) inner (expression_words a p slot (behind_left o t) first)) (pointer_word (pointer_operator o) l (value_operand starts a (behind_left o t)) next left (known_word a slot first), tt))
+        (operations_words os (p + length front) (operands.Slot next) d t tt rest)
+    operations_words (ThenPointerPeek n o a os) p l d t left (first, rest) =
+        let slot = value_slot starts a (behind_left o t) in
+        let inner = expression_code starts a p slot (behind_left o t) in
+        let operand = code_unless (operand_of starts a) inner in
+        let next = next_slot os d t in
+        let front = pointer_code o l (value_operand starts a (behind_left o t)) operand next in
+        append front (operations_code starts os (p + length front) (operands.Slot next) d t)
+        (append operand _ (unless_words (operand_of starts a) inner (expression_words a p slot (behind_left o t) first)) (pointer_word (pointer_operator o) l (value_operand starts a (behind_left o t)) next left (known_word a slot first), tt))
+        (operations_words os (p + length front) (operands.Slot next) d t tt rest)
 
   assignment_words : (l : Lvalue) (c : Converted) (p t : ℕ) → IsOfWordsConverted c → HaveWords (assignment_code starts l c p t)
   assignment_words (Local w n) c p t words = initial_words c p (slot_of starts n) t words

@@ -3,6 +3,7 @@ use Rattle.std.specs.Prelude.{◌≡◌, ℕ, suc, ◌+◌, ◌^◌, ◌≤◌, 
 use Rattle.std.specs.declared.alloc.AllocError.{AllocError}
 use Rattle.cyc_types.specs.declared.typed.Operation.{Operation}
 use Rattle.cyc_types.specs.declared.typed.Operation.TheVariants as operation
+use Rattle.cyc_types.specs.declared.typed.PointerOperator.{PointerOperator}
 use Rattle.cyc_types.specs.declared.typed.Item.{Item}
 use Rattle.cyc_types.specs.declared.typed.Item.TheVariants as item
 use Rattle.cyc_types.specs.Types.{Ty, words_of}
@@ -11,9 +12,9 @@ use Rattle.cyc_types.specs.TypedTreeView.{view_struct, view_expression, view_con
 use Rattle.cyc_plain.specs.declared.instruction.Operand.{Operand}
 use Rattle.cyc_plain.specs.declared.instruction.Operand.TheVariants.{Slot, Word}
 use Rattle.cyc_plain.specs.declared.instruction.Instruction.{Instruction}
-use Rattle.cyc_plain.specs.declared.instruction.Instruction.TheVariants.{Move, WriteByte}
+use Rattle.cyc_plain.specs.declared.instruction.Instruction.TheVariants.{WriteByte}
 use Rattle.cyc_lower.specs.Slots.{Starts}
-use Rattle.cyc_lower.specs.Lowering.{operand_of, source_of, source_slot, code_unless, slot_or, code_unless_slot, printed_operand, conversion_code, printed_code, left_of, value_slot, left_slot, value_operand, expression_code, compute_code, test_code, pointer_instruction, condition_code, failing_jump, while_code, statement_code, declaration_code, condition_of}
+use Rattle.cyc_lower.specs.Lowering.{operand_of, source_of, source_slot, code_unless, slot_or, code_unless_slot, printed_operand, conversion_code, printed_code, left_of, value_slot, left_slot, value_operand, expression_code, compute_code, test_code, condition_code, failing_jump, while_code, statement_code, declaration_code, condition_of, behind_left, pointer_code}
 use Rattle.cyc_meaning.specs.FrameCount.{operand_words, argument_words, arguments_need, expression_need, initial_need, statement_need, kept_by, frame_count}
 use Rattle.cyc_plain.specs.declared.instruction.Comparison.{Comparison}
 use Rattle.cyc_lower.specs.declared.emitter.Emitter.{Emitter}
@@ -91,13 +92,17 @@ module _ (starts : Starts) where
   HasRoomFor (operation.Compute o e) t many = operand_of starts (view_expression e) ≡ None → t < most_locals + many
   HasRoomFor o t many = t ≤ most_locals + many
 
+  -- an operator on pointers with its right operand
+  abbrev pub pointer_operation_code : PointerOperator → Expression → (p : ℕ) → (l : Operand) → (d t : ℕ) → List Instruction
+  pointer_operation_code o b p l d t = pointer_code o l (value_operand starts b (behind_left o t)) (value_code b p (behind_left o t)) d
+
   -- one operator of a chain with its right operand, where the left one is l
   abbrev pub operation_code : Operation → (p : ℕ) → (l : Operand) → (d t : ℕ) → List Instruction
   operation_code (operation.Compute o e) p l d t =
       compute_code o l (value_operand starts (view_expression e) (suc t)) (value_code (view_expression e) p (suc t)) p d
   operation_code (operation.Test o e) p l d t = test_code o (expression_code starts (view_expression e) (p + 1) t t) p d t
-  operation_code (operation.Pointer o e) p l d t = pointer_instruction o l d ∷ []
-  operation_code (operation.PointerPeek n o e) p l d t = Move d (Word 0) ∷ []
+  operation_code (operation.Pointer o e) p l d t = pointer_operation_code o (view_expression e) p l d t
+  operation_code (operation.PointerPeek n o e) p l d t = pointer_operation_code o (view_expression e) p l d t
 
   -- one item of a block
   abbrev pub item_code : Item → (p loop t : ℕ) → List Instruction

@@ -4,20 +4,18 @@ use Rattle.std.specs.Prelude.{◌≡◌, ℕ, ◌≤◌, ◌<◌, Bool, true, fa
 use Rattle.cyc_types.specs.declared.typed.PointerOperator.{PointerOperator}
 use Rattle.cyc_types.specs.declared.typed.PointerOperator.TheVariants as pointers
 use Rattle.cyc_types.specs.Types.{Ty, words_of}
-use Rattle.cyc_types.specs.TypedTrees.{Load, New, OnHeap, Initial, Plain, Fields, Dereference, Target, Lvalue, Local, Global, Expression, Number, NullPointer, Copy, Call, Unary, Binary, Assign, Converted, Convert, Arguments, NoArguments, MoreArguments, Operations, NoOperations, ThenCompute, ThenTest, ThenPointer, Statement, Block, Empty, Evaluate, If, While, Return, Break, Continue, Items, NoItems, MoreItems, Execute, Declare, Signature, Function, Program}
+use Rattle.cyc_types.specs.TypedTrees.{Load, New, OnHeap, Initial, Plain, Fields, Dereference, Target, Lvalue, Local, Global, Expression, Number, NullPointer, Copy, Call, Unary, Binary, Assign, Converted, Convert, Arguments, NoArguments, MoreArguments, Operations, NoOperations, ThenCompute, ThenTest, ThenPointer, Statement, Block, Empty, Evaluate, If, While, Return, Break, Continue, Items, NoItems, MoreItems, Execute, Declare, Signature, Function, Program, Move, Peek, ThenPointerPeek}
 use Rattle.cyc_types.specs.typing.Scopes.{signature_of_ints}
 use Rattle.cyc_types.specs.Numbered.{Numbering, IsSignature, IsWithin, argument_count, numbering_of, signatures_of}
 use Rattle.cyc_store.specs.declared.range.TheConstants.{MOST_BLOCK_WORDS}
 use Rattle.cyc_meaning.specs.Values.{is_thin, words_of_kind}
 use Rattle.cyc_lower.specs.Lowering.{are_as_wide, passed_words, all_passed}
 
--- a pointer is compared with `NULL`, which stands on the right
-abbrev pub is_null_test : PointerOperator → Bool
-is_null_test pointers.ThinIsNull = true
-is_null_test pointers.ThinIsNotNull = true
-is_null_test pointers.FatIsNull = true
-is_null_test pointers.FatIsNotNull = true
-is_null_test o = false
+-- pointers are compared, with one another or with `NULL`
+abbrev pub is_comparison : PointerOperator → Bool
+is_comparison pointers.AddFat = false
+is_comparison pointers.SubtractFat = false
+is_comparison o = true
 
 -- a value of so many words has a place in a variable: a global has one word yet
 abbrev pub HasPlace : Numbering → Lvalue → (words : ℕ) → Type 0
@@ -30,6 +28,8 @@ abbrev mutual
   IsLowerable b (Number n) = Unit {0}
   IsLowerable b NullPointer = Unit {0}
   IsLowerable b (Copy l t) = IsWithin b l
+  IsLowerable b (Move p n t) = IsWithin b (Local p n)
+  IsLowerable b (Peek p n t) = IsWithin b (Local p n)
   IsLowerable b (Call f cs t) = (s : Signature) × IsSignature b f s × (argument_count cs ≡ length s.parameters) × AreLowerableArguments b cs
   IsLowerable b (Unary o a) = IsLowerable b a
   IsLowerable b (Binary a os t) = IsLowerable b a × AreLowerableOperations b os
@@ -60,8 +60,8 @@ abbrev mutual
   AreLowerableOperations b NoOperations = Unit {0}
   AreLowerableOperations b (ThenCompute o a os) = IsLowerable b a × AreLowerableOperations b os
   AreLowerableOperations b (ThenTest o a os) = IsLowerable b a × AreLowerableOperations b os
-  AreLowerableOperations b (ThenPointer o NullPointer os) = (is_null_test o ≡ true) × AreLowerableOperations b os
-  AreLowerableOperations b os = ⊥
+  AreLowerableOperations b (ThenPointer o a os) = (is_comparison o ≡ true) × IsLowerable b a × AreLowerableOperations b os
+  AreLowerableOperations b (ThenPointerPeek n o a os) = (is_comparison o ≡ true) × IsLowerable b a × AreLowerableOperations b os
 
 -- a value is returned exactly by a function with a result
 abbrev pub IsLowerableReturn : Numbering → Option Ty → Option Converted → Type 0

@@ -3,7 +3,7 @@
 -- is read on the way. Else it writes to the slots from t on alone. Numbers and locals are operands where they are used.
 --
 -- A value has as many slots as its kind has words, one behind the other. A global has one word yet, the first of its value. There is
--- code for the int language; a form that is not built has a constant in its place, which nothing runs.
+-- code for the int language and more; a form that is not built has a constant in its place, which nothing runs.
 use Rattle.std.specs.Prelude.{ℕ, zero, suc, ◌+◌, max, ◌==◌, Bool, false, if◌then◌else◌, List, [], ◌∷◌, ◌++◌, length, map, Option, None, Some}
 use Rattle.cyc_words.specs.declared.span.Span.{Span}
 use Rattle.cyc_syntax.specs.Symbols.{Place}
@@ -20,7 +20,7 @@ use Rattle.cyc_types.specs.declared.typed.LogicalOperator.{LogicalOperator}
 use Rattle.cyc_types.specs.declared.typed.LogicalOperator.TheVariants as logical
 use Rattle.cyc_types.specs.Types.{Ty, words_of}
 use Rattle.cyc_types.specs.Numbered.{argument_count}
-use Rattle.cyc_types.specs.TypedTrees.{Load, New, OnHeap, Initial, Plain, Fields, Dereference, Target, Lvalue, Local, Global, Expression, Number, NullPointer, Copy, Call, Unary, Binary, Assign, Converted, Convert, Arguments, NoArguments, MoreArguments, Operations, NoOperations, ThenCompute, ThenTest, ThenPointer, ThenPointerPeek, Statement, Block, Empty, Evaluate, If, While, Return, Break, Continue, Items, NoItems, MoreItems, Execute, Declare, Constant, Word, Null, GlobalVariable, StructType, Function, Program}
+use Rattle.cyc_types.specs.TypedTrees.{Load, New, OnHeap, Initial, Plain, Fields, Dereference, Target, Lvalue, Local, Global, Expression, Number, NullPointer, Copy, Call, Unary, Binary, Assign, Converted, Convert, Arguments, NoArguments, MoreArguments, Operations, NoOperations, ThenCompute, ThenTest, ThenPointer, ThenPointerPeek, Statement, Block, Empty, Evaluate, If, While, Return, Break, Continue, Items, NoItems, MoreItems, Execute, Declare, Constant, Word, Null, GlobalVariable, StructType, Function, Program, Move, Peek}
 use Rattle.cyc_plain.specs.declared.instruction.UnaryOperator.{UnaryOperator as PlainUnary}
 use Rattle.cyc_plain.specs.declared.instruction.UnaryOperator.TheVariants as plain_unary
 use Rattle.cyc_plain.specs.declared.instruction.BinaryOperator.{BinaryOperator as PlainBinary}
@@ -77,13 +77,29 @@ binary_operator operators.Multiply = plain_binary.Multiply
 binary_operator operators.Divide = plain_binary.Divide
 binary_operator operators.Remainder = plain_binary.Remainder
 
--- what a pointer is compared by with null, if it is
-abbrev pub null_operator : PointerOperator → Option PlainBinary
-null_operator pointers.ThinIsNull = Some plain_binary.Equal
-null_operator pointers.ThinIsNotNull = Some plain_binary.NotEqual
-null_operator pointers.FatIsNull = Some plain_binary.Equal
-null_operator pointers.FatIsNotNull = Some plain_binary.NotEqual
-null_operator o = None
+-- what the first words of two pointers are compared by, if they are; that of null is 0
+abbrev pub pointer_operator : PointerOperator → Option PlainBinary
+pointer_operator pointers.ThinIsNull = Some plain_binary.Equal
+pointer_operator pointers.ThinIsNotNull = Some plain_binary.NotEqual
+pointer_operator pointers.FatIsNull = Some plain_binary.Equal
+pointer_operator pointers.FatIsNotNull = Some plain_binary.NotEqual
+pointer_operator pointers.NullIs = Some plain_binary.Equal
+pointer_operator pointers.NullIsNot = Some plain_binary.NotEqual
+pointer_operator pointers.EqualThin = Some plain_binary.Equal
+pointer_operator pointers.NotEqualThin = Some plain_binary.NotEqual
+pointer_operator o = None
+
+-- a kind with as many words as the left operand of an operator on pointers has
+abbrev pub left_kind : PointerOperator → Kind
+left_kind pointers.AddFat = kinds.Fat
+left_kind pointers.SubtractFat = kinds.Fat
+left_kind pointers.FatIsNull = kinds.Fat
+left_kind pointers.FatIsNotNull = kinds.Fat
+left_kind o = kinds.Nullable
+
+-- the slot behind that operand, which is in slot t
+abbrev pub behind_left : PointerOperator → (t : ℕ) → ℕ
+behind_left o t = t + words_of_kind (left_kind o)
 
 -- the comparison that holds where that of an operator fails, if it is one
 abbrev pub failing_comparison : Operator → Option Comparison
@@ -172,13 +188,13 @@ abbrev pub test_jump : LogicalOperator → (t target : ℕ) → Instruction
 test_jump logical.AndThen t target = jump_if_zero (operands.Slot t) target
 test_jump logical.OrElse t target = jump_if_nonzero (operands.Slot t) target
 
--- A pointer is compared with null by its first word; another operator on pointers has a constant in its place.
-abbrev pub compared_with_null : Option PlainBinary → Operand → (d : ℕ) → Instruction
-compared_with_null (Some o) l d = instructions.Binary o d l (operands.Word 0)
-compared_with_null None l d = instructions.Move d (operands.Word 0)
+-- Pointers are compared by their first words; another operator on pointers has a constant in its place.
+abbrev pub first_words_by : Option PlainBinary → (l r : Operand) → (d : ℕ) → Instruction
+first_words_by (Some o) l r d = instructions.Binary o d l r
+first_words_by None l r d = instructions.Move d (operands.Word 0)
 
-abbrev pub pointer_instruction : PointerOperator → Operand → (d : ℕ) → Instruction
-pointer_instruction o l d = compared_with_null (null_operator o) l d
+abbrev pub pointer_instruction : PointerOperator → (l r : Operand) → (d : ℕ) → Instruction
+pointer_instruction o l r d = first_words_by (pointer_operator o) l r d
 
 -- 0 stays 0, and any other word becomes 1
 abbrev pub truth_code : (t d : ℕ) → List Instruction
@@ -194,6 +210,10 @@ low_byte o d = instructions.Binary plain_binary.And d o (operands.Word 255)
 -- an operator with its right operand, whose code stands at place p
 abbrev pub compute_code : Operator → (l r : Operand) → (operand : List Instruction) → (p d : ℕ) → List Instruction
 compute_code o l r operand p d = operand ++ operator_code o l r (p + length operand) d
+
+-- an operator on pointers with its right operand
+abbrev pub pointer_code : PointerOperator → (l r : Operand) → (operand : List Instruction) → (d : ℕ) → List Instruction
+pointer_code o l r operand d = operand ++ pointer_instruction o l r d ∷ []
 
 -- a test at place p with its right operand, whose code stands behind the jump
 abbrev pub test_code : LogicalOperator → (operand : List Instruction) → (p d t : ℕ) → List Instruction
@@ -308,6 +328,8 @@ module _ (starts : Starts) where
   operand_of (Number n) = Some (operands.Word n)
   operand_of NullPointer = Some (operands.Word 0)
   operand_of (Copy (Local p n) t) = Some (operands.Slot (slot_of starts n))
+  operand_of (Move p n t) = Some (operands.Slot (slot_of starts n))
+  operand_of (Peek p n t) = Some (operands.Slot (slot_of starts n))
   operand_of a = None
 
   abbrev pub left_of : Expression → Operations → Option Operand
@@ -361,6 +383,8 @@ module _ (starts : Starts) where
     expression_code (Number n) p d t = instructions.Move d (operands.Word n) ∷ []
     expression_code NullPointer p d t = instructions.Move d (operands.Word 0) ∷ []
     expression_code (Copy l ty) p d t = load_code (words_of ty) l d
+    expression_code (Move w n ty) p d t = load_code (words_of ty) (Local w n) d
+    expression_code (Peek w n ty) p d t = load_code (words_of ty) (Local w n) d
     expression_code (Call callees.Putchar cs ty) p d t =
         printed_code cs p t
         ++ instructions.WriteByte (printed_operand cs (operands.Slot t) t)
@@ -439,9 +463,15 @@ module _ (starts : Starts) where
         test_code o (expression_code b (p + 1) t t) p (next_slot os d t) t
         ++ operations_code os (p + length (test_code o (expression_code b (p + 1) t t) p (next_slot os d t) t)) (operands.Slot (next_slot os d t)) d t
     operations_code (ThenPointer o b os) p l d t =
-        pointer_instruction o l (next_slot os d t) ∷ operations_code os (p + 1) (operands.Slot (next_slot os d t)) d t
+        pointer_code o l (value_operand b (behind_left o t)) (code_unless (operand_of b) (expression_code b p (value_slot b (behind_left o t)) (behind_left o t))) (next_slot os d t)
+        ++ operations_code os
+        (p + length (pointer_code o l (value_operand b (behind_left o t)) (code_unless (operand_of b) (expression_code b p (value_slot b (behind_left o t)) (behind_left o t))) (next_slot os d t)))
+        (operands.Slot (next_slot os d t)) d t
     operations_code (ThenPointerPeek n o b os) p l d t =
-        instructions.Move (next_slot os d t) (operands.Word 0) ∷ operations_code os (p + 1) (operands.Slot (next_slot os d t)) d t
+        pointer_code o l (value_operand b (behind_left o t)) (code_unless (operand_of b) (expression_code b p (value_slot b (behind_left o t)) (behind_left o t))) (next_slot os d t)
+        ++ operations_code os
+        (p + length (pointer_code o l (value_operand b (behind_left o t)) (code_unless (operand_of b) (expression_code b p (value_slot b (behind_left o t)) (behind_left o t))) (next_slot os d t)))
+        (operands.Slot (next_slot os d t)) d t
 
   -- an assignment, and the operand where its value stands then
   abbrev pub assignment_code : Lvalue → Converted → (p t : ℕ) → List Instruction

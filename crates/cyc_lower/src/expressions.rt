@@ -8,7 +8,7 @@ ghost use Rattle.cyc_meaning.specs.Values.{words_of_kind};
 ghost use Rattle.cyc_plain.specs.declared.instruction.Operand.TheVariants as operands;
 ghost use Rattle.cyc_plain.specs.declared.instruction.Instruction.TheVariants as instructions;
 ghost use Rattle.cyc_lower.specs.Lowering.{operand_of, operand_or, left_of, left_slot, value_operand, converted_operand, printed_operand, check_code, conversion_code, divisor_code, operator_code, truth_code, copy_code, stores_code, object_code, all_passed, expression_code, dereference_code, made_code, arguments_code, converted_operand_code, printed_code, initial_code, assignment_code, assigned_operand, operations_code, discarded_code, condition_of, condition_code};
-ghost use Rattle.cyc_lower.specs.Emission.{Appends, Gives, HasRoom, HasRoomFor, most_locals, value_code, source_code, slot_code, print_code, converted_slot, converted_slot_code, left_code, operation_code, IsChain, zero_condition, view_starts};
+ghost use Rattle.cyc_lower.specs.Emission.{Appends, Gives, HasRoom, HasRoomFor, most_locals, value_code, source_code, slot_code, print_code, converted_slot, converted_slot_code, left_code, operation_code, IsChain, zero_condition, view_starts, pointer_operation_code};
 
 use crate::emitter::Emitter;
 use crate::frame_count::{words_of, words_of_kind};
@@ -18,14 +18,15 @@ use crate::operands::{
     value_slot,
 };
 use crate::operators::{
-    binary_operator, failing_comparison, jump_if_nonzero, move_of, pointer_instruction, test_jump,
-    unary_operator,
+    binary_operator, failing_comparison, jump_if_nonzero, left_kind, move_of, pointer_instruction,
+    test_jump, unary_operator,
 };
 use cyc_plain::{BinaryOperator, Comparison, Instruction, Operand, Request, UnaryOperator};
 use cyc_store::HEAP;
 use cyc_types::typed;
 use cyc_types::typed::{
     Callee, Converted, Dereference, Expr, Initial, Kind, Lvalue, Operation, Operator, Placement,
+    PointerOperator,
 };
 use std::alloc::AllocError;
 
@@ -224,7 +225,32 @@ impl Emitter {
                 Placement::OnHeap => self.lower_object(starts, initial, HEAP, slot, free),
                 _ => self.emit_missing(slot),
             },
-            _ => self.emit_missing(slot),
+            Expr::Move {
+                span,
+                number,
+                of_type,
+            }
+            | Expr::Peek {
+                span,
+                number,
+                of_type,
+            } => {
+                let place = Lvalue::Local {
+                    span: *span,
+                    number: *number,
+                };
+                self.load(starts, words_of(of_type), place, slot)
+            }
+            // `NULL` is 0, and the others are not built yet.
+            Expr::NullPointer
+            | Expr::HeapRegion
+            | Expr::Counter { .. }
+            | Expr::AddressOf { .. }
+            | Expr::AddressOfCell { .. }
+            | Expr::NumberOfElements { .. }
+            | Expr::FreeUnique { .. }
+            | Expr::FreeKey { .. }
+            | Expr::Store { .. } => self.emit_missing(slot),
         }
     }
 
@@ -510,11 +536,33 @@ impl Emitter {
                 self.patch(jump, test_jump(*operator, free, behind));
                 self.make_truth(free, slot)
             }
-            Operation::Pointer { operator, .. } => {
-                self.emit(pointer_instruction(*operator, left, slot))
-            }
-            Operation::PointerPeek { .. } => self.emit_missing(slot),
+            Operation::Pointer { operator, operand } => self.lower_pointer_operation(
+                starts, *operator, operand, left, slot, free,
+            ),
+            Operation::PointerPeek {
+                operator,
+                operand,
+                ..
+            } => self.lower_pointer_operation(starts, *operator, operand, left, slot, free),
         }
+    }
+
+    /// An operator on pointers, whose left operand is in the first free slots, with its right one.
+    #[cycle(expression)]
+    fn lower_pointer_operation(
+        &mut self,
+        starts: &Starts,
+        operator: PointerOperator,
+        operand: &Expr,
+        left: Operand,
+        slot: usize,
+        free: usize,
+    ) -> Result<(), AllocError>
+        ensures { Appends result self.old self.new (pointer_operation_code (view_starts starts.now) operator (view_expression operand.now) (length self.old.code.items) left slot free) }
+    {
+        let behind = slot_behind(free, left_kind(operator))?;
+        let right = self.lower_operand(starts, operand, behind)?;
+        self.emit(pointer_instruction(operator, left, right, slot))
     }
 
     /// A chain, from its first operator on. What the last one gives comes to a slot.

@@ -35,6 +35,9 @@ pub(crate) fn operand_of(starts: &Starts, value: &Expr) -> Option<Operand>
             }),
             Lvalue::Global { .. } => None,
         },
+        Expr::Move { number, .. } | Expr::Peek { number, .. } => Some(Operand::Slot {
+            number: slot_of(starts, *number),
+        }),
         _ => None,
     }
 }

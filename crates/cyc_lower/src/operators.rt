@@ -1,10 +1,11 @@
 //! What operators become.
 ghost use Rattle.std.specs.Prelude.{◌≡◌};
-ghost use Rattle.cyc_lower.specs.Lowering.{unary_operator, binary_operator, pointer_instruction, failing_comparison, move_of, failing_jump, jump_if_zero, jump_if_nonzero, test_jump};
+ghost use Rattle.cyc_lower.specs.Lowering.{unary_operator, binary_operator, left_kind, pointer_instruction, failing_comparison, move_of, failing_jump, jump_if_zero, jump_if_nonzero, test_jump};
 
 use crate::operands::Condition;
 use cyc_plain::{BinaryOperator, Comparison, Instruction, Operand, UnaryOperator};
 use cyc_types::typed;
+use cyc_types::typed::Kind;
 
 pub(crate) fn unary_operator(operator: typed::UnaryOperator) -> UnaryOperator
     ensures { result ≡ unary_operator operator }
@@ -39,22 +40,43 @@ pub(crate) fn binary_operator(operator: typed::Operator) -> BinaryOperator
     }
 }
 
-/// A pointer is compared with null by its first word; another operator on pointers is not built yet, and never runs.
+/// A kind with as many words as the left operand of an operator on pointers has.
+pub(crate) fn left_kind(operator: typed::PointerOperator) -> Kind
+    ensures { result ≡ left_kind operator }
+{
+    match operator {
+        typed::PointerOperator::AddFat
+        | typed::PointerOperator::SubtractFat
+        | typed::PointerOperator::FatIsNull
+        | typed::PointerOperator::FatIsNotNull => Kind::Fat,
+        typed::PointerOperator::ThinIsNull
+        | typed::PointerOperator::ThinIsNotNull
+        | typed::PointerOperator::NullIs
+        | typed::PointerOperator::NullIsNot
+        | typed::PointerOperator::EqualThin
+        | typed::PointerOperator::NotEqualThin => Kind::Nullable,
+    }
+}
+
+/// Pointers are compared by their first words; another operator on pointers is not built yet, and never runs.
 pub(crate) fn pointer_instruction(
     operator: typed::PointerOperator,
     left: Operand,
+    right: Operand,
     destination: usize,
 ) -> Instruction
-    ensures { result ≡ pointer_instruction operator left destination }
+    ensures { result ≡ pointer_instruction operator left right destination }
 {
     let operator = match operator {
-        typed::PointerOperator::ThinIsNull | typed::PointerOperator::FatIsNull => {
-            BinaryOperator::Equal
-        }
-        typed::PointerOperator::ThinIsNotNull | typed::PointerOperator::FatIsNotNull => {
-            BinaryOperator::NotEqual
-        }
-        _ => {
+        typed::PointerOperator::ThinIsNull
+        | typed::PointerOperator::FatIsNull
+        | typed::PointerOperator::NullIs
+        | typed::PointerOperator::EqualThin => BinaryOperator::Equal,
+        typed::PointerOperator::ThinIsNotNull
+        | typed::PointerOperator::FatIsNotNull
+        | typed::PointerOperator::NullIsNot
+        | typed::PointerOperator::NotEqualThin => BinaryOperator::NotEqual,
+        typed::PointerOperator::AddFat | typed::PointerOperator::SubtractFat => {
             return Instruction::Move {
                 destination,
                 source: Operand::Word { word: 0 },
@@ -65,7 +87,7 @@ pub(crate) fn pointer_instruction(
         operator,
         destination,
         left,
-        right: Operand::Word { word: 0 },
+        right,
     }
 }
 

@@ -4,7 +4,7 @@ use Rattle.std.specs.Prelude.{◌&&◌}
 use Rattle.std.specs.List.{list_all}
 use Rattle.cyc_types.specs.TypedTrees.{Expression, Number, Copy, Call, Unary, Binary, Assign, Converted, Convert, Arguments, NoArguments, MoreArguments, Operations, NoOperations, ThenCompute, ThenTest, Statement, Block, Empty, Evaluate, If, While, Return, Break, Continue, Items, NoItems, MoreItems, Execute, Declare, Function, Program}
 use Rattle.cyc_types.specs.IntPart.{is_empty}
-use Rattle.cyc_types.specs.Built.{is_built_type, is_built_result, is_built_expression, is_built_converted, are_built_arguments, are_built_operations, is_built_value, is_built_statement, are_built_items, is_built_global, is_built_function, is_built}
+use Rattle.cyc_types.specs.Built.{is_built_type, is_built_result, is_built_kind, is_built_expression, is_built_converted, are_built_arguments, are_built_operations, is_built_value, is_built_statement, are_built_items, is_built_global, is_built_function, is_built}
 use Rattle.cyc_soundness.specs.Classes.{KeepsToHeap, InConverted, InArguments, InOperations, InValue, InStatement, InItems, InFunctions, IsOfTheHeap}
 use Rattle.cyc_soundness.proofs.Numbers.{both_true}
 
@@ -24,7 +24,7 @@ mutual
   expression_kept a e = not_built e
 
   converted_kept : (c : Converted) → is_built_converted c ≡ true → InConverted c
-  converted_kept (Convert from to a) e = expression_kept a e
+  converted_kept (Convert from to a) e = expression_kept a (both_true (is_built_expression a) (is_built_kind from && is_built_kind to) e).0
 
   arguments_kept : (cs : Arguments) → are_built_arguments cs ≡ true → InArguments cs
   arguments_kept NoArguments e = tt

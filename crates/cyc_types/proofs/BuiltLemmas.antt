@@ -12,7 +12,7 @@ use Rattle.cyc_types.specs.declared.typed.UnaryOperator.{UnaryOperator}
 use Rattle.cyc_types.specs.declared.typed.UnaryOperator.TheVariants as unary
 use Rattle.cyc_types.specs.Types.{Ty, Int, ValueType, Value, result_type, substituted_ty}
 use Rattle.cyc_types.specs.TypedTrees.{Lvalue, Local, Global, Expression, Number, Copy, Peek, Call, Unary, Binary, Assign, Converted, Convert, Arguments, NoArguments, MoreArguments, Operations, NoOperations, ThenCompute, ThenTest, Statement, Block, Empty, Evaluate, If, While, Return, Break, Continue, Items, NoItems, MoreItems, Execute, Declare, GlobalVariable, Signature, Function, Program}
-use Rattle.cyc_types.specs.Built.{is_built_result, is_built_expression, is_built_converted, are_built_arguments, are_built_operations, is_built_value, is_built_statement, are_built_items, is_built_function, is_built_type, is_built_global, is_built}
+use Rattle.cyc_types.specs.Built.{is_built_result, is_built_kind, is_built_expression, is_built_converted, are_built_arguments, are_built_operations, is_built_value, is_built_statement, are_built_items, is_built_function, is_built_type, is_built_global, is_built}
 use Rattle.cyc_types.specs.IntPart.{is_empty}
 use Rattle.cyc_types.specs.Numbered.{signatures_of, Numbering, IsSignature, argument_count, IsWithin, IsNumbered, IsNumberedConverted, AreNumberedArguments, AreNumberedOperations, IsNumberedReturn, IsNumberedInitial, IsNumberedStatement, AreNumberedItems, numbering_of, AreNumberedFunctions, IsNumberedProgram}
 use Rattle.cyc_types.specs.typing.WellTyped.{Context, IsVariable, IsPlace, IsCallee, WellTyped, IsPeek, IsLeft, IsUnaryOperand, IsConverted, ArePassed, IsChain, IsCondition, behind, in_block, in_body, with_local, IsInitial, IsReturned, WellTypedStatement, WellTypedItems, signature_of, body_context, AreWellTypedFunctions, IsWellTypedProgram}
@@ -100,7 +100,9 @@ module _ (b : Numbering) where
     numbered c k a t i w = absurd (cc)
 
     converted_numbered : (c : Context) → Agrees b c → (d : Converted) (t : Ty) → is_built_converted d ≡ true → IsConverted c d t → IsNumberedConverted b d
-    converted_numbered c k (Convert from to a) t i (v, w, converts, before, behind) = numbered c k a v i w
+    converted_numbered c k (Convert from to a) t i (v, w, converts, before, behind) =
+        let (built, kinds) = and_parts (is_built_expression a) (is_built_kind from && is_built_kind to) i in
+        let (first, second) = and_parts (is_built_kind from) (is_built_kind to) kinds in (numbered c k a v built w, first, second)
 
     passed_numbered : (c : Context) → Agrees b c → (ts : List Ty) (ds : Arguments) → are_built_arguments ds ≡ true → ArePassed c ts ds → (argument_count ds ≡ length ts) × AreNumberedArguments b ds
     passed_numbered c k [] NoArguments i w = (refl, tt)

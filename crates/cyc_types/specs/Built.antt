@@ -5,6 +5,8 @@ use Rattle.std.specs.Prelude.{Bool, true, false, ◌&&◌, Option, None, Some}
 use Rattle.std.specs.List.{list_all}
 use Rattle.cyc_words.specs.declared.fault.Code.TheVariants as codes
 use Rattle.cyc_words.specs.declared.fault.Fault.{Fault}
+use Rattle.cyc_types.specs.declared.typed.Kind.{Kind}
+use Rattle.cyc_types.specs.declared.typed.Kind.TheVariants as kinds
 use Rattle.cyc_types.specs.Types.{Ty, Int}
 use Rattle.cyc_types.specs.TypedTrees.{Expression, Number, Copy, Call, Unary, Binary, Assign, Converted, Convert, Arguments, NoArguments, MoreArguments, Operations, NoOperations, ThenCompute, ThenTest, Statement, Block, Empty, Evaluate, If, While, Return, Break, Continue, Items, NoItems, MoreItems, Execute, Declare, GlobalVariable, Function, Program}
 use Rattle.cyc_types.specs.IntPart.{is_empty}
@@ -18,6 +20,13 @@ abbrev pub is_built_result : Option Ty → Bool
 is_built_result None = true
 is_built_result (Some t) = is_built_type t
 
+-- what has this kind is one word, and neither a handle nor a key
+abbrev pub is_built_kind : Kind → Bool
+is_built_kind kinds.Int = true
+is_built_kind kinds.Nullable = true
+is_built_kind kinds.NonNull = true
+is_built_kind k = false
+
 abbrev mutual
   pub is_built_expression : Expression → Bool
   is_built_expression (Number n) = true
@@ -29,7 +38,7 @@ abbrev mutual
   is_built_expression a = false
 
   pub is_built_converted : Converted → Bool
-  is_built_converted (Convert from to a) = is_built_expression a
+  is_built_converted (Convert from to a) = is_built_expression a && (is_built_kind from && is_built_kind to)
 
   pub are_built_arguments : Arguments → Bool
   are_built_arguments NoArguments = true

@@ -6,6 +6,7 @@ use Rattle.cyc_types.specs.declared.typed.Callee.{Callee}
 use Rattle.cyc_types.specs.declared.typed.Callee.TheVariants as callees
 use Rattle.cyc_types.specs.Types.{Ty, Int, result_type}
 use Rattle.cyc_types.specs.TypedTrees.{Lvalue, Local, Global, Expression, Number, Copy, Call, Unary, Binary, Assign, Converted, Convert, Arguments, NoArguments, MoreArguments, Operations, NoOperations, ThenCompute, ThenTest, Statement, Block, Empty, Evaluate, If, While, Return, Break, Continue, Items, NoItems, MoreItems, Execute, Declare, Signature, Function, Program}
+use Rattle.cyc_types.specs.Built.{is_built_kind}
 use Rattle.cyc_types.specs.typing.Scopes.{signature_of_ints}
 use Rattle.cyc_types.specs.typing.WellTyped.{signature_of}
 
@@ -46,7 +47,7 @@ abbrev mutual
   IsNumbered b a = ⊥
 
   pub IsNumberedConverted : Numbering → Converted → Type 0
-  IsNumberedConverted b (Convert from to a) = IsNumbered b a
+  IsNumberedConverted b (Convert from to a) = IsNumbered b a × (is_built_kind from ≡ true) × (is_built_kind to ≡ true)
 
   pub AreNumberedArguments : Numbering → Arguments → Type 0
   AreNumberedArguments b NoArguments = Unit {0}

@@ -4,10 +4,10 @@ ghost use Rattle.std.specs.Result.{is_ok};
 ghost use Rattle.std.specs.List.{list_all};
 ghost use Rattle.cyc_types.specs.TypeView.{view_ty};
 ghost use Rattle.cyc_types.specs.TypedTreeView.{view_expression, view_converted, arguments_of, operations_of, view_statement, items_of, view_global, view_function, view_program};
-ghost use Rattle.cyc_types.specs.Built.{is_built_type, is_built_result, is_built_expression, is_built_converted, are_built_arguments, are_built_operations, is_built_value, is_built_statement, are_built_items, is_built_global, is_built_function, is_built};
+ghost use Rattle.cyc_types.specs.Built.{is_built_type, is_built_result, is_built_kind, is_built_expression, is_built_converted, are_built_arguments, are_built_operations, is_built_value, is_built_statement, are_built_items, is_built_global, is_built_function, is_built};
 
 use crate::Ty;
-use crate::typed::{Converted, Expr, Function, Global, Item, Operation, Stmt, TypedTree};
+use crate::typed::{Converted, Expr, Function, Global, Item, Kind, Operation, Stmt, TypedTree};
 use cyc_words::{Code, Fault, Span};
 
 /// What a program may have that is not built yet.
@@ -104,6 +104,15 @@ fn check_result(given: &Option<Ty>, name: Span) -> Result<(), Unbuilt>
     }
 }
 
+fn check_kind(kind: Kind, name: Span) -> Result<(), Unbuilt>
+    ensures { is_ok result ≡ is_built_kind kind }
+{
+    match kind {
+        Kind::Int | Kind::Nullable | Kind::NonNull => Ok(()),
+        Kind::Fat | Kind::Handle | Kind::Key => stop(Construct::Value, name),
+    }
+}
+
 #[cycle(expression)]
 fn check_expression(expression: &Expr, name: Span) -> Result<(), Unbuilt>
     ensures { is_ok result ≡ is_built_expression (view_expression expression.now) }
@@ -136,7 +145,9 @@ fn check_expression(expression: &Expr, name: Span) -> Result<(), Unbuilt>
 fn check_converted(converted: &Converted, name: Span) -> Result<(), Unbuilt>
     ensures { is_ok result ≡ is_built_converted (view_converted converted.now) }
 {
-    check_expression(&converted.value, name)
+    check_expression(&converted.value, name)?;
+    check_kind(converted.from, name)?;
+    check_kind(converted.to, name)
 }
 
 #[cycle(expression)]

@@ -21,12 +21,13 @@ use Rattle.cyc_types.specs.Types as types
 use Rattle.cyc_types.specs.TypedTrees.{Lvalue, Side, VariableSide, CellSide, Converted, Signature, type_of}
 use Rattle.cyc_types.specs.TypedTrees as typed
 use Rattle.cyc_types.specs.IntPart.{is_empty, is_left_out, is_int_base, is_int_type, is_int_expression, are_int_expressions, are_int_operations, is_int_option, is_int_statement, is_int_body, are_int_items, are_int_members, is_int_list, are_int_parameters, is_int_value, is_int_result, is_int_declaration, is_int_program}
-use Rattle.cyc_types.specs.Built.{is_built_type, is_built_result, is_built_expression, are_built_arguments, are_built_operations, is_built_value, is_built_statement, are_built_items, is_built_global, is_built_function, is_built}
+use Rattle.cyc_types.specs.Built.{is_built_type, is_built_result, is_built_kind, is_built_expression, is_built_converted, are_built_arguments, are_built_operations, is_built_value, is_built_statement, are_built_items, is_built_global, is_built_function, is_built}
 use Rattle.cyc_types.specs.Rules.{Rule, Derives}
 use Rattle.cyc_types.specs.typing.Scopes.{signature_of_ints, RegionName, StructName, Exception, Meaning, Unknown, Fixed, Counter, Routine, Declared, Ordinary, LocalVariable, Scope, meaning_in, meaning_among, meaning_of, behind, in_block, in_body, with_local}
 use Rattle.cyc_types.specs.typing.Scopes as scopes
 use Rattle.cyc_types.specs.typing.Formation.{Naming, base_written, pointers_written, type_written, after_base, base_for, pointers_for, type_for, after_type, types_for}
-use Rattle.cyc_types.specs.typing.Expressions.{passed, variable_read, variable_looked, read, looked, rule_looked, Found, place_meant, assignment, is_looking, is_looking_first, operand, Joined, peeked_local, then_added, ints_joined, tests_joined, sums_joined, int_test, then_compared, equality_joined, joined, instance_of, instantiated, called, rule, rule_all, rule_chain, rule_place}
+use Rattle.cyc_types.specs.typing.Tests.{kind_of, kind_of_value}
+use Rattle.cyc_types.specs.typing.Expressions.{converted, passed, variable_read, variable_looked, read, looked, rule_looked, Found, place_meant, assignment, is_looking, is_looking_first, operand, Joined, peeked_local, then_added, ints_joined, tests_joined, sums_joined, int_test, then_compared, equality_joined, joined, instance_of, called, rule, rule_all, rule_chain, rule_place}
 use Rattle.cyc_types.specs.typing.Statements.{rule_condition, returned, rule_returned, rule_initial, declared_type, behind_item, rule_statement, rule_body, rule_items}
 use Rattle.cyc_types.specs.typing.Heads.{Known, members_of, structs_of, exceptions_of, parameter_naming, result_written, signature_of, declared_from}
 use Rattle.cyc_types.specs.typing.Programs.{declared_before, Program, program_known, parameter_locals, body_scope, rule_functions, globals_of, struct_types, IsTypedProgram}
@@ -69,9 +70,18 @@ ints_built : (ts : List Ty) → AreAllInt ts → list_all is_built_type ts ≡ t
 ints_built [] k = refl
 ints_built (t ∷ ts) (i, k) = both (is_built_type t) (list_all is_built_type ts) (ap is_built_type i) (ints_built ts k)
 
-result_built : (k : Known) (names : List RegionName) (r : Option WrittenType) → is_int_result r ≡ true → is_built_result (result_written k names r) ≡ true
-result_built k names None i = refl
-result_built k names (Some w) i = ap is_built_type (int_written k.structs names _ w i)
+-- an int, or none
+abbrev IsIntResult : Option Ty → Type 0
+IsIntResult None = Unit {0}
+IsIntResult (Some t) = t ≡ Int
+
+result_int : (k : Known) (names : List RegionName) (r : Option WrittenType) → is_int_result r ≡ true → IsIntResult (result_written k names r)
+result_int k names None i = tt
+result_int k names (Some w) i = int_written k.structs names _ w i
+
+result_built : (r : Option Ty) → IsIntResult r → is_built_result r ≡ true
+result_built None i = refl
+result_built (Some t) i = ap is_built_type i
 
 -- ---- what names mean
 
@@ -80,20 +90,21 @@ IsIntMeaning Unknown = Unit {0}
 IsIntMeaning (scopes.Variable l t home) = t ≡ Int
 IsIntMeaning (Fixed l t) = ⊥
 IsIntMeaning (Counter n) = ⊥
-IsIntMeaning (Routine f s) = is_built_result s.result ≡ true
+IsIntMeaning (Routine f s) = AreAllInt s.parameters × IsIntResult s.result
 
 abbrev AreIntsAmong : List LocalVariable → List Declared → Type 0
 AreIntsAmong vs ds = (x : Named) → IsIntMeaning (meaning_among vs ds x)
 
+-- all that has a name, and what the function returns
 abbrev AreInts : Scope → Type 0
-AreInts g = AreIntsAmong g.locals g.program
+AreInts g = AreIntsAmong g.locals g.program × IsIntResult g.result
 
 with_int : (g : Scope) (y : Named) (t : Ty) → t ≡ Int → AreInts g → AreInts (with_local Ordinary y t g)
-with_int g y t i h x = go (nat_eq y.name x.name)
+with_int g y t i (h, result) = (λ x. go x (nat_eq y.name x.name), result)
   where
-    go : (b : Bool) → IsIntMeaning (cond b (scopes.Variable (typed.Local x.place g.next_local) t (regions.Variable g.region)) (meaning_among g.locals g.program x))
-    go true = i
-    go false = h x
+    go : (x : Named) (b : Bool) → IsIntMeaning (cond b (scopes.Variable (typed.Local x.place g.next_local) t (regions.Variable g.region)) (meaning_among g.locals g.program x))
+    go x true = i
+    go x false = h x
 
 parameters_int : (ms : List Member) (ts : List Ty) (n : ℕ) (vs : List LocalVariable) (ds : List Declared) → AreAllInt ts → AreIntsAmong vs ds → AreIntsAmong (parameter_locals ms ts n vs) ds
 parameters_int [] ts n vs ds k h = h
@@ -115,6 +126,13 @@ with_declared y m ds k h x = go (nat_eq y x)
     go true = k
     go false = h x
 
+-- the signature of a function whose head is of ints
+signature_int : (k : Known) (r : Option WrittenType) (ps : Parameters) → is_int_result r ≡ true → are_int_parameters ps ≡ true
+    → AreAllInt (signature_of k r ps).parameters × IsIntResult (signature_of k r ps).result
+signature_int k r ps result parameters =
+    let listed : is_int_list ps.list ≡ true = (and_parts (is_int_list ps.list) (is_left_out ps.effect && is_empty ps.constraints) parameters).0 in
+    (ints_listed k.structs (record { names = k.regions; next = 1 }) ps.list listed, result_int k (parameter_naming k ps).names r result)
+
 declared_ints : (k : Known) (n m : ℕ) (tree : List Declaration) → is_int_program tree ≡ true → AreIntsIn (declared_from k n m tree)
 declared_ints k n m [] i = λ x. tt
 declared_ints k n m (StructType s rs fs ∷ tree) i = absurd (cc)
@@ -125,14 +143,14 @@ declared_ints k n m (Global w x v ∷ tree) i =
     with_declared x.name _ (declared_from k (suc n) m tree) (int_written k.structs k.regions _ w of_type) (declared_ints k (suc n) m tree rest)
 declared_ints k n m (Function r x ps b ∷ tree) i =
     let (one, rest) = and_parts (is_int_declaration (Function r x ps b)) (is_int_program tree) i in
-    let result : is_int_result r ≡ true = (and_parts (is_int_result r) (are_int_parameters ps && is_int_body b) one).0 in
-    with_declared x.name _ (declared_from k n (suc m) tree) (result_built k (parameter_naming k ps).names r result) (declared_ints k n (suc m) tree rest)
+    let (result, more) = and_parts (is_int_result r) (are_int_parameters ps && is_int_body b) one in
+    with_declared x.name _ (declared_from k n (suc m) tree) (signature_int k r ps result (and_parts (are_int_parameters ps) (is_int_body b) more).0) (declared_ints k n (suc m) tree rest)
 
 before_ints : (texts : List (List ℕ)) (ds : List Declared) → AreIntsIn ds → AreIntsIn (declared_before texts ++ ds)
 before_ints texts ds k =
     with_declared (number_of texts (bytes "putchar")) (Routine callees.Putchar (signature_of_ints (Int ∷ [])))
-    (record { name = number_of texts (bytes "getchar"); meaning = Routine callees.Getchar (signature_of_ints []) } ∷ ds) refl
-    (with_declared (number_of texts (bytes "getchar")) (Routine callees.Getchar (signature_of_ints [])) ds refl k)
+    (record { name = number_of texts (bytes "getchar"); meaning = Routine callees.Getchar (signature_of_ints []) } ∷ ds) ((refl, tt), refl)
+    (with_declared (number_of texts (bytes "getchar")) (Routine callees.Getchar (signature_of_ints [])) ds (tt, refl) k)
 
 -- ---- expressions
 
@@ -171,7 +189,7 @@ looked_ints (Counter n) p k a d = absurd k
 looked_ints (Routine f s) p k a d = absurd d
 
 seen_ints : (g : Scope) → AreInts g → (e : Expression) (walked : Rule typed.Expression) → HasInts walked → HasInts (rule_looked g e walked)
-seen_ints g k (Variable x) walked w a d = looked_ints (meaning_of g x) x.place (k x) a d
+seen_ints g k (Variable x) walked w a d = looked_ints (meaning_of g x) x.place (k.0 x) a d
 seen_ints g k (Bracketed p e) walked w a d = seen_ints g k e walked w a d
 seen_ints g k e walked w a d = w a d
 
@@ -179,24 +197,39 @@ operand_ints : (g : Scope) → AreInts g → (seen : Bool) (e : Expression) → 
 operand_ints g k true e w a d = seen_ints g k e (rule g e) w a d
 operand_ints g k false e w a d = w a d
 
-passed_built : (as' : List typed.Expression) (ts : List Ty) → list_all is_built_expression as' ≡ true → are_built_arguments (passed as' ts) ≡ true
-passed_built [] ts i = refl
-passed_built (a ∷ as') [] i = refl
-passed_built (a ∷ as') (t ∷ ts) i =
-    let (first, rest) = and_parts (is_built_expression a) (list_all is_built_expression as') i in both (is_built_expression a) (are_built_arguments (passed as' ts)) first (passed_built as' ts rest)
+kind_built : (v : ValueType) → IsIntValue v → is_built_kind (kind_of_value v) ≡ true
+kind_built types.Void i = refl
+kind_built types.Null i = absurd i
+kind_built (Value t) i = ap (λ u. is_built_kind (kind_of u)) i
 
-called_ints : (g : Scope) (m : Meaning) (p : Place) (es : Expressions) (as' : List typed.Expression) → IsIntMeaning m → list_all is_built_expression as' ≡ true → HasInts (called g m p es as')
+-- an int that is converted to one
+converted_built : (a : typed.Expression) (t : Ty) → IsInt a → t ≡ Int → is_built_converted (converted a t) ≡ true
+converted_built a t (built, value) i =
+    both (is_built_expression a) (is_built_kind (kind_of_value (type_of a)) && is_built_kind (kind_of t)) built
+    (both (is_built_kind (kind_of_value (type_of a))) (is_built_kind (kind_of t)) (kind_built (type_of a) value) (ap (λ u. is_built_kind (kind_of u)) i))
+
+abbrev AreIntValues : List typed.Expression → Type 0
+AreIntValues [] = Unit {0}
+AreIntValues (a ∷ as') = IsInt a × AreIntValues as'
+
+passed_built : (m : List Region) (as' : List typed.Expression) (ts : List Ty) → AreIntValues as' → AreAllInt ts → are_built_arguments (passed as' (map (substituted_ty m) ts)) ≡ true
+passed_built m [] ts i k = refl
+passed_built m (a ∷ as') [] i k = refl
+passed_built m (a ∷ as') (t ∷ ts) (i, is) (k, ks) =
+    both (is_built_converted (converted a (substituted_ty m t))) (are_built_arguments (passed as' (map (substituted_ty m) ts))) (converted_built a (substituted_ty m t) i (ap (substituted_ty m) k))
+    (passed_built m as' ts is ks)
+
+called_ints : (g : Scope) (m : Meaning) (p : Place) (es : Expressions) (as' : List typed.Expression) → IsIntMeaning m → AreIntValues as' → HasInts (called g m p es as')
 called_ints g Unknown p es as' k i a d = absurd d
 called_ints g (scopes.Variable l t home) p es as' k i a d = absurd d
 called_ints g (Fixed l t) p es as' k i a d = absurd d
 called_ints g (Counter n) p es as' k i a d = absurd d
-called_ints g (Routine f s) p es as' k i a (kept, eq) =
-    subst IsInt (sym eq) (passed_built as' (instantiated (instance_of s as') s).parameters i, go (instance_of s as') s.result k)
+called_ints g (Routine f s) p es as' (parameters, result) i a (kept, eq) =
+    subst IsInt (sym eq) (passed_built (instance_of s as') as' s.parameters i parameters, go (instance_of s as') s.result result)
   where
-    go : (m : List Region) (r : Option Ty) → is_built_result r ≡ true → IsIntValue (result_type (option_map (substituted_ty m) r))
+    go : (m : List Region) (r : Option Ty) → IsIntResult r → IsIntValue (result_type (option_map (substituted_ty m) r))
     go m None k = tt
-    go m (Some Int) k = refl
-    go m (Some t) k = absurd (cc)
+    go m (Some t) k = ap (substituted_ty m) k
 
 -- ---- operators
 
@@ -258,7 +291,7 @@ place_int (Counter n) p q x k d = absurd k
 place_int (Routine f s) p q x k d = absurd d
 
 found_int : (g : Scope) → AreInts g → (p : Place) (e : Expression) (x : Found) → is_int_expression e ≡ true → Derives (rule_place g p e (rule g e)) x → IsIntSide x.side
-found_int g k p (Variable y) x i d = place_int (meaning_of g y) y.place p x (k y) d
+found_int g k p (Variable y) x i d = place_int (meaning_of g y) y.place p x (k.0 y) d
 found_int g k p (Bracketed q e) x i d = found_int g k p e x i d
 found_int g k p (Prefixed q prefixes.Negate e) x i (b, kb, d) = absurd d
 found_int g k p (Prefixed q prefixes.Not e) x i (b, kb, d) = absurd d
@@ -268,8 +301,8 @@ found_int g k p (Prefixed q prefixes.AddressOf e) x i d = absurd (cc)
 found_int g k p (Chained e ps) x i d = absurd (cc)
 found_int g k p e x i (b, kb, d) = absurd d
 
-assignment_int : (s : Side) (b : typed.Expression) → IsIntSide s → is_built_expression b ≡ true → IsInt (assignment s b)
-assignment_int (VariableSide l t) b k i = (i, subst (λ u. IsIntValue (type_of (assignment (VariableSide l u) b))) (sym k) refl)
+assignment_int : (s : Side) (b : typed.Expression) → IsIntSide s → IsInt b → IsInt (assignment s b)
+assignment_int (VariableSide l t) b k i = (converted_built b t i k, subst (λ u. IsIntValue (type_of (assignment (VariableSide l u) b))) (sym k) refl)
 assignment_int (CellSide c) b k i = absurd k
 
 -- ---- all forms of expressions
@@ -278,8 +311,8 @@ mutual
   expression_int : (g : Scope) → AreInts g → (e : Expression) → is_int_expression e ≡ true → HasInts (rule g e)
   expression_int g k (Number p n) i a (u, eq) = subst IsInt (sym eq) (refl, refl)
   expression_int g k (Character p c) i a (u, eq) = subst IsInt (sym eq) (refl, refl)
-  expression_int g k (Variable x) i a d = read_ints (meaning_of g x) x.place (k x) a d
-  expression_int g k (Call x es) i a (bs, hs, d) = called_ints g (meaning_of g x) x.place es bs (k x) (expressions_int g k es bs i hs) a d
+  expression_int g k (Variable x) i a d = read_ints (meaning_of g x) x.place (k.0 x) a d
+  expression_int g k (Call x es) i a (bs, hs, d) = called_ints g (meaning_of g x) x.place es bs (k.0 x) (expressions_int g k es bs i hs) a d
   expression_int g k (Bracketed p e) i a d = expression_int g k e i a d
   expression_int g k (Prefixed p prefixes.Negate e) i a (b, kb, (kept, eq)) = subst IsInt (sym eq) ((expression_int g k e i b kb).0, refl)
   expression_int g k (Prefixed p prefixes.Not e) i a (b, kb, (kept, eq)) = subst IsInt (sym eq) ((seen_ints g k e (rule g e) (λ c d. expression_int g k e i c d) b kb).0, refl)
@@ -291,14 +324,14 @@ mutual
       subst IsInt (sym eq) (both (is_built_expression b) (are_built_operations bs.0) first chain, type_int)
   expression_int g k (Assign e v) i a (x, kx, (b, kb, (kept, eq))) =
       let (place, value) = and_parts (is_int_expression e) (is_int_expression v) i in
-      subst IsInt (sym eq) (assignment_int x.side b (found_int g k (place_of e) e x place kx) (expression_int g k v value b kb).0)
+      subst IsInt (sym eq) (assignment_int x.side b (found_int g k (place_of e) e x place kx) (expression_int g k v value b kb))
   expression_int g k e i a d = absurd (cc)
 
-  expressions_int : (g : Scope) → AreInts g → (es : Expressions) (as' : List typed.Expression) → are_int_expressions es ≡ true → Derives (rule_all g es) as' → list_all is_built_expression as' ≡ true
-  expressions_int g k NoExpressions as' i (u, eq) = ap (list_all is_built_expression) eq
+  expressions_int : (g : Scope) → AreInts g → (es : Expressions) (as' : List typed.Expression) → are_int_expressions es ≡ true → Derives (rule_all g es) as' → AreIntValues as'
+  expressions_int g k NoExpressions as' i (u, eq) = subst AreIntValues (sym eq) tt
   expressions_int g k (MoreExpressions e es) as' i (a, h, (bs, hs, (u, eq))) =
       let (one, rest) = and_parts (is_int_expression e) (are_int_expressions es) i in
-      ap (list_all is_built_expression) eq ∙ both (is_built_expression a) (list_all is_built_expression bs) (expression_int g k e one a h).0 (expressions_int g k es bs rest hs)
+      subst AreIntValues (sym eq) (expression_int g k e one a h, expressions_int g k es bs rest hs)
 
   chain_int : (g : Scope) → AreInts g → (p : Place) (n : Option ℕ) (left : ValueType) (os : Operations) (bs : typed.Operations × Ty) → are_int_operations os ≡ true → IsIntValue left → Derives (rule_chain g p n left os) bs
       → (are_built_operations bs.0 ≡ true) × (bs.1 ≡ Int)
@@ -318,15 +351,15 @@ initial_int : (g : Scope) → AreInts g → (w : WrittenType) (x : Named) (v : O
     → (c.0 ≡ Int) × (is_built_value c.1 ≡ true)
 initial_int g k w x None c i j (kept, eq) = subst (λ (z : Ty × Option Converted). (z.0 ≡ Int) × (is_built_value z.1 ≡ true)) (sym eq) (int_written g.structs g.names _ w i, refl)
 initial_int g k w x (Some e) c i j (a, h, (kept, eq)) =
-    subst (λ (z : Ty × Option Converted). (z.0 ≡ Int) × (is_built_value z.1 ≡ true)) (sym eq) (int_written g.structs g.names _ w i, (expression_int g k e j a h).0)
+    subst (λ (z : Ty × Option Converted). (z.0 ≡ Int) × (is_built_value z.1 ≡ true)) (sym eq) (int_written g.structs g.names _ w i, converted_built a _ (expression_int g k e j a h) (int_written g.structs g.names _ w i))
 
-value_int : (g : Scope) (r : Option Ty) (p q : Place) (a : typed.Expression) (c : Option Converted) → is_built_expression a ≡ true → Derives (returned g r p q a) c → is_built_value c ≡ true
-value_int g None p q a c i d = absurd d
-value_int g (Some t) p q a c i (kept, eq) = ap is_built_value eq ∙ i
+value_int : (g : Scope) (r : Option Ty) (p q : Place) (a : typed.Expression) (c : Option Converted) → IsIntResult r → IsInt a → Derives (returned g r p q a) c → is_built_value c ≡ true
+value_int g None p q a c k i d = absurd d
+value_int g (Some t) p q a c k i (kept, eq) = ap is_built_value eq ∙ converted_built a t i k
 
 returned_int : (g : Scope) → AreInts g → (p : Place) (v : Option Expression) (c : Option Converted) → is_int_option v ≡ true → Derives (rule_returned g p v) c → is_built_value c ≡ true
 returned_int g k p None c i (kept, eq) = ap is_built_value eq
-returned_int g k p (Some e) c i (a, h, d) = value_int g g.result p (place_of e) a c (expression_int g k e i a h).0 d
+returned_int g k p (Some e) c i (a, h, d) = value_int g g.result p (place_of e) a c k.1 (expression_int g k e i a h) d
 
 condition_int : (g : Scope) → AreInts g → (e : Expression) (a : typed.Expression) → is_int_expression e ≡ true → Derives (rule_condition g e) a → is_built_expression a ≡ true
 condition_int g k e a i (b, h, (kept, eq)) = ap is_built_expression eq ∙ (seen_ints g k e (rule g e) (λ c d. expression_int g k e i c d) b h).0
@@ -406,14 +439,13 @@ functions_int p k (Function r x ps (Braces o is q) ∷ tree) fs i (f, (js, h, (u
     let (one, rest) = and_parts (is_int_declaration (Function r x ps (Braces o is q))) (is_int_program tree) i in
     let (result, more) = and_parts (is_int_result r) (are_int_parameters ps && are_int_items is) one in
     let (parameters, body) = and_parts (are_int_parameters ps) (are_int_items is) more in
-    let listed : is_int_list ps.list ≡ true = (and_parts (is_int_list ps.list) (is_left_out ps.effect && is_empty ps.constraints) parameters).0 in
     let s : Signature = signature_of p.known r ps in
-    let ints : AreAllInt s.parameters = ints_listed p.known.structs (record { names = p.known.regions; next = 1 }) ps.list listed in
-    let scope : AreInts (body_scope p s x ps) = parameters_int (members_of ps.list) s.parameters 0 [] p.declared ints (λ y. k y.name) in
+    let (ints, returns) = signature_int p.known r ps result parameters in
+    let scope : AreInts (body_scope p s x ps) = (parameters_int (members_of ps.list) s.parameters 0 [] p.declared ints (λ y. k y.name), returns) in
     ap (list_all is_built_function) (eq ∙ ap (λ l. l ∷ gs) is_f)
     ∙ both (list_all is_built_type s.parameters && (is_built_result s.result && are_built_items js)) (list_all is_built_function gs)
     (both (list_all is_built_type s.parameters) (is_built_result s.result && are_built_items js) (ints_built s.parameters ints)
-    (both (is_built_result s.result) (are_built_items js) (result_built p.known (parameter_naming p.known ps).names r result) (items_int (body_scope p s x ps) scope is js body h)))
+    (both (is_built_result s.result) (are_built_items js) (result_built s.result returns) (items_int (body_scope p s x ps) scope is js body h)))
     (functions_int p k tree gs rest hs)
 
 pub program_int : (texts : List (List ℕ)) (tree : List Declaration) (p : typed.Program) → is_int_program tree ≡ true → IsTypedProgram texts tree p → is_built p ≡ true

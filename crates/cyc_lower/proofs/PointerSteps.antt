@@ -1,0 +1,272 @@
+-- The steps of operators on pointers.
+use Rattle.std.proofs.Common.{◌≡◌, ◌≢◌, ℕ, ◌+◌, Bool, true, false, not, List, ◌∷◌, Option, None, Some, slice_get, refl, sym, ap, subst, ◌∙◌}
+use Rattle.std.specs.Prelude.{◌==◌, ◌&&◌, if◌then◌else◌}
+use Rattle.std.proofs.lemmas.Bool.{eq-eqb, ne_eqb}
+use Rattle.cyc_types.specs.declared.typed.Kind.{Kind}
+use Rattle.cyc_types.specs.declared.typed.Kind.TheVariants as kinds
+use Rattle.cyc_types.specs.declared.typed.PointerOperator.{PointerOperator}
+use Rattle.cyc_types.specs.declared.typed.PointerOperator.TheVariants as pointers
+use Rattle.cyc_types.specs.TypedTrees.{Expression, Operations, Program}
+use Rattle.cyc_store.specs.State.{StoreState}
+use Rattle.cyc_plain.specs.declared.instruction.Operand.{Operand}
+use Rattle.cyc_plain.specs.declared.instruction.Operand.TheVariants as operands
+use Rattle.cyc_plain.specs.Operators.{truth}
+use Rattle.cyc_plain.specs.State as plain
+use Rattle.cyc_plain.specs.State.{Words, put, Configuration}
+use Rattle.cyc_plain.specs.Step.{Choice, operand_word, with_slots, advanced, performed}
+use Rattle.cyc_plain.specs.Straight.{At}
+use Rattle.cyc_meaning.specs.Values.{Value, Int, Null, Thin, Fat, Handle, Key, Operand as Kinded, is_thin, is_kind, words_of_kind}
+use Rattle.cyc_meaning.specs.Operators.{Result, Gives}
+use Rattle.cyc_meaning.specs.Pointers.{null_test, takes_kind}
+use Rattle.cyc_meaning.specs.Objects.{found_object, object_at, both_found, compared}
+use Rattle.cyc_meaning.specs.State.{Object, World, Access, Found, Closed, Missing, Owner, InRegion, Unique, is_live, Environment, Chain, ApplyPointer, Entry, Needs, Given, State, Running}
+use Rattle.cyc_meaning.specs.Step.{computed, tells, applies_pointer, step}
+use Rattle.cyc_objects.specs.Tables.{Tables}
+use Rattle.cyc_objects.specs.Words.{Is}
+use Rattle.cyc_objects.specs.Related as objects
+use Rattle.cyc_objects.proofs.Pointers.{not-null, part-not-null, ThinIs, thin_null, thin_cell}
+use Rattle.cyc_objects.proofs.Comparing.{thin-compared}
+use Rattle.cyc_lower.specs.Lowerable.{is_comparison}
+use Rattle.cyc_lower.specs.Lowering.{left_kind, behind_left, pointer_instruction, lower_program}
+use Rattle.cyc_lower.proofs.Widths.{same_kind}
+use Rattle.cyc_lower.proofs.Stands.{ValueAt}
+use Rattle.cyc_lower.proofs.Relation.{IsIn, types_at, silent, Holds, held, DataIn, SharedAt, LandsStack, EvaluatingAt, as_operand, Matches, code_of, bounds_at, base_of, top}
+use Rattle.cyc_lower.proofs.Data.{in_words}
+use Rattle.cyc_lower.proofs.Accesses.{IsWell}
+use Rattle.cyc_lower.proofs.Matched.{IsMatched, by_one}
+use Rattle.cyc_lower.proofs.Evaluations.{landed_word}
+
+-- ---- the words of a left operand
+
+kind_of_one : (kind : Kind) → is_thin kind ≡ true → words_of_kind kind ≡ 1
+kind_of_one kinds.Nullable thin = refl
+kind_of_one kinds.NonNull thin = refl
+kind_of_one kind thin = absurd (let f : false ≡ true = thin in cc)
+
+-- a left operand that its operator takes has as many as the code counts
+pub taken_words : (u : PointerOperator) (kind : Kind) → takes_kind u kind ≡ true → words_of_kind kind ≡ words_of_kind (left_kind u)
+taken_words pointers.AddFat kind takes = ap words_of_kind (same_kind kind kinds.Fat takes)
+taken_words pointers.SubtractFat kind takes = ap words_of_kind (same_kind kind kinds.Fat takes)
+taken_words pointers.FatIsNull kind takes = ap words_of_kind (same_kind kind kinds.Fat takes)
+taken_words pointers.FatIsNotNull kind takes = ap words_of_kind (same_kind kind kinds.Fat takes)
+taken_words pointers.ThinIsNull kind takes = kind_of_one kind takes
+taken_words pointers.ThinIsNotNull kind takes = kind_of_one kind takes
+taken_words pointers.NullIs kind takes = kind_of_one kind takes
+taken_words pointers.NullIsNot kind takes = kind_of_one kind takes
+taken_words pointers.EqualThin kind takes = kind_of_one kind takes
+taken_words pointers.NotEqualThin kind takes = kind_of_one kind takes
+
+-- ---- what a comparison tells
+
+-- of two words: whether they are equal, or whether they differ
+abbrev told : (negated : Bool) → (a b : ℕ) → ℕ
+told false a b = truth (a == b)
+told true a b = truth (not (a == b))
+
+abbrev is_negated : PointerOperator → Bool
+is_negated pointers.ThinIsNotNull = true
+is_negated pointers.FatIsNotNull = true
+is_negated pointers.NullIsNot = true
+is_negated pointers.NotEqualThin = true
+is_negated u = false
+
+-- the first word of a pointer is 0 where it is null
+data HasWord (word : ℕ) : Value → Type 0 where
+  null_word : word ≡ 0 → HasWord word Null
+  thin_word : (object offset : ℕ) → word ≢ 0 → HasWord word (Thin object offset)
+  fat_word : (object start many index : ℕ) → word ≢ 0 → HasWord word (Fat object start many index)
+
+-- nothing but pointers is compared
+abbrev IsPointer : Value → Type 0
+IsPointer (Int a) = ⊥
+IsPointer (Handle region) = ⊥
+IsPointer (Key region) = ⊥
+IsPointer v = Unit {0}
+
+has_word : (t : Tables) (kind : Kind) (v : Value) (words : Words) (p : ℕ) → Is t kind v words p → IsPointer v → HasWord (words p) v
+has_word t kinds.Nullable Null words p is pointer = null_word is
+has_word t kinds.Nullable (Thin object offset) words p is pointer = thin_word object offset (not-null is)
+has_word t kinds.NonNull (Thin object offset) words p is pointer = thin_word object offset (not-null is)
+has_word t kinds.Fat Null words p is pointer = null_word is
+has_word t kinds.Fat (Fat object start many index) words p is pointer = fat_word object start many index (part-not-null is.0)
+has_word t kind (Int a) words p is pointer = absurd pointer
+has_word t kind (Handle region) words p is pointer = absurd pointer
+has_word t kind (Key region) words p is pointer = absurd pointer
+has_word t kind v words p is pointer = absurd is
+
+-- a pointer beside null, whose word is 0
+null_on_right : (negated : Bool) (v : Value) (a b : ℕ) → HasWord a v → b ≡ 0 → null_test negated v ≡ Gives (Int (told negated a b))
+null_on_right false Null a b (null_word none) zero = ap (λ x. Gives (Int (truth x))) (sym (eq-eqb a b (none ∙ sym zero)))
+null_on_right true Null a b (null_word none) zero = ap (λ x. Gives (Int (truth (not x)))) (sym (eq-eqb a b (none ∙ sym zero)))
+null_on_right false v a b (thin_word object offset some) zero = ap (λ x. Gives (Int (truth x))) (sym (ne_eqb a b (λ h. some (h ∙ zero))))
+null_on_right true v a b (thin_word object offset some) zero = ap (λ x. Gives (Int (truth (not x)))) (sym (ne_eqb a b (λ h. some (h ∙ zero))))
+null_on_right false v a b (fat_word object start many index some) zero = ap (λ x. Gives (Int (truth x))) (sym (ne_eqb a b (λ h. some (h ∙ zero))))
+null_on_right true v a b (fat_word object start many index some) zero = ap (λ x. Gives (Int (truth (not x)))) (sym (ne_eqb a b (λ h. some (h ∙ zero))))
+
+null_on_left : (negated : Bool) (v : Value) (a b : ℕ) → HasWord b v → a ≡ 0 → null_test negated v ≡ Gives (Int (told negated a b))
+null_on_left false Null a b (null_word none) zero = ap (λ x. Gives (Int (truth x))) (sym (eq-eqb a b (zero ∙ sym none)))
+null_on_left true Null a b (null_word none) zero = ap (λ x. Gives (Int (truth (not x)))) (sym (eq-eqb a b (zero ∙ sym none)))
+null_on_left false v a b (thin_word object offset some) zero = ap (λ x. Gives (Int (truth x))) (sym (ne_eqb a b (λ h. some (sym h ∙ zero))))
+null_on_left true v a b (thin_word object offset some) zero = ap (λ x. Gives (Int (truth (not x)))) (sym (ne_eqb a b (λ h. some (sym h ∙ zero))))
+null_on_left false v a b (fat_word object start many index some) zero = ap (λ x. Gives (Int (truth x))) (sym (ne_eqb a b (λ h. some (sym h ∙ zero))))
+null_on_left true v a b (fat_word object start many index some) zero = ap (λ x. Gives (Int (truth (not x)))) (sym (ne_eqb a b (λ h. some (sym h ∙ zero))))
+
+zero_word : (word : ℕ) → HasWord word Null → word ≡ 0
+zero_word word (null_word none) = none
+
+-- ---- two thin pointers
+
+-- Objects are found without looking at what was printed and read.
+same_live : (w : World) (owner : Owner) → is_live (silent w) owner ≡ is_live w owner
+same_live w (InRegion number) = refl
+same_live w (Unique live) = refl
+
+same_found : (w : World) (x : Option Object) → found_object (silent w) x ≡ found_object w x
+same_found w None = refl
+same_found w (Some x) = ap (λ (b : Bool). if b then Found x else Closed) (same_live w x.owner)
+
+same_object : (w : World) (number : ℕ) → object_at (silent w) number ≡ object_at w number
+same_object w number = same_found w (slice_get w.objects number)
+
+same_compared : (w : World) (u v : Value) → compared (silent w) u v ≡ compared w u v
+same_compared w (Thin object offset) (Thin other place) =
+    ap (λ (x : Access Object). both_found x (object_at (silent w) other) (object == other && offset == place)) (same_object w object)
+    ∙ ap (λ (x : Access Object). both_found (object_at w object) x (object == other && offset == place)) (same_object w other)
+same_compared w u v = refl
+
+-- only they are compared so
+abbrev IsThinPointer : Value → Type 0
+IsThinPointer Null = Unit {0}
+IsThinPointer (Thin object offset) = Unit {0}
+IsThinPointer v = ⊥
+
+are_thin : (w : World) (u v : Value) (equal : Bool) → compared w u v ≡ Found equal → IsThinPointer u × IsThinPointer v
+are_thin w Null Null equal is = (tt, tt)
+are_thin w Null (Thin object offset) equal is = (tt, tt)
+are_thin w (Thin object offset) Null equal is = (tt, tt)
+are_thin w (Thin object offset) (Thin other place) equal is = (tt, tt)
+are_thin w u v equal is = absurd (let f : Missing ≡ Found equal = is in cc)
+
+thin_is : (t : Tables) (kind : Kind) (v : Value) (words : Words) (p : ℕ) → Is t kind v words p → IsThinPointer v → ThinIs t kinds.Nullable (words p) v
+thin_is t kinds.Nullable Null words p is thin = thin_null refl is
+thin_is t kinds.Nullable (Thin object offset) words p is thin = thin_cell object offset is
+thin_is t kinds.NonNull (Thin object offset) words p is thin = thin_cell object offset is
+thin_is t kinds.Fat Null words p is thin = thin_null refl is
+thin_is t kinds.Fat (Fat object start many index) words p is thin = absurd thin
+thin_is t kind (Int a) words p is thin = absurd thin
+thin_is t kind (Handle region) words p is thin = absurd thin
+thin_is t kind (Key region) words p is thin = absurd thin
+thin_is t kind v words p is thin = absurd is
+
+module _ (k : List Entry) (e : Environment) (w : World) where
+  abbrev gives_told : Bool → (a b : ℕ) → State
+  gives_told negated a b = Running (Given (record { kind = kinds.Int; value = Int (told negated a b) })) k e w
+
+  -- where it does not go wrong, both objects are there
+  is_told : (negated : Bool) (found : Access Bool) → IsWell (tells negated found k e w) → (equal : Bool) × (found ≡ Found equal)
+  is_told false (Found equal) well = (equal, refl)
+  is_told true (Found equal) well = (equal, refl)
+  is_told false Closed well = absurd (well refl)
+  is_told true Closed well = absurd (well refl)
+  is_told false Missing well = absurd (well refl)
+  is_told true Missing well = absurd (well refl)
+
+  turned : (equal : Bool) → (if equal then 0 else 1) ≡ truth (not equal)
+  turned true = refl
+  turned false = refl
+
+  tells_found : (negated : Bool) (equal : Bool) (a b : ℕ) → equal ≡ (a == b) → tells negated (Found equal) k e w ≡ gives_told negated a b
+  tells_found false equal a b same = ap (λ x. Running (Given (record { kind = kinds.Int; value = Int (truth x) })) k e w) same
+  tells_found true equal a b same = ap (λ x. Running (Given (record { kind = kinds.Int; value = Int x })) k e w) (turned equal ∙ ap (λ x. truth (not x)) same)
+
+  -- ---- all comparisons
+
+  module _ (t : Tables) (s : StoreState) (related : objects.Related t (silent w) s) where
+    compares_thin : (negated : Bool) (i j : Kind) (left v : Value) (words others : Words) (p q : ℕ) → Is t i left words p → Is t j v others q
+        → IsWell (tells negated (compared w left v) k e w) → tells negated (compared w left v) k e w ≡ gives_told negated (words p) (others q)
+    compares_thin negated i j left v words others p q is_left is well =
+        let (equal, found) = is_told negated (compared w left v) well in
+        let (left_thin, thin) = are_thin w left v equal found in
+        ap (λ x. tells negated x k e w) found
+        ∙ tells_found negated equal (words p) (others q)
+        (thin-compared related kinds.Nullable kinds.Nullable left v (words p) (others q) equal (thin_is t i left words p is_left left_thin) (thin_is t j v others q is thin) (same_compared w left v ∙ found))
+
+    -- what is tested for null is a pointer
+    is_pointer : (negated : Bool) (v : Value) → IsWell (computed kinds.Int (null_test negated v) k e w) → IsPointer v
+    is_pointer negated Null well = tt
+    is_pointer negated (Thin object offset) well = tt
+    is_pointer negated (Fat object start many index) well = tt
+    is_pointer negated v well = absurd (well refl)
+
+    tests_left : (negated : Bool) (i : Kind) (left : Value) (words : Words) (p b : ℕ) → Is t i left words p → b ≡ 0 → IsWell (computed kinds.Int (null_test negated left) k e w)
+        → computed kinds.Int (null_test negated left) k e w ≡ gives_told negated (words p) b
+    tests_left negated i left words p b is zero well =
+        ap (λ (r : Result). computed kinds.Int r k e w) (null_on_right negated left (words p) b (has_word t i left words p is (is_pointer negated left well)) zero)
+
+    tests_right : (negated : Bool) (j : Kind) (v : Value) (others : Words) (a q : ℕ) → Is t j v others q → a ≡ 0 → IsWell (computed kinds.Int (null_test negated v) k e w)
+        → computed kinds.Int (null_test negated v) k e w ≡ gives_told negated a (others q)
+    tests_right negated j v others a q is zero well =
+        ap (λ (r : Result). computed kinds.Int r k e w) (null_on_left negated v a (others q) (has_word t j v others q is (is_pointer negated v well)) zero)
+
+    -- each compares the first words of both operands
+    pub applies_told : (u : PointerOperator) (i j : Kind) (left v : Value) (words others : Words) (p q : ℕ) → is_comparison u ≡ true → Is t i left words p → Is t j v others q
+        → IsWell (applies_pointer u left v k e w) → applies_pointer u left v k e w ≡ gives_told (is_negated u) (words p) (others q)
+    applies_told pointers.EqualThin i j left v words others p q test is_left is well = compares_thin false i j left v words others p q is_left is well
+    applies_told pointers.NotEqualThin i j left v words others p q test is_left is well = compares_thin true i j left v words others p q is_left is well
+    applies_told pointers.ThinIsNull i j left Null words others p q test is_left is well = tests_left false i left words p (others q) is_left (zero_word (others q) (has_word t j Null others q is tt)) well
+    applies_told pointers.ThinIsNotNull i j left Null words others p q test is_left is well = tests_left true i left words p (others q) is_left (zero_word (others q) (has_word t j Null others q is tt)) well
+    applies_told pointers.FatIsNull i j left Null words others p q test is_left is well = tests_left false i left words p (others q) is_left (zero_word (others q) (has_word t j Null others q is tt)) well
+    applies_told pointers.FatIsNotNull i j left Null words others p q test is_left is well = tests_left true i left words p (others q) is_left (zero_word (others q) (has_word t j Null others q is tt)) well
+    applies_told pointers.NullIs i j Null v words others p q test is_left is well = tests_right false j v others (words p) q is (zero_word (words p) (has_word t i Null words p is_left tt)) well
+    applies_told pointers.NullIsNot i j Null v words others p q test is_left is well = tests_right true j v others (words p) q is (zero_word (words p) (has_word t i Null words p is_left tt)) well
+    applies_told pointers.AddFat i j left v words others p q test is_left is well = absurd (let f : false ≡ true = test in cc)
+    applies_told pointers.SubtractFat i j left v words others p q test is_left is well = absurd (let f : false ≡ true = test in cc)
+    applies_told u i j left v words others p q test is_left is well = absurd (well refl)
+
+-- ---- the steps
+
+module _ (source : Program) (pages calls : ℕ) where
+  -- the instruction of a comparison tells the same of the words of its operands
+  compares_words : (u : PointerOperator) (l r : Operand) (d : ℕ) (choice : Choice) (c : Configuration) → is_comparison u ≡ true
+      → performed (lower_program source) choice c (pointer_instruction u l r d)
+      ≡ plain.Running (advanced (with_slots c (put c.active.slots d (told (is_negated u) (operand_word c.active.slots l) (operand_word c.active.slots r)))))
+  compares_words pointers.ThinIsNull l r d choice c test = refl
+  compares_words pointers.ThinIsNotNull l r d choice c test = refl
+  compares_words pointers.FatIsNull l r d choice c test = refl
+  compares_words pointers.FatIsNotNull l r d choice c test = refl
+  compares_words pointers.NullIs l r d choice c test = refl
+  compares_words pointers.NullIsNot l r d choice c test = refl
+  compares_words pointers.EqualThin l r d choice c test = refl
+  compares_words pointers.NotEqualThin l r d choice c test = refl
+  compares_words u l r d choice c test = absurd (let f : false ≡ true = test in cc)
+
+  -- both operands are there, and are compared
+  pub compares_pointers : (u : PointerOperator) (peek : Option ℕ) (left v : Kinded) (o : Operand) (d : ℕ) (k : List Entry) (e : Environment) (w : World) (c : Configuration)
+      → IsWell (step source (Running (Given v) (Needs (ApplyPointer peek u left) ∷ k) e w)) → is_comparison u ≡ true
+      → (shared : SharedAt source pages calls k e w c) → DataIn source shared.tables c.active.slots k e w c → IsIn shared.tables v c.active.slots o
+      → Is shared.tables left.kind left.value c.active.slots (top source c.active.function k) → Holds shared.tables c.active.slots (base_of source c.active.function) (held k)
+      → At (code_of source c.active.function) c.active.next (pointer_instruction u (operands.Slot (top source c.active.function k)) o d)
+      → LandsStack source c.active.function e.locals kinds.Int d (c.active.next + 1) c.frames k
+      → IsMatched source pages calls (Running (Given v) (Needs (ApplyPointer peek u left) ∷ k) e w) (plain.Running c)
+  compares_pointers u peek left v o d k e w c well test shared facts is is_left holds here lands =
+      let slots = c.active.slots in
+      let free = top source c.active.function k in
+      let (others, q, same, is_right) = in_words shared.tables v slots o is in
+      let n = told (is_negated u) (slots free) (operand_word slots o) in
+      let does = applies_told k e w shared.tables c.store shared.related u left.kind v.kind left.value v.value slots others free q test is_left is_right well ∙ ap (λ x. gives_told k e w (is_negated u) (slots free) x) same in
+      by_one source pages calls does shared here
+      (λ choice. subst (Matches source pages calls (Running (Given (record { kind = kinds.Int; value = Int n })) k e w)) (sym (compares_words u (operands.Slot free) o d choice c test))
+      (landed_word source pages calls n n d k e w c (c.active.next + 1) refl shared facts holds refl lands))
+
+  -- the right operand stands behind the left one
+  pub right_follows : (peek : Option ℕ) (u : PointerOperator) (b : Expression) (os : Operations) (v : Kinded) (k : List Entry) (e : Environment) (w : World) (c : Configuration) (r : Operand) (m d : ℕ) → takes_kind u v.kind ≡ true
+      → (t : Tables) → Is t v.kind v.value c.active.slots (top source c.active.function k) → Holds t c.active.slots (base_of source c.active.function) (held k) → is_comparison u ≡ true
+      → ValueAt (code_of source c.active.function) (bounds_at source c.active.function) (types_at source c.active.function) b (behind_left u (top source c.active.function k)) r c.active.next m
+      → At (code_of source c.active.function) m (pointer_instruction u (operands.Slot (top source c.active.function k)) r d)
+      → LandsStack source c.active.function e.locals kinds.Int d (m + 1) c.frames (Needs (Chain os) ∷ k)
+      → EvaluatingAt source t b e.locals c.active.function c.active.next c.active.slots c.frames (Needs (ApplyPointer peek u v) ∷ Needs (Chain os) ∷ k)
+  right_follows peek u b os v k e w c r m d takes t is holds test at_b here lands =
+      let g = c.active.function in
+      as_operand r m
+      (subst (λ n. ValueAt (code_of source g) (bounds_at source g) (types_at source g) b n r c.active.next m) (ap (λ n. top source g k + n) (sym (taken_words u v.kind takes))) at_b)
+      (is, holds) (d, test, here, lands)
