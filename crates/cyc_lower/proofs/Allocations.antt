@@ -355,8 +355,7 @@ module _ (source : Program) (pages calls : ℕ) where
   fields_made owner earlier (MoreArguments (Convert from to a) cs) v o k e w c well shared facts is holds (handle, d, p, q, all, owned, there, (r, (s, at_a, at_to), at_cs), (m, single, some, few, ask, stores, move, end), long, lands) =
       let g = c.active.function in
       silently source pages calls (Running (Given v) (Needs (MakeFields owner earlier (MoreArguments (Convert from to a) cs)) ∷ k) e w)
-      (Running (Evaluating a) (Needs (ConvertTo from to (target_by a)) ∷ Needs (MakeFields owner (v ∷ earlier) cs) ∷ k) e w) (plain.Running c) refl
-      (
+      (Running (Evaluating a) (Needs (ConvertTo from to (target_by a)) ∷ Needs (MakeFields owner (v ∷ earlier) cs) ∷ k) e w) (plain.Running c) refl (
         shared,
         facts,
         into_slot (height (base_of source g) (v ∷ earlier ++ held k)) s at_a (subst (IsIn shared.tables v c.active.slots) there is, holds)
@@ -417,8 +416,7 @@ module _ (source : Program) (pages calls : ℕ) where
       let wider : 4 * words_of_kinds (done ++ u.kind ∷ []) ≡ 4 * words_of_kinds done + 4 = omega (arith, words_joined done (u.kind ∷ []), one) in
       by_one source pages calls (does ∙ gives) shared store
       (λ choice. subst (Matches source pages calls (Running next k e (written w object (length done) cell u.value)))
-      (sym (saves_there source pages calls k e w c shared object (length done) place word cell u.value found points single_cell is_word (words.0 slot)))
-      (
+      (sym (saves_there source pages calls k e w c shared object (length done) place word cell u.value found points single_cell is_word (words.0 slot))) (
         later,
         data_saved source pages calls k e w c shared object (length done) place word cell u.value found points single_cell is_word (words.0 slot) facts,
         (

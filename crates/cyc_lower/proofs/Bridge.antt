@@ -244,8 +244,7 @@ module _ (code : List Instruction) (b : Numbering) (types : Types) where
     made_stands (Plain kind a) handle d t p q (single, kind_is, numbered) end has =
         let front = expression_code (starts_of types) a p t t in
         let back = object_code handle 1 d t in
-        let m = p + length front in
-        (
+        let m = p + length front in (
           m,
           expression_stands a t t p m numbered refl (has_front code p front back has),
           ap words_of_kind (sym kind_is),
@@ -254,8 +253,7 @@ module _ (code : List Instruction) (b : Numbering) (types : Types) where
     made_stands (Fields cs) handle d t p q (single, some, few, numbered) end has =
         let front = arguments_code (starts_of types) cs p t in
         let back = object_code handle (argument_count cs) d t in
-        let m = p + length front in
-        (
+        let m = p + length front in (
           m,
           arguments_stand cs t p m numbered refl (has_front code p front back has),
           subst (λ n. ObjectAt code b types handle (argument_count cs) n t d m q) single (object_stands handle (argument_count cs) d t m q some few (cut p q front back end) (has_back code p front back has)),

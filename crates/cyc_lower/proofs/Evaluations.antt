@@ -377,8 +377,7 @@ module _ (source : Program) (pages calls : ℕ) where
       (omega arith)
   comes (typed.New typed.OnHeap (typed.Plain kind a) t) k e w c d q (well, shared, facts, holds) (m, at_a, wide, object) lands =
       let g = c.active.function in
-      silently source pages calls (Running (Evaluating (typed.New typed.OnHeap (typed.Plain kind a) t)) k e w) (Running (Evaluating a) (Needs (MakePlain (InRegion heap_number) kind) ∷ k) e w) (plain.Running c) refl
-      (
+      silently source pages calls (Running (Evaluating (typed.New typed.OnHeap (typed.Plain kind a) t)) k e w) (Running (Evaluating a) (Needs (MakePlain (InRegion heap_number) kind) ∷ k) e w) (plain.Running c) refl (
         shared,
         facts,
         into_slot (top source g k) m at_a holds
@@ -388,8 +387,7 @@ module _ (source : Program) (pages calls : ℕ) where
   comes (typed.New typed.OnHeap (typed.Fields NoArguments) t) k e w c d q known (p, at_cs, (m, single, some, few, ask, stores, move, there)) lands = absurd (omega (arith, some))
   comes (typed.New typed.OnHeap (typed.Fields (MoreArguments (Convert from to a) cs)) t) k e w c d q (well, shared, facts, holds) (p, (r, (s, at_a, at_to), at_cs), (m, single, some, few, ask, stores, move, there)) lands =
       silently source pages calls (Running (Evaluating (typed.New typed.OnHeap (typed.Fields (MoreArguments (Convert from to a) cs)) t)) k e w)
-      (Running (Evaluating a) (Needs (ConvertTo from to (target_by a)) ∷ Needs (MakeFields (InRegion heap_number) [] cs) ∷ k) e w) (plain.Running c) refl
-      (
+      (Running (Evaluating a) (Needs (ConvertTo from to (target_by a)) ∷ Needs (MakeFields (InRegion heap_number) [] cs) ∷ k) e w) (plain.Running c) refl (
         shared,
         facts,
         into_slot (top source c.active.function k) s at_a holds
