@@ -14,22 +14,23 @@ use Rattle.cyc_types.proofs.TypedTreeViewLemmas.{view_block}
 use Rattle.cyc_plain.specs.declared.instruction.Instruction.{Instruction}
 use Rattle.cyc_plain.specs.declared.instruction.Instruction.TheVariants as instructions
 use Rattle.cyc_lower.specs.declared.operands.Condition.{Condition}
+use Rattle.cyc_lower.specs.declared.statements.Exits.{Exits}
 use Rattle.cyc_lower.specs.Slots.{Starts}
-use Rattle.cyc_lower.specs.Lowering.{condition_code, condition_of, failing_jump, statement_code, items_code, break_target, continue_target}
+use Rattle.cyc_lower.specs.Lowering.{condition_code, condition_of, failing_jump, statement_code, items_code, break_target, continue_target, inside_loop}
 use Rattle.cyc_lower.specs.Emission.{loop_code}
 use Rattle.cyc_lower.proofs.Emitting.{written_back}
 
 -- ---- blocks
 
-abbrev pub all_items : Starts → ℕ → List ItemCode → (p t : ℕ) → List Instruction
-all_items starts head js p t = items_code starts (items_of js) p head t
+abbrev pub all_items : Starts → Exits → List ItemCode → (p t : ℕ) → List Instruction
+all_items starts exits js p t = items_code starts (items_of js) p exits t
 
-module _ (starts : Starts) (value : Stmt) (region : ℕ) (v : Vec ItemCode Heap) (is : value ≡ stmt.Block region v) (items : List ItemCode) (same : items ≡ v.items) (old new : List Instruction) (head d : ℕ) where
-  pub made_block : new ≡ old ++ items_code starts (items_of items) (length old) head d → new ≡ old ++ statement_code starts (view_statement value) (length old) head d
+module _ (starts : Starts) (value : Stmt) (region : ℕ) (v : Vec ItemCode Heap) (is : value ≡ stmt.Block region v) (items : List ItemCode) (same : items ≡ v.items) (old new : List Instruction) (exits : Exits) (d : ℕ) where
+  pub made_block : new ≡ old ++ items_code starts (items_of items) (length old) exits d → new ≡ old ++ statement_code starts (view_statement value) (length old) exits d
   made_block h =
       let e : view_statement value ≡ Block region (items_of items)
       = ap view_statement is ∙ view_block region v ∙ ap (λ (js : List ItemCode). Block region (items_of js)) (sym same) in
-      h ∙ ap (λ (s : Statement). old ++ statement_code starts s (length old) head d) (sym e)
+      h ∙ ap (λ (s : Statement). old ++ statement_code starts s (length old) exits d) (sym e)
 
 -- ---- branches
 
@@ -61,15 +62,15 @@ module _ (old condition : List Instruction) (x y : Instruction) (first second : 
       ∙ ap (λ (l : List Instruction). l ++ (over q ∷ (t ++ rest))) e0
       ∙ append_assoc old condition (over q ∷ (t ++ rest))
 
-module _ (starts : Starts) (value : Stmt) (e : Expr) (b b' : Box Stmt Heap) (is : value ≡ stmt.If e b b') (s t : Stmt) (at : s ≡ b.value) (at' : t ≡ b'.value) (head d : ℕ) (o : Condition) (o_is : o ≡ condition_of starts (view_expression e) d) (old : List Instruction) (x y : Instruction) (m0 m1 m2 m3 m4 m5 m6 : List Instruction) (p1 p2 : ℕ) where
-  pub made_if : m0 ≡ old ++ condition_code starts (view_expression e) (length old) d → p1 ≡ length m0 → m1 ≡ m0 ++ x ∷ [] → m2 ≡ m1 ++ statement_code starts (view_statement s) (length m1) head d → p2 ≡ length m2 → m3 ≡ m2 ++ y ∷ []
-      → m4 ≡ set m3 p1 (failing_jump o (length m3)) → m5 ≡ m4 ++ statement_code starts (view_statement t) (length m4) head d → m6 ≡ set m5 p2 (instructions.Jump (length m5))
-      → m6 ≡ old ++ statement_code starts (view_statement value) (length old) head d
+module _ (starts : Starts) (value : Stmt) (e : Expr) (b b' : Box Stmt Heap) (is : value ≡ stmt.If e b b') (s t : Stmt) (at : s ≡ b.value) (at' : t ≡ b'.value) (exits : Exits) (d : ℕ) (o : Condition) (o_is : o ≡ condition_of starts (view_expression e) d) (old : List Instruction) (x y : Instruction) (m0 m1 m2 m3 m4 m5 m6 : List Instruction) (p1 p2 : ℕ) where
+  pub made_if : m0 ≡ old ++ condition_code starts (view_expression e) (length old) d → p1 ≡ length m0 → m1 ≡ m0 ++ x ∷ [] → m2 ≡ m1 ++ statement_code starts (view_statement s) (length m1) exits d → p2 ≡ length m2 → m3 ≡ m2 ++ y ∷ []
+      → m4 ≡ set m3 p1 (failing_jump o (length m3)) → m5 ≡ m4 ++ statement_code starts (view_statement t) (length m4) exits d → m6 ≡ set m5 p2 (instructions.Jump (length m5))
+      → m6 ≡ old ++ statement_code starts (view_statement value) (length old) exits d
   made_if e0 h1 e1 e2 h2 e3 e4 e5 e6 =
       let condition = condition_code starts (view_expression e) (length old) d in
       let jump : ℕ → Instruction = λ n. failing_jump (condition_of starts (view_expression e) d) n in
-      let first : ℕ → List Instruction = λ p. statement_code starts (view_statement s) p head d in
-      let second : ℕ → List Instruction = λ p. statement_code starts (view_statement t) p head d in
+      let first : ℕ → List Instruction = λ p. statement_code starts (view_statement s) p exits d in
+      let second : ℕ → List Instruction = λ p. statement_code starts (view_statement t) p exits d in
       let p = length old + length condition + 1 in
       let q = p + length (first p) + 1 in
       let tree : view_statement value ≡ If (view_expression e) (view_statement s) (view_statement t)
@@ -80,7 +81,7 @@ module _ (starts : Starts) (value : Stmt) (e : Expr) (b b' : Box Stmt Heap) (is 
       e5 (e6 ∙ ap (λ (n : ℕ). set m5 n (instructions.Jump (length m5))) h2)
       p refl q refl
       ∙ ap (λ (l : List Instruction). old ++ l) (sym (append_assoc condition (jump q ∷ first p) (instructions.Jump (q + length (second q)) ∷ second q)))
-      ∙ ap (λ (z : Statement). old ++ statement_code starts z (length old) head d) (sym tree)
+      ∙ ap (λ (z : Statement). old ++ statement_code starts z (length old) exits d) (sym tree)
 
 -- ---- loops
 
@@ -115,14 +116,14 @@ module _ (old : List Instruction) (into x test back : Instruction) (first second
       ∙ ap (λ (l : List Instruction). l ++ (out (q + length (second q) + 1) ∷ whole)) e1
       ∙ append_assoc old (into ∷ []) (out (q + length (second q) + 1) ∷ whole)
 
-module _ (starts : Starts) (a : Expression) (s : Statement) (d : ℕ) (o : Condition) (o_is : o ≡ condition_of starts a d) (old : List Instruction) (x : Instruction) (m1 m2 m3 m4 m5 m6 m7 : List Instruction) (head leaving : ℕ) (here : head ≡ length old) where
+module _ (starts : Starts) (a : Expression) (s : Statement) (exits : Exits) (d : ℕ) (o : Condition) (o_is : o ≡ condition_of starts a d) (old : List Instruction) (x : Instruction) (m1 m2 m3 m4 m5 m6 m7 : List Instruction) (head leaving : ℕ) (here : head ≡ length old) where
   pub made_loop : m1 ≡ old ++ instructions.Jump (continue_target head) ∷ [] → leaving ≡ length m1 → m2 ≡ m1 ++ x ∷ [] → m3 ≡ m2 ++ condition_code starts a (length m2) d → m4 ≡ m3 ++ failing_jump o leaving ∷ []
-      → m5 ≡ m4 ++ statement_code starts s (length m4) head d → m6 ≡ m5 ++ instructions.Jump (continue_target head) ∷ [] → m7 ≡ set m6 leaving (instructions.Jump (length m6))
-      → m7 ≡ old ++ loop_code starts a s (length old) d
+      → m5 ≡ m4 ++ statement_code starts s (length m4) (inside_loop head d exits) d → m6 ≡ m5 ++ instructions.Jump (continue_target head) ∷ [] → m7 ≡ set m6 leaving (instructions.Jump (length m6))
+      → m7 ≡ old ++ loop_code starts a s (length old) exits d
   made_loop e1 k e2 e3 e4 e5 e6 e7 =
       let begin = length old in
       let first : ℕ → List Instruction = λ p. condition_code starts a p d in
-      let second : ℕ → List Instruction = λ p. statement_code starts s p begin d in
+      let second : ℕ → List Instruction = λ p. statement_code starts s p (inside_loop begin d exits) d in
       let test = failing_jump (condition_of starts a d) (break_target begin) in
       let p = begin + 2 in
       let q = p + length (first p) + 1 in
@@ -130,7 +131,7 @@ module _ (starts : Starts) (a : Expression) (s : Statement) (d : ℕ) (o : Condi
       looped old (instructions.Jump (continue_target begin)) x test (instructions.Jump (continue_target begin)) first second (λ (n : ℕ). instructions.Jump n) m1 m2 m3 m4 m5 m6 m7
       (e1 ∙ ap (λ (n : ℕ). old ++ instructions.Jump (continue_target n) ∷ []) here) e2 e3
       (e4 ∙ ap (λ (n : ℕ). m3 ++ failing_jump o n ∷ []) left ∙ ap (λ (r : Condition). m3 ++ failing_jump r (break_target begin) ∷ []) o_is)
-      (e5 ∙ ap (λ (n : ℕ). m4 ++ statement_code starts s (length m4) n d) here)
+      (e5 ∙ ap (λ (n : ℕ). m4 ++ statement_code starts s (length m4) (inside_loop n d exits) d) here)
       (e6 ∙ ap (λ (n : ℕ). m5 ++ instructions.Jump (continue_target n) ∷ []) here)
       (e7 ∙ ap (λ (n : ℕ). set m6 n (instructions.Jump (length m6))) left)
       p refl q refl

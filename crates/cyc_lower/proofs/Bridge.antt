@@ -24,8 +24,9 @@ use Rattle.cyc_store.specs.declared.range.TheConstants.{MOST_BLOCK_WORDS, HEAP}
 use Rattle.cyc_meaning.specs.Values.{kind_of, words_of_kind}
 use Rattle.cyc_meaning.specs.FrameCount.{words_of_all, operand_words}
 use Rattle.cyc_lower.specs.Slots.{Types, starts_of, slot_of}
-use Rattle.cyc_lower.specs.Lowering.{stores_code, object_code, made_code, types_of, are_as_wide, converts_there, passed_words, source_of, source_slot, moved_by, move_of, pointer_instruction, operand_of, operand_or, code_unless, slot_or, code_unless_slot, left_with, left_of, value_slot, next_slot, slot_with, left_slot, value_operand, converted_operand, printed_operand, jump_if_nonzero, check_code, conversion_code, divisor_code, checked_code, operator_code, truth_code, load_code, low_byte, test_code, is_in, copy_code, expression_code, arguments_code, converted_code, converted_operand_code, printed_code, dereference_code, initial_code, assignment_code, assigned_operand, operations_code, discarded_code, failing_comparison, compared_or, compared_of, first_operand, first_code, second_code, pair_code, condition_code, condition_of, failing_jump, break_target, continue_target, return_code, declaration_code, statement_code, items_code, function_code, first_temporary, results_of, lower_function, lower_program, behind_left, pointer_code}
+use Rattle.cyc_lower.specs.Lowering.{stores_code, object_code, made_code, types_of, are_as_wide, converts_there, passed_words, source_of, source_slot, moved_by, move_of, pointer_instruction, operand_of, operand_or, code_unless, slot_or, code_unless_slot, left_with, left_of, value_slot, next_slot, slot_with, left_slot, value_operand, converted_operand, printed_operand, jump_if_nonzero, check_code, conversion_code, divisor_code, checked_code, operator_code, truth_code, load_code, low_byte, test_code, is_in, copy_code, expression_code, arguments_code, converted_code, converted_operand_code, printed_code, dereference_code, initial_code, assignment_code, assigned_operand, operations_code, discarded_code, failing_comparison, compared_or, compared_of, first_operand, first_code, second_code, pair_code, condition_code, condition_of, failing_jump, break_target, continue_target, return_code, declaration_code, statement_code, items_code, function_code, first_temporary, results_of, lower_function, lower_program, behind_left, pointer_code, outside_loops, inside_loop}
 use Rattle.cyc_lower.proofs.Stands.{OperandBy, CheckAt, ConversionBy, ConversionAt, DivisorAt, CheckedAt, OperatorAt, StoresAt, ObjectAt, MadeAt, LoadAt, CopyBy, ExpressionAt, InitialAt, InitialBy, ConvertedAt, ConvertedOperandAt, PrintedAt, ArgumentsAt, OperationsAt, PairAt, ConditionAt, AssignmentAt, DiscardedAt, ReturnedAt, ReturnAt, DeclarationAt, StatementAt, ItemsAt}
+use Rattle.cyc_lower.specs.declared.statements.Exits.{Exits}
 use Rattle.cyc_lower.proofs.Widths.{kind_of_result, given, passed_kind, type_words}
 use Rattle.cyc_lower.proofs.Fitting.{FitsPlace, FitsStored, FitsCell, FitsObject, Fits, FitsConverted, FitArguments, FitOperations, FitsReturn, FitsInitial, FitsStatement, FitItems, AreFitting, IsFitting}
 use Rattle.cyc_lower.proofs.Values.{as_wide}
@@ -455,16 +456,16 @@ module _ (code : List Instruction) (b : Numbering) (types : Types) where
   declaration_stands n (Some c) t p q few (room, numbered) end has = (few, room, initial_stands c (slot_of (starts_of types) n) t p q numbered end has)
 
   mutual
-    statement_stands : (s : Statement) (in_loop : Bool) (loop d p q : ℕ) → FitsStatement b types in_loop s → p + length (statement_code (starts_of types) s p loop d) ≡ q → HasAt code p (statement_code (starts_of types) s p loop d) → StatementAt code b types s loop d p q
-    statement_stands (Block r js) in_loop loop d p q numbered end has = items_stand js in_loop loop d p q numbered end has
-    statement_stands Empty in_loop loop d p q numbered end has = omega (arith, end)
-    statement_stands (Evaluate a) in_loop loop t p q numbered end has = discarded_stands a t p q numbered end has
-    statement_stands (If a s u) in_loop loop t p q (numbered_a, numbered_s, numbered_u) end has =
+    statement_stands : (s : Statement) (in_loop : Bool) (exits : Exits) (d p q : ℕ) → FitsStatement b types in_loop s → p + length (statement_code (starts_of types) s p exits d) ≡ q → HasAt code p (statement_code (starts_of types) s p exits d) → StatementAt code b types s exits d p q
+    statement_stands (Block r js) in_loop exits d p q numbered end has = items_stand js in_loop exits d p q numbered end has
+    statement_stands Empty in_loop exits d p q numbered end has = omega (arith, end)
+    statement_stands (Evaluate a) in_loop exits t p q numbered end has = discarded_stands a t p q numbered end has
+    statement_stands (If a s u) in_loop exits t p q (numbered_a, numbered_s, numbered_u) end has =
         let condition = condition_code (starts_of types) a p t in
         let m = p + length condition in
-        let first = statement_code (starts_of types) s (m + 1) loop t in
+        let first = statement_code (starts_of types) s (m + 1) exits t in
         let r = m + 1 + length first in
-        let second = statement_code (starts_of types) u (r + 1) loop t in
+        let second = statement_code (starts_of types) u (r + 1) exits t in
         let jump_first = failing_jump (condition_of (starts_of types) a t) (r + 1) ∷ first in
         let jump_second = instructions.Jump (r + 1 + length second) ∷ second in
         let front = condition ++ jump_first in
@@ -478,14 +479,14 @@ module _ (code : List Instruction) (b : Numbering) (types : Types) where
           r,
           condition_stands a t p m numbered_a refl (has_front code p condition jump_first (has_front code p front jump_second has)),
           jump,
-          statement_stands s in_loop loop t (m + 1) r numbered_s refl has_first,
+          statement_stands s in_loop exits t (m + 1) r numbered_s refl has_first,
           subst (λ x. At code r (instructions.Jump x)) end_is over,
-          statement_stands u in_loop loop t (r + 1) q numbered_u end_is has_second,
+          statement_stands u in_loop exits t (r + 1) q numbered_u end_is has_second,
         )
-    statement_stands (While w a s) in_loop loop t p q (numbered_a, numbered_s) end has =
+    statement_stands (While w a s) in_loop exits t p q (numbered_a, numbered_s) end has =
         let condition = condition_code (starts_of types) a (p + 2) t in
         let m = p + 2 + length condition in
-        let body = statement_code (starts_of types) s (m + 1) p t in
+        let body = statement_code (starts_of types) s (m + 1) (inside_loop p t exits) t in
         let r = m + 1 + length body in
         let test = failing_jump (condition_of (starts_of types) a t) (break_target p) ∷ body in
         let again = instructions.Jump (continue_target p) ∷ [] in
@@ -505,27 +506,27 @@ module _ (code : List Instruction) (b : Numbering) (types : Types) where
           subst (λ x. At code (p + 1) (instructions.Jump x)) end_is leave,
           condition_stands a t (p + 2) m numbered_a refl (has_front code (p + 2) condition test front_has),
           jump,
-          statement_stands s true p t (m + 1) r numbered_s refl has_body,
+          statement_stands s true (inside_loop p t exits) t (m + 1) r numbered_s refl has_body,
           subst (λ x. At code x (instructions.Jump (continue_target p))) (let e : p + 2 + length (condition ++ test) ≡ r = omega (arith, long) in e) back,
           end_is,
           omega (arith, end_is),
         )
-    statement_stands (Return v) in_loop loop d p q numbered end has = return_stands v d p q numbered end has
-    statement_stands Break in_loop loop d p q numbered end (here, none) = here
-    statement_stands Continue in_loop loop d p q numbered end (here, none) = here
-    statement_stands s in_loop loop d p q numbered end has = absurd numbered
+    statement_stands (Return v) in_loop exits d p q numbered end has = return_stands v d p q numbered end has
+    statement_stands Break in_loop exits d p q numbered end (here, none) = here
+    statement_stands Continue in_loop exits d p q numbered end (here, none) = here
+    statement_stands s in_loop exits d p q numbered end has = absurd numbered
 
-    items_stand : (js : Items) (in_loop : Bool) (loop d p q : ℕ) → FitItems b types in_loop js → p + length (items_code (starts_of types) js p loop d) ≡ q → HasAt code p (items_code (starts_of types) js p loop d) → ItemsAt code b types js loop d p q
-    items_stand NoItems in_loop loop d p q numbered end has = omega (arith, end)
-    items_stand (MoreItems (Execute s) js) in_loop loop d p q (numbered, rest) end has =
-        let front = statement_code (starts_of types) s p loop d in
-        let back = items_code (starts_of types) js (p + length front) loop d in
-        (p + length front, statement_stands s in_loop loop d p (p + length front) numbered refl (has_front code p front back has), items_stand js in_loop loop d (p + length front) q rest (cut p q front back end) (has_back code p front back has))
-    items_stand (MoreItems (Declare n t v) js) in_loop loop d p q (few, numbered, rest) end has =
+    items_stand : (js : Items) (in_loop : Bool) (exits : Exits) (d p q : ℕ) → FitItems b types in_loop js → p + length (items_code (starts_of types) js p exits d) ≡ q → HasAt code p (items_code (starts_of types) js p exits d) → ItemsAt code b types js exits d p q
+    items_stand NoItems in_loop exits d p q numbered end has = omega (arith, end)
+    items_stand (MoreItems (Execute s) js) in_loop exits d p q (numbered, rest) end has =
+        let front = statement_code (starts_of types) s p exits d in
+        let back = items_code (starts_of types) js (p + length front) exits d in
+        (p + length front, statement_stands s in_loop exits d p (p + length front) numbered refl (has_front code p front back has), items_stand js in_loop exits d (p + length front) q rest (cut p q front back end) (has_back code p front back has))
+    items_stand (MoreItems (Declare n t v) js) in_loop exits d p q (few, numbered, rest) end has =
         let front = declaration_code (starts_of types) n v p d in
-        let back = items_code (starts_of types) js (p + length front) loop d in
-        (p + length front, declaration_stands n v d p (p + length front) few numbered refl (has_front code p front back has), items_stand js in_loop loop d (p + length front) q rest (cut p q front back end) (has_back code p front back has))
-    items_stand js in_loop loop d p q numbered end has = absurd numbered
+        let back = items_code (starts_of types) js (p + length front) exits d in
+        (p + length front, declaration_stands n v d p (p + length front) few numbered refl (has_front code p front back has), items_stand js in_loop exits d (p + length front) q rest (cut p q front back end) (has_back code p front back has))
+    items_stand js in_loop exits d p q numbered end has = absurd numbered
 
 -- ---- functions
 
@@ -544,18 +545,18 @@ module _ (source : Program) where
   -- the code of a function, with its body at the beginning and a return behind it
   abbrev BodyStands : Function → List Instruction → Option Function → Type 0
   BodyStands h code o =
-      (m : ℕ) × ItemsAt code (bounds_in source o) (types_in source o) h.body 0 (words_of_all (types_in source o).locals) 0 m
+      (m : ℕ) × ItemsAt code (bounds_in source o) (types_in source o) h.body (outside_loops (words_of_all (types_in source o).locals)) (words_of_all (types_in source o).locals) 0 m
       × At code m (instructions.Return (words_of_all (types_in source o).locals))
 
   body_stands : (h : Function) → FitItems (bounds_in source (Some h)) (types_of source.structs h) false h.body → BodyStands h (function_code source.structs h) (Some h)
   body_stands h numbered =
       let d = first_temporary h in
       let starts = starts_of (types_of source.structs h) in
-      let body = items_code starts h.body 0 0 d in
+      let body = items_code starts h.body 0 (outside_loops d) d in
       let end = instructions.Return d ∷ [] in
       let has = has_whole (body ++ end) in
       let (here, none) = has_back (body ++ end) 0 body end has in
-      (0 + length body, items_stand (body ++ end) (bounds_in source (Some h)) (types_of source.structs h) h.body false 0 d 0 (0 + length body) numbered refl (has_front (body ++ end) 0 body end has), here)
+      (0 + length body, items_stand (body ++ end) (bounds_in source (Some h)) (types_of source.structs h) h.body false (outside_loops d) d 0 (0 + length body) numbered refl (has_front (body ++ end) 0 body end has), here)
 
   pub functions_stand : (pages calls : ℕ) → IsFitting source → FunctionsStand source pages calls
   functions_stand pages calls numbered n h there =

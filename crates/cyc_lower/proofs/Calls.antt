@@ -29,7 +29,7 @@ use Rattle.cyc_meaning.specs.State.{World, Environment, no_locals, with_local, v
 use Rattle.cyc_meaning.specs.Step.{wrong, declared, inside, region_end, called, step}
 use Rattle.cyc_meaning.specs.SourceMachine.{status_in}
 use Rattle.cyc_meaning.specs.Run.{is_within, limited_step}
-use Rattle.cyc_lower.specs.Lowering.{lower_program}
+use Rattle.cyc_lower.specs.Lowering.{outside_loops, lower_program}
 use Rattle.cyc_lower.proofs.Stands.{ItemsAt}
 use Rattle.cyc_lower.specs.Slots.{starts_of, slot_of}
 use Rattle.cyc_lower.proofs.Slots.{slot-parameter, words-parameter, slot_types-many, words-append}
@@ -140,7 +140,7 @@ module _ (source : Program) (pages calls : ℕ) where
   pub binding : (n : ℕ) (types : List Ty) (arguments : List Kinded) (body : Items) (k : List Entry) (e : Environment) (w : World) (c : Configuration) → IsStep source pages calls (Binding n types arguments body) k e w c
   binding n [] [] body k e w c well (shared, facts, (m, first, items, stack, holds, own, count)) =
       silently source pages calls (Running (Binding n [] [] body) k e w) (Running Proceeding (Rest body ∷ k) e w) (plain.Running c) refl
-      (shared, behind_statement 0 facts (m, items, stack))
+      (shared, behind_statement (outside_loops (base_of source c.active.function)) facts (m, items, stack))
       (omega arith)
   binding n [] (v ∷ arguments) body k e w c well related = absurd (well refl)
   binding n (t ∷ types) [] body k e w c well related = absurd (well refl)
@@ -186,7 +186,7 @@ module _ (source : Program) (pages calls : ℕ) where
   -- the code of each function stands where it does
   abbrev pub FunctionsStand : Type 0
   FunctionsStand = (n : ℕ) (h : Function) → slice_get source.functions n ≡ Some h
-      → (m : ℕ) × ItemsAt (code_of source n) (bounds_at source n) (types_at source n) h.body 0 (base_of source n) 0 m
+      → (m : ℕ) × ItemsAt (code_of source n) (bounds_at source n) (types_at source n) h.body (outside_loops (base_of source n)) (base_of source n) 0 m
       × At (code_of source n) m (instructions.Return (base_of source n))
 
   parameters_fit : (n : ℕ) (h : Function) → slice_get source.functions n ≡ Some h → parameters_at source n ≡ h.parameters
@@ -213,7 +213,7 @@ module _ (source : Program) (pages calls : ℕ) where
       → slice_get source.functions n ≡ Some h
       → (shared : Shared pages calls w (no_locals.home ∷ homes k) output input store (length frames))
       → DataAt source shared.tables n w.objects (λ (number : ℕ). None) (callers k) slots globals frames
-      → HoldsFrom shared.tables slots 0 arguments → ((m : ℕ) → At (code_of source n) m (instructions.Return (base_of source n)) → StatementStack source n 0 m frames k)
+      → HoldsFrom shared.tables slots 0 arguments → ((m : ℕ) → At (code_of source n) m (instructions.Return (base_of source n)) → StatementStack source n (outside_loops (base_of source n)) m frames k)
       → Related source pages calls (Entering h arguments) k no_locals w
       (record { active = record { function = n; next = 0; slots = slots; handlers = handlers }; frames = frames; globals = globals; store = store; output = output; input = input })
   entered stand n h arguments k w slots globals handlers frames store output input there shared facts holds stack =

@@ -32,10 +32,11 @@ use Rattle.cyc_meaning.specs.Step.{target_of, step}
 use Rattle.cyc_meaning.specs.Run.{is_within, limited_step}
 use Rattle.cyc_objects.specs.Tables.{Tables}
 use Rattle.cyc_objects.proofs.RegionLemmas.{counted-same}
-use Rattle.cyc_lower.specs.Lowering.{compared_of, lower_program}
+use Rattle.cyc_lower.specs.declared.statements.Exits.{Exits}
+use Rattle.cyc_lower.specs.Lowering.{compared_of, outside_loops, lower_program}
 use Rattle.cyc_meaning.specs.SourceMachine.{status_in, source_machine}
 use Rattle.cyc_lower.proofs.Weights.{weight}
-use Rattle.cyc_lower.proofs.Relation.{IsPlainStack, Lands, in_temporary, in_local, HandsOn, drops, leaves, copies, Prints, prints_only, gives_byte, SharedAt, to_slot, to_jump, ValueStack, PlaceStack, ConditionStack, DroppedStack, AheadStack, StatementStack, LandsStack, PrintsStack, AppliedStack, RightAt, ReadyAt, EvaluatingAt, as_operand, into_slot, for_effect, as_right, as_condition, FocusAt, GivenAt, in_operand, nowhere, ahead, compared, with_left, ProceedingAt, behind_statement, behind_call, behind_wrong, Related, Matches, code_of, given_at, called_at, returned_at, top}
+use Rattle.cyc_lower.proofs.Relation.{base_of, IsPlainStack, Lands, in_temporary, in_local, HandsOn, drops, leaves, copies, Prints, prints_only, gives_byte, SharedAt, to_slot, to_jump, ValueStack, PlaceStack, ConditionStack, DroppedStack, AheadStack, StatementStack, LandsStack, PrintsStack, AppliedStack, RightAt, ReadyAt, EvaluatingAt, as_operand, into_slot, for_effect, as_right, as_condition, FocusAt, GivenAt, in_operand, nowhere, ahead, compared, with_left, ProceedingAt, behind_statement, behind_call, behind_wrong, Related, Matches, code_of, given_at, called_at, returned_at, top}
 
 module _ (source : Program) where
   -- ---- where a value goes
@@ -93,12 +94,12 @@ module _ (source : Program) where
         by_lands lands (λ stack. value_depth g locals kinds.NonNull (operands.Slot d) q frames k stack) (λ stack. ahead_depth g locals kinds.NonNull d q frames k stack)
     value_depth g locals kind o p frames (Needs (MakeFields owner before cs) ∷ k) (handle, d, m, q, all, owned, is, at_cs, at, long, lands) =
         by_lands lands (λ stack. value_depth g locals kinds.NonNull (operands.Slot d) q frames k stack) (λ stack. ahead_depth g locals kinds.NonNull d q frames k stack)
-    value_depth g locals kind o p frames (Needs (Initialise n wanted items) ∷ k) (loop, q, at, below, items_at, stack) = statement_depth g loop q frames k stack
-    value_depth g locals kind o p frames (Needs (Choose s t) ∷ k) (loop, r, q, at, at_s, jump, at_t, stack) = statement_depth g loop q frames k stack
-    value_depth g locals kind o p frames (Needs (Test a s) ∷ k) (loop, outer, q, at, r, jump, body, back, stack) = statement_depth g outer q frames k stack
-    value_depth g locals kind o p frames (Needs Return ∷ k) (loop, q, s, is, at, one, stack) = statement_depth g loop q frames k stack
+    value_depth g locals kind o p frames (Needs (Initialise n wanted items) ∷ k) (exits, q, at, below, items_at, stack) = statement_depth g exits q frames k stack
+    value_depth g locals kind o p frames (Needs (Choose s t) ∷ k) (exits, r, q, at, at_s, jump, at_t, stack) = statement_depth g exits q frames k stack
+    value_depth g locals kind o p frames (Needs (Test a s) ∷ k) (exits, outer, q, at, r, jump, body, back, stack) = statement_depth g outer q frames k stack
+    value_depth g locals kind o p frames (Needs Return ∷ k) (exits, q, s, is, at, one, stack) = statement_depth g exits q frames k stack
     value_depth g locals kind o p frames (Needs (Follow pointer target) ∷ k) (q, thin, check, place) = place_depth g locals o 0 q frames k place
-    value_depth g locals kind o p frames (Discard ∷ k) (loop, stack) = statement_depth g loop p frames k stack
+    value_depth g locals kind o p frames (Discard ∷ k) (exits, stack) = statement_depth g exits p frames k stack
     value_depth g locals kind o p frames (entry ∷ k) stack = absurd stack
 
     pub place_depth : (g : ℕ) (locals : ℕ → Option ℕ) (o : Operand) (c p : ℕ) (frames : List Frame) (k : List Entry) → PlaceStack source g locals o c p frames k → HasDepth frames k
@@ -108,12 +109,12 @@ module _ (source : Program) where
 
     pub condition_depth : (g : ℕ) (failing : Comparison) (l r : Operand) (p : ℕ) (frames : List Frame) (k : List Entry) → ConditionStack source g failing l r p frames k → HasDepth frames k
     condition_depth g failing l r p frames (Needs (Chain NoOperations) ∷ k) stack = condition_depth g failing l r p frames k stack
-    condition_depth g failing l r p frames (Needs (Choose s t) ∷ k) (loop, m, q, at, at_s, jump, at_t, stack) = statement_depth g loop q frames k stack
-    condition_depth g failing l r p frames (Needs (Test a s) ∷ k) (loop, outer, q, at, m, jump, body, back, stack) = statement_depth g outer q frames k stack
+    condition_depth g failing l r p frames (Needs (Choose s t) ∷ k) (exits, m, q, at, at_s, jump, at_t, stack) = statement_depth g exits q frames k stack
+    condition_depth g failing l r p frames (Needs (Test a s) ∷ k) (exits, outer, q, at, m, jump, body, back, stack) = statement_depth g outer q frames k stack
     condition_depth g failing l r p frames k stack = absurd stack
 
     pub dropped_depth : (g p : ℕ) (frames : List Frame) (k : List Entry) → DroppedStack source g p frames k → HasDepth frames k
-    dropped_depth g p frames (Discard ∷ k) (loop, stack) = statement_depth g loop p frames k stack
+    dropped_depth g p frames (Discard ∷ k) (exits, stack) = statement_depth g exits p frames k stack
     dropped_depth g p frames k stack = absurd stack
 
     pub ahead_depth : (g : ℕ) (locals : ℕ → Option ℕ) (kind : Kind) (n p : ℕ) (frames : List Frame) (k : List Entry) → AheadStack source g locals kind n p frames k → HasDepth frames k
@@ -122,21 +123,21 @@ module _ (source : Program) where
     ahead_depth g locals kind n p frames (Needs (Store place) ∷ k) (number, object, is, found, same, room, hands) =
         by_hands hands (λ stack. dropped_depth g p frames k stack) (λ stack. value_depth g locals kind (operands.Slot n) p frames k stack)
         (λ d r lands. by_lands lands (λ stack. value_depth g locals kind (operands.Slot d) r frames k stack) (λ stack. ahead_depth g locals kind d r frames k stack))
-    ahead_depth g locals kind n p frames (Needs (Initialise number wanted items) ∷ k) (loop, q, is, few, items_at, stack) = statement_depth g loop q frames k stack
+    ahead_depth g locals kind n p frames (Needs (Initialise number wanted items) ∷ k) (exits, q, is, few, items_at, stack) = statement_depth g exits q frames k stack
     ahead_depth g locals kind n p frames k stack = absurd stack
 
-    pub statement_depth : (g loop p : ℕ) (frames : List Frame) (k : List Entry) → StatementStack source g loop p frames k → HasDepth frames k
-    statement_depth g loop p frames (Rest js ∷ k) (q, at, stack) = statement_depth g loop q frames k stack
-    statement_depth g loop p frames (Join ∷ k) (q, at, stack) = statement_depth g loop q frames k stack
-    statement_depth g loop p frames (Loop a s ∷ k) (outer, q, at, jump, stack) = statement_depth g outer q frames k stack
-    statement_depth g loop p frames (CloseRegion r h ∷ k) stack = statement_depth g loop p frames k stack
-    statement_depth g loop p [] (Caller e ∷ k) (s, at, below) = absurd below
-    statement_depth g loop p (f ∷ frames) (Caller e ∷ k) (s, at, lands) =
+    pub statement_depth : (g : ℕ) (exits : Exits) (p : ℕ) (frames : List Frame) (k : List Entry) → StatementStack source g exits p frames k → HasDepth frames k
+    statement_depth g exits p frames (Rest js ∷ k) (q, at, stack) = statement_depth g exits q frames k stack
+    statement_depth g exits p frames (Join ∷ k) (q, at, stack) = statement_depth g exits q frames k stack
+    statement_depth g exits p frames (Loop a s ∷ k) (outer, q, at, jump, stack) = statement_depth g outer q frames k stack
+    statement_depth g exits p frames (CloseRegion r h ∷ k) stack = statement_depth g exits p frames k stack
+    statement_depth g exits p [] (Caller e ∷ k) (s, at, below) = absurd below
+    statement_depth g exits p (f ∷ frames) (Caller e ∷ k) (s, at, lands) =
         omega (arith, by_lands lands (λ stack. value_depth f.caller.function e.locals (returned_at source g) (operands.Slot f.result) f.caller.next frames k stack) (λ stack. ahead_depth f.caller.function e.locals (returned_at source g) f.result f.caller.next frames k stack))
-    statement_depth g loop p [] (Main ∷ []) (s, at, last) = omega arith
-    statement_depth g loop p (f ∷ frames) (Main ∷ k) (s, at, last) = absurd last
-    statement_depth g loop p [] (Main ∷ entry ∷ k) (s, at, last) = absurd last
-    statement_depth g loop p frames k stack = absurd stack
+    statement_depth g exits p [] (Main ∷ []) (s, at, last) = omega arith
+    statement_depth g exits p (f ∷ frames) (Main ∷ k) (s, at, last) = absurd last
+    statement_depth g exits p [] (Main ∷ entry ∷ k) (s, at, last) = absurd last
+    statement_depth g exits p frames k stack = absurd stack
 
   -- and nothing waits but what the int language has
   mutual
@@ -171,12 +172,12 @@ module _ (source : Program) where
         by_lands lands (λ stack. value_plain g locals kinds.NonNull (operands.Slot d) q frames k stack) (λ stack. ahead_plain g locals kinds.NonNull d q frames k stack)
     value_plain g locals kind o p frames (Needs (MakeFields owner before cs) ∷ k) (handle, d, m, q, all, owned, is, at_cs, at, long, lands) =
         by_lands lands (λ stack. value_plain g locals kinds.NonNull (operands.Slot d) q frames k stack) (λ stack. ahead_plain g locals kinds.NonNull d q frames k stack)
-    value_plain g locals kind o p frames (Needs (Initialise n wanted items) ∷ k) (loop, q, at, below, items_at, stack) = statement_plain g loop q frames k stack
-    value_plain g locals kind o p frames (Needs (Choose s t) ∷ k) (loop, r, q, at, at_s, jump, at_t, stack) = statement_plain g loop q frames k stack
-    value_plain g locals kind o p frames (Needs (Test a s) ∷ k) (loop, outer, q, at, r, jump, body, back, stack) = statement_plain g outer q frames k stack
-    value_plain g locals kind o p frames (Needs Return ∷ k) (loop, q, s, is, at, one, stack) = statement_plain g loop q frames k stack
+    value_plain g locals kind o p frames (Needs (Initialise n wanted items) ∷ k) (exits, q, at, below, items_at, stack) = statement_plain g exits q frames k stack
+    value_plain g locals kind o p frames (Needs (Choose s t) ∷ k) (exits, r, q, at, at_s, jump, at_t, stack) = statement_plain g exits q frames k stack
+    value_plain g locals kind o p frames (Needs (Test a s) ∷ k) (exits, outer, q, at, r, jump, body, back, stack) = statement_plain g outer q frames k stack
+    value_plain g locals kind o p frames (Needs Return ∷ k) (exits, q, s, is, at, one, stack) = statement_plain g exits q frames k stack
     value_plain g locals kind o p frames (Needs (Follow pointer target) ∷ k) (q, thin, check, place) = place_plain g locals o 0 q frames k place
-    value_plain g locals kind o p frames (Discard ∷ k) (loop, stack) = statement_plain g loop p frames k stack
+    value_plain g locals kind o p frames (Discard ∷ k) (exits, stack) = statement_plain g exits p frames k stack
     value_plain g locals kind o p frames (entry ∷ k) stack = absurd stack
 
     pub place_plain : (g : ℕ) (locals : ℕ → Option ℕ) (o : Operand) (c p : ℕ) (frames : List Frame) (k : List Entry) → PlaceStack source g locals o c p frames k → IsPlainStack k
@@ -186,12 +187,12 @@ module _ (source : Program) where
 
     pub condition_plain : (g : ℕ) (failing : Comparison) (l r : Operand) (p : ℕ) (frames : List Frame) (k : List Entry) → ConditionStack source g failing l r p frames k → IsPlainStack k
     condition_plain g failing l r p frames (Needs (Chain NoOperations) ∷ k) stack = condition_plain g failing l r p frames k stack
-    condition_plain g failing l r p frames (Needs (Choose s t) ∷ k) (loop, m, q, at, at_s, jump, at_t, stack) = statement_plain g loop q frames k stack
-    condition_plain g failing l r p frames (Needs (Test a s) ∷ k) (loop, outer, q, at, m, jump, body, back, stack) = statement_plain g outer q frames k stack
+    condition_plain g failing l r p frames (Needs (Choose s t) ∷ k) (exits, m, q, at, at_s, jump, at_t, stack) = statement_plain g exits q frames k stack
+    condition_plain g failing l r p frames (Needs (Test a s) ∷ k) (exits, outer, q, at, m, jump, body, back, stack) = statement_plain g outer q frames k stack
     condition_plain g failing l r p frames k stack = absurd stack
 
     pub dropped_plain : (g p : ℕ) (frames : List Frame) (k : List Entry) → DroppedStack source g p frames k → IsPlainStack k
-    dropped_plain g p frames (Discard ∷ k) (loop, stack) = statement_plain g loop p frames k stack
+    dropped_plain g p frames (Discard ∷ k) (exits, stack) = statement_plain g exits p frames k stack
     dropped_plain g p frames k stack = absurd stack
 
     pub ahead_plain : (g : ℕ) (locals : ℕ → Option ℕ) (kind : Kind) (n p : ℕ) (frames : List Frame) (k : List Entry) → AheadStack source g locals kind n p frames k → IsPlainStack k
@@ -200,21 +201,21 @@ module _ (source : Program) where
     ahead_plain g locals kind n p frames (Needs (Store place) ∷ k) (number, object, is, found, same, room, hands) =
         by_hands hands (λ stack. dropped_plain g p frames k stack) (λ stack. value_plain g locals kind (operands.Slot n) p frames k stack)
         (λ d r lands. by_lands lands (λ stack. value_plain g locals kind (operands.Slot d) r frames k stack) (λ stack. ahead_plain g locals kind d r frames k stack))
-    ahead_plain g locals kind n p frames (Needs (Initialise number wanted items) ∷ k) (loop, q, is, few, items_at, stack) = statement_plain g loop q frames k stack
+    ahead_plain g locals kind n p frames (Needs (Initialise number wanted items) ∷ k) (exits, q, is, few, items_at, stack) = statement_plain g exits q frames k stack
     ahead_plain g locals kind n p frames k stack = absurd stack
 
-    pub statement_plain : (g loop p : ℕ) (frames : List Frame) (k : List Entry) → StatementStack source g loop p frames k → IsPlainStack k
-    statement_plain g loop p frames (Rest js ∷ k) (q, at, stack) = statement_plain g loop q frames k stack
-    statement_plain g loop p frames (Join ∷ k) (q, at, stack) = statement_plain g loop q frames k stack
-    statement_plain g loop p frames (Loop a s ∷ k) (outer, q, at, jump, stack) = statement_plain g outer q frames k stack
-    statement_plain g loop p frames (CloseRegion r h ∷ k) stack = statement_plain g loop p frames k stack
-    statement_plain g loop p [] (Caller e ∷ k) (s, at, below) = absurd below
-    statement_plain g loop p (f ∷ frames) (Caller e ∷ k) (s, at, lands) =
+    pub statement_plain : (g : ℕ) (exits : Exits) (p : ℕ) (frames : List Frame) (k : List Entry) → StatementStack source g exits p frames k → IsPlainStack k
+    statement_plain g exits p frames (Rest js ∷ k) (q, at, stack) = statement_plain g exits q frames k stack
+    statement_plain g exits p frames (Join ∷ k) (q, at, stack) = statement_plain g exits q frames k stack
+    statement_plain g exits p frames (Loop a s ∷ k) (outer, q, at, jump, stack) = statement_plain g outer q frames k stack
+    statement_plain g exits p frames (CloseRegion r h ∷ k) stack = statement_plain g exits p frames k stack
+    statement_plain g exits p [] (Caller e ∷ k) (s, at, below) = absurd below
+    statement_plain g exits p (f ∷ frames) (Caller e ∷ k) (s, at, lands) =
         by_lands lands (λ stack. value_plain f.caller.function e.locals (returned_at source g) (operands.Slot f.result) f.caller.next frames k stack) (λ stack. ahead_plain f.caller.function e.locals (returned_at source g) f.result f.caller.next frames k stack)
-    statement_plain g loop p [] (Main ∷ []) (s, at, last) = tt
-    statement_plain g loop p (f ∷ frames) (Main ∷ k) (s, at, last) = absurd last
-    statement_plain g loop p [] (Main ∷ entry ∷ k) (s, at, last) = absurd last
-    statement_plain g loop p frames k stack = absurd stack
+    statement_plain g exits p [] (Main ∷ []) (s, at, last) = tt
+    statement_plain g exits p (f ∷ frames) (Main ∷ k) (s, at, last) = absurd last
+    statement_plain g exits p [] (Main ∷ entry ∷ k) (s, at, last) = absurd last
+    statement_plain g exits p frames k stack = absurd stack
 
   pub lands_depth : (g : ℕ) (locals : ℕ → Option ℕ) (kind : Kind) (d p : ℕ) (frames : List Frame) (k : List Entry) → LandsStack source g locals kind d p frames k → HasDepth frames k
   lands_depth g locals kind d p frames k lands = by_lands lands (λ stack. value_depth g locals kind (operands.Slot d) p frames k stack) (λ stack. ahead_depth g locals kind d p frames k stack)
@@ -255,17 +256,17 @@ module _ (source : Program) where
   depth_going t (Evaluating a) k locals g p slots frames at = evaluating_depth t a locals g p slots frames k at
   depth_going t (Locating x) k locals g p slots frames (o, c, q, at, holds, place) = place_depth g locals o c q frames k place
   depth_going t (GivenPlace (Thin object offset)) k locals g p slots frames (o, c, points, holds, place) = place_depth g locals o c p frames k place
-  depth_going t (Executing s) k locals g p slots frames (loop, q, at, stack) = statement_depth g loop q frames k stack
+  depth_going t (Executing s) k locals g p slots frames (exits, q, at, stack) = statement_depth g exits q frames k stack
   depth_going t (Calling callees.Putchar before) k locals g p slots frames (v, o, single, is, holds, prints) = prints_depth g locals o p frames k prints
   depth_going t (Calling callees.Getchar before) k locals g p slots frames (d, q, at, holds, lands) = lands_depth g locals kinds.Int d q frames k lands
   depth_going t (Calling (callees.Function n) before) k locals g p slots frames (d, q, at, holds, lands) = lands_depth g locals (called_at source g (callees.Function n)) d q frames k lands
-  depth_going t (Entering h arguments) k locals g p slots frames (m, at, stack, holds, few) = statement_depth g 0 m frames k stack
-  depth_going t (Binding n types arguments body) k locals g p slots frames (m, first, at, stack, holds, few, count) = statement_depth g 0 m frames k stack
   depth_going t (Writing writes (Some pointer)) k locals g p slots frames (object, done, values, address, slot, d, m, q, are, is, there, single, held, at, move, end, holds, lands) = lands_depth g locals kinds.NonNull d q frames k lands
-  depth_going t Breaking k locals g p slots frames (loop, q, at, stack) = statement_depth g loop q frames k stack
-  depth_going t Continuing k locals g p slots frames (loop, q, at, stack) = statement_depth g loop q frames k stack
-  depth_going t (Returning (Some v)) k locals g p slots frames (loop, q, s, at, is, one, stack) = statement_depth g loop q frames k stack
-  depth_going t (Returning None) k locals g p slots frames (loop, q, s, at, stack) = statement_depth g loop q frames k stack
+  depth_going t (Entering h arguments) k locals g p slots frames (m, at, stack, holds, few) = statement_depth g (outside_loops (base_of source g)) m frames k stack
+  depth_going t (Binding n types arguments body) k locals g p slots frames (m, first, at, stack, holds, few, count) = statement_depth g (outside_loops (base_of source g)) m frames k stack
+  depth_going t Breaking k locals g p slots frames (exits, q, at, stack) = statement_depth g exits q frames k stack
+  depth_going t Continuing k locals g p slots frames (exits, q, at, stack) = statement_depth g exits q frames k stack
+  depth_going t (Returning (Some v)) k locals g p slots frames (exits, q, s, at, is, one, stack) = statement_depth g exits q frames k stack
+  depth_going t (Returning None) k locals g p slots frames (exits, q, s, at, stack) = statement_depth g exits q frames k stack
   depth_going t focus k locals g p slots frames at = absurd at
 
   depth_given : (t : Tables) (v : Kinded) (k : List Entry) (e : Environment) (w : World) (c : Configuration) → GivenAt source t v k e w c → HasDepth c.frames k
@@ -276,7 +277,7 @@ module _ (source : Program) where
   depth_given t v k e w c (with_left facts ready) = ready_depth t v e.locals c.active.function c.active.next c.active.slots c.frames k ready
 
   depth_proceeding : (t : Tables) (k : List Entry) (e : Environment) (w : World) (c : Configuration) → ProceedingAt source t k e w c → HasDepth c.frames k
-  depth_proceeding t k e w c (behind_statement loop facts stack) = statement_depth c.active.function loop c.active.next c.frames k stack
+  depth_proceeding t k e w c (behind_statement exits facts stack) = statement_depth c.active.function exits c.active.next c.frames k stack
   depth_proceeding t k e w c (behind_call kind o facts stack) = value_depth c.active.function e.locals kind o c.active.next c.frames k stack
   depth_proceeding t k e w c (behind_wrong kind n stack) = ahead_depth c.active.function e.locals kind n c.active.next c.frames k stack
 

@@ -33,9 +33,10 @@ use Rattle.cyc_meaning.specs.State.{Owner, InRegion, Unique, Object, World, heap
 use Rattle.cyc_meaning.specs.Step.{target_of, object_of}
 use Rattle.cyc_meaning.specs.Operators.{null_exception, is_zero}
 use Rattle.cyc_meaning.specs.FrameCount.{words_of_all}
+use Rattle.cyc_lower.specs.declared.statements.Exits.{Exits}
 use Rattle.cyc_lower.specs.Slots.{Types, Starts, starts_of, slot_of}
 use Rattle.cyc_lower.specs.Lowerable.{is_comparison}
-use Rattle.cyc_lower.specs.Lowering.{types_of, unary_operator, failing_comparison, operand_of, move_of, pointer_instruction, low_byte, converts_there, all_passed, compared_of, break_target, continue_target, results_of, lower_program}
+use Rattle.cyc_lower.specs.Lowering.{types_of, unary_operator, failing_comparison, operand_of, move_of, pointer_instruction, low_byte, converts_there, all_passed, compared_of, break_target, continue_target, results_of, lower_program, outside_loops}
 use Rattle.cyc_lower.proofs.Widths.{kind_of_result, given, called_kind, HasRoom, Outside}
 use Rattle.cyc_lower.proofs.Stands.{CheckAt, ConversionAt, OperatorAt, TruthAt, CopyAt, ExpressionAt, ArgumentsAt, OperationsAt, StoresAt, ObjectAt, ValueAt, ConditionAt, FailingAt, ComparesAt, DiscardedAt, StatementAt, ItemsAt, PlaceAt}
 
@@ -280,26 +281,26 @@ module _ (source : Program) where
     to_slot : value → Yields value tested
     to_jump : tested → Yields value tested
 
-  abbrev pub LoopAt : ℕ → Expression → Statement → (loop q : ℕ) → Type 0
-  LoopAt g condition body loop q = (x : Operand) × (y : Operand) × (m : ℕ) × (r : ℕ) × At (code_of g) (break_target loop) (instructions.Jump q)
-      × ConditionAt (code_of g) (bounds_at g) (types_at g) condition x y (base_of g) (continue_target loop) m
-      × FailingAt (code_of g) (bounds_at g) (types_at g) condition x y m (break_target loop)
-      × StatementAt (code_of g) (bounds_at g) (types_at g) body loop (base_of g) (m + 1) r
-      × At (code_of g) r (instructions.Jump (continue_target loop)) × (break_target loop < q)
+  abbrev pub LoopAt : ℕ → Expression → Statement → Exits → (q : ℕ) → Type 0
+  LoopAt g condition body exits q = (x : Operand) × (y : Operand) × (m : ℕ) × (r : ℕ) × At (code_of g) (break_target exits.head) (instructions.Jump q)
+      × ConditionAt (code_of g) (bounds_at g) (types_at g) condition x y (base_of g) (continue_target exits.head) m
+      × FailingAt (code_of g) (bounds_at g) (types_at g) condition x y m (break_target exits.head)
+      × StatementAt (code_of g) (bounds_at g) (types_at g) body exits (base_of g) (m + 1) r
+      × At (code_of g) r (instructions.Jump (continue_target exits.head)) × (break_target exits.head < q)
 
   -- A branch that is taken where a condition has failed, and what stands behind it. From a place in a loop on stands what waits.
-  abbrev pub ChoosesAt : (g : ℕ) → Comparison → (l r : Operand) → (p : ℕ) → (first second : Statement) → (waits : (loop q : ℕ) → Type 0) → Type 0
+  abbrev pub ChoosesAt : (g : ℕ) → Comparison → (l r : Operand) → (p : ℕ) → (first second : Statement) → (waits : Exits → (q : ℕ) → Type 0) → Type 0
   ChoosesAt g failing l r p first second waits =
-      (loop : ℕ) × (m : ℕ) × (q : ℕ) × At (code_of g) p (instructions.Branch failing l r (m + 1))
-      × StatementAt (code_of g) (bounds_at g) (types_at g) first loop (base_of g) (p + 1) m × At (code_of g) m (instructions.Jump q)
-      × StatementAt (code_of g) (bounds_at g) (types_at g) second loop (base_of g) (m + 1) q × waits loop q
+      (exits : Exits) × (m : ℕ) × (q : ℕ) × At (code_of g) p (instructions.Branch failing l r (m + 1))
+      × StatementAt (code_of g) (bounds_at g) (types_at g) first exits (base_of g) (p + 1) m × At (code_of g) m (instructions.Jump q)
+      × StatementAt (code_of g) (bounds_at g) (types_at g) second exits (base_of g) (m + 1) q × waits exits q
 
-  abbrev pub RepeatsAt : (g : ℕ) → Comparison → (l r : Operand) → (p : ℕ) → Expression → Statement → (waits : (loop q : ℕ) → Type 0) → Type 0
+  abbrev pub RepeatsAt : (g : ℕ) → Comparison → (l r : Operand) → (p : ℕ) → Expression → Statement → (waits : Exits → (q : ℕ) → Type 0) → Type 0
   RepeatsAt g failing l r p condition body waits =
-      (loop : ℕ) × (outer : ℕ) × (q : ℕ) × LoopAt g condition body loop q
-      × (m : ℕ) × At (code_of g) p (instructions.Branch failing l r (break_target loop))
-      × StatementAt (code_of g) (bounds_at g) (types_at g) body loop (base_of g) (p + 1) m
-      × At (code_of g) m (instructions.Jump (continue_target loop)) × waits outer q
+      (exits : Exits) × (outer : Exits) × (q : ℕ) × LoopAt g condition body exits q
+      × (m : ℕ) × At (code_of g) p (instructions.Branch failing l r (break_target exits.head))
+      × StatementAt (code_of g) (bounds_at g) (types_at g) body exits (base_of g) (p + 1) m
+      × At (code_of g) m (instructions.Jump (continue_target exits.head)) × waits outer q
 
   abbrev pub Below : List Frame → (Frame → List Frame → Type 0) → Type 0
   Below [] P = ⊥
@@ -381,18 +382,18 @@ module _ (source : Program) where
         × (words_held before + (words_of_kind kind + all_passed fields) ≡ all)
         × Lands (base_of g) (top g k) d 1 (ValueStack g locals kinds.NonNull (operands.Slot d) q frames k) (AheadStack g locals kinds.NonNull d q frames k)
     ValueStack g locals kind o p frames (Needs (Initialise number wanted items) ∷ k) =
-        (loop : ℕ) × (q : ℕ) × At (code_of g) p (move_of (words_of_kind kind) (slot_of (starts_at g) number) o) × HasRoom (types_at g) number kind
-        × ItemsAt (code_of g) (bounds_at g) (types_at g) items loop (base_of g) (p + 1) q × StatementStack g loop q frames k
+        (exits : Exits) × (q : ℕ) × At (code_of g) p (move_of (words_of_kind kind) (slot_of (starts_at g) number) o) × HasRoom (types_at g) number kind
+        × ItemsAt (code_of g) (bounds_at g) (types_at g) items exits (base_of g) (p + 1) q × StatementStack g exits q frames k
     ValueStack g locals kind o p frames (Needs (Choose first second) ∷ k) =
-        ChoosesAt g comparisons.Equal o (operands.Word 0) p first second (λ loop q. StatementStack g loop q frames k)
+        ChoosesAt g comparisons.Equal o (operands.Word 0) p first second (λ exits q. StatementStack g exits q frames k)
     ValueStack g locals kind o p frames (Needs (Test condition body) ∷ k) =
-        RepeatsAt g comparisons.Equal o (operands.Word 0) p condition body (λ loop q. StatementStack g loop q frames k)
+        RepeatsAt g comparisons.Equal o (operands.Word 0) p condition body (λ exits q. StatementStack g exits q frames k)
     ValueStack g locals kind o p frames (Needs Return ∷ k) =
-        (loop : ℕ) × (q : ℕ) × (s : ℕ) × (o ≡ operands.Slot s) × At (code_of g) p (instructions.Return s) × IsReturned g kind
-        × StatementStack g loop q frames k
+        (exits : Exits) × (q : ℕ) × (s : ℕ) × (o ≡ operands.Slot s) × At (code_of g) p (instructions.Return s) × IsReturned g kind
+        × StatementStack g exits q frames k
     ValueStack g locals kind o p frames (Needs (Follow pointer target) ∷ k) =
         (q : ℕ) × (is_thin pointer ≡ true) × CheckAt (code_of g) (bounds_at g) (types_at g) null_exception o p q × PlaceStack g locals o 0 q frames k
-    ValueStack g locals kind o p frames (Discard ∷ k) = (loop : ℕ) × StatementStack g loop p frames k
+    ValueStack g locals kind o p frames (Discard ∷ k) = (exits : Exits) × StatementStack g exits p frames k
     ValueStack g locals kind o p frames (entry ∷ k) = ⊥
 
     -- the same for a place, whose address is the word of an operand and so many bytes more
@@ -405,13 +406,13 @@ module _ (source : Program) where
     -- the same for a condition, which fails where this comparison holds
     pub ConditionStack : (g : ℕ) → Comparison → (l r : Operand) → (p : ℕ) → List Frame → List Entry → Type 0
     ConditionStack g failing l r p frames (Needs (Chain NoOperations) ∷ k) = ConditionStack g failing l r p frames k
-    ConditionStack g failing l r p frames (Needs (Choose first second) ∷ k) = ChoosesAt g failing l r p first second (λ loop q. StatementStack g loop q frames k)
-    ConditionStack g failing l r p frames (Needs (Test condition body) ∷ k) = RepeatsAt g failing l r p condition body (λ loop q. StatementStack g loop q frames k)
+    ConditionStack g failing l r p frames (Needs (Choose first second) ∷ k) = ChoosesAt g failing l r p first second (λ exits q. StatementStack g exits q frames k)
+    ConditionStack g failing l r p frames (Needs (Test condition body) ∷ k) = RepeatsAt g failing l r p condition body (λ exits q. StatementStack g exits q frames k)
     ConditionStack g failing l r p frames k = ⊥
 
     -- the same for a value that stands nowhere, since nobody wants it
     pub DroppedStack : (g p : ℕ) → List Frame → List Entry → Type 0
-    DroppedStack g p frames (Discard ∷ k) = (loop : ℕ) × StatementStack g loop p frames k
+    DroppedStack g p frames (Discard ∷ k) = (exits : Exits) × StatementStack g exits p frames k
     DroppedStack g p frames k = ⊥
 
     -- the same for a value that stands already in the slot n of a local, which is about to get it
@@ -424,25 +425,25 @@ module _ (source : Program) where
         × HandsOn (code_of g) (words_of_kind kind) (operands.Slot n) p (DroppedStack g p frames k) (ValueStack g locals kind (operands.Slot n) p frames k)
         (λ d r. Lands (base_of g) (top g k) d (words_of_kind kind) (ValueStack g locals kind (operands.Slot d) r frames k) (AheadStack g locals kind d r frames k))
     AheadStack g locals kind n p frames (Needs (Initialise number wanted items) ∷ k) =
-        (loop : ℕ) × (q : ℕ) × (slot_of (starts_at g) number ≡ n) × HasRoom (types_at g) number kind × ItemsAt (code_of g) (bounds_at g) (types_at g) items loop (base_of g) p q × StatementStack g loop q frames k
+        (exits : Exits) × (q : ℕ) × (slot_of (starts_at g) number ≡ n) × HasRoom (types_at g) number kind × ItemsAt (code_of g) (bounds_at g) (types_at g) items exits (base_of g) p q × StatementStack g exits q frames k
     AheadStack g locals kind n p frames k = ⊥
 
     -- the same where no value waits
-    pub StatementStack : (g loop p : ℕ) → List Frame → List Entry → Type 0
-    StatementStack g loop p frames (Rest items ∷ k) =
-        (q : ℕ) × ItemsAt (code_of g) (bounds_at g) (types_at g) items loop (base_of g) p q × StatementStack g loop q frames k
-    StatementStack g loop p frames (Join ∷ k) = (q : ℕ) × Arrives (code_of g) p q × StatementStack g loop q frames k
-    StatementStack g loop p frames (Loop condition body ∷ k) =
-        (outer : ℕ) × (q : ℕ) × LoopAt g condition body loop q × At (code_of g) p (instructions.Jump (continue_target loop))
+    pub StatementStack : (g : ℕ) → Exits → (p : ℕ) → List Frame → List Entry → Type 0
+    StatementStack g exits p frames (Rest items ∷ k) =
+        (q : ℕ) × ItemsAt (code_of g) (bounds_at g) (types_at g) items exits (base_of g) p q × StatementStack g exits q frames k
+    StatementStack g exits p frames (Join ∷ k) = (q : ℕ) × Arrives (code_of g) p q × StatementStack g exits q frames k
+    StatementStack g exits p frames (Loop condition body ∷ k) =
+        (outer : Exits) × (q : ℕ) × LoopAt g condition body exits q × At (code_of g) p (instructions.Jump (continue_target exits.head))
         × StatementStack g outer q frames k
-    StatementStack g loop p frames (CloseRegion region home ∷ k) = StatementStack g loop p frames k
-    StatementStack g loop p frames (Caller e ∷ k) =
+    StatementStack g exits p frames (CloseRegion region home ∷ k) = StatementStack g exits p frames k
+    StatementStack g exits p frames (Caller e ∷ k) =
         (s : ℕ) × At (code_of g) p (instructions.Return s)
         × Below frames (λ f rest. Lands (base_of f.caller.function) (top f.caller.function k) f.result (words_of_kind (returned_at g))
         (ValueStack f.caller.function e.locals (returned_at g) (operands.Slot f.result) f.caller.next rest k)
         (AheadStack f.caller.function e.locals (returned_at g) f.result f.caller.next rest k))
-    StatementStack g loop p frames (Main ∷ k) = (s : ℕ) × At (code_of g) p (instructions.Return s) × IsLast frames k
-    StatementStack g loop p frames k = ⊥
+    StatementStack g exits p frames (Main ∷ k) = (s : ℕ) × At (code_of g) p (instructions.Return s) × IsLast frames k
+    StatementStack g exits p frames k = ⊥
 
   -- a value of a kind comes to slot d, and what is done with it stands from place p on
   abbrev pub LandsStack : (g : ℕ) → (ℕ → Option ℕ) → Kind → (d p : ℕ) → List Frame → List Entry → Type 0
@@ -501,17 +502,17 @@ module _ (source : Program) where
       (o : Operand) × (c : ℕ) × Points t object offset (add_of (operand_word slots o) c) × Holds t slots (base_of g) (held k)
       × PlaceStack g locals o c p frames k
   FocusAt t (Executing s) k locals g p slots frames =
-      (loop : ℕ) × (q : ℕ) × StatementAt (code_of g) (bounds_at g) (types_at g) s loop (base_of g) p q × StatementStack g loop q frames k
+      (exits : Exits) × (q : ℕ) × StatementAt (code_of g) (bounds_at g) (types_at g) s exits (base_of g) p q × StatementStack g exits q frames k
   FocusAt t (Calling callees.Putchar before) k locals g p slots frames =
       (v : Kinded) × (o : Operand) × (before ≡ v ∷ []) × IsIn t v slots o × Holds t slots (base_of g) (held k) × PrintsStack g locals o p frames k
   FocusAt t (Calling callee before) k locals g p slots frames =
       (d : ℕ) × (q : ℕ) × CallAt g callee (words_held before) (top g k) d p q × Holds t slots (base_of g) (before ++ held k)
       × LandsStack g locals (called_at g callee) d q frames k
   FocusAt t (Entering h arguments) k locals g p slots frames =
-      (m : ℕ) × ItemsAt (code_of g) (bounds_at g) (types_at g) h.body 0 (base_of g) p m × StatementStack g 0 m frames k
+      (m : ℕ) × ItemsAt (code_of g) (bounds_at g) (types_at g) h.body (outside_loops (base_of g)) (base_of g) p m × StatementStack g (outside_loops (base_of g)) m frames k
       × HoldsFrom t slots 0 arguments × (parameters_at g ≡ h.parameters)
   FocusAt t (Binding number types arguments body) k locals g p slots frames =
-      (m : ℕ) × (first : List Ty) × ItemsAt (code_of g) (bounds_at g) (types_at g) body 0 (base_of g) p m × StatementStack g 0 m frames k
+      (m : ℕ) × (first : List Ty) × ItemsAt (code_of g) (bounds_at g) (types_at g) body (outside_loops (base_of g)) (base_of g) p m × StatementStack g (outside_loops (base_of g)) m frames k
       × HoldsFrom t slots (words_of_all first) arguments × (parameters_at g ≡ first ++ types) × (length first ≡ number)
   FocusAt t (Writing writes (Some pointer)) k locals g p slots frames =
       (object : ℕ) × (done : List Kind) × (values : List Kinded) × (address : ℕ) × (slot : ℕ) × (d : ℕ) × (m : ℕ) × (q : ℕ)
@@ -521,14 +522,14 @@ module _ (source : Program) where
       × At (code_of g) m (instructions.Move d (operands.Slot address)) × (m + 1 ≡ q)
       × Holds t slots (base_of g) (held k) × LandsStack g locals kinds.NonNull d q frames k
   FocusAt t Breaking k locals g p slots frames =
-      (loop : ℕ) × (q : ℕ) × At (code_of g) p (instructions.Jump (break_target loop)) × StatementStack g loop q frames k
+      (exits : Exits) × (q : ℕ) × At (code_of g) p (instructions.Jump (break_target exits.head)) × StatementStack g exits q frames k
   FocusAt t Continuing k locals g p slots frames =
-      (loop : ℕ) × (q : ℕ) × At (code_of g) p (instructions.Jump (continue_target loop)) × StatementStack g loop q frames k
+      (exits : Exits) × (q : ℕ) × At (code_of g) p (instructions.Jump (continue_target exits.head)) × StatementStack g exits q frames k
   FocusAt t (Returning (Some v)) k locals g p slots frames =
-      (loop : ℕ) × (q : ℕ) × (s : ℕ) × At (code_of g) p (instructions.Return s) × Is t v.kind v.value slots s × IsReturned g v.kind
-      × StatementStack g loop q frames k
+      (exits : Exits) × (q : ℕ) × (s : ℕ) × At (code_of g) p (instructions.Return s) × Is t v.kind v.value slots s × IsReturned g v.kind
+      × StatementStack g exits q frames k
   FocusAt t (Returning None) k locals g p slots frames =
-      (loop : ℕ) × (q : ℕ) × (s : ℕ) × At (code_of g) p (instructions.Return s) × StatementStack g loop q frames k
+      (exits : Exits) × (q : ℕ) × (s : ℕ) × At (code_of g) p (instructions.Return s) × StatementStack g exits q frames k
   FocusAt t focus k locals g p slots frames = ⊥
 
   -- ---- states
@@ -563,7 +564,7 @@ module _ (source : Program) where
 
   -- What goes on without a value: a statement, or what was called without one. Where a value is wanted, the source goes wrong next.
   pub data ProceedingAt (t : Tables) (k : List Entry) (e : Environment) (w : World) (c : Configuration) : Type 0 where
-    behind_statement : (loop : ℕ) → DataIn t c.active.slots k e w c → StatementStack c.active.function loop c.active.next c.frames k → ProceedingAt t k e w c
+    behind_statement : (exits : Exits) → DataIn t c.active.slots k e w c → StatementStack c.active.function exits c.active.next c.frames k → ProceedingAt t k e w c
     behind_call : (kind : Kind) → (o : Operand) → DataIn t c.active.slots k e w c → ValueStack c.active.function e.locals kind o c.active.next c.frames k → ProceedingAt t k e w c
     behind_wrong : (kind : Kind) → (n : ℕ) → AheadStack c.active.function e.locals kind n c.active.next c.frames k → ProceedingAt t k e w c
 

@@ -11,7 +11,7 @@ use Rattle.cyc_meaning.specs.FrameCount.{frame_count, words_of_all}
 use Rattle.cyc_plain.specs.declared.instruction.Instruction.{Instruction}
 use Rattle.cyc_plain.specs.declared.instruction.Instruction.TheVariants.{Return}
 use Rattle.cyc_lower.specs.Slots.{Starts, starts_of}
-use Rattle.cyc_lower.specs.Lowering.{types_of, first_temporary, items_code, function_code}
+use Rattle.cyc_lower.specs.Lowering.{types_of, first_temporary, outside_loops, items_code, function_code}
 use Rattle.cyc_lower.specs.declared.limits.TheConstants.{MOST_FUNCTIONS}
 use Rattle.cyc_lower.specs.Lowered.{HasTooMany}
 use Rattle.cyc_lower.specs.Emission.{most_frame_count, most_locals}
@@ -34,13 +34,13 @@ few_locals f small = (omega (arith, small), omega (arith, small, slots-few (view
 
 -- the code of a function's body, with a return behind it
 pub function_made : (structs : List StructType) (h : Function) (starts : Starts) (free : ℕ) (js : Items) (begun body code : List Instruction) → starts ≡ starts_of (types_of structs h) → free ≡ first_temporary h → js ≡ h.body → begun ≡ []
-    → body ≡ begun ++ items_code starts js (length begun) 0 free → code ≡ body ++ Return free ∷ [] → code ≡ function_code structs h
+    → body ≡ begun ++ items_code starts js (length begun) (outside_loops free) free → code ≡ body ++ Return free ∷ [] → code ≡ function_code structs h
 function_made structs h starts free js begun body code starts_is free_is js_is begun_is body_is code_is =
     code_is
-    ∙ ap (λ (l : List Instruction). l ++ Return free ∷ []) (body_is ∙ ap (λ (l : List Instruction). l ++ items_code starts js (length l) 0 free) begun_is)
-    ∙ ap (λ (l : Starts). items_code l js 0 0 free ++ Return free ∷ []) starts_is
-    ∙ ap (λ (x : Items). items_code (starts_of (types_of structs h)) x 0 0 free ++ Return free ∷ []) js_is
-    ∙ ap (λ (n : ℕ). items_code (starts_of (types_of structs h)) h.body 0 0 n ++ Return n ∷ []) free_is
+    ∙ ap (λ (l : List Instruction). l ++ Return free ∷ []) (body_is ∙ ap (λ (l : List Instruction). l ++ items_code starts js (length l) (outside_loops free) free) begun_is)
+    ∙ ap (λ (l : Starts). items_code l js 0 (outside_loops free) free ++ Return free ∷ []) starts_is
+    ∙ ap (λ (x : Items). items_code (starts_of (types_of structs h)) x 0 (outside_loops free) free ++ Return free ∷ []) js_is
+    ∙ ap (λ (n : ℕ). items_code (starts_of (types_of structs h)) h.body 0 (outside_loops n) n ++ Return n ∷ []) free_is
 
 -- ---- lists that are lowered element by element
 

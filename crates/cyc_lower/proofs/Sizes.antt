@@ -24,11 +24,12 @@ use Rattle.cyc_plain.specs.declared.instruction.Request.TheVariants as requests
 use Rattle.cyc_plain.specs.declared.instruction.Instruction.{Instruction}
 use Rattle.cyc_plain.specs.declared.instruction.Instruction.TheVariants as instructions
 use Rattle.cyc_plain.specs.Program.{instruction_size, size}
+use Rattle.cyc_lower.specs.declared.statements.Exits.{Exits}
 use Rattle.cyc_lower.specs.Slots.{starts_of, slot_of, Starts}
 use Rattle.cyc_store.specs.declared.range.TheConstants.{HEAP}
 use Rattle.cyc_meaning.specs.Values.{kind_of, words_of_kind}
 use Rattle.cyc_lower.proofs.Widths.{kind_few, type_words}
-use Rattle.cyc_lower.specs.Lowering.{stores_code, object_code, made_code, types_of, converts_there, passed_words, all_passed, source_of, source_slot, converted_by, moved_by, move_of, pointer_instruction, unary_operator, binary_operator, operand_of, operand_or, code_unless, slot_or, code_unless_slot, left_of, value_slot, next_slot, left_slot, value_operand, converted_operand, printed_operand, conversion_code, divisor_code, checked_code, operator_code, truth_code, load_code, low_byte, test_code, is_in, copy_code, expression_code, arguments_code, converted_code, converted_operand_code, printed_code, dereference_code, initial_code, assignment_code, operations_code, discarded_code, failing_comparison, compared_or, left_with, slot_with, first_code, second_code, pair_code, condition_code, condition_of, failing_jump, break_target, continue_target, return_code, declaration_code, statement_code, items_code, first_temporary, jump_if_zero, jump_if_nonzero, lower_function, behind_left, pointer_code}
+use Rattle.cyc_lower.specs.Lowering.{stores_code, object_code, made_code, types_of, converts_there, passed_words, all_passed, source_of, source_slot, converted_by, moved_by, move_of, pointer_instruction, unary_operator, binary_operator, operand_of, operand_or, code_unless, slot_or, code_unless_slot, left_of, value_slot, next_slot, left_slot, value_operand, converted_operand, printed_operand, conversion_code, divisor_code, checked_code, operator_code, truth_code, load_code, low_byte, test_code, is_in, copy_code, expression_code, arguments_code, converted_code, converted_operand_code, printed_code, dereference_code, initial_code, assignment_code, operations_code, discarded_code, failing_comparison, compared_or, left_with, slot_with, first_code, second_code, pair_code, condition_code, condition_of, failing_jump, break_target, continue_target, return_code, declaration_code, statement_code, items_code, first_temporary, jump_if_zero, jump_if_nonzero, lower_function, behind_left, pointer_code, outside_loops, inside_loop}
 use Rattle.cyc_lower.specs.Lowered.{size_per_weight}
 
 abbrev code_size : List Instruction → ℕ
@@ -338,21 +339,21 @@ module _ (starts : Starts) where
       let conversion = conversion_code to (operands.Slot s) (p + length front) in
       omega (arith, both (front ++ conversion) (instructions.Return s ∷ []), both front conversion, unless_slot_size known inner, expression_size a p t t, conversion_size to (operands.Slot s) (p + length front))
 
-  else_size : (t : Statement) (p loop d : ℕ) → code_size (statement_code starts t p loop d) ≤ size_per_weight * statement_weight t → code_size (statement_code starts t p loop d) ≤ size_per_weight * else_weight t (statement_weight t)
-  else_size Empty p loop d bound = omega arith
-  else_size t p loop d bound = omega (arith, bound)
+  else_size : (t : Statement) (p : ℕ) (exits : Exits) (d : ℕ) → code_size (statement_code starts t p exits d) ≤ size_per_weight * statement_weight t → code_size (statement_code starts t p exits d) ≤ size_per_weight * else_weight t (statement_weight t)
+  else_size Empty p exits d bound = omega arith
+  else_size t p exits d bound = omega (arith, bound)
 
   mutual
-    statement_size : (s : Statement) (p loop d : ℕ) → code_size (statement_code starts s p loop d) ≤ size_per_weight * statement_weight s
-    statement_size (Block r js) p loop d = omega (arith, items_size js p loop d)
-    statement_size Empty p loop d = omega arith
-    statement_size (Evaluate a) p loop t = omega (arith, discarded_size a p t)
-    statement_size (If a s u) p loop t =
+    statement_size : (s : Statement) (p : ℕ) (exits : Exits) (d : ℕ) → code_size (statement_code starts s p exits d) ≤ size_per_weight * statement_weight s
+    statement_size (Block r js) p exits d = omega (arith, items_size js p exits d)
+    statement_size Empty p exits d = omega arith
+    statement_size (Evaluate a) p exits t = omega (arith, discarded_size a p t)
+    statement_size (If a s u) p exits t =
         let condition = condition_code starts a p t in
         let m = p + length condition in
-        let first = statement_code starts s (m + 1) loop t in
+        let first = statement_code starts s (m + 1) exits t in
         let r = m + 1 + length first in
-        let second = statement_code starts u (r + 1) loop t in
+        let second = statement_code starts u (r + 1) exits t in
         let jump_first = failing_jump (condition_of starts a t) (r + 1) ∷ first in
         let jump_second = instructions.Jump (r + 1 + length second) ∷ second in
         omega (
@@ -362,13 +363,13 @@ module _ (starts : Starts) where
           cons (failing_jump (condition_of starts a t) (r + 1)) first,
           cons (instructions.Jump (r + 1 + length second)) second,
           condition_size a p t,
-          statement_size s (m + 1) loop t,
-          else_size u (r + 1) loop t (statement_size u (r + 1) loop t),
+          statement_size s (m + 1) exits t,
+          else_size u (r + 1) exits t (statement_size u (r + 1) exits t),
         )
-    statement_size (While w a s) p loop t =
+    statement_size (While w a s) p exits t =
         let condition = condition_code starts a (p + 2) t in
         let m = p + 2 + length condition in
-        let body = statement_code starts s (m + 1) p t in
+        let body = statement_code starts s (m + 1) (inside_loop p t exits) t in
         let test = failing_jump (condition_of starts a t) (break_target p) ∷ body in
         let again = instructions.Jump (continue_target p) ∷ [] in
         let rest = (condition ++ test) ++ again in
@@ -381,27 +382,27 @@ module _ (starts : Starts) where
           both condition test,
           cons (failing_jump (condition_of starts a t) (break_target p)) body,
           condition_size a (p + 2) t,
-          statement_size s (m + 1) p t,
+          statement_size s (m + 1) (inside_loop p t exits) t,
         )
-    statement_size (Return v) p loop d = return_size v p d
-    statement_size Break p loop d = omega arith
-    statement_size Continue p loop d = omega arith
-    statement_size s p loop d = omega arith
+    statement_size (Return v) p exits d = return_size v p d
+    statement_size Break p exits d = omega arith
+    statement_size Continue p exits d = omega arith
+    statement_size s p exits d = omega arith
 
-    items_size : (js : Items) (p loop d : ℕ) → code_size (items_code starts js p loop d) ≤ size_per_weight * items_weight js
-    items_size NoItems p loop d = omega arith
-    items_size (MoreItems (Execute s) js) p loop d =
-        let q = p + length (statement_code starts s p loop d) in
-        omega (arith, both (statement_code starts s p loop d) (items_code starts js q loop d), statement_size s p loop d, items_size js q loop d)
-    items_size (MoreItems (Declare n t None) js) p loop d = omega (arith, items_size js (p + 0) loop d)
-    items_size (MoreItems (Declare n t (Some c)) js) p loop d =
+    items_size : (js : Items) (p : ℕ) (exits : Exits) (d : ℕ) → code_size (items_code starts js p exits d) ≤ size_per_weight * items_weight js
+    items_size NoItems p exits d = omega arith
+    items_size (MoreItems (Execute s) js) p exits d =
+        let q = p + length (statement_code starts s p exits d) in
+        omega (arith, both (statement_code starts s p exits d) (items_code starts js q exits d), statement_size s p exits d, items_size js q exits d)
+    items_size (MoreItems (Declare n t None) js) p exits d = omega (arith, items_size js (p + 0) exits d)
+    items_size (MoreItems (Declare n t (Some c)) js) p exits d =
         let front = declaration_code starts n (Some c) p d in
         let q = p + length front in
-        omega (arith, both front (items_code starts js q loop d), initial_size c p (slot_of starts n) d, items_size js q loop d)
-    items_size (MoreItems j js) p loop d = omega (arith, items_size js p loop d)
+        omega (arith, both front (items_code starts js q exits d), initial_size c p (slot_of starts n) d, items_size js q exits d)
+    items_size (MoreItems j js) p exits d = omega (arith, items_size js p exits d)
 
 pub function_size : (structs : List StructType) (h : Function) → size (lower_function structs h) ≤ size_per_weight * function_weight h
 function_size structs h =
     let d = first_temporary h in
     let starts = starts_of (types_of structs h) in
-    omega (arith, both (items_code starts h.body 0 0 d) (instructions.Return d ∷ []), items_size starts h.body 0 0 d)
+    omega (arith, both (items_code starts h.body 0 (outside_loops d) d) (instructions.Return d ∷ []), items_size starts h.body 0 (outside_loops d) d)

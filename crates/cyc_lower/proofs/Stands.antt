@@ -19,9 +19,10 @@ use Rattle.cyc_plain.specs.Straight.{At}
 use Rattle.cyc_store.specs.declared.range.TheConstants.{MOST_BLOCK_WORDS, HEAP}
 use Rattle.cyc_meaning.specs.Operators.{null_exception, division_by_zero}
 use Rattle.cyc_meaning.specs.Values.{is_thin, words_of_kind}
+use Rattle.cyc_lower.specs.declared.statements.Exits.{Exits}
 use Rattle.cyc_lower.specs.Slots.{Types, starts_of, slot_of}
 use Rattle.cyc_lower.specs.Lowerable.{is_comparison}
-use Rattle.cyc_lower.specs.Lowering.{unary_operator, binary_operator, operand_of, source_of, source_slot, failing_comparison, left_with, left_of, value_slot, next_slot, slot_with, left_slot, is_in, jump_if_nonzero, move_of, pointer_instruction, test_jump, are_as_wide, converts_there, passed_words, all_passed, compared_of, low_byte, break_target, continue_target, results_of, behind_left}
+use Rattle.cyc_lower.specs.Lowering.{unary_operator, binary_operator, operand_of, source_of, source_slot, failing_comparison, left_with, left_of, value_slot, next_slot, slot_with, left_slot, is_in, jump_if_nonzero, move_of, pointer_instruction, test_jump, are_as_wide, converts_there, passed_words, all_passed, compared_of, low_byte, break_target, continue_target, results_of, behind_left, inside_loop}
 use Rattle.cyc_lower.proofs.Widths.{kind_of_result, given, passed_kind, HasRoom}
 
 -- ---- expressions
@@ -246,26 +247,26 @@ module _ (code : List Instruction) (bounds : Numbering) (types : Types) where
   DeclarationAt n None t p q = (n < bounds.locals) × (p ≡ q)
   DeclarationAt n (Some c) t p q = (n < bounds.locals) × HasRoom types n (passed_kind c) × InitialAt c (slot_of (starts_of types) n) t p q
 
-  -- in a loop that begins at this place
+  -- with these ways out
   abbrev mutual
-    pub StatementAt : Statement → (loop t p q : ℕ) → Type 0
-    StatementAt (Block r js) loop t p q = ItemsAt js loop t p q
-    StatementAt Empty loop t p q = p ≡ q
-    StatementAt (Evaluate a) loop t p q = DiscardedAt a t p q
-    StatementAt (If a s u) loop t p q =
-        (x : Operand) × (y : Operand) × (m : ℕ) × (r : ℕ) × ConditionAt a x y t p m × FailingAt a x y m (r + 1) × StatementAt s loop t (m + 1) r
-        × At code r (instructions.Jump q) × StatementAt u loop t (r + 1) q
-    StatementAt (While w a s) loop t p q =
+    pub StatementAt : Statement → Exits → (t p q : ℕ) → Type 0
+    StatementAt (Block r js) exits t p q = ItemsAt js exits t p q
+    StatementAt Empty exits t p q = p ≡ q
+    StatementAt (Evaluate a) exits t p q = DiscardedAt a t p q
+    StatementAt (If a s u) exits t p q =
+        (x : Operand) × (y : Operand) × (m : ℕ) × (r : ℕ) × ConditionAt a x y t p m × FailingAt a x y m (r + 1) × StatementAt s exits t (m + 1) r
+        × At code r (instructions.Jump q) × StatementAt u exits t (r + 1) q
+    StatementAt (While w a s) exits t p q =
         (x : Operand) × (y : Operand) × (m : ℕ) × (r : ℕ) × At code p (instructions.Jump (continue_target p)) × At code (break_target p) (instructions.Jump q)
-        × ConditionAt a x y t (continue_target p) m × FailingAt a x y m (break_target p) × StatementAt s p t (m + 1) r
+        × ConditionAt a x y t (continue_target p) m × FailingAt a x y m (break_target p) × StatementAt s (inside_loop p t exits) t (m + 1) r
         × At code r (instructions.Jump (continue_target p)) × (r + 1 ≡ q) × (break_target p < q)
-    StatementAt (Return v) loop t p q = ReturnAt v t p
-    StatementAt Break loop t p q = At code p (instructions.Jump (break_target loop))
-    StatementAt Continue loop t p q = At code p (instructions.Jump (continue_target loop))
-    StatementAt s loop t p q = ⊥
+    StatementAt (Return v) exits t p q = ReturnAt v t p
+    StatementAt Break exits t p q = At code p (instructions.Jump (break_target exits.head))
+    StatementAt Continue exits t p q = At code p (instructions.Jump (continue_target exits.head))
+    StatementAt s exits t p q = ⊥
 
-    pub ItemsAt : Items → (loop t p q : ℕ) → Type 0
-    ItemsAt NoItems loop t p q = p ≡ q
-    ItemsAt (MoreItems (Execute s) js) loop t p q = (m : ℕ) × StatementAt s loop t p m × ItemsAt js loop t m q
-    ItemsAt (MoreItems (Declare n ty v) js) loop t p q = (m : ℕ) × DeclarationAt n v t p m × ItemsAt js loop t m q
-    ItemsAt js loop t p q = ⊥
+    pub ItemsAt : Items → Exits → (t p q : ℕ) → Type 0
+    ItemsAt NoItems exits t p q = p ≡ q
+    ItemsAt (MoreItems (Execute s) js) exits t p q = (m : ℕ) × StatementAt s exits t p m × ItemsAt js exits t m q
+    ItemsAt (MoreItems (Declare n ty v) js) exits t p q = (m : ℕ) × DeclarationAt n v t p m × ItemsAt js exits t m q
+    ItemsAt js exits t p q = ⊥

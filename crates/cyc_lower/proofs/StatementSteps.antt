@@ -22,11 +22,12 @@ use Rattle.cyc_plain.specs.Straight.{At}
 use Rattle.cyc_meaning.specs.Values.{Value, Int, kind_of, Operand as Kinded, words_of_kind}
 use Rattle.cyc_meaning.specs.State.{Region, World, Environment, variable, made, opened, closed, with_local, region_at, ConvertTo, Initialise, Choose, Return, Entry, Needs, NeedsPlace, Discard, Rest, Join, Loop, CloseRegion, CloseLexical, EndLoan, Handler, Caller, Main, Focus, Evaluating, Executing, Proceeding, Breaking, Continuing, Returning, Throwing, Running}
 use Rattle.cyc_meaning.specs.Step.{target_by, inside, region_end, step}
+use Rattle.cyc_lower.specs.declared.statements.Exits.{Exits}
 use Rattle.cyc_lower.specs.Slots.{slot_of}
 use Rattle.cyc_lower.proofs.Slots.{slot-room, room-inside, slot_types-many}
 use Rattle.cyc_lower.proofs.Widths.{HasRoom, Outside}
 use Rattle.cyc_lower.proofs.Moves.{copied_is, copied_elsewhere}
-use Rattle.cyc_lower.specs.Lowering.{operand_of, are_as_wide, converts_there, break_target, results_of, lower_function, lower_program}
+use Rattle.cyc_lower.specs.Lowering.{operand_of, are_as_wide, converts_there, break_target, inside_loop, results_of, lower_function, lower_program}
 use Rattle.cyc_lower.proofs.Stands.{ExpressionAt, InitialAt, InitialBy, ReturnedAt, ItemsAt}
 use Rattle.cyc_objects.specs.Tables.{Variable, Tables, with_row, with_handle}
 use Rattle.cyc_objects.specs.Words.{Is}
@@ -72,46 +73,46 @@ module _ (source : Program) (pages calls : ℕ) where
       into_slot (top source g k) m at holds (in_temporary (omega arith) (subst (λ x. ValueStack source g locals (given_at source g a) (operands.Slot x) m frames k) is stack))
 
   pub executing : (s : Statement) (k : List Entry) (e : Environment) (w : World) (c : Configuration) → IsStep source pages calls (Executing s) k e w c
-  executing (Block r js) k e w c well (shared, facts, (loop, q, items, stack)) =
+  executing (Block r js) k e w c well (shared, facts, (exits, q, items, stack)) =
       silently source pages calls (Running (Executing (Block r js)) k e w) (Running Proceeding (Rest js ∷ region_end e w ∷ k) (inside e w) (opened w)) (plain.Running c) refl (
         shared_opened source pages calls k e w c shared,
-        behind_statement loop
+        behind_statement exits
             (data_grows shared.tables (with_handle shared.tables None) (Grows-handle shared.tables None) source c.active.function w.objects e.locals (callers k) c.active.slots c.globals c.frames facts)
             (q, items, stack),
       )
       (omega arith)
-  executing Empty k e w c well (shared, facts, (loop, q, end, stack)) =
+  executing Empty k e w c well (shared, facts, (exits, q, end, stack)) =
       silently source pages calls (Running (Executing Empty) k e w) (Running Proceeding k e w) (plain.Running c) refl
-      (shared, behind_statement loop facts (subst (λ r. StatementStack source c.active.function loop r c.frames k) (sym end) stack))
+      (shared, behind_statement exits facts (subst (λ r. StatementStack source c.active.function exits r c.frames k) (sym end) stack))
       (omega arith)
-  executing (Evaluate a) k e w c well (shared, facts, (loop, q, here, stack)) =
+  executing (Evaluate a) k e w c well (shared, facts, (exits, q, here, stack)) =
       silently source pages calls (Running (Executing (Evaluate a)) k e w) (Running (Evaluating a) (Discard ∷ k) e w) (plain.Running c) refl
-      (shared, facts, for_effect q here tt (loop, stack))
+      (shared, facts, for_effect q here tt (exits, stack))
       (omega arith)
-  executing (If a s t) k e w c well (shared, facts, (loop, q, (x, y, m, r, at_a, jump, at_s, over, at_t), stack)) =
+  executing (If a s t) k e w c well (shared, facts, (exits, q, (x, y, m, r, at_a, jump, at_s, over, at_t), stack)) =
       silently source pages calls (Running (Executing (If a s t)) k e w) (Running (Evaluating a) (Needs (Choose s t) ∷ k) e w) (plain.Running c) refl
-      (shared, facts, as_condition x y m at_a tt (loop, r, q, jump, at_s, over, at_t, stack))
+      (shared, facts, as_condition x y m at_a tt (exits, r, q, jump, at_s, over, at_t, stack))
       (omega arith)
-  executing (While p a s) k e w c well (shared, facts, (loop, q, (x, y, m, r, enter, leave, at_a, jump, at_s, back, end, after), stack)) =
+  executing (While p a s) k e w c well (shared, facts, (exits, q, (x, y, m, r, enter, leave, at_a, jump, at_s, back, end, after), stack)) =
       by_one source pages calls refl shared enter
-      (λ choice. (shared, facts, as_condition x y m at_a tt (c.active.next, loop, q, (x, y, m, r, leave, at_a, jump, at_s, back, after), r, jump, at_s, back, stack)))
-  executing (typed.Return None) k e w c well (shared, facts, (loop, q, (s, here), stack)) =
+      (λ choice. (shared, facts, as_condition x y m at_a tt (inside_loop c.active.next (base_of source c.active.function) exits, exits, q, (x, y, m, r, leave, at_a, jump, at_s, back, after), r, jump, at_s, back, stack)))
+  executing (typed.Return None) k e w c well (shared, facts, (exits, q, (s, here), stack)) =
       silently source pages calls (Running (Executing (typed.Return None)) k e w) (Running (Returning None) k e w) (plain.Running c) refl
-      (shared, facts, (loop, q, s, here, stack))
+      (shared, facts, (exits, q, s, here, stack))
       (omega arith)
-  executing (typed.Return (Some (Convert from to a))) k e w c well (shared, facts, (loop, q, (s, m, r, at_a, at_to, here, wide, kind_is), stack)) =
+  executing (typed.Return (Some (Convert from to a))) k e w c well (shared, facts, (exits, q, (s, m, r, at_a, at_to, here, wide, kind_is), stack)) =
       silently source pages calls (Running (Executing (typed.Return (Some (Convert from to a)))) k e w) (Running (Evaluating a) (Needs (ConvertTo from to (target_by a)) ∷ Needs Return ∷ k) e w) (plain.Running c) refl
-      (shared, facts, returned shared.tables a (are_as_wide from to) e.locals c.active.function c.active.next c.active.slots c.frames (Needs (ConvertTo from to (target_by a)) ∷ Needs Return ∷ k) s m at_a tt (r, at_to, (loop, q, s, refl, here, (wide, kind_is), stack)))
+      (shared, facts, returned shared.tables a (are_as_wide from to) e.locals c.active.function c.active.next c.active.slots c.frames (Needs (ConvertTo from to (target_by a)) ∷ Needs Return ∷ k) s m at_a tt (r, at_to, (exits, q, s, refl, here, (wide, kind_is), stack)))
       (omega arith)
-  executing Break k e w c well (shared, facts, (loop, q, here, stack)) =
+  executing Break k e w c well (shared, facts, (exits, q, here, stack)) =
       silently source pages calls (Running (Executing Break) k e w) (Running Breaking k e w) (plain.Running c) refl
-      (shared, facts, (loop, q, here, stack))
+      (shared, facts, (exits, q, here, stack))
       (omega arith)
-  executing Continue k e w c well (shared, facts, (loop, q, here, stack)) =
+  executing Continue k e w c well (shared, facts, (exits, q, here, stack)) =
       silently source pages calls (Running (Executing Continue) k e w) (Running Continuing k e w) (plain.Running c) refl
-      (shared, facts, (loop, q, here, stack))
+      (shared, facts, (exits, q, here, stack))
       (omega arith)
-  executing s k e w c well (shared, facts, (loop, q, at, stack)) = absurd at
+  executing s k e w c well (shared, facts, (exits, q, at, stack)) = absurd at
 
   -- ---- the end of a call
 
@@ -203,14 +204,14 @@ module _ (source : Program) (pages calls : ℕ) where
   local_there : (g n : ℕ) → n < (bounds_at source g).locals → n < length (types_at source g).locals
   local_there g n few = omega (arith, few, locals_in (slice_get source.functions g))
 
-  declares : (n : ℕ) (t : Ty) (js : Items) (k : List Entry) (e : Environment) (w : World) (c : Configuration) (loop m q : ℕ)
+  declares : (n : ℕ) (t : Ty) (js : Items) (k : List Entry) (e : Environment) (w : World) (c : Configuration) (exits : Exits) (m q : ℕ)
       → IsWell (step source (Running Proceeding (Rest (MoreItems (Declare n t None) js) ∷ k) e w))
       → (shared : SharedAt source pages calls k e w c) → DataAt source shared.tables c.active.function w.objects e.locals (callers k) c.active.slots c.globals c.frames
       → n < length (types_at source c.active.function).locals → c.active.next ≡ m
-      → ItemsAt (code_of source c.active.function) (bounds_at source c.active.function) (types_at source c.active.function) js loop (base_of source c.active.function) m q
-      → StatementStack source c.active.function loop q c.frames k
+      → ItemsAt (code_of source c.active.function) (bounds_at source c.active.function) (types_at source c.active.function) js exits (base_of source c.active.function) m q
+      → StatementStack source c.active.function exits q c.frames k
       → IsMatched source pages calls (Running Proceeding (Rest (MoreItems (Declare n t None) js) ∷ k) e w) (plain.Running c)
-  declares n t js k e w c loop m q well shared facts few end items stack =
+  declares n t js k e w c exits m q well shared facts few end items stack =
       let g = c.active.function in
       let x = variable e.home (kind_of t) None in
       let (r, home) = home_there Proceeding n (kind_of t) None (Rest js ∷ k) e w well in
@@ -220,90 +221,90 @@ module _ (source : Program) (pages calls : ℕ) where
       (Running Proceeding (Rest js ∷ k) (with_local e n (length w.objects)) (made w x)) (plain.Running c)
       (is_declared (region_at w e.home) Proceeding n (kind_of t) None (Rest js ∷ k) e w well) (
         shared_declared source pages calls k e w c shared n r (kind_of t) None home,
-        behind_statement loop (data_declared grown source g w.objects e (callers k) c.active.slots c.active.slots c.globals c.frames n 0 x few (omega arith) (row_declared source pages calls k e w c shared) (λ m out. refl) (λ v has. absurd (none-some v has)) more)
-            (q, subst (λ p. ItemsAt (code_of source g) (bounds_at source g) (types_at source g) js loop (base_of source g) p q) (sym end) items, stack),
+        behind_statement exits (data_declared grown source g w.objects e (callers k) c.active.slots c.active.slots c.globals c.frames n 0 x few (omega arith) (row_declared source pages calls k e w c shared) (λ m out. refl) (λ v has. absurd (none-some v has)) more)
+            (q, subst (λ p. ItemsAt (code_of source g) (bounds_at source g) (types_at source g) js exits (base_of source g) p q) (sym end) items, stack),
       )
       (omega arith)
 
-  joins : (k : List Entry) (e : Environment) (w : World) (c : Configuration) (loop q : ℕ)
+  joins : (k : List Entry) (e : Environment) (w : World) (c : Configuration) (exits : Exits) (q : ℕ)
       → (shared : SharedAt source pages calls k e w c) → DataAt source shared.tables c.active.function w.objects e.locals (callers k) c.active.slots c.globals c.frames
-      → Arrives source (code_of source c.active.function) c.active.next q → StatementStack source c.active.function loop q c.frames k
+      → Arrives source (code_of source c.active.function) c.active.next q → StatementStack source c.active.function exits q c.frames k
       → IsMatched source pages calls (Running Proceeding (Join ∷ k) e w) (plain.Running c)
-  joins k e w c loop q shared facts (in_place end) stack =
+  joins k e w c exits q shared facts (in_place end) stack =
       silently source pages calls (Running Proceeding (Join ∷ k) e w) (Running Proceeding k e w) (plain.Running c) refl
-      (shared, behind_statement loop facts (subst (λ r. StatementStack source c.active.function loop r c.frames k) (sym end) stack))
+      (shared, behind_statement exits facts (subst (λ r. StatementStack source c.active.function exits r c.frames k) (sym end) stack))
       (omega arith)
-  joins k e w c loop q shared facts (by_jump jump) stack =
-      by_one source pages calls refl shared jump (λ choice. (shared, behind_statement loop facts stack))
+  joins k e w c exits q shared facts (by_jump jump) stack =
+      by_one source pages calls refl shared jump (λ choice. (shared, behind_statement exits facts stack))
 
   -- a local gets its initial value: it comes to its slots at once, or is moved there once it is converted
-  initial_by : (there : Bool) (n : ℕ) (ty : Ty) (from to : Kind) (a : Expression) (js : Items) (k : List Entry) (e : Environment) (w : World) (c : Configuration) (loop m q : ℕ)
+  initial_by : (there : Bool) (n : ℕ) (ty : Ty) (from to : Kind) (a : Expression) (js : Items) (k : List Entry) (e : Environment) (w : World) (c : Configuration) (exits : Exits) (m q : ℕ)
       → converts_there from to ≡ there
       → (shared : SharedAt source pages calls k e w c) → DataAt source shared.tables c.active.function w.objects e.locals (callers k) c.active.slots c.globals c.frames
       → HasRoom (types_at source c.active.function) n to
       → InitialBy (code_of source c.active.function) (bounds_at source c.active.function) (types_at source c.active.function) there from to a (slot_of (starts_at source c.active.function) n) (base_of source c.active.function) c.active.next m
-      → ItemsAt (code_of source c.active.function) (bounds_at source c.active.function) (types_at source c.active.function) js loop (base_of source c.active.function) m q
-      → StatementStack source c.active.function loop q c.frames k
+      → ItemsAt (code_of source c.active.function) (bounds_at source c.active.function) (types_at source c.active.function) js exits (base_of source c.active.function) m q
+      → StatementStack source c.active.function exits q c.frames k
       → Related source pages calls (Evaluating a) (Needs (ConvertTo from to (target_by a)) ∷ Needs (Initialise n (kind_of ty) js) ∷ k) e w c
-  initial_by true n ty from to a js k e w c loop m q lands shared facts room (wide, at_a) items stack =
+  initial_by true n ty from to a js k e w c exits m q lands shared facts room (wide, at_a) items stack =
       let g = c.active.function in
       let inside = slot-room (types_at source g) n (room-inside (types_at source g) n to room) in
-      (shared, facts, into_slot (slot_of (starts_at source g) n) m at_a tt (in_local (omega (arith, inside, room, wide)) (lands, (loop, q, refl, room, items, stack))))
-  initial_by false n ty from to a js k e w c loop m q lands shared facts room (o, s, r, at_a, at_to, move, end) items stack =
+      (shared, facts, into_slot (slot_of (starts_at source g) n) m at_a tt (in_local (omega (arith, inside, room, wide)) (lands, (exits, q, refl, room, items, stack))))
+  initial_by false n ty from to a js k e w c exits m q lands shared facts room (o, s, r, at_a, at_to, move, end) items stack =
       let g = c.active.function in
-      let rest = subst (λ p. ItemsAt (code_of source g) (bounds_at source g) (types_at source g) js loop (base_of source g) p q) (sym end) items in
-      (shared, facts, sources source pages calls shared.tables from to a (Needs (ConvertTo from to (target_by a)) ∷ Needs (Initialise n (kind_of ty) js) ∷ k) e w c o s at_a tt (r, at_to, (loop, q, move, room, rest, stack)))
+      let rest = subst (λ p. ItemsAt (code_of source g) (bounds_at source g) (types_at source g) js exits (base_of source g) p q) (sym end) items in
+      (shared, facts, sources source pages calls shared.tables from to a (Needs (ConvertTo from to (target_by a)) ∷ Needs (Initialise n (kind_of ty) js) ∷ k) e w c o s at_a tt (r, at_to, (exits, q, move, room, rest, stack)))
 
-  initial : (n : ℕ) (ty : Ty) (from to : Kind) (a : Expression) (js : Items) (k : List Entry) (e : Environment) (w : World) (c : Configuration) (loop m q : ℕ)
+  initial : (n : ℕ) (ty : Ty) (from to : Kind) (a : Expression) (js : Items) (k : List Entry) (e : Environment) (w : World) (c : Configuration) (exits : Exits) (m q : ℕ)
       → (shared : SharedAt source pages calls k e w c) → DataAt source shared.tables c.active.function w.objects e.locals (callers k) c.active.slots c.globals c.frames
       → HasRoom (types_at source c.active.function) n to
       → InitialAt (code_of source c.active.function) (bounds_at source c.active.function) (types_at source c.active.function) (Convert from to a) (slot_of (starts_at source c.active.function) n) (base_of source c.active.function) c.active.next m
-      → ItemsAt (code_of source c.active.function) (bounds_at source c.active.function) (types_at source c.active.function) js loop (base_of source c.active.function) m q
-      → StatementStack source c.active.function loop q c.frames k
+      → ItemsAt (code_of source c.active.function) (bounds_at source c.active.function) (types_at source c.active.function) js exits (base_of source c.active.function) m q
+      → StatementStack source c.active.function exits q c.frames k
       → IsMatched source pages calls (Running Proceeding (Rest (MoreItems (Declare n ty (Some (Convert from to a))) js) ∷ k) e w) (plain.Running c)
-  initial n ty from to a js k e w c loop m q shared facts room at items stack =
+  initial n ty from to a js k e w c exits m q shared facts room at items stack =
       silently source pages calls (Running Proceeding (Rest (MoreItems (Declare n ty (Some (Convert from to a))) js) ∷ k) e w)
       (Running (Evaluating a) (Needs (ConvertTo from to (target_by a)) ∷ Needs (Initialise n (kind_of ty) js) ∷ k) e w) (plain.Running c) refl
-      (initial_by (converts_there from to) n ty from to a js k e w c loop m q refl shared facts room at items stack)
+      (initial_by (converts_there from to) n ty from to a js k e w c exits m q refl shared facts room at items stack)
       (omega arith)
 
-  after_statement : (k : List Entry) (e : Environment) (w : World) (c : Configuration) (loop : ℕ) → IsWell (step source (Running Proceeding k e w))
+  after_statement : (k : List Entry) (e : Environment) (w : World) (c : Configuration) (exits : Exits) → IsWell (step source (Running Proceeding k e w))
       → (shared : SharedAt source pages calls k e w c) → DataAt source shared.tables c.active.function w.objects e.locals (callers k) c.active.slots c.globals c.frames
-      → StatementStack source c.active.function loop c.active.next c.frames k → IsMatched source pages calls (Running Proceeding k e w) (plain.Running c)
-  after_statement (Rest NoItems ∷ k) e w c loop well shared facts (q, end, stack) =
+      → StatementStack source c.active.function exits c.active.next c.frames k → IsMatched source pages calls (Running Proceeding k e w) (plain.Running c)
+  after_statement (Rest NoItems ∷ k) e w c exits well shared facts (q, end, stack) =
       silently source pages calls (Running Proceeding (Rest NoItems ∷ k) e w) (Running Proceeding k e w) (plain.Running c) refl
-      (shared, behind_statement loop facts (subst (λ r. StatementStack source c.active.function loop r c.frames k) (sym end) stack))
+      (shared, behind_statement exits facts (subst (λ r. StatementStack source c.active.function exits r c.frames k) (sym end) stack))
       (omega arith)
-  after_statement (Rest (MoreItems (Execute s) js) ∷ k) e w c loop well shared facts (q, (m, at_s, items), stack) =
+  after_statement (Rest (MoreItems (Execute s) js) ∷ k) e w c exits well shared facts (q, (m, at_s, items), stack) =
       silently source pages calls (Running Proceeding (Rest (MoreItems (Execute s) js) ∷ k) e w) (Running (Executing s) (Rest js ∷ k) e w) (plain.Running c) refl
-      (shared, facts, (loop, m, at_s, (q, items, stack)))
+      (shared, facts, (exits, m, at_s, (q, items, stack)))
       (omega arith)
-  after_statement (Rest (MoreItems (Declare n t None) js) ∷ k) e w c loop well shared facts (q, (m, (few, end), items), stack) =
-      declares n t js k e w c loop m q well shared facts (local_there c.active.function n few) end items stack
-  after_statement (Rest (MoreItems (Declare n t (Some (Convert from to a))) js) ∷ k) e w c loop well shared facts (q, (m, (few, room, at), items), stack) =
-      initial n t from to a js k e w c loop m q shared facts room at items stack
-  after_statement (Rest js ∷ k) e w c loop well shared facts (q, at, stack) = absurd at
-  after_statement (Join ∷ k) e w c loop well shared facts (q, arrives, stack) = joins k e w c loop q shared facts arrives stack
-  after_statement (Loop a s ∷ k) e w c loop well shared facts (outer, q, (x, y, m, r, leave, at_a, jump, at_s, back, after), here, stack) =
+  after_statement (Rest (MoreItems (Declare n t None) js) ∷ k) e w c exits well shared facts (q, (m, (few, end), items), stack) =
+      declares n t js k e w c exits m q well shared facts (local_there c.active.function n few) end items stack
+  after_statement (Rest (MoreItems (Declare n t (Some (Convert from to a))) js) ∷ k) e w c exits well shared facts (q, (m, (few, room, at), items), stack) =
+      initial n t from to a js k e w c exits m q shared facts room at items stack
+  after_statement (Rest js ∷ k) e w c exits well shared facts (q, at, stack) = absurd at
+  after_statement (Join ∷ k) e w c exits well shared facts (q, arrives, stack) = joins k e w c exits q shared facts arrives stack
+  after_statement (Loop a s ∷ k) e w c exits well shared facts (outer, q, (x, y, m, r, leave, at_a, jump, at_s, back, after), here, stack) =
       by_one source pages calls refl shared here
-      (λ choice. (shared, facts, as_condition x y m at_a tt (loop, outer, q, (x, y, m, r, leave, at_a, jump, at_s, back, after), r, jump, at_s, back, stack)))
-  after_statement (CloseRegion region home ∷ k) e w c loop well shared facts stack =
+      (λ choice. (shared, facts, as_condition x y m at_a tt (exits, outer, q, (x, y, m, r, leave, at_a, jump, at_s, back, after), r, jump, at_s, back, stack)))
+  after_statement (CloseRegion region home ∷ k) e w c exits well shared facts stack =
       let found = is_closed Proceeding region home k e w well in
       silently source pages calls (Running Proceeding (CloseRegion region home ∷ k) e w) (Running Proceeding k (record e { home = home }) (closed w region found.region)) (plain.Running c) found.gives
-      (shared_closed source pages calls k e w c region home found.region found.there shared, behind_statement loop facts stack)
+      (shared_closed source pages calls k e w c region home found.region found.there shared, behind_statement exits facts stack)
       (omega arith)
-  after_statement (Caller outer ∷ k) e w c loop well shared facts (s, here, below) =
+  after_statement (Caller outer ∷ k) e w c exits well shared facts (s, here, below) =
       leaves_call Proceeding c.active c.frames c.globals c.store c.output c.input k e outer w s refl shared facts here below
-  after_statement (Main ∷ k) e w c loop well shared facts stack = absurd (well refl)
-  after_statement k e w c loop well shared facts stack = absurd stack
+  after_statement (Main ∷ k) e w c exits well shared facts stack = absurd (well refl)
+  after_statement k e w c exits well shared facts stack = absurd stack
 
   after_call : (k : List Entry) (e : Environment) (w : World) (c : Configuration) (kind : Kind) (o : Operand) → IsWell (step source (Running Proceeding k e w))
       → (shared : SharedAt source pages calls k e w c) → DataAt source shared.tables c.active.function w.objects e.locals (callers k) c.active.slots c.globals c.frames
       → ValueStack source c.active.function e.locals kind o c.active.next c.frames k → IsMatched source pages calls (Running Proceeding k e w) (plain.Running c)
   after_call (Needs a ∷ k) e w c kind o well shared facts stack = absurd (well refl)
-  after_call (Discard ∷ k) e w c kind o well shared facts (loop, stack) =
+  after_call (Discard ∷ k) e w c kind o well shared facts (exits, stack) =
       silently source pages calls (Running Proceeding (Discard ∷ k) e w) (Running Proceeding k e w) (plain.Running c) refl
-      (shared, behind_statement loop facts stack)
+      (shared, behind_statement exits facts stack)
       (omega arith)
   after_call k e w c kind o well shared facts stack = absurd stack
 
@@ -313,7 +314,7 @@ module _ (source : Program) (pages calls : ℕ) where
   after_wrong k e w c kind n well stack = absurd stack
 
   pub proceeding : (k : List Entry) (e : Environment) (w : World) (c : Configuration) → IsStep source pages calls Proceeding k e w c
-  proceeding k e w c well (shared, behind_statement loop facts stack) = after_statement k e w c loop well shared facts stack
+  proceeding k e w c well (shared, behind_statement exits facts stack) = after_statement k e w c exits well shared facts stack
   proceeding k e w c well (shared, behind_call kind o facts stack) = after_call k e w c kind o well shared facts stack
   proceeding k e w c well (shared, behind_wrong kind n stack) = after_wrong k e w c kind n well stack
 
@@ -321,55 +322,55 @@ module _ (source : Program) (pages calls : ℕ) where
 
   pub breaking : (k : List Entry) (e : Environment) (w : World) (c : Configuration) → IsStep source pages calls Breaking k e w c
   breaking [] e w c well related = absurd (well refl)
-  breaking (Needs a ∷ k) e w c well (shared, facts, (loop, q, here, stack)) = absurd stack
-  breaking (Discard ∷ k) e w c well (shared, facts, (loop, q, here, stack)) = absurd stack
-  breaking (Rest js ∷ k) e w c well (shared, facts, (loop, q, here, (r, items, stack))) =
-      silently source pages calls (Running Breaking (Rest js ∷ k) e w) (Running Breaking k e w) (plain.Running c) refl (shared, facts, (loop, r, here, stack)) (omega arith)
-  breaking (Join ∷ k) e w c well (shared, facts, (loop, q, here, (r, arrives, stack))) =
-      silently source pages calls (Running Breaking (Join ∷ k) e w) (Running Breaking k e w) (plain.Running c) refl (shared, facts, (loop, r, here, stack)) (omega arith)
-  breaking (Loop a s ∷ k) e w c well (shared, facts, (loop, q, here, (outer, r, (x, y, m, n, leave, at_a, jump, at_s, back, after), again, stack))) =
-      by_two source pages calls (at c (break_target loop)) refl shared shared here (λ choice. refl) leave
+  breaking (Needs a ∷ k) e w c well (shared, facts, (exits, q, here, stack)) = absurd stack
+  breaking (Discard ∷ k) e w c well (shared, facts, (exits, q, here, stack)) = absurd stack
+  breaking (Rest js ∷ k) e w c well (shared, facts, (exits, q, here, (r, items, stack))) =
+      silently source pages calls (Running Breaking (Rest js ∷ k) e w) (Running Breaking k e w) (plain.Running c) refl (shared, facts, (exits, r, here, stack)) (omega arith)
+  breaking (Join ∷ k) e w c well (shared, facts, (exits, q, here, (r, arrives, stack))) =
+      silently source pages calls (Running Breaking (Join ∷ k) e w) (Running Breaking k e w) (plain.Running c) refl (shared, facts, (exits, r, here, stack)) (omega arith)
+  breaking (Loop a s ∷ k) e w c well (shared, facts, (exits, q, here, (outer, r, (x, y, m, n, leave, at_a, jump, at_s, back, after), again, stack))) =
+      by_two source pages calls (at c (break_target exits.head)) refl shared shared here (λ choice. refl) leave
       (λ same.
-      let jumps : r ≡ break_target loop = ap (λ (i : Instruction). target_of i) (same_Some (instructions.Jump r) (instructions.Jump (break_target loop)) (sym leave ∙ ap (slice_get (code_of source c.active.function)) (sym same) ∙ here)) in
+      let jumps : r ≡ break_target exits.head = ap (λ (i : Instruction). target_of i) (same_Some (instructions.Jump r) (instructions.Jump (break_target exits.head)) (sym leave ∙ ap (slice_get (code_of source c.active.function)) (sym same) ∙ here)) in
       absurd (omega (arith, jumps, after)))
       (λ choice. (shared, behind_statement outer facts stack))
     where
       target_of : Instruction → ℕ
       target_of (instructions.Jump t) = t
       target_of i = 0
-  breaking (CloseRegion region home ∷ k) e w c well (shared, facts, (loop, q, here, stack)) =
+  breaking (CloseRegion region home ∷ k) e w c well (shared, facts, (exits, q, here, stack)) =
       let found = is_closed Breaking region home k e w well in
       silently source pages calls (Running Breaking (CloseRegion region home ∷ k) e w) (Running Breaking k (record e { home = home }) (closed w region found.region)) (plain.Running c) found.gives
-      (shared_closed source pages calls k e w c region home found.region found.there shared, facts, (loop, q, here, stack))
+      (shared_closed source pages calls k e w c region home found.region found.there shared, facts, (exits, q, here, stack))
       (omega arith)
   breaking (Caller outer ∷ k) e w c well related = absurd (well refl)
-  breaking (NeedsPlace a ∷ k) e w c well (shared, facts, (loop, q, here, stack)) = absurd stack
-  breaking (CloseLexical region ∷ k) e w c well (shared, facts, (loop, q, here, stack)) = absurd stack
-  breaking (EndLoan lent ∷ k) e w c well (shared, facts, (loop, q, here, stack)) = absurd stack
-  breaking (Handler handler ∷ k) e w c well (shared, facts, (loop, q, here, stack)) = absurd stack
+  breaking (NeedsPlace a ∷ k) e w c well (shared, facts, (exits, q, here, stack)) = absurd stack
+  breaking (CloseLexical region ∷ k) e w c well (shared, facts, (exits, q, here, stack)) = absurd stack
+  breaking (EndLoan lent ∷ k) e w c well (shared, facts, (exits, q, here, stack)) = absurd stack
+  breaking (Handler handler ∷ k) e w c well (shared, facts, (exits, q, here, stack)) = absurd stack
   breaking (Main ∷ k) e w c well related = absurd (well refl)
 
   pub continuing : (k : List Entry) (e : Environment) (w : World) (c : Configuration) → IsStep source pages calls Continuing k e w c
   continuing [] e w c well related = absurd (well refl)
-  continuing (Needs a ∷ k) e w c well (shared, facts, (loop, q, here, stack)) = absurd stack
-  continuing (Discard ∷ k) e w c well (shared, facts, (loop, q, here, stack)) = absurd stack
-  continuing (Rest js ∷ k) e w c well (shared, facts, (loop, q, here, (r, items, stack))) =
-      silently source pages calls (Running Continuing (Rest js ∷ k) e w) (Running Continuing k e w) (plain.Running c) refl (shared, facts, (loop, r, here, stack)) (omega arith)
-  continuing (Join ∷ k) e w c well (shared, facts, (loop, q, here, (r, arrives, stack))) =
-      silently source pages calls (Running Continuing (Join ∷ k) e w) (Running Continuing k e w) (plain.Running c) refl (shared, facts, (loop, r, here, stack)) (omega arith)
-  continuing (Loop a s ∷ k) e w c well (shared, facts, (loop, q, here, (outer, r, (x, y, m, n, leave, at_a, jump, at_s, back, after), again, stack))) =
+  continuing (Needs a ∷ k) e w c well (shared, facts, (exits, q, here, stack)) = absurd stack
+  continuing (Discard ∷ k) e w c well (shared, facts, (exits, q, here, stack)) = absurd stack
+  continuing (Rest js ∷ k) e w c well (shared, facts, (exits, q, here, (r, items, stack))) =
+      silently source pages calls (Running Continuing (Rest js ∷ k) e w) (Running Continuing k e w) (plain.Running c) refl (shared, facts, (exits, r, here, stack)) (omega arith)
+  continuing (Join ∷ k) e w c well (shared, facts, (exits, q, here, (r, arrives, stack))) =
+      silently source pages calls (Running Continuing (Join ∷ k) e w) (Running Continuing k e w) (plain.Running c) refl (shared, facts, (exits, r, here, stack)) (omega arith)
+  continuing (Loop a s ∷ k) e w c well (shared, facts, (exits, q, here, (outer, r, (x, y, m, n, leave, at_a, jump, at_s, back, after), again, stack))) =
       by_one source pages calls refl shared here
-      (λ choice. (shared, facts, as_condition x y m at_a tt (loop, outer, r, (x, y, m, n, leave, at_a, jump, at_s, back, after), n, jump, at_s, back, stack)))
-  continuing (CloseRegion region home ∷ k) e w c well (shared, facts, (loop, q, here, stack)) =
+      (λ choice. (shared, facts, as_condition x y m at_a tt (exits, outer, r, (x, y, m, n, leave, at_a, jump, at_s, back, after), n, jump, at_s, back, stack)))
+  continuing (CloseRegion region home ∷ k) e w c well (shared, facts, (exits, q, here, stack)) =
       let found = is_closed Continuing region home k e w well in
       silently source pages calls (Running Continuing (CloseRegion region home ∷ k) e w) (Running Continuing k (record e { home = home }) (closed w region found.region)) (plain.Running c) found.gives
-      (shared_closed source pages calls k e w c region home found.region found.there shared, facts, (loop, q, here, stack))
+      (shared_closed source pages calls k e w c region home found.region found.there shared, facts, (exits, q, here, stack))
       (omega arith)
   continuing (Caller outer ∷ k) e w c well related = absurd (well refl)
-  continuing (NeedsPlace a ∷ k) e w c well (shared, facts, (loop, q, here, stack)) = absurd stack
-  continuing (CloseLexical region ∷ k) e w c well (shared, facts, (loop, q, here, stack)) = absurd stack
-  continuing (EndLoan lent ∷ k) e w c well (shared, facts, (loop, q, here, stack)) = absurd stack
-  continuing (Handler handler ∷ k) e w c well (shared, facts, (loop, q, here, stack)) = absurd stack
+  continuing (NeedsPlace a ∷ k) e w c well (shared, facts, (exits, q, here, stack)) = absurd stack
+  continuing (CloseLexical region ∷ k) e w c well (shared, facts, (exits, q, here, stack)) = absurd stack
+  continuing (EndLoan lent ∷ k) e w c well (shared, facts, (exits, q, here, stack)) = absurd stack
+  continuing (Handler handler ∷ k) e w c well (shared, facts, (exits, q, here, stack)) = absurd stack
   continuing (Main ∷ k) e w c well related = absurd (well refl)
 
   -- ---- returns
@@ -388,50 +389,50 @@ module _ (source : Program) (pages calls : ℕ) where
 
   returning_none : (k : List Entry) (e : Environment) (w : World) (c : Configuration) → IsStep source pages calls (Returning None) k e w c
   returning_none [] e w c well related = absurd (well refl)
-  returning_none (Needs a ∷ k) e w c well (shared, facts, (loop, q, s, here, stack)) = absurd stack
-  returning_none (Discard ∷ k) e w c well (shared, facts, (loop, q, s, here, stack)) = absurd stack
-  returning_none (Rest js ∷ k) e w c well (shared, facts, (loop, q, s, here, (r, items, stack))) =
-      silently source pages calls (Running (Returning None) (Rest js ∷ k) e w) (Running (Returning None) k e w) (plain.Running c) refl (shared, facts, (loop, r, s, here, stack)) (omega arith)
-  returning_none (Join ∷ k) e w c well (shared, facts, (loop, q, s, here, (r, arrives, stack))) =
-      silently source pages calls (Running (Returning None) (Join ∷ k) e w) (Running (Returning None) k e w) (plain.Running c) refl (shared, facts, (loop, r, s, here, stack)) (omega arith)
-  returning_none (Loop a b ∷ k) e w c well (shared, facts, (loop, q, s, here, (outer, r, around, again, stack))) =
+  returning_none (Needs a ∷ k) e w c well (shared, facts, (exits, q, s, here, stack)) = absurd stack
+  returning_none (Discard ∷ k) e w c well (shared, facts, (exits, q, s, here, stack)) = absurd stack
+  returning_none (Rest js ∷ k) e w c well (shared, facts, (exits, q, s, here, (r, items, stack))) =
+      silently source pages calls (Running (Returning None) (Rest js ∷ k) e w) (Running (Returning None) k e w) (plain.Running c) refl (shared, facts, (exits, r, s, here, stack)) (omega arith)
+  returning_none (Join ∷ k) e w c well (shared, facts, (exits, q, s, here, (r, arrives, stack))) =
+      silently source pages calls (Running (Returning None) (Join ∷ k) e w) (Running (Returning None) k e w) (plain.Running c) refl (shared, facts, (exits, r, s, here, stack)) (omega arith)
+  returning_none (Loop a b ∷ k) e w c well (shared, facts, (exits, q, s, here, (outer, r, around, again, stack))) =
       silently source pages calls (Running (Returning None) (Loop a b ∷ k) e w) (Running (Returning None) k e w) (plain.Running c) refl (shared, facts, (outer, r, s, here, stack)) (omega arith)
-  returning_none (CloseRegion region home ∷ k) e w c well (shared, facts, (loop, q, s, here, stack)) =
+  returning_none (CloseRegion region home ∷ k) e w c well (shared, facts, (exits, q, s, here, stack)) =
       let found = is_closed (Returning None) region home k e w well in
       silently source pages calls (Running (Returning None) (CloseRegion region home ∷ k) e w) (Running (Returning None) k (record e { home = home }) (closed w region found.region)) (plain.Running c) found.gives
-      (shared_closed source pages calls k e w c region home found.region found.there shared, facts, (loop, q, s, here, stack))
+      (shared_closed source pages calls k e w c region home found.region found.there shared, facts, (exits, q, s, here, stack))
       (omega arith)
-  returning_none (Caller outer ∷ k) e w c well (shared, facts, (loop, q, s, here, (u, last, below))) =
+  returning_none (Caller outer ∷ k) e w c well (shared, facts, (exits, q, s, here, (u, last, below))) =
       leaves_call (Returning None) c.active c.frames c.globals c.store c.output c.input k e outer w s refl shared facts here below
-  returning_none (NeedsPlace a ∷ k) e w c well (shared, facts, (loop, q, s, here, stack)) = absurd stack
-  returning_none (CloseLexical region ∷ k) e w c well (shared, facts, (loop, q, s, here, stack)) = absurd stack
-  returning_none (EndLoan lent ∷ k) e w c well (shared, facts, (loop, q, s, here, stack)) = absurd stack
-  returning_none (Handler handler ∷ k) e w c well (shared, facts, (loop, q, s, here, stack)) = absurd stack
+  returning_none (NeedsPlace a ∷ k) e w c well (shared, facts, (exits, q, s, here, stack)) = absurd stack
+  returning_none (CloseLexical region ∷ k) e w c well (shared, facts, (exits, q, s, here, stack)) = absurd stack
+  returning_none (EndLoan lent ∷ k) e w c well (shared, facts, (exits, q, s, here, stack)) = absurd stack
+  returning_none (Handler handler ∷ k) e w c well (shared, facts, (exits, q, s, here, stack)) = absurd stack
   returning_none (Main ∷ k) e w c well related = absurd (well refl)
 
   returning_some : (v : Kinded) (k : List Entry) (e : Environment) (w : World) (c : Configuration) → IsStep source pages calls (Returning (Some v)) k e w c
   returning_some v [] e w c well related = absurd (well refl)
-  returning_some v (Needs a ∷ k) e w c well (shared, facts, (loop, q, s, here, is, single, stack)) = absurd stack
-  returning_some v (Discard ∷ k) e w c well (shared, facts, (loop, q, s, here, is, single, stack)) = absurd stack
-  returning_some v (Rest js ∷ k) e w c well (shared, facts, (loop, q, s, here, is, single, (r, items, stack))) =
-      silently source pages calls (Running (Returning (Some v)) (Rest js ∷ k) e w) (Running (Returning (Some v)) k e w) (plain.Running c) refl (shared, facts, (loop, r, s, here, is, single, stack)) (omega arith)
-  returning_some v (Join ∷ k) e w c well (shared, facts, (loop, q, s, here, is, single, (r, arrives, stack))) =
-      silently source pages calls (Running (Returning (Some v)) (Join ∷ k) e w) (Running (Returning (Some v)) k e w) (plain.Running c) refl (shared, facts, (loop, r, s, here, is, single, stack)) (omega arith)
-  returning_some v (Loop a b ∷ k) e w c well (shared, facts, (loop, q, s, here, is, single, (outer, r, around, again, stack))) =
+  returning_some v (Needs a ∷ k) e w c well (shared, facts, (exits, q, s, here, is, single, stack)) = absurd stack
+  returning_some v (Discard ∷ k) e w c well (shared, facts, (exits, q, s, here, is, single, stack)) = absurd stack
+  returning_some v (Rest js ∷ k) e w c well (shared, facts, (exits, q, s, here, is, single, (r, items, stack))) =
+      silently source pages calls (Running (Returning (Some v)) (Rest js ∷ k) e w) (Running (Returning (Some v)) k e w) (plain.Running c) refl (shared, facts, (exits, r, s, here, is, single, stack)) (omega arith)
+  returning_some v (Join ∷ k) e w c well (shared, facts, (exits, q, s, here, is, single, (r, arrives, stack))) =
+      silently source pages calls (Running (Returning (Some v)) (Join ∷ k) e w) (Running (Returning (Some v)) k e w) (plain.Running c) refl (shared, facts, (exits, r, s, here, is, single, stack)) (omega arith)
+  returning_some v (Loop a b ∷ k) e w c well (shared, facts, (exits, q, s, here, is, single, (outer, r, around, again, stack))) =
       silently source pages calls (Running (Returning (Some v)) (Loop a b ∷ k) e w) (Running (Returning (Some v)) k e w) (plain.Running c) refl (shared, facts, (outer, r, s, here, is, single, stack)) (omega arith)
-  returning_some v (CloseRegion region home ∷ k) e w c well (shared, facts, (loop, q, s, here, is, single, stack)) =
+  returning_some v (CloseRegion region home ∷ k) e w c well (shared, facts, (exits, q, s, here, is, single, stack)) =
       let found = is_closed (Returning (Some v)) region home k e w well in
       silently source pages calls (Running (Returning (Some v)) (CloseRegion region home ∷ k) e w) (Running (Returning (Some v)) k (record e { home = home }) (closed w region found.region)) (plain.Running c) found.gives
-      (shared_closed source pages calls k e w c region home found.region found.there shared, facts, (loop, q, s, here, is, single, stack))
+      (shared_closed source pages calls k e w c region home found.region found.there shared, facts, (exits, q, s, here, is, single, stack))
       (omega arith)
-  returning_some v (Caller outer ∷ k) e w c well (shared, facts, (loop, q, s, here, is, single, (u, last, below))) =
+  returning_some v (Caller outer ∷ k) e w c well (shared, facts, (exits, q, s, here, is, single, (u, last, below))) =
       hands_back v c.active c.frames c.globals c.store c.output c.input k e outer w s shared facts here is (results_at c.active.function ∙ single.0)
       (subst (λ i. Below source c.frames (Waits i outer k)) (sym single.1) below)
-  returning_some v (NeedsPlace a ∷ k) e w c well (shared, facts, (loop, q, s, here, is, single, stack)) = absurd stack
-  returning_some v (CloseLexical region ∷ k) e w c well (shared, facts, (loop, q, s, here, is, single, stack)) = absurd stack
-  returning_some v (EndLoan lent ∷ k) e w c well (shared, facts, (loop, q, s, here, is, single, stack)) = absurd stack
-  returning_some v (Handler handler ∷ k) e w c well (shared, facts, (loop, q, s, here, is, single, stack)) = absurd stack
-  returning_some v (Main ∷ k) e w c well (shared, facts, (loop, q, s, here, is, single, (u, last, none))) =
+  returning_some v (NeedsPlace a ∷ k) e w c well (shared, facts, (exits, q, s, here, is, single, stack)) = absurd stack
+  returning_some v (CloseLexical region ∷ k) e w c well (shared, facts, (exits, q, s, here, is, single, stack)) = absurd stack
+  returning_some v (EndLoan lent ∷ k) e w c well (shared, facts, (exits, q, s, here, is, single, stack)) = absurd stack
+  returning_some v (Handler handler ∷ k) e w c well (shared, facts, (exits, q, s, here, is, single, stack)) = absurd stack
+  returning_some v (Main ∷ k) e w c well (shared, facts, (exits, q, s, here, is, single, (u, last, none))) =
       ends_main v.kind v.value c.active c.frames c.globals c.store c.output c.input k e w s well shared here is none
 
   pub returning : (v : Option Kinded) (k : List Entry) (e : Environment) (w : World) (c : Configuration) → IsStep source pages calls (Returning v) k e w c

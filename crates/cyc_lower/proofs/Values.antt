@@ -45,6 +45,7 @@ use Rattle.cyc_meaning.specs.State.{Region, World, Environment, with_local, made
 use Rattle.cyc_meaning.specs.Step.{leads_to, wrong, object_of, computed, stored_at, declared, passes, tested, awaits_right, chosen, looped, step}
 use Rattle.cyc_meaning.specs.State.{status_of}
 use Rattle.cyc_meaning.specs.SourceMachine.{status_in}
+use Rattle.cyc_lower.specs.declared.statements.Exits.{Exits}
 use Rattle.cyc_lower.specs.Slots.{slot_of, Types}
 use Rattle.cyc_lower.proofs.Slots.{slot-room, room-inside}
 use Rattle.cyc_lower.proofs.Widths.{kind_positive, same_kind, HasRoom, Outside}
@@ -894,7 +895,7 @@ module _ (source : Program) (pages calls : ℕ) where
   initialises : (n : ℕ) (kind : Kind) (js : Items) (v : Kinded) (o : Operand) (k : List Entry) (e : Environment) (w : World) (c : Configuration)
       → IsWell (step source (Running (Given v) (Needs (Initialise n kind js) ∷ k) e w)) → Stands v o (Needs (Initialise n kind js) ∷ k) e w c
       → ValueStack source c.active.function e.locals v.kind o c.active.next c.frames (Needs (Initialise n kind js) ∷ k) → GoesBehind v (Needs (Initialise n kind js) ∷ k) e w c
-  initialises n kind js v o k e w c well (shared, facts, is, holds) (loop, q, here, room, items, stack) =
+  initialises n kind js v o k e w c well (shared, facts, is, holds) (exits, q, here, room, items, stack) =
       let g = c.active.function in
       let words = words_of_kind v.kind in
       let slot = slot_of (starts_at source g) n in
@@ -905,7 +906,7 @@ module _ (source : Program) (pages calls : ℕ) where
       by_one source pages calls (makes_local n kind js v k e w well) shared here
       (λ choice. subst (Matches source pages calls (Running Proceeding (Rest js ∷ k) (with_local e n (length w.objects)) (made w (variable e.home kind (Some v.value))))) (sym (moves (lower_program source) choice c words slot o)) (
         shared_declared source pages calls k e w (advanced (with_slots c slots)) shared n r kind (Some v.value) home,
-        behind_statement loop
+        behind_statement exits
             (data_declared grown source g w.objects e (callers k) c.active.slots slots c.globals c.frames n words (variable e.home kind (Some v.value)) (room-inside (types_at source g) n v.kind room) room (row_declared source pages calls k e w c shared)
             (λ m out. moved_elsewhere c.active.slots words slot o m (kind_positive v.kind) out)
             (made_value grown n kind js v k e w slots slot (types_at source g) well room (Is-grows grows v.kind v.value slots slot (moved_is shared.tables v c.active.slots slot o is)))
@@ -913,13 +914,13 @@ module _ (source : Program) (pages calls : ℕ) where
             (q, items, stack),
       ))
 
-  initialises_ahead : (n : ℕ) (old : Words) (kind : Kind) (js : Items) (v : Kinded) (k : List Entry) (e : Environment) (w : World) (c : Configuration) (loop : ℕ) (shared : SharedAt source pages calls k e w c)
+  initialises_ahead : (n : ℕ) (old : Words) (kind : Kind) (js : Items) (v : Kinded) (k : List Entry) (e : Environment) (w : World) (c : Configuration) (exits : Exits) (shared : SharedAt source pages calls k e w c)
       → IsWell (step source (Running (Given v) (Needs (Initialise n kind js) ∷ k) e w))
       → ((m : ℕ) → Outside (slot_of (starts_at source c.active.function) n) (words_of_kind v.kind) m → old m ≡ c.active.slots m)
       → DataIn source shared.tables old (Needs (Initialise n kind js) ∷ k) e w c
       → HasRoom (types_at source c.active.function) n v.kind → Is shared.tables v.kind v.value c.active.slots (slot_of (starts_at source c.active.function) n)
-      → StatementStack source c.active.function loop c.active.next c.frames (Rest js ∷ k) → GoesBehind v (Needs (Initialise n kind js) ∷ k) e w c
-  initialises_ahead n old kind js v k e w c loop shared well same facts room is stack =
+      → StatementStack source c.active.function exits c.active.next c.frames (Rest js ∷ k) → GoesBehind v (Needs (Initialise n kind js) ∷ k) e w c
+  initialises_ahead n old kind js v k e w c exits shared well same facts room is stack =
       let g = c.active.function in
       let (r, home) = makes_home n kind js v k e w well in
       let grown = with_row shared.tables Variable in
@@ -929,7 +930,7 @@ module _ (source : Program) (pages calls : ℕ) where
       (Running Proceeding (Rest js ∷ k) (with_local e n (length w.objects)) (made w (variable e.home kind (Some v.value)))) (plain.Running c)
       (makes_local n kind js v k e w well) (
         shared_declared source pages calls k e w c shared n r kind (Some v.value) home,
-        behind_statement loop
+        behind_statement exits
             (data_declared grown source g w.objects e (callers k) old c.active.slots c.globals c.frames n (words_of_kind v.kind) (variable e.home kind (Some v.value)) (room-inside (types_at source g) n v.kind room) room (row_declared source pages calls k e w c shared)
             (λ m out. sym (same m out)) (made_value grown n kind js v k e w c.active.slots slot (types_at source g) well room (Is-grows grows v.kind v.value c.active.slots slot is))
             (data_grows shared.tables grown grows source g w.objects e.locals (callers k) old c.globals c.frames facts))
@@ -942,27 +943,27 @@ module _ (source : Program) (pages calls : ℕ) where
       → is_zero v.value ≡ Some f → compares failing (operand_word c.active.slots l) (operand_word c.active.slots r) ≡ f
       → (shared : SharedAt source pages calls k e w c) → DataIn source shared.tables c.active.slots (Needs (Choose s t) ∷ k) e w c
       → ConditionStack source c.active.function failing l r c.active.next c.frames (Needs (Choose s t) ∷ k) → GoesBehind v (Needs (Choose s t) ∷ k) e w c
-  chooses s t v true failing l r k e w c fails told shared facts (loop, m, q, jump, at_s, over, at_t, stack) =
+  chooses s t v true failing l r k e w c fails told shared facts (exits, m, q, jump, at_s, over, at_t, stack) =
       by_one source pages calls (ap (λ (x : Option Bool). chosen x s t k e w) fails) shared jump
-      (λ choice. taken (Running (Executing t) (Join ∷ k) e w) c _ (m + 1) told (shared, facts, (loop, q, at_t, (q, in_place refl, stack))))
-  chooses s t v false failing l r k e w c fails told shared facts (loop, m, q, jump, at_s, over, at_t, stack) =
+      (λ choice. taken (Running (Executing t) (Join ∷ k) e w) c _ (m + 1) told (shared, facts, (exits, q, at_t, (q, in_place refl, stack))))
+  chooses s t v false failing l r k e w c fails told shared facts (exits, m, q, jump, at_s, over, at_t, stack) =
       by_one source pages calls (ap (λ (x : Option Bool). chosen x s t k e w) fails) shared jump
-      (λ choice. not_taken (Running (Executing s) (Join ∷ k) e w) c _ (m + 1) told (shared, facts, (loop, m, at_s, (q, by_jump over, stack))))
+      (λ choice. not_taken (Running (Executing s) (Join ∷ k) e w) c _ (m + 1) told (shared, facts, (exits, m, at_s, (q, by_jump over, stack))))
 
   loops : (a : Expression) (s : Statement) (v : Kinded) (f : Bool) (failing : Comparison) (l r : Operand) (k : List Entry) (e : Environment) (w : World) (c : Configuration)
       → is_zero v.value ≡ Some f → compares failing (operand_word c.active.slots l) (operand_word c.active.slots r) ≡ f
       → (shared : SharedAt source pages calls k e w c) → DataIn source shared.tables c.active.slots (Needs (Test a s) ∷ k) e w c
       → ConditionStack source c.active.function failing l r c.active.next c.frames (Needs (Test a s) ∷ k) → GoesBehind v (Needs (Test a s) ∷ k) e w c
-  loops a s v true failing l r k e w c fails told shared facts (loop, outer, q, (x, y, m, n, leave, at_a, again, at_body, repeats, after), i, jump, at_s, back, stack) =
-      by_two source pages calls (at c (break_target loop)) (ap (λ (z : Option Bool). looped z a s k e w) fails) shared shared
-      jump (λ choice. ap (λ z. plain_step.branches c z (break_target loop)) told)
+  loops a s v true failing l r k e w c fails told shared facts (exits, outer, q, (x, y, m, n, leave, at_a, again, at_body, repeats, after), i, jump, at_s, back, stack) =
+      by_two source pages calls (at c (break_target exits.head)) (ap (λ (z : Option Bool). looped z a s k e w) fails) shared shared
+      jump (λ choice. ap (λ z. plain_step.branches c z (break_target exits.head)) told)
       leave
-      (other_place (code_of source c.active.function) c.active.next (break_target loop) _ _ jump leave
-      (λ same. let f : instructions.Branch failing l r (break_target loop) ≡ instructions.Jump q = same in cc))
+      (other_place (code_of source c.active.function) c.active.next (break_target exits.head) _ _ jump leave
+      (λ same. let f : instructions.Branch failing l r (break_target exits.head) ≡ instructions.Jump q = same in cc))
       (λ choice. (shared, behind_statement outer facts stack))
-  loops a s v false failing l r k e w c fails told shared facts (loop, outer, q, around, m, jump, at_s, back, stack) =
+  loops a s v false failing l r k e w c fails told shared facts (exits, outer, q, around, m, jump, at_s, back, stack) =
       by_one source pages calls (ap (λ (z : Option Bool). looped z a s k e w) fails) shared jump
-      (λ choice. not_taken (Running (Executing s) (Loop a s ∷ k) e w) c _ _ told (shared, facts, (loop, m, at_s, (outer, q, around, back, stack))))
+      (λ choice. not_taken (Running (Executing s) (Loop a s ∷ k) e w) c _ _ told (shared, facts, (exits, m, at_s, (outer, q, around, back, stack))))
 
   -- ---- all that waits for a value
 
@@ -1021,23 +1022,23 @@ module _ (source : Program) (pages calls : ℕ) where
       chooses s t v (operand_word c.active.slots o == 0) comparisons.Equal o (operands.Word 0) k e w c (zero_is shared.tables v c.active.slots o (λ none. well (ap (λ x. status_in (status_of (chosen x s t k e w))) none)) is) refl shared facts stack
   stands_given v o (Needs (Test a s) ∷ k) e w c well (shared, facts, is, holds) stack =
       loops a s v (operand_word c.active.slots o == 0) comparisons.Equal o (operands.Word 0) k e w c (zero_is shared.tables v c.active.slots o (λ none. well (ap (λ x. status_in (status_of (looped x a s k e w))) none)) is) refl shared facts stack
-  stands_given v o (Needs Return ∷ k) e w c well (shared, facts, is, holds) (loop, q, s, there, here, single, stack) =
+  stands_given v o (Needs Return ∷ k) e w c well (shared, facts, is, holds) (exits, q, s, there, here, single, stack) =
       silently source pages calls (Running (Given v) (Needs Return ∷ k) e w) (Running (Returning (Some v)) k e w) (plain.Running c) refl
-      (shared, facts, (loop, q, s, here, subst (IsIn shared.tables v c.active.slots) there is, single, stack))
+      (shared, facts, (exits, q, s, here, subst (IsIn shared.tables v c.active.slots) there is, single, stack))
       (omega arith)
   stands_given v o (Needs (Follow pointer target) ∷ k) e w c well stands stack = follows pointer target v.kind v.value o k e w c well stands stack
-  stands_given v o (Discard ∷ k) e w c well (shared, facts, is, holds) (loop, stack) =
+  stands_given v o (Discard ∷ k) e w c well (shared, facts, is, holds) (exits, stack) =
       silently source pages calls (Running (Given v) (Discard ∷ k) e w) (Running Proceeding k e w) (plain.Running c) refl
-      (shared, behind_statement loop facts stack)
+      (shared, behind_statement exits facts stack)
       (omega arith)
   stands_given v o (Needs a ∷ k) e w c well stands stack = absurd stack
   stands_given v o (entry ∷ k) e w c well stands stack = absurd (well refl)
 
   dropped_given : (v : Kinded) (k : List Entry) (e : Environment) (w : World) (c : Configuration) → (shared : SharedAt source pages calls k e w c) → DataIn source shared.tables c.active.slots k e w c
       → DroppedStack source c.active.function c.active.next c.frames k → GoesBehind v k e w c
-  dropped_given v (Discard ∷ k) e w c shared facts (loop, stack) =
+  dropped_given v (Discard ∷ k) e w c shared facts (exits, stack) =
       silently source pages calls (Running (Given v) (Discard ∷ k) e w) (Running Proceeding k e w) (plain.Running c) refl
-      (shared, behind_statement loop facts stack)
+      (shared, behind_statement exits facts stack)
       (omega arith)
   dropped_given v k e w c shared facts stack = absurd stack
 
@@ -1060,8 +1061,8 @@ module _ (source : Program) (pages calls : ℕ) where
       (subst (λ x. (m : ℕ) → Outside x (words_of_kind v.kind) m → old m ≡ c.active.slots m) (sym there) same) facts room
       (subst (Is shared.tables v.kind v.value c.active.slots) (sym there) is) holds
       (subst (λ x. HandsOnStack source c.active.function e.locals v.kind (operands.Slot x) c.active.next c.frames k) (sym there) hands))
-  ahead_given v n old (Needs (Initialise number kind js) ∷ k) e w c well shared same facts is holds (loop, q, there, room, items, stack) =
-      initialises_ahead number old kind js v k e w c loop shared well
+  ahead_given v n old (Needs (Initialise number kind js) ∷ k) e w c well shared same facts is holds (exits, q, there, room, items, stack) =
+      initialises_ahead number old kind js v k e w c exits shared well
       (subst (λ x. (m : ℕ) → Outside x (words_of_kind v.kind) m → old m ≡ c.active.slots m) (sym there) same) facts
       room (subst (Is shared.tables v.kind v.value c.active.slots) (sym there) is) (q, items, stack)
   ahead_given v n old k e w c well shared same facts is holds stack = absurd stack

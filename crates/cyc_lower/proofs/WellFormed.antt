@@ -31,9 +31,10 @@ use Rattle.cyc_store.specs.declared.range.TheConstants.{HEAP}
 use Rattle.cyc_meaning.specs.Values.{kind_of, words_of_kind}
 use Rattle.cyc_meaning.specs.FrameCount.{result_words, operand_words, converted_words, argument_words, expression_need, dereference_need, initial_value_need, converted_need, arguments_need, operations_need, initial_need, statement_need, items_need, words_of_all}
 use Rattle.cyc_lower.specs.Slots.{starts_of, slot_of, Types}
-use Rattle.cyc_lower.specs.Lowering.{stores_code, object_code, made_code, types_of, spare_slots, are_as_wide, converts_there, passed_words, all_passed, source_of, source_slot, moved_by, move_of, unary_operator, binary_operator, operand_of, operand_or, code_unless, slot_or, code_unless_slot, left_with, left_of, value_slot, next_slot, slot_with, left_slot, value_operand, converted_operand, printed_operand, check_code, conversion_code, divisor_code, checked_code, operator_code, truth_code, load_code, low_byte, test_code, is_in, copy_code, expression_code, arguments_code, converted_code, converted_operand_code, printed_code, dereference_code, initial_code, assignment_code, operations_code, discarded_code, failing_comparison, compared_or, first_operand, first_code, second_code, pair_code, condition_code, condition_of, failing_jump, break_target, continue_target, return_code, declaration_code, statement_code, items_code, first_temporary, results_of, lower_function, lower_global, lower_program, pointer_operator, left_kind, behind_left, first_words_by, pointer_instruction, pointer_code}
+use Rattle.cyc_lower.specs.Lowering.{stores_code, object_code, made_code, types_of, spare_slots, are_as_wide, converts_there, passed_words, all_passed, source_of, source_slot, moved_by, move_of, unary_operator, binary_operator, operand_of, operand_or, code_unless, slot_or, code_unless_slot, left_with, left_of, value_slot, next_slot, slot_with, left_slot, value_operand, converted_operand, printed_operand, check_code, conversion_code, divisor_code, checked_code, operator_code, truth_code, load_code, low_byte, test_code, is_in, copy_code, expression_code, arguments_code, converted_code, converted_operand_code, printed_code, dereference_code, initial_code, assignment_code, operations_code, discarded_code, failing_comparison, compared_or, first_operand, first_code, second_code, pair_code, condition_code, condition_of, failing_jump, break_target, continue_target, return_code, declaration_code, statement_code, items_code, first_temporary, results_of, lower_function, lower_global, lower_program, pointer_operator, left_kind, behind_left, first_words_by, pointer_instruction, pointer_code, outside_loops, inside_loop}
 use Rattle.cyc_lower.proofs.Widths.{kind_positive, kind_few, type_words, kind_of_result, result_kind, made_kind, given, passed_kind, words_in}
 use Rattle.cyc_lower.proofs.Fitting.{FitsPlace, FitsStored, FitsCell, FitsObject, Fits, FitsConverted, FitArguments, FitOperations, FitsReturn, FitsInitial, FitsStatement, FitItems, AreFitting, IsFitting}
+use Rattle.cyc_lower.specs.declared.statements.Exits.{Exits}
 use Rattle.cyc_lower.proofs.Values.{as_wide}
 use Rattle.cyc_lower.proofs.Slots.{words_positive, slot-room, slot_types-many, slots-few}
 
@@ -649,16 +650,16 @@ module _ (program : PlainProgram) (r : Routine) (b : Numbering) (types : Types) 
       initial_in c p (slot_of (starts_of types) n) t numbered (omega (arith, locals n within, own)) (omega (arith, few, converted_few c)) (omega (arith, few)) short
 
   mutual
-    statement_in : (s : Statement) (in_loop : Bool) (p loop t : ℕ) → FitsStatement b types in_loop s → (in_loop ≡ true → loop + 2 < length r.code) → t + statement_need s + spare_slots ≤ r.slots → p + length (statement_code (starts_of types) s p loop t) < length r.code → AreIn (statement_code (starts_of types) s p loop t)
-    statement_in (Block n js) in_loop p loop t numbered around few short = items_in js in_loop p loop t numbered around few short
-    statement_in Empty in_loop p loop t numbered around few short = tt
-    statement_in (Evaluate a) in_loop p loop t numbered around few short = discarded_in a p t numbered few short
-    statement_in (If a s u) in_loop p loop t (numbered_a, numbered_s, numbered_u) around few short =
+    statement_in : (s : Statement) (in_loop : Bool) (p : ℕ) (exits : Exits) (t : ℕ) → FitsStatement b types in_loop s → (in_loop ≡ true → exits.head + 2 < length r.code) → t + statement_need s + spare_slots ≤ r.slots → p + length (statement_code (starts_of types) s p exits t) < length r.code → AreIn (statement_code (starts_of types) s p exits t)
+    statement_in (Block n js) in_loop p exits t numbered around few short = items_in js in_loop p exits t numbered around few short
+    statement_in Empty in_loop p exits t numbered around few short = tt
+    statement_in (Evaluate a) in_loop p exits t numbered around few short = discarded_in a p t numbered few short
+    statement_in (If a s u) in_loop p exits t (numbered_a, numbered_s, numbered_u) around few short =
         let condition = condition_code (starts_of types) a p t in
         let m = p + length condition in
-        let first = statement_code (starts_of types) s (m + 1) loop t in
+        let first = statement_code (starts_of types) s (m + 1) exits t in
         let q = m + 1 + length first in
-        let second = statement_code (starts_of types) u (q + 1) loop t in
+        let second = statement_code (starts_of types) u (q + 1) exits t in
         let jump_first = failing_jump (condition_of (starts_of types) a t) (q + 1) ∷ first in
         let jump_second = instructions.Jump (q + 1 + length second) ∷ second in
         let long = length-append (condition ++ jump_first) jump_second in
@@ -666,12 +667,12 @@ module _ (program : PlainProgram) (r : Routine) (b : Numbering) (types : Types) 
         let (left, right) = compared_in a t numbered_a (omega (arith, few)) in
         append (condition ++ jump_first) jump_second
         (append condition jump_first (condition_in a p t numbered_a (omega (arith, few)) (omega (arith, short, long, long_front)))
-        ((left, right, omega (arith, short, long, long_front)), statement_in s in_loop (m + 1) loop t numbered_s around (omega (arith, few)) (omega (arith, short, long, long_front))))
-        (omega (arith, short, long, long_front), statement_in u in_loop (q + 1) loop t numbered_u around (omega (arith, few)) (omega (arith, short, long, long_front)))
-    statement_in (While w a s) in_loop p loop t (numbered_a, numbered_s) around few short =
+        ((left, right, omega (arith, short, long, long_front)), statement_in s in_loop (m + 1) exits t numbered_s around (omega (arith, few)) (omega (arith, short, long, long_front))))
+        (omega (arith, short, long, long_front), statement_in u in_loop (q + 1) exits t numbered_u around (omega (arith, few)) (omega (arith, short, long, long_front)))
+    statement_in (While w a s) in_loop p exits t (numbered_a, numbered_s) around few short =
         let condition = condition_code (starts_of types) a (p + 2) t in
         let m = p + 2 + length condition in
-        let body = statement_code (starts_of types) s (m + 1) p t in
+        let body = statement_code (starts_of types) s (m + 1) (inside_loop p t exits) t in
         let test = failing_jump (condition_of (starts_of types) a t) (break_target p) ∷ body in
         let again = instructions.Jump (continue_target p) ∷ [] in
         let long = length-append (condition ++ test) again in
@@ -682,30 +683,30 @@ module _ (program : PlainProgram) (r : Routine) (b : Numbering) (types : Types) 
             omega (arith, short, long, long_front),
             append (condition ++ test) again
                 (append condition test (condition_in a (p + 2) t numbered_a (omega (arith, few)) (omega (arith, short, long, long_front)))
-                ((left, right, omega (arith, short, long, long_front)), statement_in s true (m + 1) p t numbered_s (λ inside. omega (arith, short, long, long_front)) (omega (arith, few)) (omega (arith, short, long, long_front))))
+                ((left, right, omega (arith, short, long, long_front)), statement_in s true (m + 1) (inside_loop p t exits) t numbered_s (λ inside. omega (arith, short, long, long_front)) (omega (arith, few)) (omega (arith, short, long, long_front))))
                 (omega (arith, short, long, long_front), tt),
           ),
         )
-    statement_in (Return v) in_loop p loop t numbered around few short = return_in v p t numbered few short
-    statement_in Break in_loop p loop t numbered around few short = (omega (arith, around numbered), tt)
-    statement_in Continue in_loop p loop t numbered around few short = (omega (arith, around numbered), tt)
-    statement_in s in_loop p loop t numbered around few short = absurd numbered
+    statement_in (Return v) in_loop p exits t numbered around few short = return_in v p t numbered few short
+    statement_in Break in_loop p exits t numbered around few short = (omega (arith, around numbered), tt)
+    statement_in Continue in_loop p exits t numbered around few short = (omega (arith, around numbered), tt)
+    statement_in s in_loop p exits t numbered around few short = absurd numbered
 
-    items_in : (js : Items) (in_loop : Bool) (p loop t : ℕ) → FitItems b types in_loop js → (in_loop ≡ true → loop + 2 < length r.code) → t + items_need js + spare_slots ≤ r.slots → p + length (items_code (starts_of types) js p loop t) < length r.code → AreIn (items_code (starts_of types) js p loop t)
-    items_in NoItems in_loop p loop t numbered around few short = tt
-    items_in (MoreItems (Execute s) js) in_loop p loop t (numbered, rest) around few short =
-        let front = statement_code (starts_of types) s p loop t in
-        let back = items_code (starts_of types) js (p + length front) loop t in
+    items_in : (js : Items) (in_loop : Bool) (p : ℕ) (exits : Exits) (t : ℕ) → FitItems b types in_loop js → (in_loop ≡ true → exits.head + 2 < length r.code) → t + items_need js + spare_slots ≤ r.slots → p + length (items_code (starts_of types) js p exits t) < length r.code → AreIn (items_code (starts_of types) js p exits t)
+    items_in NoItems in_loop p exits t numbered around few short = tt
+    items_in (MoreItems (Execute s) js) in_loop p exits t (numbered, rest) around few short =
+        let front = statement_code (starts_of types) s p exits t in
+        let back = items_code (starts_of types) js (p + length front) exits t in
         let long = length-append front back in
-        append front back (statement_in s in_loop p loop t numbered around (omega (arith, few)) (omega (arith, short, long)))
-        (items_in js in_loop (p + length front) loop t rest around (omega (arith, few)) (omega (arith, short, long)))
-    items_in (MoreItems (Declare n ty v) js) in_loop p loop t (within, numbered, rest) around few short =
+        append front back (statement_in s in_loop p exits t numbered around (omega (arith, few)) (omega (arith, short, long)))
+        (items_in js in_loop (p + length front) exits t rest around (omega (arith, few)) (omega (arith, short, long)))
+    items_in (MoreItems (Declare n ty v) js) in_loop p exits t (within, numbered, rest) around few short =
         let front = declaration_code (starts_of types) n v p t in
-        let back = items_code (starts_of types) js (p + length front) loop t in
+        let back = items_code (starts_of types) js (p + length front) exits t in
         let long = length-append front back in
         append front back (declaration_in n v p t within numbered (omega (arith, few)) (omega (arith, short, long)))
-        (items_in js in_loop (p + length front) loop t rest around (omega (arith, few)) (omega (arith, short, long)))
-    items_in js in_loop p loop t numbered around few short = absurd numbered
+        (items_in js in_loop (p + length front) exits t rest around (omega (arith, few)) (omega (arith, short, long)))
+    items_in js in_loop p exits t numbered around few short = absurd numbered
 
 -- ---- functions
 
@@ -737,7 +738,7 @@ module _ (source : Program) (is_fitting : IsFitting source) where
       let b = numbering_of (length source.globals) (signatures_of source.functions) h in
       let types = types_of source.structs h in
       let starts = starts_of types in
-      let body = items_code starts h.body 0 0 d in
+      let body = items_code starts h.body 0 (outside_loops d) d in
       let end = instructions.Return d ∷ [] in
       let long = length-append body end in
       record {
@@ -747,7 +748,7 @@ module _ (source : Program) (is_fitting : IsFitting source) where
         instructions = all_of (IsInRange (lower_program source) r) (body ++ end)
             (all_append (IsInRange (lower_program source) r) body end
             (items_in (lower_program source) r b types (λ n within. omega (arith, slot-room types n (omega (arith, within, slot_types-many h)))) (globals_counted source.globals) known_functions refl
-            h.body false 0 0 d numbered_body (λ inside. absurd (let f : false ≡ true = inside in cc)) (omega arith) (omega (arith, long)))
+            h.body false 0 (outside_loops d) d numbered_body (λ inside. absurd (let f : false ≡ true = inside in cc)) (omega arith) (omega (arith, long)))
             (omega (arith, results_few h.result), tt));
         last = subst (λ (o : Option Instruction). IsSomeAnd o (λ i. leaves i ≡ true)) (sym (last_of body (instructions.Return d))) refl;
       }

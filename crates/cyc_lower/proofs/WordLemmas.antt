@@ -20,13 +20,14 @@ use Rattle.cyc_plain.specs.declared.instruction.Instruction.{Instruction}
 use Rattle.cyc_plain.specs.declared.instruction.Instruction.TheVariants as instructions
 use Rattle.cyc_plain.specs.WellFormed.{IsOfWord, HasWord, HasWords}
 use Rattle.cyc_lower.specs.Words.{IsOfWords, IsOfWordsCell, IsOfWordsObject, IsOfWordsConverted, AreOfWordsArguments, AreOfWordsOperations, IsOfWordsInitial, IsOfWordsStatement, AreOfWordsItems, IsOfWordsConstant, AreOfWordsGlobals, AreOfWordsFunctions, IsOfWordsProgram}
+use Rattle.cyc_lower.specs.declared.statements.Exits.{Exits}
 use Rattle.cyc_lower.specs.Slots.{starts_of, slot_of, Starts}
 use Rattle.std.specs.Prelude.{◌==◌, if◌then◌else◌}
 use Rattle.cyc_types.specs.Types.{words_of}
 use Rattle.cyc_types.specs.Numbered.{argument_count}
 use Rattle.cyc_store.specs.declared.range.TheConstants.{HEAP}
 use Rattle.cyc_meaning.specs.Values.{words_of_kind}
-use Rattle.cyc_lower.specs.Lowering.{stores_code, object_code, made_code, types_of, are_as_wide, converts_there, passed_words, source_of, source_slot, converted_by, moved_by, move_of, operand_of, operand_or, code_unless, slot_or, code_unless_slot, left_with, left_of, value_slot, next_slot, left_slot, value_operand, converted_operand, printed_operand, check_code, conversion_code, divisor_code, checked_code, operator_code, truth_code, load_code, test_code, is_in, copy_code, expression_code, arguments_code, converted_code, converted_operand_code, printed_code, dereference_code, initial_code, assignment_code, operations_code, discarded_code, failing_comparison, compared_or, compared_of, slot_with, first_code, second_code, pair_code, condition_code, condition_of, return_code, declaration_code, statement_code, items_code, first_temporary, initial_word, lower_function, lower_global, lower_program, pointer_operator, behind_left, first_words_by, pointer_instruction, pointer_code}
+use Rattle.cyc_lower.specs.Lowering.{stores_code, object_code, made_code, types_of, are_as_wide, converts_there, passed_words, source_of, source_slot, converted_by, moved_by, move_of, operand_of, operand_or, code_unless, slot_or, code_unless_slot, left_with, left_of, value_slot, next_slot, left_slot, value_operand, converted_operand, printed_operand, check_code, conversion_code, divisor_code, checked_code, operator_code, truth_code, load_code, test_code, is_in, copy_code, expression_code, arguments_code, converted_code, converted_operand_code, printed_code, dereference_code, initial_code, assignment_code, operations_code, discarded_code, failing_comparison, compared_or, compared_of, slot_with, first_code, second_code, pair_code, condition_code, condition_of, return_code, declaration_code, statement_code, items_code, first_temporary, initial_word, lower_function, lower_global, lower_program, pointer_operator, behind_left, first_words_by, pointer_instruction, pointer_code, outside_loops, inside_loop}
 use Rattle.cyc_lower.proofs.WellFormed.{all_append, all_of}
 
 abbrev HaveWords : List Instruction → Type 0
@@ -319,44 +320,44 @@ module _ (starts : Starts) where
   declaration_words n (Some c) p t words = initial_words c p (slot_of starts n) t words
 
   mutual
-    statement_words : (s : Statement) (p loop t : ℕ) → IsOfWordsStatement s → HaveWords (statement_code starts s p loop t)
-    statement_words (Block r js) p loop t words = items_words js p loop t words
-    statement_words Empty p loop t words = tt
-    statement_words (Evaluate a) p loop t words = discarded_words a p t words
-    statement_words (If a s u) p loop t (first, second, third) =
+    statement_words : (s : Statement) (p : ℕ) (exits : Exits) (t : ℕ) → IsOfWordsStatement s → HaveWords (statement_code starts s p exits t)
+    statement_words (Block r js) p exits t words = items_words js p exits t words
+    statement_words Empty p exits t words = tt
+    statement_words (Evaluate a) p exits t words = discarded_words a p t words
+    statement_words (If a s u) p exits t (first, second, third) =
         let condition = condition_code starts a p t in
         let m = p + length condition in
-        let first_part = statement_code starts s (m + 1) loop t in
+        let first_part = statement_code starts s (m + 1) exits t in
         let q = m + 1 + length first_part in
-        append (condition ++ _ ∷ first_part) (_ ∷ statement_code starts u (q + 1) loop t)
-        (append condition (_ ∷ first_part) (condition_words a p t first) (condition_word a t first, statement_words s (m + 1) loop t second)) (tt, statement_words u (q + 1) loop t third)
-    statement_words (While w a s) p loop t (first, second) =
+        append (condition ++ _ ∷ first_part) (_ ∷ statement_code starts u (q + 1) exits t)
+        (append condition (_ ∷ first_part) (condition_words a p t first) (condition_word a t first, statement_words s (m + 1) exits t second)) (tt, statement_words u (q + 1) exits t third)
+    statement_words (While w a s) p exits t (first, second) =
         let condition = condition_code starts a (p + 2) t in
         let m = p + 2 + length condition in
-        let body = statement_code starts s (m + 1) p t in
-        (tt, (tt, append (condition ++ _ ∷ body) _ (append condition (_ ∷ body) (condition_words a (p + 2) t first) (condition_word a t first, statement_words s (m + 1) p t second)) (tt, tt)))
-    statement_words (Return v) p loop t words = return_words v p t words
-    statement_words Break p loop t words = (tt, tt)
-    statement_words Continue p loop t words = (tt, tt)
-    statement_words s p loop t words = absurd words
+        let body = statement_code starts s (m + 1) (inside_loop p t exits) t in
+        (tt, (tt, append (condition ++ _ ∷ body) _ (append condition (_ ∷ body) (condition_words a (p + 2) t first) (condition_word a t first, statement_words s (m + 1) (inside_loop p t exits) t second)) (tt, tt)))
+    statement_words (Return v) p exits t words = return_words v p t words
+    statement_words Break p exits t words = (tt, tt)
+    statement_words Continue p exits t words = (tt, tt)
+    statement_words s p exits t words = absurd words
 
-    items_words : (js : Items) (p loop t : ℕ) → AreOfWordsItems js → HaveWords (items_code starts js p loop t)
-    items_words NoItems p loop t words = tt
-    items_words (MoreItems (Execute s) js) p loop t (first, rest) =
-        let q = p + length (statement_code starts s p loop t) in
-        append (statement_code starts s p loop t) (items_code starts js q loop t) (statement_words s p loop t first) (items_words js q loop t rest)
-    items_words (MoreItems (Declare n ty v) js) p loop t (first, rest) =
+    items_words : (js : Items) (p : ℕ) (exits : Exits) (t : ℕ) → AreOfWordsItems js → HaveWords (items_code starts js p exits t)
+    items_words NoItems p exits t words = tt
+    items_words (MoreItems (Execute s) js) p exits t (first, rest) =
+        let q = p + length (statement_code starts s p exits t) in
+        append (statement_code starts s p exits t) (items_code starts js q exits t) (statement_words s p exits t first) (items_words js q exits t rest)
+    items_words (MoreItems (Declare n ty v) js) p exits t (first, rest) =
         let q = p + length (declaration_code starts n v p t) in
-        append (declaration_code starts n v p t) (items_code starts js q loop t) (declaration_words n v p t first) (items_words js q loop t rest)
-    items_words js p loop t words = absurd words
+        append (declaration_code starts n v p t) (items_code starts js q exits t) (declaration_words n v p t first) (items_words js q exits t rest)
+    items_words js p exits t words = absurd words
 
 functions_words : (structs : List StructType) (hs : List Function) → AreOfWordsFunctions hs → AllByRecursion (λ r. All HasWord r.code) (map (lower_function structs) hs)
 functions_words structs [] words = tt
 functions_words structs (h ∷ hs) (first, rest) =
     let d = first_temporary h in
     let starts = starts_of (types_of structs h) in
-    let body = items_code starts h.body 0 0 d in
-    (all_of HasWord (body ++ instructions.Return d ∷ []) (append body (instructions.Return d ∷ []) (items_words starts h.body 0 0 d first) (tt, tt)), functions_words structs hs rest)
+    let body = items_code starts h.body 0 (outside_loops d) d in
+    (all_of HasWord (body ++ instructions.Return d ∷ []) (append body (instructions.Return d ∷ []) (items_words starts h.body 0 (outside_loops d) d first) (tt, tt)), functions_words structs hs rest)
 
 constant_word : (c : Constant) → IsOfWordsConstant c → IsWord (initial_word c)
 constant_word (Word n) word = word

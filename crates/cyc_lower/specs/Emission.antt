@@ -14,12 +14,13 @@ use Rattle.cyc_plain.specs.declared.instruction.Operand.TheVariants.{Slot, Word}
 use Rattle.cyc_plain.specs.declared.instruction.Instruction.{Instruction}
 use Rattle.cyc_plain.specs.declared.instruction.Instruction.TheVariants.{WriteByte}
 use Rattle.cyc_lower.specs.Slots.{Starts}
-use Rattle.cyc_lower.specs.Lowering.{operand_of, source_of, source_slot, code_unless, slot_or, code_unless_slot, printed_operand, conversion_code, printed_code, left_of, value_slot, left_slot, value_operand, expression_code, compute_code, test_code, condition_code, failing_jump, while_code, statement_code, declaration_code, condition_of, behind_left, pointer_code}
+use Rattle.cyc_lower.specs.Lowering.{operand_of, source_of, source_slot, code_unless, slot_or, code_unless_slot, printed_operand, conversion_code, printed_code, left_of, value_slot, left_slot, value_operand, expression_code, compute_code, test_code, condition_code, failing_jump, while_code, statement_code, declaration_code, condition_of, behind_left, pointer_code, inside_loop}
 use Rattle.cyc_meaning.specs.FrameCount.{operand_words, argument_words, arguments_need, expression_need, initial_need, statement_need, kept_by, frame_count}
 use Rattle.cyc_plain.specs.declared.instruction.Comparison.{Comparison}
 use Rattle.cyc_lower.specs.declared.emitter.Emitter.{Emitter}
 use Rattle.cyc_lower.specs.declared.locals.Starts.{Starts as StartsCode}
 use Rattle.cyc_lower.specs.declared.operands.Condition.{Condition}
+use Rattle.cyc_lower.specs.declared.statements.Exits.{Exits}
 
 -- this code is added behind what there was
 abbrev pub Appends : {T : Type 0} → Result T AllocError → (old new : Emitter) → List Instruction → Type 0
@@ -105,15 +106,15 @@ module _ (starts : Starts) where
   operation_code (operation.PointerPeek n o e) p l d t = pointer_operation_code o (view_expression e) p l d t
 
   -- one item of a block
-  abbrev pub item_code : Item → (p loop t : ℕ) → List Instruction
-  item_code (item.Execute s) p loop t = statement_code starts (view_statement s) p loop t
-  item_code (item.Local n ty v) p loop t = declaration_code starts n (option_map view_converted v) p t
-  item_code i p loop t = []
+  abbrev pub item_code : Item → (p : ℕ) → Exits → (t : ℕ) → List Instruction
+  item_code (item.Execute s) p exits t = statement_code starts (view_statement s) p exits t
+  item_code (item.Local n ty v) p exits t = declaration_code starts n (option_map view_converted v) p t
+  item_code i p exits t = []
 
   -- a loop
-  abbrev pub loop_code : Expression → Statement → (p t : ℕ) → List Instruction
-  loop_code a s p t =
-      while_code (condition_code starts a (p + 2) t) (failing_jump (condition_of starts a t)) (statement_code starts s (p + 2 + length (condition_code starts a (p + 2) t) + 1) p t) p
+  abbrev pub loop_code : Expression → Statement → (p : ℕ) → Exits → (t : ℕ) → List Instruction
+  loop_code a s p exits t =
+      while_code (condition_code starts a (p + 2) t) (failing_jump (condition_of starts a t)) (statement_code starts s (p + 2 + length (condition_code starts a (p + 2) t) + 1) (inside_loop p t exits) t) p
 
 -- So many words a frame has at most, where its function is one of a program that is short enough to be read.
 abbrev pub most_frame_count : ℕ

@@ -39,6 +39,7 @@ use Rattle.cyc_meaning.specs.Operators.{null_exception, division_by_zero}
 use Rattle.cyc_meaning.specs.FrameCount.{frame_count, items_need, words_of_all}
 use Rattle.cyc_lower.specs.Slots.{Types, Starts, starts_of, slot_of}
 use Rattle.cyc_lower.specs.declared.operands.Condition.{Condition}
+use Rattle.cyc_lower.specs.declared.statements.Exits.{Exits}
 
 -- ---- slots and operators
 
@@ -303,11 +304,11 @@ if_code condition jump first second p =
 
 -- A loop begins with two jumps: one over the other, to its condition, and one to its end. So a break, which jumps to the
 -- second, and a continue, which jumps to the condition, have targets that are known before the body's code is made.
-abbrev pub break_target : (loop : ℕ) → ℕ
-break_target loop = loop + 1
+abbrev pub break_target : (head : ℕ) → ℕ
+break_target head = head + 1
 
-abbrev pub continue_target : (loop : ℕ) → ℕ
-continue_target loop = loop + 2
+abbrev pub continue_target : (head : ℕ) → ℕ
+continue_target head = head + 2
 
 abbrev pub while_code : (condition : List Instruction) → (jump : ℕ → Instruction) → (body : List Instruction) → (p : ℕ) → List Instruction
 while_code condition jump body p =
@@ -318,6 +319,15 @@ while_code condition jump body p =
     ∷ body
     ++ instructions.Jump (continue_target p)
     ∷ []
+
+-- The ways out of a statement: what is known of the loop and the function round it. Here they are outside any loop, and records of
+-- handlers begin at slot t.
+abbrev pub outside_loops : (t : ℕ) → Exits
+outside_loops t = record { head = 0; loop_record = t; first_record = t }
+
+-- in a loop that begins at this place, where records begin at slot t
+abbrev pub inside_loop : (head t : ℕ) → Exits → Exits
+inside_loop head t exits = record { head = head; loop_record = t; first_record = exits.first_record }
 
 -- Locals that have these first slots, in a program with these structs.
 module _ (starts : Starts) where
@@ -530,39 +540,38 @@ module _ (starts : Starts) where
   declaration_code n None p t = []
   declaration_code n (Some c) p t = initial_code c p (slot_of starts n) t
 
-  -- The code of a statement that begins at place p, with the place where the loop round it begins and the first slot for
-  -- temporaries.
+  -- The code of a statement that begins at place p, with its ways out and the first slot for temporaries.
   abbrev mutual
-    pub statement_code : Statement → (p loop t : ℕ) → List Instruction
-    statement_code (Block r js) p loop t = items_code js p loop t
-    statement_code Empty p loop t = []
-    statement_code (Evaluate a) p loop t = discarded_code a p t
-    statement_code (If a s u) p loop t =
+    pub statement_code : Statement → (p : ℕ) → Exits → (t : ℕ) → List Instruction
+    statement_code (Block r js) p exits t = items_code js p exits t
+    statement_code Empty p exits t = []
+    statement_code (Evaluate a) p exits t = discarded_code a p t
+    statement_code (If a s u) p exits t =
         if_code (condition_code a p t) (failing_jump (condition_of a t))
-        (statement_code s (p + length (condition_code a p t) + 1) loop t)
-        (statement_code u (p + length (condition_code a p t) + 1 + length (statement_code s (p + length (condition_code a p t) + 1) loop t) + 1) loop t)
+        (statement_code s (p + length (condition_code a p t) + 1) exits t)
+        (statement_code u (p + length (condition_code a p t) + 1 + length (statement_code s (p + length (condition_code a p t) + 1) exits t) + 1) exits t)
         p
-    statement_code (While w a s) p loop t =
-        while_code (condition_code a (p + 2) t) (failing_jump (condition_of a t)) (statement_code s (p + 2 + length (condition_code a (p + 2) t) + 1) p t) p
-    statement_code (Return v) p loop t = return_code v p t
-    statement_code Break p loop t = instructions.Jump (break_target loop) ∷ []
-    statement_code Continue p loop t = instructions.Jump (continue_target loop) ∷ []
-    statement_code s p loop t = []
+    statement_code (While w a s) p exits t =
+        while_code (condition_code a (p + 2) t) (failing_jump (condition_of a t)) (statement_code s (p + 2 + length (condition_code a (p + 2) t) + 1) (inside_loop p t exits) t) p
+    statement_code (Return v) p exits t = return_code v p t
+    statement_code Break p exits t = instructions.Jump (break_target exits.head) ∷ []
+    statement_code Continue p exits t = instructions.Jump (continue_target exits.head) ∷ []
+    statement_code s p exits t = []
 
-    pub items_code : Items → (p loop t : ℕ) → List Instruction
-    items_code NoItems p loop t = []
-    items_code (MoreItems (Execute s) js) p loop t =
-        statement_code s p loop t ++ items_code js (p + length (statement_code s p loop t)) loop t
-    items_code (MoreItems (Declare n ty v) js) p loop t =
-        declaration_code n v p t ++ items_code js (p + length (declaration_code n v p t)) loop t
-    items_code (MoreItems j js) p loop t = items_code js p loop t
+    pub items_code : Items → (p : ℕ) → Exits → (t : ℕ) → List Instruction
+    items_code NoItems p exits t = []
+    items_code (MoreItems (Execute s) js) p exits t =
+        statement_code s p exits t ++ items_code js (p + length (statement_code s p exits t)) exits t
+    items_code (MoreItems (Declare n ty v) js) p exits t =
+        declaration_code n v p t ++ items_code js (p + length (declaration_code n v p t)) exits t
+    items_code (MoreItems j js) p exits t = items_code js p exits t
 
 -- ---- programs
 
 -- The code of a function ends in a return, which is the end of a void function. In any other it is never reached, and
 -- stands there so that no code runs off its end.
 abbrev pub function_code : List StructType → Function → List Instruction
-function_code structs h = items_code (starts_of (types_of structs h)) h.body 0 0 (first_temporary h) ++ instructions.Return (first_temporary h) ∷ []
+function_code structs h = items_code (starts_of (types_of structs h)) h.body 0 (outside_loops (first_temporary h)) (first_temporary h) ++ instructions.Return (first_temporary h) ∷ []
 
 -- the words that a function returns
 abbrev pub results_of : Option Ty → ℕ

@@ -14,6 +14,7 @@ ghost use Rattle.cyc_lower.specs.Lowered.{CanBeLowered};
 use crate::emitter::Emitter;
 use crate::frame_count::{frame_count, items_need, words_of, words_of_all};
 use crate::locals::{Starts, slots_of_locals};
+use crate::statements::Exits;
 use cyc_plain::{Function, Instruction, Plain};
 use cyc_types::typed::{self, Constant, StructType};
 use cyc_types::{Ty, TypedTree};
@@ -57,7 +58,12 @@ fn lower_function(
         structs,
     };
     let mut emitter = Emitter::new(alloc);
-    emitter.lower_items(&starts, &function.body, 0, free)?;
+    let exits = Exits {
+        head: 0,
+        loop_record: free,
+        first_record: free,
+    };
+    emitter.lower_items(&starts, &function.body, exits, free)?;
     emitter.emit(Instruction::Return { value: free })?;
     Ok(Function {
         name: function.span,

@@ -1,7 +1,7 @@
 //! The code of statements. Each method adds its code behind what there is.
 ghost use Rattle.std.specs.Prelude.{◌≡◌, ◌+◌, ◌≤◌, [], ◌∷◌, length, option_map};
 ghost use Rattle.cyc_types.specs.TypedTreeView.{view_converted, view_expression, view_statement, items_of};
-ghost use Rattle.cyc_lower.specs.Lowering.{break_target, continue_target, return_code, declaration_code, statement_code, items_code};
+ghost use Rattle.cyc_lower.specs.Lowering.{break_target, continue_target, inside_loop, return_code, declaration_code, statement_code, items_code};
 ghost use Rattle.cyc_lower.specs.Emission.{Appends, most_locals, item_code, loop_code, view_starts};
 
 use crate::emitter::Emitter;
@@ -10,6 +10,17 @@ use crate::operators::failing_jump;
 use cyc_plain::Instruction;
 use cyc_types::typed::{Converted, Expr, Item, Stmt};
 use std::alloc::AllocError;
+
+/// The ways out of a statement: what those that leave a loop or a function must know of it.
+#[derive(Clone, Copy)]
+pub(crate) struct Exits {
+    /// Where the loop round the statement begins, if one is around it.
+    pub(crate) head: usize,
+    /// The slot from which the records of handlers stand that are opened in that loop.
+    pub(crate) loop_record: usize,
+    /// The same for the function.
+    pub(crate) first_record: usize,
+}
 
 impl Emitter {
     /// A return of a value in a slot.
@@ -70,37 +81,43 @@ impl Emitter {
         starts: &Starts,
         body: &Stmt,
         condition: &Expr,
+        exits: Exits,
         free: usize,
     ) -> Result<(), AllocError>
         requires { free ≤ most_locals + length self.old.code.items }
-        ensures { Appends result self.old self.new (loop_code (view_starts starts.now) (view_expression condition.now) (view_statement body.now) (length self.old.code.items) free) }
+        ensures { Appends result self.old self.new (loop_code (view_starts starts.now) (view_expression condition.now) (view_statement body.now) (length self.old.code.items) exits free) }
     {
         let head = self.place();
+        let inside = Exits {
+            head,
+            loop_record: free,
+            first_record: exits.first_record,
+        };
         self.lower_continue(head)?;
         let leaving = self.reserve()?;
         let condition = self.lower_condition(starts, condition, free)?;
         self.emit(failing_jump(condition, leaving))?;
-        self.lower_statement(starts, body, head, free)?;
+        self.lower_statement(starts, body, inside, free)?;
         self.lower_continue(head)?;
         self.jump_here(leaving);
         Ok(())
     }
 
-    /// A statement in the loop that begins at this place, if one is around it.
+    /// A statement with these ways out.
     #[cycle(statement)]
     fn lower_statement(
         &mut self,
         starts: &Starts,
         statement: &Stmt,
-        head: usize,
+        exits: Exits,
         free: usize,
     ) -> Result<(), AllocError>
         requires slots { free ≤ most_locals + length self.old.code.items }
-        requires begun { head ≤ length self.old.code.items }
-        ensures { Appends result self.old self.new (statement_code (view_starts starts.now) (view_statement statement.now) (length self.old.code.items) head free) }
+        requires begun { exits.head ≤ length self.old.code.items }
+        ensures { Appends result self.old self.new (statement_code (view_starts starts.now) (view_statement statement.now) (length self.old.code.items) exits free) }
     {
         match statement {
-            Stmt::Block { items, .. } => self.lower_items(starts, items, head, free),
+            Stmt::Block { items, .. } => self.lower_items(starts, items, exits, free),
             Stmt::Empty => Ok(()),
             Stmt::Evaluate { value } => self.discard(starts, value, free),
             Stmt::If {
@@ -110,10 +127,10 @@ impl Emitter {
             } => {
                 let condition = self.lower_condition(starts, condition, free)?;
                 let over_then = self.reserve()?;
-                self.lower_statement(starts, then, head, free)?;
+                self.lower_statement(starts, then, exits, free)?;
                 let over_otherwise = self.reserve()?;
                 self.jump_here_if_failing(over_then, condition);
-                self.lower_statement(starts, otherwise, head, free)?;
+                self.lower_statement(starts, otherwise, exits, free)?;
                 self.jump_here(over_otherwise);
                 Ok(())
             }
@@ -121,10 +138,10 @@ impl Emitter {
                 condition,
                 body,
                 ..
-            } => self.lower_loop(starts, body, condition, free),
+            } => self.lower_loop(starts, body, condition, exits, free),
             Stmt::Return { value } => self.lower_return(starts, value, free),
-            Stmt::Break => self.lower_break(head),
-            Stmt::Continue => self.lower_continue(head),
+            Stmt::Break => self.lower_break(exits.head),
+            Stmt::Continue => self.lower_continue(exits.head),
             // These are not built yet, and never run.
             Stmt::Swap { .. } | Stmt::Throw { .. } | Stmt::Try { .. } => Ok(()),
         }
@@ -135,15 +152,15 @@ impl Emitter {
         &mut self,
         starts: &Starts,
         item: &Item,
-        head: usize,
+        exits: Exits,
         free: usize,
     ) -> Result<(), AllocError>
         requires slots { free ≤ most_locals + length self.old.code.items }
-        requires begun { head ≤ length self.old.code.items }
-        ensures { Appends result self.old self.new (item_code (view_starts starts.now) item.now (length self.old.code.items) head free) }
+        requires begun { exits.head ≤ length self.old.code.items }
+        ensures { Appends result self.old self.new (item_code (view_starts starts.now) item.now (length self.old.code.items) exits free) }
     {
         match item {
-            Item::Execute { statement } => self.lower_statement(starts, statement, head, free),
+            Item::Execute { statement } => self.lower_statement(starts, statement, exits, free),
             Item::Local { number, value, .. } => self.lower_declaration(
                 starts, *number, value, free,
             ),
@@ -157,15 +174,15 @@ impl Emitter {
         &mut self,
         starts: &Starts,
         items: &[Item],
-        head: usize,
+        exits: Exits,
         free: usize,
     ) -> Result<(), AllocError>
         requires slots { free ≤ most_locals + length self.old.code.items }
-        requires begun { head ≤ length self.old.code.items }
-        ensures { Appends result self.old self.new (items_code (view_starts starts.now) (items_of items.now) (length self.old.code.items) head free) }
+        requires begun { exits.head ≤ length self.old.code.items }
+        ensures { Appends result self.old self.new (items_code (view_starts starts.now) (items_of items.now) (length self.old.code.items) exits free) }
     {
         for item in items {
-            self.lower_item(starts, item, head, free)?;
+            self.lower_item(starts, item, exits, free)?;
         }
         Ok(())
     }

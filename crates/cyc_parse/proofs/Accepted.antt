@@ -27,15 +27,15 @@ whole_ok (Ok (es, t ∷ ts)) ds e = absurd (cc)
 whole_ok (Err refusal) ds e = absurd (cc)
 
 pub whole_read : (ts : List Symbol) (ds : List Declaration) → whole_program ts ≡ Ok (ds, []) → program_of ts ≡ Ok (ds, [])
-unfolding whole_program bind
+unfolding bind
 whole_read ts ds e = whole_ok (program_of ts) ds e
 
 whole_of : (ts : List Symbol) (ds : List Declaration) → program_of ts ≡ Ok (ds, []) → whole_program ts ≡ Ok (ds, [])
-unfolding whole_program bind
+unfolding bind
 whole_of ts ds e = ap (λ (o : Outcome (List Declaration)). and_then o at_end) e
 
 whole_refuses : (ts : List Symbol) (refusal : Refusal) → program_of ts ≡ Err refusal → whole_program ts ≡ Err refusal
-unfolding whole_program bind
+unfolding bind
 whole_refuses ts refusal e = ap (λ (o : Outcome (List Declaration)). and_then o at_end) e
 
 -- the parser leaves nothing, so a whole program is refused only where its symbols are
@@ -48,7 +48,7 @@ whole_err ts (Ok (ds, s ∷ left)) refusal is e = absurd (impossible (program_of
 whole_err ts (Err other) refusal is e = is ∙ e
 
 whole_refused : (ts : List Symbol) (refusal : Refusal) → whole_program ts ≡ Err refusal → program_of ts ≡ Err refusal
-unfolding whole_program bind
+unfolding bind
 whole_refused ts refusal e = whole_err ts (program_of ts) refusal refl e
 
 -- ---- the clauses of the contract

@@ -66,7 +66,6 @@ declarations_in_reads (suc turns) (x ∷ xs) few (is, are) = reads_as (bind (dec
     going ts rest (t, more, e, is_leaf, front) = subst (λ (w : List Symbol). declarations_in 200 (suc turns) w ≡ bind (declaration 200) (λ v. bind (declarations_in 200 turns) (λ vs. pure (v ∷ vs))) w) (sym e) refl
 
 program_reads : (x : Declaration) (xs : List Declaration) → AreDeclarations (x ∷ xs) → Reads (program 200) (x ∷ xs) (yields.program (x ∷ xs)) IsEnd
-unfolding program
 program_reads x xs (is, are) = then_reads _ (one_reads x is) (last_reads (λ (vs : List Declaration). pure (x ∷ vs)) (λ ts. refl) (record {
   reads = λ ts rest front ends.
       (declarations_in_reads (length ts) xs (omega (arith, declarations-length xs, front-length (yields.program xs) ts rest front)) are).reads ts rest front ends;
@@ -79,6 +78,5 @@ spelled_front (l ∷ ls) [] h = absurd h
 spelled_front (l ∷ ls) (t ∷ ts) (is, more) = (t, ts, refl, is, spelled_front ls ts more)
 
 pub program_of-complete : (ts : List Symbol) (tree : List Declaration) → HasTree ts tree → program_of ts ≡ judge (yields.program tree) ts (Ok (tree, []))
-unfolding program_of
 program_of-complete ts [] h = absurd h.nonempty
 program_of-complete ts (x ∷ xs) h = (program_reads x xs h.formed).reads ts [] (spelled_front (yields.program (x ∷ xs)) ts h.spelled) (record { end = refl })

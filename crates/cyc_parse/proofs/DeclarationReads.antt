@@ -14,7 +14,7 @@ use Rattle.cyc_syntax.specs.Yields as yields
 use Rattle.cyc_syntax.specs.Grammar.{max_nesting, IsBody, IsDeclaration}
 use Rattle.cyc_parse.specs.Parsing.{◌>>=◌, ◌>>◌, pure, next, sees, sees_terminal, starts, sign, begins_region, bind, is_word}
 use Rattle.cyc_parse.specs.Types.{begins_type, written_type}
-use Rattle.cyc_parse.specs.Declarations.{number_value, begins_void, begins_constructor, member, field, has_int, constructor, parameter_list, effect_regions, effect, constraint, constraints, parameters, value_by, value, global_value, global, function, typed, struct_fields, struct_or_typed, exceptions, declaration_by, declaration}
+use Rattle.cyc_parse.specs.Declarations.{number_value, begins_void, begins_constructor, member, field, has_int, constructor, parameter_list, effect, constraint, constraints, parameters, value_by, value, global_value, function, typed, struct_fields, declaration_by, declaration}
 use Rattle.cyc_parse.proofs.Rules.{Front, Reads, Fits, Starts, Always, item-next, starts_append, starts_number, starting_reads, leaf_of, leaf_at, front-next, then_reads, last_reads, pure_reads, reads_before, token_reads, word_reads, sign_reads, identifier_reads, region_reads, choose_reads, advance_reads, advance_reads_at, sees_reads, unseen_reads, seen_reads, sign_deep_reads, starts_reads, unstarted_reads, yield_reads}
 use Rattle.cyc_parse.proofs.Lists.{IsRead, EndsList, separated_reads, some_of_reads}
 use Rattle.cyc_parse.proofs.TypeReads.{EndsType, NoRegion, type_starts, type_reads, with_pointers_reads, optional_regions_reads}
@@ -34,7 +34,6 @@ pub record NoAssign (ts : List Symbol) : Type 0 where
 
 module _ (room d : ℕ) (fits : Fits room d) (within : d ≤ max_nesting) where
   pub member_reads : (m : Member) (Ends : List Symbol → Type 0) → Reads (member room) m (yields.member d m) Ends
-  unfolding member
   member_reads m Ends = then_reads _ (type_reads room d fits within m.of_type) (identifier_reads room d m.name _ fits (pure_reads m Ends))
       (λ mid rest front ends. record { name = m.name.name; comes = front-next (leaf_at d (Identifier m.name.name) m.name.place) [] mid rest front })
 
@@ -46,7 +45,6 @@ module _ (room d : ℕ) (fits : Fits room d) (within : d ≤ max_nesting) where
   members_read (m ∷ ms) = (member_read m, members_read ms)
 
   field_read : (m : Member) → IsRead d begins_type (field room) (yields.field d) Always m
-  unfolding field
   field_read m = record {
     starts = starts_append _ (starts_append _ (type_starts d m.of_type));
     reads = then_reads _ (member_reads m Always) (sign_reads room d signs.Semicolon _ fits (λ p. pure_reads m Always)) (λ mid rest front ends. tt);
@@ -58,14 +56,12 @@ module _ (room d : ℕ) (fits : Fits room d) (within : d ≤ max_nesting) where
 
 has_int_reads : (room d : ℕ) → Fits room d → (b : Bool)
     → Reads (has_int room) b (yields.has_int d b) NoParen
-unfolding has_int
 has_int_reads room d fits false = unseen_reads signs.LeftParen _ _ (λ ts rest front ends. ap (sees signs.LeftParen) front ∙ ends.paren) (pure_reads false NoParen)
 has_int_reads zero d fits true = sees_reads signs.LeftParen _ _ (leaf_of d (Mark signs.LeftParen)) _ refl (sign_deep_reads d signs.LeftParen _ (omega arith))
 has_int_reads (suc room) d fits true = sees_reads signs.LeftParen _ _ (leaf_of d (Mark signs.LeftParen)) _ refl (sign_reads (suc room) d signs.LeftParen _ fits (λ p. word_reads room (suc d) words.Int _ (deeper room d fits) (λ p.
     sign_reads room (suc d) signs.RightParen _ (deeper room d fits) (λ p. pure_reads true NoParen))))
 
 constructor_read : (room d : ℕ) → Fits room d → (c : Constructor) → IsRead d begins_constructor (constructor room) (yields.constructor d) Always c
-unfolding constructor
 constructor_read room d fits c = record {
   starts = record { first = leaf_at d (Identifier c.name.name) c.name.place; others = _; are = refl; begin = refl; nesting = refl; item = zero-le };
   reads = identifier_reads room d c.name _ fits (then_reads _ (has_int_reads room d fits c.has_int) (sign_reads room d signs.Semicolon _ fits (λ p. pure_reads c Always))
@@ -98,7 +94,6 @@ pub record NoColon (ts : List Symbol) : Type 0 where
 
 module _ (room d : ℕ) (fits : Fits room d) (within : d ≤ max_nesting) where
   list_reads : (ps : ParameterList) → Reads (parameter_list room) ps (yields.parameter_list d ps) EndsParameters
-  unfolding parameter_list
   list_reads Void = starts_reads begins_void _ _ (leaf_of d (Word words.Void)) [] refl (advance_reads _ (leaf_of d (Word words.Void)) within zero-le (λ p _. pure_reads Void EndsParameters))
   list_reads (Listed []) = unstarted_reads _ _ _ (λ ts rest front ends. ap (λ (w : List Symbol). starts begins_void (next w)) front ∙ ends.void)
       (unstarted_reads begins_type _ _ (λ ts rest front ends. ap (λ (w : List Symbol). starts begins_type (next w)) front ∙ ends.member) (pure_reads (Listed []) EndsParameters))
@@ -112,7 +107,6 @@ module _ (room d : ℕ) (fits : Fits room d) (within : d ≤ max_nesting) where
       first = starts_append _ (type_starts d m.of_type)
 
   constraint_read : (c : Constraint) → IsRead d begins_region (constraint room) (yields.constraint d) Always c
-  unfolding constraint
   constraint_read c = record {
     starts = record { first = leaf_at d (RegionName c.longer.name) c.longer.place; others = _; are = refl; begin = refl; nesting = refl; item = zero-le };
     reads = region_reads room d 0 c.longer _ fits zero-le (sign_reads room d signs.Greater _ fits (λ p. region_reads room d 0 c.shorter _ fits zero-le (pure_reads c Always)));
@@ -123,14 +117,12 @@ module _ (room d : ℕ) (fits : Fits room d) (within : d ≤ max_nesting) where
   constraints_read (c ∷ cs) = (constraint_read c, constraints_read cs)
 
   constraints_reads : (cs : List Constraint) → Reads (constraints room) cs (yields.constraints d cs) NoColon
-  unfolding constraints
   constraints_reads [] = unseen_reads signs.Colon _ _ (λ ts rest front ends. ap (sees signs.Colon) front ∙ ends.colon) (pure_reads [] NoColon)
   constraints_reads (c ∷ cs) = sees_reads signs.Colon _ _ (leaf_of d (Mark signs.Colon)) _ refl (sign_reads room d signs.Colon _ fits (λ p.
       reads_before (EndsList Always) (separated_reads room d fits within begins_region (constraint room) (yields.constraint d) Always (λ ts e. tt) c cs (constraints_read (c ∷ cs))) (λ rest ends. record { item = tt; comma = ends.comma })))
 
 module _ (room d : ℕ) (fits : Fits (suc (suc room)) d) where
   effect_reads : (e : Option (List Named)) → Reads (effect (suc (suc room))) e (yields.optional (yields.effect d) e) NoSemicolon
-  unfolding effect effect_regions
   effect_reads None = unseen_reads signs.Semicolon _ _ (λ ts rest front ends. ap (sees signs.Semicolon) front ∙ ends.semicolon) (pure_reads None NoSemicolon)
   effect_reads (Some []) = sees_reads signs.Semicolon _ _ (leaf_of d (Mark signs.Semicolon)) _ refl (sign_reads (suc (suc room)) d signs.Semicolon _ fits (λ p. sign_reads (suc (suc room)) d signs.LeftBrace _ fits (λ p.
       then_reads _ (unstarted_reads begins_region _ _ (λ ts rest front ends. ap (λ (w : List Symbol). starts begins_region (next w)) front ∙ ends.none) (pure_reads [] NoRegion))
@@ -159,7 +151,6 @@ module _ (room d : ℕ) (fits : Fits (suc (suc room)) d) where
       record { void = ap (starts begins_void) n; member = ap (starts begins_type) n; comma = ap (sees_terminal signs.Comma) n }
 
   pub parameters_reads : (ps : Parameters) → Reads (parameters (suc (suc room))) ps (yields.parameters d ps) Closes
-  unfolding parameters
   parameters_reads ps = then_reads _ (list_reads (suc (suc room)) d fits (omega arith) ps.list)
       (then_reads _ (effect_reads ps.effect)
       (last_reads (λ (v : List Constraint). pure (record { list = ps.list; effect = ps.effect; constraints = v })) (λ ts. refl)
@@ -174,13 +165,11 @@ module _ (room d : ℕ) (fits : Fits (suc (suc (suc room))) d) where
   R = suc (suc room)
 
   function_reads : (t : Option WrittenType) (f : Named) (ps : Parameters) (b : Body) → IsBody b → Reads (function (suc (suc room)) t f) (Function t f ps b) (leaf_of d (Mark signs.LeftParen) ∷ (yields.parameters (suc d) ps ++ leaf_of (suc d) (Mark signs.RightParen) ∷ yields.body d b)) Always
-  unfolding function
   function_reads t f ps (Braces p is q) are = sign_reads (suc R) d signs.LeftParen _ fits (λ x. then_reads _ (parameters_reads room (suc d) (omega arith) ps)
       (sign_reads R (suc d) signs.RightParen _ (omega arith) (λ x. last_reads (λ (v : Body). pure (Function t f ps v)) (λ ts. refl) (all_bodies p is q R d fits are Always)))
       (λ mid rest front ends. record { paren = front-next (leaf_of (suc d) (Mark signs.RightParen)) (yields.body d (Braces p is q)) mid rest front }))
 
   given_reads : (v : GlobalValue) (Ends : List Symbol → Type 0) → Reads (sign (suc R) signs.Assign >> value R >>= (λ w. pure (Some w))) (Some v) (yields.global_value d v) Ends
-  unfolding value
   given_reads (Positive p n) Ends = sign_reads (suc R) d signs.Assign _ fits (λ x. last_reads (λ (w : GlobalValue). pure (Some w)) (λ ts. refl) (choose_reads (value_by R) (leaf_at (suc d) (terminals.Number n) p) [] (advance_reads_at (suc d) (terminals.Number n) p _ (omega arith) (pure_reads (Positive p n) Ends))))
   given_reads (Negative p n) Ends = sign_reads (suc R) d signs.Assign _ fits (λ x. last_reads (λ (w : GlobalValue). pure (Some w)) (λ ts. refl) (choose_reads (value_by R) (leaf_at (suc d) (Mark signs.Minus) p) _ (advance_reads_at (suc d) (Mark signs.Minus) p _ (omega arith)
       (token_reads (suc room) number_value (λ m q. m) _ (leaf_of (suc (suc d)) (terminals.Number n)) n (omega arith) zero-le refl (λ q _. pure_reads (Negative p n) Ends)))))
@@ -188,7 +177,6 @@ module _ (room d : ℕ) (fits : Fits (suc (suc (suc room))) d) where
   given_reads (NullPointer p) Ends = sign_reads (suc R) d signs.Assign _ fits (λ x. last_reads (λ (w : GlobalValue). pure (Some w)) (λ ts. refl) (choose_reads (value_by R) (leaf_at (suc d) (Word words.Null) p) [] (advance_reads_at (suc d) (Word words.Null) p _ (omega arith) (pure_reads (NullPointer p) Ends))))
 
   value_reads : (v : Option GlobalValue) → Reads (global_value R) v (yields.optional (yields.global_value d) v) NoAssign
-  unfolding global_value
   value_reads None = unseen_reads signs.Assign _ _ (λ ts rest front ends. ap (sees signs.Assign) front ∙ ends.assign) (pure_reads None NoAssign)
   value_reads (Some v) = seen_reads signs.Assign _ _ (λ ts rest front ends. assigned v ts rest front) (given_reads v NoAssign)
     where
@@ -200,7 +188,6 @@ module _ (room d : ℕ) (fits : Fits (suc (suc (suc room))) d) where
 
   -- behind a type: a global, or a function
   global_reads : (t : WrittenType) (x : Named) (v : Option GlobalValue) → Reads (typed R t) (Global t x v) (leaf_at d (Identifier x.name) x.place ∷ (yields.optional (yields.global_value d) v ++ leaf_of d (Mark signs.Semicolon) ∷ [])) Always
-  unfolding typed global
   global_reads t x v = identifier_reads (suc R) d x _ fits (unseen_reads signs.LeftParen _ _ (λ ts rest front ends. no_paren v ts rest front)
       (then_reads _ (value_reads v) (sign_reads (suc R) d signs.Semicolon _ fits (λ p. pure_reads (Global t x v) Always))
       (λ mid rest front ends. record { assign = ap (sees_terminal signs.Assign) (front-next (leaf_of d (Mark signs.Semicolon)) [] mid rest front) })))
@@ -214,7 +201,6 @@ module _ (room d : ℕ) (fits : Fits (suc (suc (suc room))) d) where
 
   head_reads : (t : WrittenType) (f : Named) (ps : Parameters) (b : Body) → IsBody b
       → Reads (typed R t) (Function (Some t) f ps b) (leaf_at d (Identifier f.name) f.place ∷ leaf_of d (Mark signs.LeftParen) ∷ (yields.parameters (suc d) ps ++ leaf_of (suc d) (Mark signs.RightParen) ∷ yields.body d b)) Always
-  unfolding typed
   head_reads t f ps b are = identifier_reads (suc R) d f _ fits (sees_reads signs.LeftParen _ _ (leaf_of d (Mark signs.LeftParen)) _ refl (function_reads (Some t) f ps b are))
 
   -- ---- a declaration that begins with a type
@@ -249,7 +235,6 @@ module _ (room d : ℕ) (fits : Fits (suc (suc (suc room))) d) where
 
     based_reads : (p : Place) (b : BaseType) (ms : List Pointer) → Reads (typed R (record { place = p; base = b; marks = ms })) y (leaf_at d (Identifier x.name) x.place ∷ ys) Always
         → Reads (declaration R) y ((yields.base_type d p b ++ yields.marks d ms) ++ leaf_at d (Identifier x.name) x.place ∷ ys) Always
-    unfolding struct_or_typed
     based_reads p Int ms h = by_choice (leaf_at d (Word words.Int) p) _ (simple_reads (record { place = p; base = Int; marks = ms }) h)
     based_reads p (Handle r) ms h = by_choice (leaf_at d (Word words.RegionType) p) _ (simple_reads (record { place = p; base = Handle r; marks = ms }) h)
     based_reads p (Key r) ms h = by_choice (leaf_at d (Word words.KeyType) p) _ (simple_reads (record { place = p; base = Key r; marks = ms }) h)
@@ -262,19 +247,16 @@ module _ (room d : ℕ) (fits : Fits (suc (suc (suc room))) d) where
 
   fields_reads : (s : Named) (rs : List Named) (f : Member) (fs : List Member)
       → Reads (struct_fields R s rs) (StructType s rs (f ∷ fs)) (leaf_of d (Mark signs.LeftBrace) ∷ (yields.each (yields.field (suc d)) 1 (f ∷ fs) ++ leaf_of (suc d) (Mark signs.RightBrace) ∷ leaf_of d (Mark signs.Semicolon) ∷ [])) Always
-  unfolding struct_fields
   fields_reads s rs f fs = sign_reads (suc R) d signs.LeftBrace _ fits (λ p. then_reads _ (some_of_reads (suc d) (omega arith) begins_type (field R) (yields.field (suc d)) f fs (fields_read R (suc d) (omega arith) (omega arith) (f ∷ fs)))
       (sign_reads R (suc d) signs.RightBrace _ (omega arith) (λ p. sign_reads (suc R) d signs.Semicolon _ fits (λ p. pure_reads (StructType s rs (f ∷ fs)) Always)))
       (λ mid rest front ends. record { other = ap (starts begins_type) (front-next (leaf_of (suc d) (Mark signs.RightBrace)) (leaf_of d (Mark signs.Semicolon) ∷ []) mid rest front) }))
 
   struct_reads : (s : Named) (rs : List Named) (f : Member) (fs : List Member) → Reads (declaration R) (StructType s rs (f ∷ fs)) (yields.declaration d (StructType s rs (f ∷ fs))) Always
-  unfolding struct_or_typed
   struct_reads s rs f fs = by_choice (leaf_of d (Word words.Struct)) _ (advance_reads _ (leaf_of d (Word words.Struct)) (omega arith) zero-le (λ p _. identifier_reads (suc R) d s _ fits
       (then_reads _ (optional_regions_reads (suc R) d fits (omega arith) rs) (sees_reads signs.LeftBrace _ _ (leaf_of d (Mark signs.LeftBrace)) _ refl (fields_reads s rs f fs))
       (λ mid rest front ends. record { less = ap (sees_terminal signs.Less) (front-next (leaf_of d (Mark signs.LeftBrace)) (yields.each (yields.field (suc d)) 1 (f ∷ fs) ++ leaf_of (suc d) (Mark signs.RightBrace) ∷ leaf_of d (Mark signs.Semicolon) ∷ []) mid rest front) }))))
 
   exceptions_reads : (c : Constructor) (cs : List Constructor) → Reads (declaration R) (Exceptions (c ∷ cs)) (yields.declaration d (Exceptions (c ∷ cs))) Always
-  unfolding exceptions
   exceptions_reads c cs = by_choice (leaf_of d (Word words.Datatype)) _ (word_reads (suc R) d words.Datatype _ fits (λ p. word_reads (suc R) d words.Exn _ fits (λ p. sign_reads (suc R) d signs.LeftBrace _ fits (λ p.
       then_reads _ (some_of_reads (suc d) (omega arith) begins_constructor (constructor R) (yields.constructor (suc d)) c cs (constructors_read R (suc d) (omega arith) (c ∷ cs)))
       (sign_reads R (suc d) signs.RightBrace _ (omega arith) (λ p. sign_reads (suc R) d signs.Semicolon _ fits (λ p. pure_reads (Exceptions (c ∷ cs)) Always)))

@@ -24,7 +24,7 @@ none_left (Ok (es, t ∷ ts)) ds left e = absurd (cc)
 none_left (Err refusal) ds left e = absurd (cc)
 
 pub whole_ends : (ts : List Symbol) (ds : List Declaration) (left : List Symbol) → whole_program ts ≡ Ok (ds, left) → whole_program ts ≡ Ok (ds, [])
-unfolding whole_program bind
+unfolding bind
 whole_ends ts ds left e = e ∙ ap (λ (us : List Symbol). Ok (ds, us)) (none_left (program_of ts) ds left e)
 
 -- The symbols are those of the tokens, and the place is the end of the text.

@@ -81,12 +81,11 @@ first_isnt_paren d e i ys ts rest front =
 -- the list of the arguments, d levels deep
 listed_reads : (room d : ℕ) → Fits room d → (e : Expression) (es : Expressions) → AreRead room d (e ∷ list_of es)
     → Reads (separated room begins_expression (nested room).expression) (e ∷ list_of es) (yields.separated (yields.expression d) d (e ∷ list_of es)) (EndsList (Stops 11))
-unfolding nested separated
+unfolding nested
 listed_reads zero d fits e es all = deep_then_reads begins_expression d _ (omega arith) (starts_append _ (starts_number 1 (omega arith) (expression_starts d e)))
 listed_reads (suc room) d fits e es all = separated_reads (suc room) d fits (omega arith) begins_expression (nested (suc room)).expression (yields.expression d) (Stops 11) stops_comma e (list_of es) (are_read (suc room) d (e ∷ list_of es) all)
 
 pub arguments_reads : (room d : ℕ) → Fits room d → (es : Expressions) → AreRead room d (list_of es) → Reads (arguments room (nested room)) es (yields.arguments d es) EndsArguments
-unfolding arguments
 arguments_reads room d fits NoExpressions all = seen_reads signs.RightParen _ _ (λ ts rest front ends. ap (sees signs.RightParen) front ∙ ends.paren) (pure_reads NoExpressions EndsArguments)
 arguments_reads room d fits (MoreExpressions e es) all =
     subst (λ (ys : Yield). Reads (arguments room (nested room)) (MoreExpressions e es) ys EndsArguments) (sym (arguments-list d (MoreExpressions e es)))
@@ -114,7 +113,6 @@ PostfixParts room d (ThenField x ps) = PostfixParts room d ps
 module _ (room d : ℕ) (fits : Fits (suc room) d) where
   pub group_reads : (e : Expression) (Ends : List Symbol → Type 0) → ReadsDeeper room (suc d) e
       → Reads (group room (nested room)) e (leaf_of d (Mark signs.LeftParen) ∷ (yields.expression (suc d) e ++ leaf_of (suc d) (Mark signs.RightParen) ∷ [])) Ends
-  unfolding group
   group_reads e Ends h = sign_reads (suc room) d signs.LeftParen _ fits (λ p. then_reads _ h
       (sign_reads room (suc d) signs.RightParen _ (deeper room d fits) (λ q. pure_reads e Ends))
       (λ mid rest front ends. stops_leaf 11 (leaf_of (suc d) (Mark signs.RightParen)) [] mid rest refl (omega arith) front))
@@ -125,12 +123,10 @@ module _ (room d : ℕ) (fits : Fits (suc room) d) where
   end_arguments mid rest front = record { list = before_paren (suc d) mid rest front; paren = ap (sees_terminal signs.RightParen) (front-next (leaf_of (suc d) (Mark signs.RightParen)) [] mid rest front) }
 
   pub variable_reads : (x : Named) → Reads (from_name room (nested room) x) (Variable x) [] NoParen
-  unfolding from_name
   variable_reads x = unseen_reads signs.LeftParen _ _ (λ ts rest front ends. ap (sees signs.LeftParen) front ∙ ends.paren) (pure_reads (Variable x) NoParen)
 
   pub call_reads : (f : Named) (es : Expressions) (Ends : List Symbol → Type 0) → AreRead room (suc d) (list_of es)
       → Reads (from_name room (nested room) f) (Call f es) (leaf_of d (Mark signs.LeftParen) ∷ (yields.arguments (suc d) es ++ leaf_of (suc d) (Mark signs.RightParen) ∷ [])) Ends
-  unfolding from_name
   call_reads f es Ends all = sees_reads signs.LeftParen _ _ (leaf_of d (Mark signs.LeftParen)) _ refl (sign_reads (suc room) d signs.LeftParen _ fits (λ p.
       then_reads _ (arguments_reads room (suc d) (deeper room d fits) es all) (sign_reads room (suc d) signs.RightParen _ (deeper room d fits) (λ q. pure_reads (Call f es) Ends)) (λ mid rest front ends. end_arguments mid rest front)))
 
@@ -185,5 +181,4 @@ module _ (room d : ℕ) (fits : Fits (suc room) d) where
 
   pub with_postfixes_reads : (first : Parser Expression) (e : Expression) (xs : Yield) (ps : Postfixes) → Reads first e xs NoParen → PostfixParts room d ps
       → Reads (with_postfixes room (nested room) first) (chained e ps) (xs ++ yields.postfixes d 1 ps) (Stops 0)
-  unfolding with_postfixes
   with_postfixes_reads first e xs ps h parts = then_reads _ h (last_reads (λ (v : Postfixes). pure (chained e v)) (λ ts. refl) (postfixes_reads 64 1 ps refl parts)) (between_postfixes ps)

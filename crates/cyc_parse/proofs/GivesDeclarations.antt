@@ -12,7 +12,7 @@ use Rattle.cyc_syntax.specs.Grammar.{IsNonempty, IsDeclaration, IsWithin, max_ne
 use Rattle.cyc_parse.specs.Parsing.{Parser, Refusal, TooLong, next, bind, pure, advance, inside, starts, sign, word, take, begins_region}
 use Rattle.cyc_parse.specs.Types.{begins_type}
 use Rattle.cyc_parse.specs.Statements.{nested_statements}
-use Rattle.cyc_parse.specs.Declarations.{begins_void, begins_constructor, number_value, member, field, has_int, constructor, more_of, some_of, parameter_list, effect_regions, effect, constraint, constraints, parameters, value_by, value, global_value, global, function, typed, struct_fields, struct_or_typed, exceptions, declaration_by, declaration}
+use Rattle.cyc_parse.specs.Declarations.{begins_void, begins_constructor, number_value, member, field, has_int, constructor, more_of, some_of, parameter_list, effect_regions, effect, constraint, constraints, parameters, value_by, value, global_value, function, typed, struct_fields, struct_or_typed, exceptions, declaration_by, declaration}
 use Rattle.cyc_parse.proofs.Rules.{Front, Fits, leaf_of, leaf_at}
 use Rattle.cyc_parse.proofs.Gives.{Derived, Gives, Follows, Spells, Any, part_then, spelled_then, last_then, pure_gives, Begins, Completed, IsLimit, Opened, possibly, unexpected_gives, begun_gives, begins_next, gives_as, item_gives, take_then, sign_then, word_then, identifier_then, region_then, advance_then, advance_bare_then, choose_gives, sees_gives, starts_gives, stuck_sign, some_place, numbered, opened_then}
 use Rattle.cyc_parse.proofs.Openings.{member_opened, field_opened, constructor_opened, constraint_opened}
@@ -29,7 +29,6 @@ module _ {A : Type 0} (begins : Terminal → Bool) (item : Parser A) (yield : A 
   more_of_give (suc left) i count ts = starts_gives begins (λ _. spelled_then (item_gives i (omega arith) (h ts)) (λ x mid _. last_then (λ xs. x ∷ xs) (more_of_give left (suc i) (omega arith) mid) (λ xs rest _. (refl, tt)))) (λ _. pure_gives (refl, tt))
 
   some_of_gives : (ts : List Symbol) → Gives (some_of begins item) (Spells (yields.each yield 1) (λ xs _. IsNonempty xs)) ts
-  unfolding some_of
   some_of_gives ts = spelled_then (item_gives 1 (omega arith) (h ts)) (λ x mid _. last_then (λ xs. x ∷ xs) (more_of_give 63 2 refl mid) (λ xs rest _. (refl, tt)))
 
 -- ---- parts with brackets of their own, where one level of room may be left
@@ -39,11 +38,9 @@ int_rest zero d fits ts = stuck_sign d signs.LeftParen _ (possibly true _ (refl,
 int_rest (suc room) d fits ts = sign_then (suc room) d signs.LeftParen fits (λ _ mid. word_then room (suc d) words.Int (omega arith) (λ _ mid. sign_then room (suc d) signs.RightParen (omega arith) (λ _ mid. pure_gives (refl, tt))))
 
 has_int_gives : (room d : ℕ) → Fits room d → (ts : List Symbol) → Gives (has_int room) (Spells (yields.has_int d) Any) ts
-unfolding has_int
 has_int_gives room d fits ts = sees_gives signs.LeftParen (int_rest room d fits ts) (pure_gives (refl, tt))
 
 effect_regions_give : (room d : ℕ) → Fits room d → (ts : List Symbol) → Gives (effect_regions room) (Spells (yields.regions d) Any) ts
-unfolding effect_regions
 effect_regions_give room d fits ts = starts_gives begins_region (λ _. gives_as (λ rs ls rest (e, _). (e, tt)) (regions_give room d fits ts)) (λ _. pure_gives (refl, tt))
 
 effect_rest : (room d : ℕ) → Fits room d → (ts : List Symbol)
@@ -55,21 +52,17 @@ effect_rest (suc room) d fits ts = sign_then (suc room) d signs.Semicolon fits (
 
 module _ (room d : ℕ) (fits : Fits room d) (shallow : d ≤ max_nesting) where
   member_gives : (ts : List Symbol) → Gives (member room) (Spells (yields.member d) Any) ts
-  unfolding member
   member_gives ts = spelled_then (written_type_gives room d fits shallow ts) (λ t mid _. identifier_then room d fits (λ x mid. pure_gives (refl, tt)))
 
   field_gives : (ts : List Symbol) → Gives (field room) (Spells (yields.field d) Any) ts
-  unfolding field
   field_gives ts = spelled_then (member_gives ts) (λ m mid _. sign_then room d signs.Semicolon fits (λ _ mid. pure_gives (refl, tt)))
 
   constructor_gives : (ts : List Symbol) → Gives (constructor room) (Spells (yields.constructor d) Any) ts
-  unfolding constructor
   constructor_gives ts = identifier_then room d fits (λ c mid. spelled_then (has_int_gives room d fits mid) (λ b mid _. sign_then room d signs.Semicolon fits (λ _ mid. pure_gives (refl, tt))))
 
   -- ---- parameters
 
   parameter_list_gives : (ts : List Symbol) → Gives (parameter_list room) (Spells (yields.parameter_list d) Any) ts
-  unfolding parameter_list
   parameter_list_gives ts = starts_gives begins_void (λ comes. advance_bare_then d (Word words.Void) (is_void (next ts) comes) shallow (λ _ mid. pure_gives (refl, tt)))
       (λ _. starts_gives begins_type (λ _. last_then Listed (separated_gives room d fits begins_type (member room) (yields.member d) (λ _. Unit {0}) member_gives (member_opened d) ts) (λ ms rest _. (refl, tt))) (λ _. pure_gives (refl, tt)))
     where
@@ -79,15 +72,12 @@ module _ (room d : ℕ) (fits : Fits room d) (shallow : d ≤ max_nesting) where
       is_void _ h = absurd (cc)
 
   effect_gives : (ts : List Symbol) → Gives (effect room) (Spells (yields.optional (yields.effect d)) Any) ts
-  unfolding effect
   effect_gives ts = sees_gives signs.Semicolon (effect_rest room d fits ts) (pure_gives (refl, tt))
 
   constraint_gives : (ts : List Symbol) → Gives (constraint room) (Spells (yields.constraint d) Any) ts
-  unfolding constraint
   constraint_gives ts = region_then room d fits (λ a mid. sign_then room d signs.Greater fits (λ _ mid. region_then room d fits (λ b mid. pure_gives (refl, tt))))
 
   constraints_give : (ts : List Symbol) → Gives (constraints room) (Spells (yields.constraints d) Any) ts
-  unfolding constraints
   constraints_give ts = sees_gives signs.Colon (sign_then room d signs.Colon fits (λ _ mid. gives_as (λ cs ls rest (e, (some, _)). (ap (λ (ys : Yield). leaf_of d (Mark signs.Colon) ∷ ys) e ∙ with_colon cs some, tt))
       (separated_gives room d fits begins_region (constraint room) (yields.constraint d) (λ _. Unit {0}) constraint_gives (constraint_opened d) mid))) (pure_gives (refl, tt))
     where
@@ -96,7 +86,6 @@ module _ (room d : ℕ) (fits : Fits room d) (shallow : d ≤ max_nesting) where
       with_colon (c ∷ cs) some = refl
 
   parameters_give : (ts : List Symbol) → Gives (parameters room) (Spells (yields.parameters d) Any) ts
-  unfolding parameters
   parameters_give ts = spelled_then (parameter_list_gives ts) (λ ps mid _. spelled_then (effect_gives mid) (λ e mid _. last_then (λ cs. record { list = ps; effect = e; constraints = cs }) (constraints_give mid) (λ cs rest _. (refl, tt))))
 
 -- ---- declarations
@@ -120,7 +109,6 @@ value_gives room d fits shallow (Some (Mark signs.Minus)) ts e = advance_then (s
 value_gives room d fits shallow _ ts e = unexpected_gives (possibly (Positive some_place 0) _ (refl, tt))
 
 any_value_gives : (room d : ℕ) → Fits (suc room) d → suc d ≤ max_nesting → (ts : List Symbol) → Gives (value room) (Follows (leaf_of d (Mark signs.Assign) ∷ []) (yields.global_value d) Any) ts
-unfolding value
 any_value_gives room d fits shallow ts = choose_gives (λ o e. value_gives room d fits shallow o ts e)
 
 -- with at least one level of room left in brackets
@@ -132,24 +120,20 @@ module _ (room d : ℕ) (fits : Fits (suc room) d) (shallow : suc d ≤ max_nest
   here_shallow = omega (arith, shallow)
 
   global_value_gives : (ts : List Symbol) → Gives (global_value room) (Spells (yields.optional (yields.global_value d)) Any) ts
-  unfolding global_value
   global_value_gives ts = sees_gives signs.Assign (sign_then (suc room) d signs.Assign fits (λ _ mid. part_then (any_value_gives room d fits shallow mid) (λ v xs mid (eq, _). pure_gives (ap (λ (zs : Yield). leaf_of d (Mark signs.Assign) ∷ zs) (append-nil xs) ∙ eq, tt))))
       (pure_gives (refl, tt))
 
   function_gives : (t : Option WrittenType) (f : Named) (ts : List Symbol) → Gives (function room t f) (Follows (yields.result_type d t ++ leaf_at d (Identifier f.name) f.place ∷ []) (yields.declaration d) (λ x _. IsDeclaration x)) ts
-  unfolding function
   function_gives t f ts = sign_then (suc room) d signs.LeftParen fits (λ _ mid. spelled_then (parameters_give room (suc d) deeper shallow mid) (λ ps mid _. sign_then room (suc d) signs.RightParen deeper (λ _ mid.
       last_then (Function t f ps) (body_gives room d (nested_statements room) fits (nested_statements_give room (suc d) deeper) mid) (λ b rest is. (append_assoc (yields.result_type d t) (leaf_at d (Identifier f.name) f.place ∷ []) _, is)))))
 
   typed_gives : (t : WrittenType) (ts : List Symbol) → Gives (typed room t) (Follows (yields.written_type d t) (yields.declaration d) (λ x _. IsDeclaration x)) ts
-  unfolding typed global
   typed_gives t ts = identifier_then (suc room) d fits (λ x mid. sees_gives signs.LeftParen
       (gives_as (λ y ys rest (e, is). (sym (append_assoc (yields.written_type d t) (leaf_at d (Identifier x.name) x.place ∷ []) ys) ∙ e, is)) (function_gives (Some t) x mid))
       (spelled_then (global_value_gives mid) (λ v mid _. sign_then (suc room) d signs.Semicolon fits (λ _ mid. pure_gives (refl, tt)))))
 
   struct_fields_give : (s : Named) (rs : List Named) (ts : List Symbol) → Gives (struct_fields room s rs)
       (λ y ys rest. (leaf_of d (Word words.Struct) ∷ leaf_at d (Identifier s.name) s.place ∷ (yields.region_list d rs ++ ys) ≡ yields.declaration d y) × IsDeclaration y) ts
-  unfolding struct_fields
   struct_fields_give s rs ts = sign_then (suc room) d signs.LeftBrace fits (λ _ mid. spelled_then (some_of_gives begins_type (field room) (yields.field (suc d)) (field_gives room (suc d) deeper shallow) (field_opened (suc d)) mid) (λ fs mid some.
       sign_then room (suc d) signs.RightBrace deeper (λ _ mid. sign_then (suc room) d signs.Semicolon fits (λ _ mid. pure_gives (refl, some)))))
 
@@ -212,14 +196,12 @@ module _ (room d : ℕ) (fits : Fits (suc room) d) (shallow : suc d ≤ max_nest
 
   struct_or_typed_gives : (p : Place) (ts : List Symbol) → Gives (struct_or_typed room p)
       (λ y ys rest. Spells (yields.declaration d) (λ x _. IsDeclaration x) y (leaf_at d (Word words.Struct) p ∷ ys) rest ⊎ Spells (yields.declaration d) (λ x _. IsDeclaration x) y (leaf_of d (Word words.Struct) ∷ ys) rest) ts
-  unfolding struct_or_typed
   struct_or_typed_gives p ts = identifier_then (suc room) d fits (λ s mid. spelled_then (optional_regions_give (suc room) d fits mid) (λ rs mid _. sees_gives signs.LeftBrace
       (gives_as (λ y ys rest h. inr h) (struct_fields_give s rs mid))
       (part_then (with_pointers_give (suc room) d fits here_shallow p (Struct s rs) mid) (λ t xs mid (eq, _).
       gives_as (λ y ys rest (e, is). inl (sym (append_assoc (yields.base_type d p (Struct s rs)) xs ys) ∙ ap (λ (zs : Yield). zs ++ ys) eq ∙ e, is)) (typed_gives t mid)))))
 
   exceptions_give : (ts : List Symbol) → Gives (exceptions room) (Spells (yields.declaration d) (λ x _. IsDeclaration x)) ts
-  unfolding exceptions
   exceptions_give ts = word_then (suc room) d words.Datatype fits (λ _ mid. word_then (suc room) d words.Exn fits (λ _ mid. sign_then (suc room) d signs.LeftBrace fits (λ _ mid.
       spelled_then (some_of_gives begins_constructor (constructor room) (yields.constructor (suc d)) (constructor_gives room (suc d) deeper shallow) (constructor_opened (suc d)) mid) (λ cs mid some.
       sign_then room (suc d) signs.RightBrace deeper (λ _ mid. sign_then (suc room) d signs.Semicolon fits (λ _ mid. pure_gives (refl, some)))))))

@@ -132,17 +132,14 @@ module _ (room d : ℕ) (inner : Nested) (fits : Fits (suc room) d) (h : NestedG
   shallow = omega arith
 
   group_gives : (ts : List Symbol) → Gives (group room inner) (Spells (λ e. leaf_of d (Mark signs.LeftParen) ∷ (yields.expression (suc d) e ++ leaf_of (suc d) (Mark signs.RightParen) ∷ [])) (Level 11)) ts
-  unfolding group
   group_gives ts = sign_then (suc room) d signs.LeftParen fits (λ _ mid. spelled_then (h.expression mid) (λ e mid is. sign_then room (suc d) signs.RightParen deeper (λ _ mid. pure_gives (refl, is))))
 
   arguments_give : (ts : List Symbol) → Gives (arguments room inner) (Spells (yields.arguments (suc d)) (λ es _. AreExpressions es)) ts
-  unfolding arguments
   arguments_give ts = sees_gives signs.RightParen (pure_gives (refl, tt))
       (last_then chain_of (separated_gives room (suc d) deeper begins_expression inner.expression (yields.expression (suc d)) (λ e. IsExpression 11 e) h.expression
       (λ u p begins. opened_as (λ e ls (eq, is). (eq, looser 0 11 (omega arith) e is)) (expression_opened (suc d) u p begins)) ts) (λ es rest all. (chain_yield (suc d) es, chain_are es all.1)))
 
   from_name_gives : (x : Named) (ts : List Symbol) → Gives (from_name room inner x) (Follows (leaf_at d (Identifier x.name) x.place ∷ []) (yields.expression d) IsOperand) ts
-  unfolding from_name
   from_name_gives x ts = sees_gives signs.LeftParen (sign_then (suc room) d signs.LeftParen fits (λ _ mid. spelled_then (arguments_give mid) (λ es mid are. sign_then room (suc d) signs.RightParen deeper (λ _ mid. pure_gives (refl, (refl, are))))))
       (pure_gives (refl, (refl, tt)))
 
@@ -185,7 +182,6 @@ module _ (room d : ℕ) (inner : Nested) (fits : Fits (suc room) d) (h : NestedG
 
   with_postfixes_give : (before : Yield) (first : Parser Expression) (ts : List Symbol) → Gives first (Follows before (yields.expression d) IsOperand) ts
       → Gives (with_postfixes room inner first) (Follows before (yields.expression d) (Level 0)) ts
-  unfolding with_postfixes
   with_postfixes_give before first ts k = part_then k (λ e xs mid (eq, (prim, is)). last_then (chained e) (postfixes_give max_items 1 refl mid)
       (λ ps rest are. (sym (append_assoc before xs (yields.postfixes d 1 ps)) ∙ ap (λ (zs : Yield). zs ++ yields.postfixes d 1 ps) eq ∙ chained_yield e ps, chained_is e ps prim is are)))
 
@@ -209,7 +205,6 @@ module _ (room d : ℕ) (inner : Nested) (fits : Fits (suc room) d) (h : NestedG
   unary_gives ts = choose_gives (λ o e. unary_by_gives o ts e)
 
   pub assignment_gives : (e : Expression) → IsExpression 10 e → (ts : List Symbol) → Gives (assignment room inner e) (Follows (yields.expression d e) (yields.expression d) (Level 11)) ts
-  unfolding assignment
   assignment_gives e is ts = sees_gives signs.Assign (sign_then (suc room) d signs.Assign fits (λ _ mid. last_then (Assign e) (h.expression mid) (λ v rest isv. (refl, (omega arith, is, isv)))))
       (pure_gives (append-nil (yields.expression d e), looser 10 11 (omega arith) e is))
 
@@ -221,11 +216,9 @@ module _ (room d : ℕ) (inner : Nested) (fits : Fits (suc room) d) (h : NestedG
   named_climb_gives x ts = part_then (named_gives x ts) (λ e xs mid (eq, is). gives_as (λ y ys rest (e', is'). (ap (λ (zs : Yield). zs ++ ys) eq ∙ e', is')) (climbed_gives e is mid))
 
   binary_gives : (ts : List Symbol) → Gives (binary room inner) (Spells (yields.expression d) (Level 10)) ts
-  unfolding binary
   binary_gives ts = spelled_then (unary_gives ts) (λ e mid is. climbed_gives e is mid)
 
   expression_gives : (ts : List Symbol) → Gives (expression room inner) (Spells (yields.expression d) (Level 11)) ts
-  unfolding expression
   expression_gives ts = spelled_then (binary_gives ts) (λ e mid is. assignment_gives e is mid)
 
   -- ---- what `new` puts into the new object
@@ -237,21 +230,17 @@ module _ (room d : ℕ) (inner : Nested) (fits : Fits (suc room) d) (h : NestedG
       (pure_gives (refl, tt))
 
   values_give : (ts : List Symbol) → Gives (values room inner) (Spells (yields.values (suc d)) (λ es _. IsSomeExpression es × AreExpressions es)) ts
-  unfolding values
   values_give ts = spelled_then (h.expression ts) (λ e mid is. last_then (MoreExpressions e) (gives_same (more_values room inner (length mid)) refl (more_values_give (length mid) mid)) (λ es rest are. (refl, (tt, (is, are)))))
 
   fields_give : (s : Named) (rs : List Named) (ts : List Symbol) → Gives (fields room inner s rs) (Follows (leaf_at d (Identifier s.name) s.place ∷ yields.region_list d rs) (yields.initial d) (λ i _. IsInitial i)) ts
-  unfolding fields
   fields_give s rs ts = sign_then (suc room) d signs.LeftBrace fits (λ _ mid. spelled_then (values_give mid) (λ es mid are. sign_then room (suc d) signs.RightBrace deeper (λ _ mid. pure_gives (refl, are))))
 
   initial_from_name_gives : (s : Named) (ts : List Symbol) → Gives (initial_from_name room inner s) (Follows (leaf_at d (Identifier s.name) s.place ∷ []) (yields.initial d) (λ i _. IsInitial i)) ts
-  unfolding initial_from_name
   initial_from_name_gives s ts = sees_gives signs.LeftBrace (fields_give s [] ts)
       (test_gives opens_regions (λ _. spelled_then (region_list_gives (suc room) d fits ts) (λ rs mid _. fields_give s rs mid))
       (λ _. part_then (named_gives s ts) (λ e xs mid (eq, is). pure_gives (ap (λ (zs : Yield). leaf_at d (Identifier s.name) s.place ∷ zs) (append-nil xs) ∙ eq, is))))
 
   array_gives : (ts : List Symbol) → Gives (array room inner) (Spells (yields.initial d) (λ i _. IsInitial i)) ts
-  unfolding array
   array_gives ts = sign_then (suc room) d signs.LeftBrace fits (λ _ mid. word_then_at room (suc d) words.For deeper (λ p mid. identifier_then room (suc d) deeper (λ x mid. sign_then room (suc d) signs.Less deeper (λ _ mid.
       spelled_then (h.binary mid) (λ n mid isn. sign_then room (suc d) signs.Colon deeper (λ _ mid. spelled_then (h.expression mid) (λ e mid ise. sign_then room (suc d) signs.RightBrace deeper (λ _ mid. pure_gives (refl, (isn, ise))))))))))
 

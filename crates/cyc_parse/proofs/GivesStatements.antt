@@ -66,7 +66,6 @@ new_key_rest (suc room) d fits ts = sign_then (suc (suc room)) d signs.Assign fi
     (λ _ mid. sign_then room (suc (suc d)) signs.RightParen (omega arith) (λ _ mid. sign_then (suc (suc room)) d signs.Semicolon fits (λ _ mid. pure_gives (refl, tt))))))
 
 end_of_swap_gives : (room d : ℕ) → Fits room d → (e : Expression) (ts : List Symbol) → Gives (end_of_swap room e) (Spells (λ _. leaf_of d (Mark signs.Semicolon) ∷ []) Any) ts
-unfolding end_of_swap
 end_of_swap_gives room d fits e ts = sees_gives signs.Semicolon (bare_gives (sign_then room d signs.Semicolon fits (λ _ mid. pure_gives (refl, tt))))
     (test_gives (λ s. sees signs.Less s && ends_in_new e) (λ _. then_unexpected (possibly some_place _ (refl, tt))) (λ _. unexpected_gives (possibly some_place _ (refl, tt))))
 
@@ -90,28 +89,23 @@ module _ (room d : ℕ) (inner : Nested) (fits : Fits (suc room) d) (h : Stateme
   below = nested_give room (suc d) deeper
 
   pub body_gives : (ts : List Symbol) → Gives (body room inner) (Spells (yields.body d) (λ b _. IsBody b)) ts
-  unfolding body
   body_gives ts = sign_then_at (suc room) d signs.LeftBrace fits (λ p mid. spelled_then (h.items mid) (λ is mid are. sign_then_at room (suc d) signs.RightBrace deeper (λ q mid. pure_gives (refl, are))))
 
   expression_gives : (ts : List Symbol) → Gives (expression room inner) (Spells (yields.expression d) (Level 11)) ts
-  unfolding expression
   expression_gives ts = this.expression ts
 
   expression_from_gives : (x : Named) (ts : List Symbol) → Gives (expression_from room inner x) (Follows (leaf_at d (Identifier x.name) x.place ∷ []) (yields.expression d) (Level 11)) ts
-  unfolding expression_from nested
+  unfolding nested
   expression_from_gives x ts = part_then (named_climb_gives room d (nested room) fits below x ts) (λ e xs mid (eq, is). gives_as (λ y ys rest (e', is'). (ap (λ (zs : Yield). zs ++ ys) eq ∙ e', is')) (assignment_gives room d (nested room) fits below e is mid))
 
   swap_gives : (a : Expression) → IsExpression 0 a → (ts : List Symbol) → Gives (swap room inner a) (Follows (yields.expression d a) (yields.statement d) IsStatementBefore) ts
-  unfolding swap
   swap_gives a is ts = sign_then (suc room) d signs.Swap fits (λ _ mid. spelled_then (this.unary mid) (λ b mid isb. spelled_then (end_of_swap_gives (suc room) d fits b mid) (λ _ mid _. pure_gives (refl, ((is, isb), no_else)))))
 
   behind_gives : (e : Expression) → IsExpression 11 e → (ts : List Symbol) → Gives (behind room inner e) (Follows (yields.expression d e) (yields.statement d) IsStatementBefore) ts
-  unfolding behind
   behind_gives e is ts = test_gives (λ s. sees signs.Swap s && is_unary e) (λ t. swap_gives e (unary_of e is (and_right (sees signs.Swap ts) (is_unary e) t)) ts)
       (λ _. sign_then (suc room) d signs.Semicolon fits (λ _ mid. pure_gives (refl, (is, no_else))))
 
   statement_from_name_gives : (x : Named) (ts : List Symbol) → Gives (statement_from_name room inner x) (Follows (leaf_at d (Identifier x.name) x.place ∷ []) (yields.statement d) IsStatementBefore) ts
-  unfolding statement_from_name
   statement_from_name_gives x ts = sees_gives signs.Colon (sign_then (suc room) d signs.Colon fits (λ _ mid. last_then (Labelled x) (body_gives mid) (λ b rest is. (refl, (is, no_else)))))
       (part_then (expression_from_gives x ts) (λ e xs mid (eq, is). gives_as (λ y ys rest (e', is'). (ap (λ (zs : Yield). zs ++ ys) eq ∙ e', is')) (behind_gives e is mid)))
 
@@ -131,34 +125,27 @@ module _ (room d : ℕ) (inner : Nested) (fits : Fits (suc room) d) (h : Stateme
 
   else_part_gives : (p : Place) (c : Expression) (s : Statement) → IsExpression 11 c → (ts : List Symbol) → IsStatementBefore s ts
       → Gives (else_part room inner p c s) (λ y ys rest. (leaf_at d (Word words.If) p ∷ (condition c ++ (yields.statement (suc d) s ++ ys)) ≡ yields.statement d y) × IsStatementBefore y rest) ts
-  unfolding else_part
   else_part_gives p c s isc ts (iss, wants) = starts_gives is_else
       (λ comes. word_then (suc room) d words.Else fits (λ _ mid. last_then (IfElse p c s) (h.statement mid)
       (λ t rest (ist, wantst). (regroup (leaf_at d (Word words.If) p) c _, ((isc, iss, wants_none s ts wants comes, ist), wantst)))))
       (λ none. pure_gives (regroup (leaf_at d (Word words.If) p) c _ ∙ ap (λ (zs : Yield). leaf_at d (Word words.If) p ∷ leaf_of d (Mark signs.LeftParen) ∷ (yields.expression (suc d) c ++ leaf_of (suc d) (Mark signs.RightParen) ∷ zs)) (append-nil (yields.statement (suc d) s)), ((isc, iss), (λ _. none))))
 
   if_statement_gives : (p : Place) (ts : List Symbol) → Gives (if_statement room inner p) (Follows (leaf_at d (Word words.If) p ∷ []) (yields.statement d) IsStatementBefore) ts
-  unfolding if_statement
   if_statement_gives p ts = spelled_then (this.group ts) (λ c mid isc. spelled_then (h.statement mid) (λ s mid is. else_part_gives p c s isc mid is))
 
   while_statement_gives : (p : Place) (ts : List Symbol) → Gives (while_statement room inner p) (Follows (leaf_at d (Word words.While) p ∷ []) (yields.statement d) IsStatementBefore) ts
-  unfolding while_statement
   while_statement_gives p ts = spelled_then (this.group ts) (λ c mid isc. last_then (While p c) (h.statement mid) (λ s rest (iss, wants). (regroup (leaf_at d (Word words.While) p) c _, ((isc, iss), wants))))
 
   return_value_gives : (ts : List Symbol) → Gives (return_value room inner) (Spells (yields.optional (yields.expression d)) (λ v _. IsExpressionOrNone v)) ts
-  unfolding return_value
   return_value_gives ts = sees_gives signs.Semicolon (pure_gives (refl, tt)) (last_then Some (expression_gives ts) (λ e rest is. (refl, is)))
 
   thrown_gives : (ts : List Symbol) → Gives (thrown room inner) (Spells (yields.optional (yields.thrown (suc d))) (λ v _. IsExpressionOrNone v)) ts
-  unfolding thrown
   thrown_gives ts = sees_gives signs.LeftParen (last_then Some (below.group ts) (λ e rest is. (refl, is))) (pure_gives (refl, tt))
 
   throw_statement_gives : (p : Place) (ts : List Symbol) → Gives (throw_statement room inner p) (Follows (leaf_at d (Word words.Throw) p ∷ []) (yields.statement d) IsStatementBefore) ts
-  unfolding throw_statement
   throw_statement_gives p ts = word_then (suc room) d words.New fits (λ _ mid. identifier_then room (suc d) deeper (λ x mid. spelled_then (thrown_gives mid) (λ v mid is. sign_then (suc room) d signs.Semicolon fits (λ _ mid. pure_gives (refl, (is, no_else))))))
 
   caught_gives : (ts : List Symbol) → Gives (caught room inner) (Spells (yields.optional (yields.caught (suc d))) Any) ts
-  unfolding caught
   caught_gives ts = sees_gives signs.LeftParen (closed_name room (suc d) deeper ts) (pure_gives (refl, tt))
 
   begins_or : (ts : List Symbol) → starts begins_clause (next ts) ≡ true → starts is_case (next ts) ≡ false → starts is_default (next ts) ≡ false → ⊥
@@ -180,7 +167,6 @@ module _ (room d : ℕ) (inner : Nested) (fits : Fits (suc room) d) (h : Stateme
       (λ no_default. pure_gives (refl, (tt, (λ _ begins. begins_or ts begins no_case no_default)))))
 
   clauses_give : (ts : List Symbol) → Gives (clauses room inner) (Spells (yields.clauses (suc d)) (λ cs _. IsSomeClause cs × AreClauses cs)) ts
-  unfolding clauses
   clauses_give ts = starts_gives begins_clause (λ begins. gives_as (λ cs ls rest (e, (are, some)). (e, (some (positive ts begins) begins, are))) (gives_same (clauses_in room inner (length ts)) refl (clauses_in_give (length ts) ts))) (λ _. unexpected_gives (possibly (Default NoItems) _ (refl, (tt, tt))))
     where
       positive : (ts : List Symbol) → starts begins_clause (next ts) ≡ true → 0 < length ts
@@ -188,7 +174,6 @@ module _ (room d : ℕ) (inner : Nested) (fits : Fits (suc room) d) (h : Stateme
       positive (t ∷ ts) begins = omega arith
 
   try_statement_gives : (p : Place) (ts : List Symbol) → Gives (try_statement room inner p) (Follows (leaf_at d (Word words.Try) p ∷ []) (yields.statement d) IsStatementBefore) ts
-  unfolding try_statement
   try_statement_gives p ts = spelled_then (h.statement ts) (λ s mid (iss, _). word_then (suc room) d words.Catch fits (λ _ mid. sign_then (suc room) d signs.LeftBrace fits (λ _ mid. spelled_then (clauses_give mid) (λ cs mid (some, are).
       sign_then room (suc d) signs.RightBrace deeper (λ _ mid. pure_gives (refl, ((iss, some, are), no_else)))))))
 
@@ -212,33 +197,26 @@ module _ (room d : ℕ) (inner : Nested) (fits : Fits (suc room) d) (h : Stateme
   -- ---- items
 
   local_value_gives : (ts : List Symbol) → Gives (local_value room inner) (Spells (yields.optional (yields.given d)) (λ v _. IsExpressionOrNone v)) ts
-  unfolding local_value
   local_value_gives ts = sees_gives signs.Assign (sign_then (suc room) d signs.Assign fits (λ _ mid. last_then Some (below.expression mid) (λ e rest is. (refl, is)))) (pure_gives (refl, tt))
 
   local_gives : (ts : List Symbol) → Gives (local room inner) (Spells (yields.item d) (λ i _. IsItem i)) ts
-  unfolding local
   local_gives ts = spelled_then (written_type_gives (suc room) d fits shallow ts) (λ t mid _. identifier_then (suc room) d fits (λ x mid. spelled_then (local_value_gives mid) (λ v mid is. sign_then (suc room) d signs.Semicolon fits (λ _ mid. pure_gives (refl, is)))))
 
   opened_key_gives : (ts : List Symbol) → Gives (opened_key room inner) (Spells (yields.optional (yields.opened d)) Any) ts
-  unfolding opened_key
   opened_key_gives ts = sees_gives signs.Assign (sign_then (suc room) d signs.Assign fits (λ _ mid. opened_rest room d deeper mid)) (pure_gives (refl, tt))
 
   region_gives : (ts : List Symbol) → Gives (region room inner) (Spells (yields.item d) (λ i _. IsItem i)) ts
-  unfolding region
   region_gives ts = word_then (suc room) d words.Region fits (λ _ mid. spelled_then (region_of_gives (suc room) d fits mid) (λ r mid _. identifier_then (suc room) d fits (λ n mid. spelled_then (opened_key_gives mid) (λ k mid _.
       sign_then (suc room) d signs.Semicolon fits (λ _ mid. pure_gives (refl, tt))))))
 
   alias_gives : (ts : List Symbol) → Gives (alias room inner) (Follows (leaf_of d (Word words.Let) ∷ []) (yields.item d) (λ i _. IsItem i)) ts
-  unfolding alias
   alias_gives ts = word_then (suc room) d words.Alias fits (λ _ mid. spelled_then (region_of_gives (suc room) d fits mid) (λ r mid _. spelled_then (written_type_gives (suc room) d fits shallow mid) (λ t mid _. identifier_then (suc room) d fits (λ x mid.
       sign_then (suc room) d signs.Assign fits (λ _ mid. identifier_then room (suc d) deeper (λ y mid. sign_then (suc room) d signs.Semicolon fits (λ _ mid. pure_gives (refl, tt))))))))
 
   new_key_gives : (ts : List Symbol) → Gives (new_key room inner) (Spells (λ _. key_leaves d) Any) ts
-  unfolding new_key
   new_key_gives ts = new_key_rest room d fits ts
 
   dynamic_region_gives : (ts : List Symbol) → Gives (dynamic_region room inner) (Follows (leaf_of d (Word words.Let) ∷ []) (yields.item d) (λ i _. IsItem i)) ts
-  unfolding dynamic_region
   dynamic_region_gives ts = word_then (suc room) d words.NewDynamicRegion fits (λ _ mid. sign_then (suc room) d signs.LeftBrace fits (λ _ mid. spelled_then (region_of_gives room (suc d) deeper mid) (λ r mid _. identifier_then room (suc d) deeper (λ k mid.
       sign_then room (suc d) signs.RightBrace deeper (λ _ mid. spelled_then (new_key_gives mid) (λ _ mid _. pure_gives (refl, tt)))))))
 
@@ -266,7 +244,6 @@ module _ (room d : ℕ) (inner : Nested) (fits : Fits (suc room) d) (h : Stateme
   items_in_give (suc turns) ts = starts_gives begins_item (λ _. spelled_then (item_gives ts) (λ i mid is. last_then (MoreItems i) (items_in_give turns mid) (λ is' rest are. (refl, (is, are))))) (λ _. pure_gives (refl, tt))
 
   pub items_give : (ts : List Symbol) → Gives (items room inner) (Spells (yields.items d) (λ is _. AreItems is)) ts
-  unfolding items
   items_give ts = gives_same (items_in room inner (length ts)) refl (items_in_give (length ts) ts)
 
 pub nested_statements_give : (room d : ℕ) → Fits room d → StatementsGive d (nested_statements room)

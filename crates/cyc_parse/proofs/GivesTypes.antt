@@ -30,7 +30,6 @@ module _ {A : Type 0} (room d : ℕ) (fits : Fits room d) (begins : Terminal →
       last_then (λ xs. x ∷ xs) (more_items_give left (suc i) (omega arith) mid) (λ xs rest all. (refl, (is, all)))))) (pure_gives (refl, tt))
 
   pub separated_gives : (ts : List Symbol) → Gives (separated room begins item) (Spells (yields.separated yield d) (λ xs _. IsNonempty xs × AllByRecursion Is xs)) ts
-  unfolding separated
   separated_gives ts = spelled_then (item_gives 1 (omega arith) (h ts)) (λ x mid is. last_then (λ xs. x ∷ xs) (more_items_give 63 2 refl mid) (λ xs rest all. (refl, (tt, (is, all)))))
 
 -- ---- regions
@@ -46,11 +45,9 @@ mark_comes _ k e = absurd (cc)
 
 module _ (room d : ℕ) (fits : Fits room d) where
   pub regions_give : (ts : List Symbol) → Gives (regions room) (Spells (yields.regions d) (λ rs _. IsNonempty rs)) ts
-  unfolding regions
   regions_give ts = gives_as (λ rs ls rest h. (h.0, h.1.0)) (separated_gives room d fits begins_region (region_name room) (yields.region_name d) (λ _. Unit {0}) (λ s. region_name_gives room d fits s) (region_opened d) ts)
 
   pub region_list_gives : (ts : List Symbol) → Gives (region_list room) (Spells (yields.region_list d) Any) ts
-  unfolding region_list
   region_list_gives ts = sign_then room d signs.Less fits (λ _ mid. spelled_then (regions_give mid) (λ rs mid some. sign_then room d signs.Greater fits (λ _ mid. pure_gives (closing rs some, tt))))
     where
       closing : (rs : List Named) → IsNonempty rs → leaf_of d (Mark signs.Less) ∷ (yields.regions d rs ++ leaf_of d (Mark signs.Greater) ∷ []) ≡ yields.region_list d rs
@@ -58,7 +55,6 @@ module _ (room d : ℕ) (fits : Fits room d) where
       closing (r ∷ rs) some = refl
 
   pub optional_region_gives : (ts : List Symbol) → Gives (optional_region room) (Spells (yields.optional (yields.region_name d)) Any) ts
-  unfolding optional_region
   optional_region_gives ts = starts_gives begins_region (λ _. region_then room d fits (λ r mid. pure_gives (refl, tt))) (λ _. pure_gives (refl, tt))
 
   pub optional_regions_give : (ts : List Symbol) → Gives (optional_regions room) (Spells (yields.region_list d) Any) ts
@@ -66,7 +62,6 @@ module _ (room d : ℕ) (fits : Fits room d) where
   optional_regions_give ts = sees_gives signs.Less (region_list_gives ts) (pure_gives (refl, tt))
 
   pub region_of_gives : (ts : List Symbol) → Gives (region_of room) (Spells (λ r. leaf_of d (Mark signs.Less) ∷ leaf_at d (RegionName r.name) r.place ∷ leaf_of d (Mark signs.Greater) ∷ []) Any) ts
-  unfolding region_of
   region_of_gives ts = sign_then room d signs.Less fits (λ _ mid. region_then room d fits (λ r mid. sign_then room d signs.Greater fits (λ _ mid. pure_gives (refl, tt))))
 
   -- ---- types
@@ -81,7 +76,6 @@ module _ (room d : ℕ) (fits : Fits room d) where
         (pure_gives (refl, tt))
 
     pub with_pointers_give : (p : Place) (b : BaseType) (ts : List Symbol) → Gives (with_pointers room p b) (Follows (yields.base_type d p b) (yields.written_type d) Any) ts
-    unfolding with_pointers
     with_pointers_give p b ts = last_then (λ ms. record { place = p; base = b; marks = ms }) (pointers_give 64 1 refl ts) (λ ms rest _. (refl, tt))
 
     base_gives : (o : Option Terminal) (ts : List Symbol) → next ts ≡ o → Gives (base_by room o) (Spells (yields.written_type d) Any) ts

@@ -10,7 +10,7 @@ use Rattle.cyc_syntax.specs.Yields.{Yield}
 use Rattle.cyc_syntax.specs.Yields as yields
 use Rattle.cyc_syntax.specs.Grammar.{IsExpression, AreExpressions, ArePostfixes, AreOperations, IsInitial, IsSomePostfix, IsSomeOperation, IsSomeExpression}
 use Rattle.cyc_parse.specs.Parsing.{Parser, pure, sees, sees_terminal, if_sees, bind, choose, opens_regions, region_list}
-use Rattle.cyc_parse.specs.Expressions.{begins_expression, begins_initial, nested, from_name, primary, chained, with_postfixes, unary, unary_by, climb, assignment, binary, expression, initial, initial_by, initial_from_name, fields, array, values, more_values}
+use Rattle.cyc_parse.specs.Expressions.{begins_expression, begins_initial, nested, from_name, primary, chained, with_postfixes, unary, unary_by, climb, assignment, initial, initial_by, fields, values, more_values}
 use Rattle.cyc_parse.proofs.Rules.{Front, Reads, Fits, Always, leaf_of, leaf_at, front-next, front-length, then_reads, last_reads, pure_reads, reads_as, word_reads_at, sign_reads, identifier_reads, choose_reads, advance_reads_at, sees_reads, unseen_reads, deep_reads, between_then}
 use Rattle.cyc_parse.proofs.Lists.{EndsList}
 use Rattle.cyc_parse.proofs.Stops.{Stops, stops_leaf, no_brace, no_regions, binds, binds_terminal}
@@ -60,7 +60,6 @@ module _ (room d : ℕ) (fits : Fits room d) where
   all_values_reads es all = record { reads = λ ts rest front ends. (more_values_reads (length ts) es (omega (arith, count-length d es, front-length (yields.more_values d es) ts rest front)) all).reads ts rest front ends }
 
   pub values_reads : (e : Expression) (es : Expressions) → AreRead room d (e ∷ list_of es) → Reads (values room (nested room)) (MoreExpressions e es) (yields.values d (MoreExpressions e es)) EndsValues
-  unfolding values
   values_reads e es (one, all) = then_reads _ one (last_reads (λ (v : Expressions). pure (MoreExpressions e v)) (λ ts. refl) (all_values_reads es all)) (λ mid rest front ends. values_end d es mid rest front ends)
 
 -- ---- initial values
@@ -68,14 +67,13 @@ module _ (room d : ℕ) (fits : Fits room d) where
 module _ (room d : ℕ) (fits : Fits (suc room) d) where
   pub fields_reads : (s : Named) (rs : List Named) (e : Expression) (es : Expressions) (Ends : List Symbol → Type 0) → AreRead room (suc d) (e ∷ list_of es)
       → Reads (fields room (nested room) s rs) (Fields s rs (MoreExpressions e es)) (leaf_of d (Mark signs.LeftBrace) ∷ (yields.values (suc d) (MoreExpressions e es) ++ leaf_of (suc d) (Mark signs.RightBrace) ∷ [])) Ends
-  unfolding fields
   fields_reads s rs e es Ends all = sign_reads (suc room) d signs.LeftBrace _ fits (λ p. then_reads _ (values_reads room (suc d) (deeper room d fits) e es all)
       (sign_reads room (suc d) signs.RightBrace _ (deeper room d fits) (λ q. pure_reads (Fields s rs (MoreExpressions e es)) Ends))
       (λ mid rest front ends. record { item = stops_leaf 11 (leaf_of (suc d) (Mark signs.RightBrace)) [] mid rest refl (omega arith) front; comma = ap (sees_terminal signs.Comma) (front-next (leaf_of (suc d) (Mark signs.RightBrace)) [] mid rest front) }))
 
   pub struct_reads : (s : Named) (rs : List Named) (e : Expression) (es : Expressions) → AreRead room (suc d) (e ∷ list_of es)
       → Reads (initial room (nested room)) (Fields s rs (MoreExpressions e es)) (yields.initial d (Fields s rs (MoreExpressions e es))) (Stops 0)
-  unfolding initial initial_from_name
+  unfolding initial
   struct_reads s [] e es all = choose_reads (initial_by room (nested room)) (leaf_at d (Identifier s.name) s.place) _ (advance_reads_at d (Identifier s.name) s.place _ (shallow room d fits)
       (sees_reads signs.LeftBrace _ _ (leaf_of d (Mark signs.LeftBrace)) _ refl (fields_reads s [] e es (Stops 0) all)))
   struct_reads s (r ∷ rs) e es all = choose_reads (initial_by room (nested room)) (leaf_at d (Identifier s.name) s.place) _ (advance_reads_at d (Identifier s.name) s.place _ (shallow room d fits)
@@ -86,7 +84,7 @@ module _ (room d : ℕ) (fits : Fits (suc room) d) where
 
   pub array_reads : (p : Place) (x : Named) (n e : Expression) → Reads (nested room).binary n (yields.expression (suc d) n) (Stops 10) → ReadsDeeper room (suc d) e
       → Reads (initial room (nested room)) (Array p x n e) (yields.initial d (Array p x n e)) (Stops 0)
-  unfolding initial array
+  unfolding initial
   array_reads p x n e bound element = choose_reads (initial_by room (nested room)) (leaf_of d (Mark signs.LeftBrace)) _ (sign_reads (suc room) d signs.LeftBrace _ fits (λ q.
       word_reads_at room (suc d) words.For p _ (deeper room d fits) (identifier_reads room (suc d) x _ (deeper room d fits) (sign_reads room (suc d) signs.Less _ (deeper room d fits) (λ q.
       then_reads _ bound (sign_reads room (suc d) signs.Colon _ (deeper room d fits) (λ q.
@@ -99,7 +97,7 @@ module _ (room d : ℕ) (fits : Fits (suc room) d) where
   -- the parser on a name that does not open a struct's fields
   on_name : (x : ℕ) (t : Symbol) (more : List Symbol) → t.terminal ≡ Identifier x → sees signs.LeftBrace more ≡ false → opens_regions more ≡ false
       → initial room (nested room) (t ∷ more) ≡ bind (unary room (nested room)) (λ v. pure (Plain v)) (t ∷ more)
-  unfolding initial unary choose initial_from_name if_sees bind with_postfixes primary
+  unfolding initial unary choose if_sees bind primary
   on_name x t more named plain closed = rw (named) (rw (plain) (rw (closed) refl))
 
   not_name : (t : Terminal) → begins_expression t ≡ true → ((x : ℕ) → t ≡ Identifier x → ⊥) → initial_by room (nested room) (Some t) ≡ bind (unary room (nested room)) (λ v. pure (Plain v))
@@ -156,7 +154,7 @@ below_next : (a b : ℕ) → a < suc b → (a ≡ b → ⊥) → a < b
 below_next a b h other = omega arith
 
 binary_read : (e : Expression) → IsReadAll e → (room d : ℕ) → Fits room d → IsExpression 10 e → Reads (nested room).binary e (yields.expression d e) (Stops 10)
-unfolding nested binary
+unfolding nested
 binary_read e h zero d fits is = deep_reads begins_expression d (omega arith) (expression_starts d e)
 binary_read e h (suc room) d fits is = h.operand 10 (suc room) d fits (omega arith) is
 
@@ -195,7 +193,7 @@ chain_read e os h parts = record { unary = at_unary; operand = at_operand; expre
 
 -- an assignment
 assign_read : (a b : Expression) → IsReadAll a → IsReadAll b → IsReadAll (Assign a b)
-unfolding nested expression binary assignment
+unfolding nested
 assign_read a b left right = record { unary = at_unary; operand = at_operand; expression = at_expression; parts = λ room d fits is. tt }
   where
     at_unary : (room d : ℕ) → Fits room d → IsExpression 0 (Assign a b) → Reads (nested room).unary (Assign a b) (yields.expression d (Assign a b)) (Stops 0)

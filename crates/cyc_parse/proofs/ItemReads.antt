@@ -9,7 +9,7 @@ use Rattle.cyc_syntax.specs.Yields as yields
 use Rattle.cyc_syntax.specs.Grammar.{IsExpressionOrNone, wants_else, IsStatement, AreItems, IsItem, AreClauses, IsSomeClause}
 use Rattle.cyc_parse.specs.Parsing.{Parser, ◌>>=◌, ◌>>◌, pure, next, inside, sees, sees_terminal, starts, sign, word, identifier, bind, choose}
 use Rattle.cyc_parse.specs.Types.{begins_type, region_of}
-use Rattle.cyc_parse.specs.Statements.{begins_statement, begins_item, begins_clause, is_case, is_default, is_else, nested_statements, statement, item, item_by, local, local_value, region, opened_key, alias, new_key, dynamic_region, let_by, items_in, items, caught, clauses_in, clauses, body}
+use Rattle.cyc_parse.specs.Statements.{begins_statement, begins_item, begins_clause, is_case, is_default, is_else, nested_statements, statement, item, item_by, local, local_value, opened_key, new_key, let_by, items_in, items, caught, clauses_in, clauses, body}
 use Rattle.cyc_parse.proofs.Rules.{Front, Reads, starting_reads, deep_refusal, Fits, Always, starts-next, starts_append, leaf_of, leaf_at, front-next, front-length, then_reads, last_reads, pure_reads, reads_as, reads_before, word_reads, sign_reads, identifier_reads, choose_reads, advance_reads, sees_reads, unseen_reads, word_deep_reads, sign_deep_reads, starts_reads, unstarted_reads, deep_reads}
 use Rattle.cyc_parse.proofs.Stops.{Stops, stops_leaf}
 use Rattle.cyc_parse.proofs.TypeReads.{type_starts, type_reads, region_of_reads_any}
@@ -46,7 +46,6 @@ open_reads (suc room) d fits k Ends = word_reads (suc room) d words.Open _ fits 
 
 -- `(variable)` likewise
 caught_reads : (room d : ℕ) → Fits room d → (v : Option Named) → Reads (caught room (nested_statements room)) v (yields.optional (yields.caught d) v) NoParen
-unfolding caught
 caught_reads room d fits None = unseen_reads signs.LeftParen _ _ (λ ts rest front ends. ap (sees signs.LeftParen) front ∙ ends.paren) (pure_reads None NoParen)
 caught_reads zero d fits (Some x) = sees_reads signs.LeftParen _ _ (leaf_of d (Mark signs.LeftParen)) _ refl (sign_deep_reads d signs.LeftParen _ (omega arith))
 caught_reads (suc room) d fits (Some x) = sees_reads signs.LeftParen _ _ (leaf_of d (Mark signs.LeftParen)) _ refl (sign_reads (suc room) d signs.LeftParen _ fits (λ p. identifier_reads room (suc d) x _ (deeper room d fits)
@@ -70,13 +69,11 @@ module _ (room d : ℕ) (fits : Fits (suc room) d) where
   by_choice leaf ys h = choose_reads (item_by room (nested_statements room)) leaf ys h
 
   local_value_reads : (v : Option Expression) → IsExpressionOrNone v → Reads (local_value room (nested_statements room)) v (yields.optional (yields.given d) v) EndsGiven
-  unfolding local_value
   local_value_reads None is = unseen_reads signs.Assign _ _ (λ ts rest front ends. ap (sees signs.Assign) front ∙ ends.assign) (pure_reads None EndsGiven)
   local_value_reads (Some e) is = sees_reads signs.Assign _ _ (leaf_of d (Mark signs.Assign)) _ refl (sign_reads (suc room) d signs.Assign _ fits (λ p.
       last_reads (λ (v : Expression). pure (Some v)) (λ ts. refl) (reads_before (Stops 11) (expression_at room (suc d) (deeper room d fits) e is) (λ rest ends. ends.stops))))
 
   local_reads : (t : WrittenType) (x : Named) (v : Option Expression) (Ends : List Symbol → Type 0) → IsExpressionOrNone v → Reads (local room (nested_statements room)) (Local t x v) (yields.item d (Local t x v)) Ends
-  unfolding local
   local_reads t x v Ends is = then_reads _ (type_reads (suc room) d fits (shallow room d fits) t) (identifier_reads (suc room) d x _ fits (then_reads _ (local_value_reads v is)
       (sign_reads (suc room) d signs.Semicolon _ fits (λ p. pure_reads (Local t x v) Ends))
       (λ mid rest front ends. record { assign = no_assign_leaf d mid rest front; stops = stops_leaf 11 (leaf_of d (Mark signs.Semicolon)) [] mid rest refl (omega arith) front })))
@@ -97,18 +94,15 @@ module _ (room d : ℕ) (fits : Fits (suc room) d) where
       ∙ ap (λ (q : Parser Item). q ts) (by_type ((type_starts d t).first.terminal) ((type_starts d t).begin))) (local_reads t x v Ends is)
 
   opened_reads : (k : Option Named) → Reads (opened_key room (nested_statements room)) k (yields.optional (yields.opened d) k) NoAssign
-  unfolding opened_key
   opened_reads None = unseen_reads signs.Assign _ _ (λ ts rest front ends. ap (sees signs.Assign) front ∙ ends.assign) (pure_reads None NoAssign)
   opened_reads (Some k) = sees_reads signs.Assign _ _ (leaf_of d (Mark signs.Assign)) _ refl (sign_reads (suc room) d signs.Assign _ fits (λ p. open_reads room (suc d) (deeper room d fits) k NoAssign))
 
   pub region_reads : (r h : Named) (k : Option Named) (Ends : List Symbol → Type 0) → Reads (item room (nested_statements room)) (Region r h k) (yields.item d (Region r h k)) Ends
-  unfolding region
   region_reads r h k Ends = by_choice (leaf_of d (Word words.Region)) _ (word_reads (suc room) d words.Region _ fits (λ p. then_reads _ (region_of_reads_any (suc room) d fits r Always)
       (identifier_reads (suc room) d h _ fits (then_reads _ (opened_reads k) (sign_reads (suc room) d signs.Semicolon _ fits (λ q. pure_reads (Region r h k) Ends)) (λ mid rest front ends. record { assign = no_assign_leaf d mid rest front })))
       (λ mid rest front ends. tt)))
 
   pub alias_reads : (r : Named) (t : WrittenType) (x y : Named) (Ends : List Symbol → Type 0) → Reads (item room (nested_statements room)) (Alias r t x y) (yields.item d (Alias r t x y)) Ends
-  unfolding alias
   alias_reads r t x y Ends = by_choice (leaf_of d (Word words.Let)) _ (advance_reads _ (leaf_of d (Word words.Let)) (shallow room d fits) zero-le (λ p _.
       choose_reads (let_by room (nested_statements room)) (leaf_of d (Word words.Alias)) _ (word_reads (suc room) d words.Alias _ fits (λ p. then_reads _ (region_of_reads_any (suc room) d fits r Always)
       (then_reads _ (type_reads (suc room) d fits (shallow room d fits) t) (identifier_reads (suc room) d x _ fits (sign_reads (suc room) d signs.Assign _ fits (λ q.
@@ -118,11 +112,9 @@ module _ (room d : ℕ) (fits : Fits (suc room) d) where
 
   new_key_reads : (Ends : List Symbol → Type 0) → Reads (new_key room (nested_statements room)) (tt {0})
       (leaf_of d (Mark signs.Assign) ∷ leaf_of (suc d) (Word words.NewKey) ∷ leaf_of (suc d) (Mark signs.LeftParen) ∷ leaf_of (suc (suc d)) (Mark signs.RightParen) ∷ leaf_of d (Mark signs.Semicolon) ∷ []) Ends
-  unfolding new_key
   new_key_reads Ends = sign_reads (suc room) d signs.Assign _ fits (λ p. key_reads room d fits Ends)
 
   pub dynamic_reads : (r k : Named) (Ends : List Symbol → Type 0) → Reads (item room (nested_statements room)) (DynamicRegion r k) (yields.item d (DynamicRegion r k)) Ends
-  unfolding dynamic_region
   dynamic_reads r k Ends = by_choice (leaf_of d (Word words.Let)) _ (advance_reads _ (leaf_of d (Word words.Let)) (shallow room d fits) zero-le (λ p _.
       choose_reads (let_by room (nested_statements room)) (leaf_of d (Word words.NewDynamicRegion)) _ (word_reads (suc room) d words.NewDynamicRegion _ fits (λ p. sign_reads (suc room) d signs.LeftBrace _ fits (λ p.
       region_inside_reads room (suc d) (deeper room d fits) r _ (identifier_reads room (suc d) k _ (deeper room d fits) (sign_reads room (suc d) signs.RightBrace _ (deeper room d fits) (λ p.
@@ -194,7 +186,6 @@ module _ (room d : ℕ) (fits : Fits (suc room) d) where
       (then_reads _ one.reads (last_reads (λ (v : Items). pure (MoreItems i v)) (λ ts. refl) (items_in_reads turns is (omega arith) all)) (λ mid rest front ends. ends_item i mid (next_no_else d is mid rest front ends)))
 
   items_here : (is : Items) → AllRead room d is → Reads (items room (nested_statements room)) is (yields.items d is) EndsBlock
-  unfolding items
   items_here is all = record { reads = λ ts rest front ends. (items_in_reads (length ts) is (omega (arith, item_count-length d is, front-length (yields.items d is) ts rest front)) all).reads ts rest front ends }
 
 pub items_read : (is : Items) → ((room d : ℕ) → Fits (suc room) d → AllRead room d is) → (room d : ℕ) → Fits room d → ReadsItems room d is
@@ -255,7 +246,6 @@ clauses_in_reads room d fits (suc turns) (Case x v is cs) few (one, all) = start
     (λ mid rest (t, more, e, is_leaf, front) ends. record { paren = ap (sees_terminal signs.LeftParen) (ap next e ∙ ap Some is_leaf.terminal) })))))
 
 clauses_reads : (room d : ℕ) → Fits room d → (cs : Clauses) → IsSomeClause cs → ClausesRead room d cs → Reads (clauses room (nested_statements room)) cs (yields.clauses d cs) EndsClauses
-unfolding clauses
 clauses_reads room d fits NoClauses some all = absurd some
 clauses_reads room d fits (Default is) some all = starts_reads begins_clause _ _ (leaf_of d (Word words.Default)) _ refl (record {
   reads = λ ts rest front ends.

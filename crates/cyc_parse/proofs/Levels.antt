@@ -40,7 +40,7 @@ unfolding nested
 nested_initial room ts h = let k : room ≡ suc (room - 1) = omega arith in ap (λ (n : ℕ). (nested n).initial ts) k
 
 pub climb_step : (room level : ℕ) (e : Expression) (ts : List Symbol) → 0 < level → climb (unary room (nested room)) level e ts ≡ one_level room (nested room) (level - 1) e ts
-unfolding climb one_level
+unfolding climb
 climb_step room level e ts h = let k : level ≡ suc (level - 1) = omega arith in ap (λ (n : ℕ). climb (unary room (nested room)) n e ts) k
 
 -- where no operator of the levels comes next, there is nothing to climb

@@ -56,7 +56,6 @@ module _ {A : Type 0} (room d : ℕ) (fits : Fits room d) (shallow : d ≤ max_n
 
   pub separated_reads : (x : A) (xs : List A) → AllByRecursion (IsRead d begins item yield Ends) (x ∷ xs)
       → Reads (parsing.separated room begins item) (x ∷ xs) (separated yield d (x ∷ xs)) (EndsList Ends)
-  unfolding parsing.separated
   separated_reads x xs (one, all) =
       then_reads _ (number_reads begins d 1 (omega arith) one.starts one.reads) (last_reads (λ (v : List A). pure (x ∷ v)) (λ ts. refl) (more_reads 63 2 xs refl all)) (more_ends 2 xs)
 
@@ -89,6 +88,5 @@ module _ {A : Type 0} (d : ℕ) (shallow : d ≤ max_nesting) (begins : Terminal
 
   pub some_of_reads : (x : A) (xs : List A) → AllByRecursion (IsRead d begins item yield Always) (x ∷ xs)
       → Reads (some_of begins item) (x ∷ xs) (each yield 1 (x ∷ xs)) (EndsItems begins)
-  unfolding some_of
   some_of_reads x xs (one, all) =
       then_reads _ (number_reads begins d 1 (omega arith) one.starts one.reads) (last_reads (λ (v : List A). pure (x ∷ v)) (λ ts. refl) (more_of_reads 63 2 xs refl all)) (λ mid rest front ends. tt)

@@ -194,15 +194,12 @@ pub record NestedRuns (inner : Nested) : Type 0 where
 
 module _ (room : ℕ) (inner : Nested) (h : NestedRuns inner) where
   pub group_runs : Local true (group room inner)
-  unfolding group
   group_runs = then_runs (sign_runs _ signs.LeftParen) (λ _. then_runs h.expression (λ e. then_runs (sign_runs _ signs.RightParen) (λ _. pure_runs _)))
 
   arguments_run : Local false (arguments room inner)
-  unfolding arguments
   arguments_run = sees_runs signs.RightParen (pure_runs _) (then_runs (separated_runs room begins_expression h.expression) (λ es. pure_runs _))
 
   from_name_run : (x : Named) → Local false (from_name room inner x)
-  unfolding from_name
   from_name_run x = sees_runs signs.LeftParen (then_runs (sign_runs _ signs.LeftParen) (λ _. then_runs arguments_run (λ es. then_runs (sign_runs _ signs.RightParen) (λ _. pure_runs _)))) (pure_runs _)
 
   primary_by_runs : (t : Option Terminal) → Local true (primary_by room inner t)
@@ -230,7 +227,6 @@ module _ (room : ℕ) (inner : Nested) (h : NestedRuns inner) where
       (sees_runs signs.Arrow (then_runs (sign_runs _ signs.Arrow) (λ _. then_runs (identifier_runs _) (λ x. then_runs (postfixes_run left) (λ ps. pure_runs _)))) (pure_runs _))
 
   with_postfixes_run : {c : Bool} {first : Parser Expression} → Local c first → Local c (with_postfixes room inner first)
-  unfolding with_postfixes
   with_postfixes_run k = then_runs k (λ e. then_runs (postfixes_run max_items) (λ ps. pure_runs _))
 
   unary_by_runs : (t : Option Terminal) → Runs true IsOpen (unary_by room inner t)
@@ -248,18 +244,15 @@ module _ (room : ℕ) (inner : Nested) (h : NestedRuns inner) where
   unary_runs = choose_runs unary_by_runs
 
   pub assignment_runs : (e : Expression) → Local false (assignment room inner e)
-  unfolding assignment
   assignment_runs e = sees_runs signs.Assign (then_runs (sign_runs _ signs.Assign) (λ _. then_runs h.expression (λ v. pure_runs _))) (pure_runs _)
 
   pub binary_runs : Local true (binary room inner)
-  unfolding binary
   binary_runs = closed (open_then_runs unary_runs (λ e. (climbs (unary room inner) any 10).runs e) (λ e _. (climbs (unary room inner) any 10).tolerates e)) (halts_then (unary room inner) (climb (unary room inner) 10) (λ e. climb_halts (unary room inner) 6 e))
     where
       any : Runs true Anything (unary room inner)
       any = opened_as (λ e _. tt) unary_runs
 
   pub expression_runs : Local true (expression room inner)
-  unfolding expression
   expression_runs = then_runs binary_runs (λ e. assignment_runs e)
 
   -- ---- what `new` puts into the new object
@@ -280,11 +273,9 @@ module _ (room : ℕ) (inner : Nested) (h : NestedRuns inner) where
       (λ _ rest less. same_behind _ _ rest h.expression (λ e left le. same_first (more_values room inner n) (more_values room inner m) _ left (values_enough n m left (omega arith) (omega arith)))))
 
   values_run : Local true (values room inner)
-  unfolding values
   values_run = then_runs h.expression (λ e. then_runs (turns_run (more_values room inner) more_values_run values_enough) (λ es. pure_runs _))
 
   fields_run : (s : Named) (rs : List Named) → Local true (fields room inner s rs)
-  unfolding fields
   fields_run s rs = then_runs (sign_runs _ signs.LeftBrace) (λ _. then_runs values_run (λ es. then_runs (sign_runs _ signs.RightBrace) (λ _. pure_runs _)))
 
   -- ---- a struct's name, or a name that begins an expression
@@ -297,11 +288,11 @@ module _ (room : ℕ) (inner : Nested) (h : NestedRuns inner) where
 
   regions_taken : (s : Named) (t : Symbol) (a : List Symbol) → IsLess t
       → with_regions s (t ∷ a) ≡ bind (bind (regions (suc room)) (λ rs. bind (sign (suc room) signs.Greater) (λ _. pure rs))) (λ rs. fields room inner s rs) a
-  unfolding region_list bind take
+  unfolding bind take
   regions_taken s t a less = rw less refl
 
   name_taken : (s : Named) (t : Symbol) (a : List Symbol) → IsLess t → from_name_alone s (t ∷ a) ≡ Ok (Plain (Variable s), t ∷ a)
-  unfolding bind with_postfixes from_name postfixes if_sees
+  unfolding bind postfixes if_sees
   name_taken s t a less = rw less refl
 
   with_regions_run : (s : Named) → Runs true IsOpenInitial (with_regions s)
@@ -360,11 +351,9 @@ module _ (room : ℕ) (inner : Nested) (h : NestedRuns inner) where
       agree (t ∷ (u ∷ front)) a b = within (opens_regions (t ∷ (u ∷ []))) t u front a b
 
   initial_from_name_run : (s : Named) → Runs false IsOpenInitial (initial_from_name room inner s)
-  unfolding initial_from_name
   initial_from_name_run s = sees_runs signs.LeftBrace (runs_open (fields_run s [])) (by_regions_run s)
 
   array_runs : Local true (array room inner)
-  unfolding array
   array_runs = then_runs (sign_runs _ signs.LeftBrace) (λ _. then_runs (word_runs _ words.For) (λ p. then_runs (identifier_runs room) (λ x. then_runs (sign_runs _ signs.Less) (λ _. then_runs h.binary (λ n. then_runs (sign_runs _ signs.Colon) (λ _. then_runs h.expression (λ e. then_runs (sign_runs _ signs.RightBrace) (λ _. pure_runs _))))))))
 
   initial_by_runs : (t : Option Terminal) → Runs true IsOpenInitial (initial_by room inner t)

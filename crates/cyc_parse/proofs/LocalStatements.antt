@@ -12,12 +12,11 @@ use Rattle.cyc_parse.proofs.LocalTypes.{written_type_runs, region_of_runs}
 use Rattle.cyc_parse.proofs.LocalExpressions.{IsOpen, nested_runs, named_run, assignment_runs}
 
 end_of_swap_runs : (room : ℕ) (e : Expression) → Local false (end_of_swap room e)
-unfolding end_of_swap
 end_of_swap_runs room e = sees_runs signs.Semicolon (sign_runs _ signs.Semicolon) (test_runs (λ t. sees_terminal signs.Less t && ends_in_new e) (then_runs advance_runs (λ _. unexpected_runs)) unexpected_runs)
 
 -- behind `new` and a name, region arguments would stand: what is refused is the symbol behind `<`
 end_refuses : (room : ℕ) (a b : Expression) (t : Symbol) (rest : List Symbol) → IsOpen b → IsLess t → bind (end_of_swap room b) (λ _. pure (Swap a b)) (t ∷ rest) ≡ Err (record { reason = Unexpected; left = rest })
-unfolding bind end_of_swap if_sees
+unfolding bind if_sees
 end_refuses room a b t rest ready less = rw (less, ready) refl
 
 -- ---- at one depth
@@ -28,44 +27,35 @@ pub record StatementsRun (inner : Nested) : Type 0 where
 
 module _ (room : ℕ) (inner : Nested) (h : StatementsRun inner) where
   pub body_runs : Local true (body room inner)
-  unfolding body
   body_runs = then_runs (sign_runs _ signs.LeftBrace) (λ p. then_runs h.items (λ is. then_runs (sign_runs _ signs.RightBrace) (λ q. pure_runs _)))
 
   expression_runs : Local true (expression room inner)
-  unfolding expression
   expression_runs = (nested_runs (suc room)).expression
 
   expression_from_run : (x : Named) → Local false (expression_from room inner x)
-  unfolding expression_from nested
+  unfolding nested
   expression_from_run x = then_runs (named_run room (nested room) (nested_runs room) x) (λ e. assignment_runs room (nested room) (nested_runs room) e)
 
   swap_runs : (a : Expression) → Local true (swap room inner a)
-  unfolding swap
   swap_runs a = then_runs (sign_runs _ signs.Swap) (λ _. open_then_runs (nested_runs (suc room)).unary (λ b. then_runs (end_of_swap_runs _ b) (λ _. pure_runs _))
       (λ b ready t a' b' less differ. refuses_on (record { reason = Unexpected; left = a' }) (end_refuses (suc room) a b t a' ready less) (whole a')))
 
   behind_runs : (e : Expression) → Local false (behind room inner e)
-  unfolding behind
   behind_runs e = test_runs (λ t. sees_terminal signs.Swap t && is_unary e) (swap_runs e) (then_runs (sign_runs _ signs.Semicolon) (λ _. pure_runs _))
 
   statement_from_name_run : (x : Named) → Local false (statement_from_name room inner x)
-  unfolding statement_from_name
   statement_from_name_run x = sees_runs signs.Colon (then_runs (sign_runs _ signs.Colon) (λ _. then_runs body_runs (λ b. pure_runs _))) (then_runs (expression_from_run x) (λ e. behind_runs e))
 
   else_part_runs : (p : Place) (c : Expression) (s : Statement) → Local false (else_part room inner p c s)
-  unfolding else_part
   else_part_runs p c s = starts_runs is_else (then_runs (word_runs _ words.Else) (λ _. then_runs h.statement (λ t. pure_runs _))) (pure_runs _)
 
   return_value_runs : Local false (return_value room inner)
-  unfolding return_value
   return_value_runs = sees_runs signs.Semicolon (pure_runs _) (then_runs expression_runs (λ e. pure_runs _))
 
   thrown_runs : Local false (thrown room inner)
-  unfolding thrown
   thrown_runs = sees_runs signs.LeftParen (then_runs (nested_runs room).group (λ e. pure_runs _)) (pure_runs _)
 
   caught_runs : Local false (caught room inner)
-  unfolding caught
   caught_runs = sees_runs signs.LeftParen (then_runs (sign_runs _ signs.LeftParen) (λ _. then_runs (identifier_runs _) (λ v. then_runs (sign_runs _ signs.RightParen) (λ _. pure_runs _)))) (pure_runs _)
 
   clauses_in_run : (turns : ℕ) → Local false (clauses_in room inner turns)
@@ -92,23 +82,18 @@ module _ (room : ℕ) (inner : Nested) (h : StatementsRun inner) where
       same_first (clauses_in room inner n) (clauses_in room inner m) _ r5 (clauses_enough n m r5 (omega arith) (omega arith)))))))))
 
   clauses_run : Local false (clauses room inner)
-  unfolding clauses
   clauses_run = starts_runs begins_clause (turns_run (clauses_in room inner) clauses_in_run clauses_enough) unexpected_runs
 
   if_statement_runs : (p : Place) → Local true (if_statement room inner p)
-  unfolding if_statement
   if_statement_runs p = then_runs (nested_runs (suc room)).group (λ c. then_runs h.statement (λ s. else_part_runs p c s))
 
   while_statement_runs : (p : Place) → Local true (while_statement room inner p)
-  unfolding while_statement
   while_statement_runs p = then_runs (nested_runs (suc room)).group (λ c. then_runs h.statement (λ s. pure_runs _))
 
   throw_statement_runs : (p : Place) → Local true (throw_statement room inner p)
-  unfolding throw_statement
   throw_statement_runs p = then_runs (word_runs _ words.New) (λ _. then_runs (identifier_runs _) (λ x. then_runs thrown_runs (λ v. then_runs (sign_runs _ signs.Semicolon) (λ _. pure_runs _))))
 
   try_statement_runs : (p : Place) → Local true (try_statement room inner p)
-  unfolding try_statement
   try_statement_runs p = then_runs h.statement (λ s. then_runs (word_runs _ words.Catch) (λ _. then_runs (sign_runs _ signs.LeftBrace) (λ _. then_runs clauses_run (λ cs. then_runs (sign_runs _ signs.RightBrace) (λ _. pure_runs _)))))
 
   statement_by_runs : (t : Option Terminal) → Local true (statement_by room inner t)
@@ -131,31 +116,24 @@ module _ (room : ℕ) (inner : Nested) (h : StatementsRun inner) where
   -- ---- items
 
   local_value_runs : Local false (local_value room inner)
-  unfolding local_value
   local_value_runs = sees_runs signs.Assign (then_runs (sign_runs _ signs.Assign) (λ _. then_runs (nested_runs room).expression (λ e. pure_runs _))) (pure_runs _)
 
   local_runs : Local true (local room inner)
-  unfolding local
   local_runs = then_runs (written_type_runs _) (λ t. then_runs (identifier_runs _) (λ x. then_runs local_value_runs (λ v. then_runs (sign_runs _ signs.Semicolon) (λ _. pure_runs _))))
 
   opened_key_runs : Local false (opened_key room inner)
-  unfolding opened_key
   opened_key_runs = sees_runs signs.Assign (then_runs (sign_runs _ signs.Assign) (λ _. then_runs (word_runs _ words.Open) (λ _. then_runs (sign_runs _ signs.LeftParen) (λ _. then_runs (identifier_runs _) (λ k. then_runs (sign_runs _ signs.RightParen) (λ _. pure_runs _)))))) (pure_runs _)
 
   region_runs : Local true (region room inner)
-  unfolding region
   region_runs = then_runs (word_runs _ words.Region) (λ _. then_runs (region_of_runs _) (λ r. then_runs (identifier_runs _) (λ n. then_runs opened_key_runs (λ k. then_runs (sign_runs _ signs.Semicolon) (λ _. pure_runs _)))))
 
   alias_runs : Local true (alias room inner)
-  unfolding alias
   alias_runs = then_runs (word_runs _ words.Alias) (λ _. then_runs (region_of_runs _) (λ r. then_runs (written_type_runs _) (λ t. then_runs (identifier_runs _) (λ x. then_runs (sign_runs _ signs.Assign) (λ _. then_runs (identifier_runs _) (λ y. then_runs (sign_runs _ signs.Semicolon) (λ _. pure_runs _)))))))
 
   new_key_runs : Local true (new_key room inner)
-  unfolding new_key
   new_key_runs = then_runs (sign_runs _ signs.Assign) (λ _. then_runs (word_runs _ words.NewKey) (λ _. then_runs (sign_runs _ signs.LeftParen) (λ _. then_runs (sign_runs _ signs.RightParen) (λ _. then_runs (sign_runs _ signs.Semicolon) (λ _. pure_runs _)))))
 
   dynamic_region_runs : Local true (dynamic_region room inner)
-  unfolding dynamic_region
   dynamic_region_runs = then_runs (word_runs _ words.NewDynamicRegion) (λ _. then_runs (sign_runs _ signs.LeftBrace) (λ _. then_runs (region_of_runs _) (λ r. then_runs (identifier_runs _) (λ k. then_runs (sign_runs _ signs.RightBrace) (λ _. then_runs new_key_runs (λ _. pure_runs _))))))
 
   let_by_runs : (t : Option Terminal) → Local true (let_by room inner t)
@@ -192,7 +170,6 @@ module _ (room : ℕ) (inner : Nested) (h : StatementsRun inner) where
       (same_behind_read _ _ ts item_runs (λ i rest less. same_first (items_in room inner n) (items_in room inner m) _ rest (items_enough n m rest (omega arith) (omega arith))))
 
   pub items_run : Local false (items room inner)
-  unfolding items
   items_run = turns_run (items_in room inner) items_in_run items_enough
 
 pub nested_statements_run : (room : ℕ) → StatementsRun (nested_statements room)

@@ -14,20 +14,16 @@ more_items_run room begins h zero = sees_runs signs.Comma (then_runs (sign_runs 
 more_items_run room begins h (suc left) = sees_runs signs.Comma (then_runs (sign_runs room signs.Comma) (λ _. then_runs h (λ x. then_runs (more_items_run room begins h left) (λ xs. pure_runs _)))) (pure_runs _)
 
 pub separated_runs : {A : Type 0} {c : Bool} (room : ℕ) (begins : Terminal → Bool) {item : Parser A} → Local c item → Local c (separated room begins item)
-unfolding separated
 separated_runs room begins h = then_runs h (λ x. then_runs (more_items_run room begins h 63) (λ xs. pure_runs _))
 
 module _ (room : ℕ) where
   pub regions_run : Local true (regions room)
-  unfolding regions
   regions_run = separated_runs room begins_region (region_name_runs room)
 
   pub region_list_runs : Local true (region_list room)
-  unfolding region_list
   region_list_runs = then_runs (sign_runs room signs.Less) (λ _. then_runs regions_run (λ rs. then_runs (sign_runs room signs.Greater) (λ _. pure_runs _)))
 
   pub optional_region_runs : Local false (optional_region room)
-  unfolding optional_region
   optional_region_runs = starts_runs begins_region (then_runs (region_name_runs room) (λ r. pure_runs _)) (pure_runs _)
 
   pub pointers_run : (left : ℕ) → Local false (pointers_of room left)
@@ -36,7 +32,6 @@ module _ (room : ℕ) where
   pointers_run (suc left) = is_runs mark_at (λ k. then_runs advance_runs (λ _. then_runs optional_region_runs (λ r. then_runs (pointers_run left) (λ ms. pure_runs _)))) (pure_runs _)
 
   pub with_pointers_run : (p : Place) (b : BaseType) → Local false (with_pointers room p b)
-  unfolding with_pointers
   with_pointers_run p b = then_runs (pointers_run 64) (λ ms. pure_runs _)
 
   pub optional_regions_run : Local false (optional_regions room)
@@ -44,7 +39,6 @@ module _ (room : ℕ) where
   optional_regions_run = sees_runs signs.Less region_list_runs (pure_runs _)
 
   pub region_of_runs : Local true (region_of room)
-  unfolding region_of
   region_of_runs = then_runs (sign_runs room signs.Less) (λ _. then_runs (region_name_runs room) (λ r. then_runs (sign_runs room signs.Greater) (λ _. pure_runs _)))
 
   base_runs : (t : Option Terminal) → Local true (base_by room t)

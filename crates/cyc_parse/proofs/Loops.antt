@@ -71,6 +71,13 @@ module _ {X Y B : Type 0} (view : X → Y) (add : Y → B → B) where
         let step : many (count - i) ts ≡ Err (record { reason = view_reason why; left = us }) = ap (λ (n : ℕ). many n ts) k ∙ steps.step _ ts ∙ ap (λ (o : Outcome (Option Y)). and_then o (behind add last (many (count - (i + 1))))) h in
         sym so_far ∙ ap (with_front front) step
 
+    pub fails_full : (e : Stop) (front : List X) (count i : ℕ) (ts us : List Symbol) (whole : Outcome B) → count ≤ i → Stops e (many 0 ts) us
+        → with_front front (many (count - i) ts) ≡ whole → Stops e whole us
+    fails_full stops.Memory front count i ts us whole le h so_far = tt
+    fails_full (stops.Refused why) front count i ts us whole le h so_far =
+        let k : count - i ≡ 0 = omega arith in
+        sym so_far ∙ ap (with_front front) (ap (λ (n : ℕ). many n ts) k ∙ h)
+
     pub is_full : (front : List X) (count i : ℕ) (ts us : List Symbol) (whole : Outcome B) → count ≤ i → (b : B) → many 0 ts ≡ Ok (b, us)
         → with_front front (many (count - i) ts) ≡ whole → whole ≡ Ok (onto front b, us)
     is_full front count i ts us whole le b h so_far =
@@ -128,7 +135,7 @@ by_comma add nothing room item rest ts false = refl
 by_comma add nothing room item rest ts true = after_sign (λ x. x) add (pure nothing) rest item (sign room signs.Comma ts)
 
 pub more_items_steps : {A : Type 0} (room : ℕ) (begins : Terminal → Bool) (item : Parser A) → Steps (λ x xs. x ∷ xs) (pure []) (after_comma room item) (more_items room begins item)
-unfolding more_items after_comma if_sees
+unfolding more_items if_sees
 more_items_steps room begins item = record { step = λ n ts. by_comma (λ x xs. x ∷ xs) [] room item (more_items room begins item n) ts (sees signs.Comma ts) }
 
 by_mark : (room : ℕ) (rest : Parser (List Pointer)) (kind : Option PointerKind) (ts : List Symbol)
@@ -139,7 +146,7 @@ by_mark room rest None ts = refl
 by_mark room rest (Some k) ts = after_sign (λ r. record { kind = k; region = r }) (λ m ms. m ∷ ms) (pure []) rest (optional_region room) (advance ts)
 
 pub pointers_of_steps : (room : ℕ) → Steps (λ m ms. m ∷ ms) (pure []) (one_pointer room) (pointers_of room)
-unfolding pointers_of one_pointer choose if_is
+unfolding pointers_of choose if_is
 pointers_of_steps room = record { step = λ n ts. by_mark room (pointers_of room n) (mark_at (next ts)) ts }
 
 -- a step, and then what follows it
@@ -152,7 +159,7 @@ by_test k true p q p' q' ts a b = a
 by_test k false p q p' q' ts a b = b
 
 pub postfixes_steps : (room : ℕ) (inner : Nested) → Steps (λ f ps. f ps) (pure NoPostfixes) (one_postfix room inner) (postfixes room inner)
-unfolding postfixes one_postfix if_sees bind
+unfolding postfixes if_sees bind
 postfixes_steps room inner = record {
   step = λ n ts. by_test _ (sees signs.LeftBracket ts) _ _ _ _ ts
       (lift _ (sign (suc room) signs.LeftBracket ts) _ _ (λ _ us. lift _ (inner.expression us) _ _ (λ e vs. lift _ (sign room signs.RightBracket vs) _ _ (λ _ ws. refl))))
@@ -167,15 +174,15 @@ by_operator operand rest None ts = refl
 by_operator operand rest (Some o) ts = lift _ (advance ts) _ _ (λ p us. lift _ (operand us) _ _ (λ e vs. refl))
 
 pub operations_steps : (operand : Parser Expression) (k : ℕ) → Steps (λ f os. f os) (pure NoOperations) (one_operation operand k) (operations operand k)
-unfolding operations one_operation choose if_is
+unfolding operations choose if_is
 operations_steps operand k = record { step = λ n ts. by_operator operand (operations operand k n) (operator_at k (next ts)) ts }
 
 pub more_values_steps : (room : ℕ) (inner : Nested) → Steps MoreExpressions (pure NoExpressions) (after_comma room inner.expression) (more_values room inner)
-unfolding more_values after_comma if_sees
+unfolding more_values if_sees
 more_values_steps room inner = record { step = λ n ts. by_comma MoreExpressions NoExpressions room inner.expression (more_values room inner n) ts (sees signs.Comma ts) }
 
 pub more_of_steps : {A : Type 0} (begins : Terminal → Bool) (item : Parser A) → Steps (λ x xs. x ∷ xs) (pure []) (one_of begins item) (more_of begins item)
-unfolding more_of one_of if_starts bind
+unfolding more_of if_starts bind
 more_of_steps begins item = record { step = λ n ts. by_test _ (starts begins (next ts)) _ _ _ _ ts (lift _ (item ts) _ _ (λ x us. refl)) refl }
 
 by_symbol : (room : ℕ) (rest : Parser (List Declaration)) (next : Option Terminal) (ts : List Symbol)
@@ -186,5 +193,5 @@ by_symbol room rest None ts = refl
 by_symbol room rest (Some t) ts = lift _ (declaration room ts) _ _ (λ d us. refl)
 
 pub declarations_steps : (room : ℕ) → Steps (λ d ds. d ∷ ds) (pure []) (one_declaration room) (declarations_in room)
-unfolding declarations_in one_declaration choose
+unfolding declarations_in choose
 declarations_steps room = record { step = λ n ts. by_symbol room (declarations_in room n) (next ts) ts }

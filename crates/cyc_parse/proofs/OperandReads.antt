@@ -11,7 +11,7 @@ use Rattle.cyc_syntax.specs.Yields.{Yield}
 use Rattle.cyc_syntax.specs.Yields as yields
 use Rattle.cyc_syntax.specs.Grammar.{is_primary, IsExpression, IsInitial}
 use Rattle.cyc_parse.specs.Parsing.{Parser, pure, sees, is_sign, bind, choose}
-use Rattle.cyc_parse.specs.Expressions.{begins_expression, Nested, nested, primary, chained, with_postfixes, unary, unary_by, climb, assignment, binary, expression}
+use Rattle.cyc_parse.specs.Expressions.{begins_expression, Nested, nested, primary, chained, with_postfixes, unary, unary_by, climb, assignment}
 use Rattle.cyc_parse.proofs.Rules.{Reads, Fits, starts-next, leaf_of, leaf_at, last_reads, nothing_reads, pure_reads, reads_as, choose_reads, advance_reads_at, unseen_reads, deep_reads, deep_then_reads}
 use Rattle.cyc_parse.proofs.Stops.{Stops, stops-less, no_assign}
 use Rattle.cyc_parse.proofs.Starts.{expression_starts, begins_primary, primary_starts}
@@ -46,7 +46,7 @@ deep_expression d fits e = deep_reads begins_expression d (omega arith) (express
 
 -- no assignment follows
 pub unassigned : (room d : ℕ) {e : Expression} → Reads (bind (nested (suc room)).unary (climb (nested (suc room)).unary 10)) e (yields.expression d e) (Stops 10) → Reads (nested (suc room)).expression e (yields.expression d e) (Stops 11)
-unfolding nested expression binary assignment
+unfolding nested
 unassigned room d {e = e} h = nothing_reads (assignment room (nested room)) h
     (unseen_reads signs.Assign _ _ (λ ts rest front ends. ap (sees signs.Assign) front ∙ no_assign rest ends) (pure_reads e (Stops 11)))
     (λ rest ends. stops-less 10 11 rest (omega arith) ends)

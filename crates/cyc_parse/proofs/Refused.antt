@@ -32,7 +32,6 @@ one_symbol t s (u ∷ f) back e = absurd (omega (arith, length-append f back, ap
 
 pub refusal_is_local : (front back more : List Symbol) (s : Symbol) (why : Reason) → program_of (front ++ s ∷ back) ≡ Err (record { reason = why; left = s ∷ back })
     → (why ≡ TooLong → IsAlike s back more) → program_of (front ++ s ∷ more) ≡ Err (record { reason = why; left = s ∷ more })
-unfolding program_of
 refusal_is_local front back more s why h alike =
     ap (program 200) (sym (append_assoc front (s ∷ []) more)) ∙ go ((program_runs 200).agrees (front ++ s ∷ []) back more) (ap (program 200) (append_assoc front (s ∷ []) back) ∙ h)
   where
@@ -60,11 +59,9 @@ refusal_is_local front back more s why h alike =
         absurd (differ (sym (alike (sym (ap (λ (r : Refusal). r.reason) q)) (subst IsLess first less))))
 
 program_suffix : (ts : List Symbol) (e : Refusal) → program_of ts ≡ Err e → IsSuffix e.left ts
-unfolding program_of
 program_suffix ts e h = subst (λ (o : Outcome (List Declaration)). IsSuffix (left_of o) ts) h ((program_runs 200).suffix ts)
 
 at_end : (front : List Symbol) (why : Reason) → program_of (front ++ []) ≡ Err (record { reason = why; left = [] }) → why ≡ Unexpected
-unfolding program_of
 at_end front why h = (program_runs 200).ends (front ++ []) (record { reason = why; left = [] }) h refl
 
 -- ---- a tree and the first limit that it breaks

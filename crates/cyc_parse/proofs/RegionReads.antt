@@ -22,11 +22,9 @@ all_read room d fits [] = tt
 all_read room d fits (r ∷ rs) = (region_read room d fits r, all_read room d fits rs)
 
 pub regions_reads : (room d : ℕ) → Fits room d → d ≤ max_nesting → (r : Named) (rs : List Named) → Reads (regions room) (r ∷ rs) (yields.regions d (r ∷ rs)) (EndsList Always)
-unfolding regions
 regions_reads room d fits shallow r rs = separated_reads room d fits shallow begins_region (region_name room) (yields.region_name d) Always (λ ts e. tt) r rs (all_read room d fits (r ∷ rs))
 
 pub region_list_reads : (room d : ℕ) → Fits room d → d ≤ max_nesting → (r : Named) (rs : List Named) (Ends : List Symbol → Type 0) → Reads (region_list room) (r ∷ rs) (yields.region_list d (r ∷ rs)) Ends
-unfolding region_list
 region_list_reads room d fits shallow r rs Ends = sign_reads room d signs.Less _ fits (λ p. then_reads _ (regions_reads room d fits shallow r rs)
     (sign_reads room d signs.Greater _ fits (λ q. pure_reads (r ∷ rs) Ends))
     (λ mid rest front ends. record { item = tt; comma = ap (sees_terminal signs.Comma) (front-next (leaf_of d (Mark signs.Greater)) [] mid rest front) }))

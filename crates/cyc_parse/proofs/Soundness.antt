@@ -68,7 +68,6 @@ pub record IsParsed (ts : List Symbol) (tree : List Declaration) (left : List Sy
   pub within : IsWithinLimits tree
 
 pub program_of-sound : (ts left : List Symbol) (tree : List Declaration) → program_of ts ≡ Ok (tree, left) → IsParsed ts tree left
-unfolding program_of program
 program_of-sound ts left tree h =
     let w = was_read (declaration 200) (λ d. bind (λ s. declarations_in 200 (length s) s) (λ ds. pure (d ∷ ds))) ts left tree h in
     let v = was_read (λ s. declarations_in 200 (length s) s) (λ ds. pure (w.value ∷ ds)) w.mid left tree w.second in
@@ -99,7 +98,6 @@ answered_weight ts left tree h = tree_weight-length ts tree (program_of-sound ts
 -- ---- what is refused for a limit
 
 program_gives : (ts : List Symbol) → Gives (program 200) (Spells yields.program (λ ds _. IsNonempty ds × AreDeclarations ds)) ts
-unfolding program
 program_gives ts = spelled_then (one_gives ts) (λ d mid is. last_then (λ ds. d ∷ ds) (gives_same (declarations_in 200 (length mid)) refl (declarations_give (length mid) mid)) (λ ds rest are. (refl, (tt, (is, are)))))
 
 -- symbols that leaves stand for
@@ -137,7 +135,6 @@ before_rest (leaf ∷ leaves) ts rest (t, more, e, is, front) =
 
 pub limit_begun : (front back : List Symbol) (s : Symbol) (why : Reason) → IsLimit why → program_of (front ++ s ∷ back) ≡ Err (record { reason = why; left = s ∷ back })
     → (more : List Symbol) × (tree : List Declaration) × HasTree (front ++ s ∷ more) tree
-unfolding program_of
 limit_begun front back s why limit h =
     let c = (program_gives (front ++ s ∷ back)).goes (record { reason = why; left = s ∷ back }) h limit in
     let b = c.begins in

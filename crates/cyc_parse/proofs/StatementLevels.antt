@@ -15,5 +15,5 @@ unfolding nested_statements
 nested_items room ts h = let k : room ≡ suc (room - 1) = omega arith in ap (λ (n : ℕ). (nested_statements n).items ts) k
 
 pub swap_ends : (room : ℕ) (e : Expression) (ts : List Symbol) → sees signs.Semicolon ts ≡ true → sign room signs.Semicolon ts ≡ end_of_swap room e ts
-unfolding end_of_swap if_sees
+unfolding if_sees
 swap_ends room e ts h = rw h refl

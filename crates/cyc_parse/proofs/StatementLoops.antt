@@ -24,13 +24,13 @@ onto-clauses [] default = refl
 onto-clauses (x ∷ xs) default = ap (then_clause x) (onto-clauses xs default)
 
 pub items_in_steps : (room : ℕ) (inner : Nested) → Steps MoreItems (pure NoItems) (one_item room inner) (items_in room inner)
-unfolding items_in one_item if_starts bind
+unfolding items_in if_starts bind
 items_in_steps room inner = record {
   step = λ n ts. by_test _ (starts begins_item (next ts)) _ _ _ _ ts (lift _ (item room inner ts) _ _ (λ i us. refl)) refl;
 }
 
 pub clauses_in_steps : (room : ℕ) (inner : Nested) → Steps (λ f cs. f cs) (default_clause room inner) (one_clause room inner) (clauses_in room inner)
-unfolding clauses_in one_clause default_clause if_starts bind
+unfolding clauses_in if_starts bind
 clauses_in_steps room inner = record {
   step = λ n ts. by_test _ (starts is_case (next ts)) _ _ _ _ ts
       (lift _ (word room words.Case ts) _ _ (λ _ us. lift _ (sign room signs.And us) _ _ (λ _ vs. lift _ (identifier room vs) _ _ (λ x ws.

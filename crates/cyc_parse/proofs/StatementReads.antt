@@ -9,7 +9,7 @@ use Rattle.cyc_syntax.specs.Yields.{Leaf, Yield}
 use Rattle.cyc_syntax.specs.Yields as yields
 use Rattle.cyc_syntax.specs.Grammar.{IsExpression, IsExpressionOrNone, wants_else}
 use Rattle.cyc_parse.specs.Parsing.{Parser, pure, next, sees, sees_terminal, if_sees, starts, sign, bind, choose}
-use Rattle.cyc_parse.specs.Expressions.{begins_expression, nested, primary, with_postfixes, unary, binary, expression}
+use Rattle.cyc_parse.specs.Expressions.{begins_expression, nested, primary, unary}
 use Rattle.cyc_parse.specs.Statements.{begins_item, begins_clause, is_else, is_unary, end_of_swap, nested_statements, body, expression_from, swap, behind, statement_from_name, else_part, return_value, thrown, if_statement, while_statement, throw_statement, try_statement, statement, statement_by, clauses}
 use Rattle.cyc_parse.specs.Statements as statements
 use Rattle.cyc_parse.proofs.Rules.{Front, Reads, Fits, Always, starts-next, leaf_of, leaf_at, front-next, then_reads, last_reads, nothing_reads, pure_reads, reads_as, reads_before, word_reads, sign_reads, sign_reads_at, identifier_reads, choose_reads, advance_reads_at, sees_reads, unseen_reads, seen_reads, starts_reads, unstarted_reads, between_then}
@@ -82,7 +82,7 @@ module _ (room : ℕ) where
   -- the parser on a name that is no label
   on_name : (x : ℕ) (t : Symbol) (more : List Symbol) → t.terminal ≡ Identifier x → sees signs.Colon more ≡ false
       → statement room (nested_statements room) (t ∷ more) ≡ bind (statements.expression room (nested_statements room)) (behind room (nested_statements room)) (t ∷ more)
-  unfolding statement choose statement_from_name if_sees bind expression_from statements.expression nested expression binary unary with_postfixes primary
+  unfolding statement choose if_sees bind nested unary primary
   on_name x t more named plain = rw (named) (rw (plain) refl)
 
   not_name : (t : Terminal) → begins_expression t ≡ true → ((x : ℕ) → t ≡ Identifier x → ⊥) → statement_by room (nested_statements room) (Some t) ≡ bind (statements.expression room (nested_statements room)) (behind room (nested_statements room))
@@ -147,7 +147,6 @@ module _ (room d : ℕ) (fits : Fits (suc room) d) where
   by_choice leaf ys h = choose_reads (statement_by room (nested_statements room)) leaf ys h
 
   pub body_reads : (p : Place) (is : Items) (q : Place) (Ends : List Symbol → Type 0) → ReadsItems room (suc d) is → Reads (body room (nested_statements room)) (Braces p is q) (yields.body d (Braces p is q)) Ends
-  unfolding body
   body_reads p is q Ends h = sign_reads_at (suc room) d signs.LeftBrace p _ fits (then_reads _ h.reads (sign_reads_at room (suc d) signs.RightBrace q _ (deeper room d fits) (pure_reads (Braces p is q) Ends))
       (λ mid rest front ends. record { item = ap (starts begins_item) (front-next (leaf_at (suc d) (Mark signs.RightBrace) q) [] mid rest front); no_else = ap (starts is_else) (front-next (leaf_at (suc d) (Mark signs.RightBrace) q) [] mid rest front) }))
 
@@ -155,7 +154,6 @@ module _ (room d : ℕ) (fits : Fits (suc room) d) where
   block_reads p is q Ends h = by_choice (leaf_at d (Mark signs.LeftBrace) p) _ (last_reads (λ (v : Body). pure (Block v)) (λ ts. refl) (body_reads p is q Ends h))
 
   pub labelled_reads : (l : Named) (p : Place) (is : Items) (q : Place) (Ends : List Symbol → Type 0) → ReadsItems room (suc d) is → Reads (statement room (nested_statements room)) (Labelled l (Braces p is q)) (yields.statement d (Labelled l (Braces p is q))) Ends
-  unfolding statement_from_name
   labelled_reads l p is q Ends h = by_choice (leaf_at d (Identifier l.name) l.place) _ (advance_reads_at d (Identifier l.name) l.place _ (shallow room d fits)
       (sees_reads signs.Colon _ _ (leaf_of d (Mark signs.Colon)) _ refl (sign_reads (suc room) d signs.Colon _ fits (λ c. last_reads (λ (v : Body). pure (Labelled l v)) (λ ts. refl) (body_reads p is q Ends h)))))
 
@@ -163,11 +161,9 @@ module _ (room d : ℕ) (fits : Fits (suc room) d) where
   empty_reads p Ends = by_choice (leaf_at d (Mark signs.Semicolon) p) _ (advance_reads_at d (Mark signs.Semicolon) p _ (shallow room d fits) (pure_reads (Empty p) Ends))
 
   expression_here : (e : Expression) → IsExpression 11 e → Reads (statements.expression room (nested_statements room)) e (yields.expression d e) (Stops 11)
-  unfolding statements.expression
   expression_here e is = expression_at (suc room) d fits e is
 
   pub evaluate_reads : (e : Expression) (Ends : List Symbol → Type 0) → IsExpression 11 e → Reads (statement room (nested_statements room)) (Evaluate e) (yields.statement d (Evaluate e)) Ends
-  unfolding behind
   evaluate_reads e Ends is = begun_reads room d e is (leaf_of d (Mark signs.Semicolon) ∷ []) (λ w r front. ap (sees_terminal signs.Colon) (front-next (leaf_of d (Mark signs.Semicolon)) [] w r front))
       (then_reads _ (expression_here e is)
       (reads_as (bind (sign (suc room) signs.Semicolon) (λ _. pure (Evaluate e)))
@@ -176,14 +172,13 @@ module _ (room d : ℕ) (fits : Fits (suc room) d) where
       (λ mid rest front ends. stops_leaf 11 (leaf_of d (Mark signs.Semicolon)) [] mid rest refl (omega arith) front))
 
   end_of_swap_reads : (b : Expression) (x : Statement) (Ends : List Symbol → Type 0) → Reads (bind (end_of_swap (suc room) b) (λ _. pure x)) x (leaf_of d (Mark signs.Semicolon) ∷ []) Ends
-  unfolding end_of_swap bind if_sees
+  unfolding bind if_sees
   end_of_swap_reads b x Ends = reads_as (bind (sign (suc room) signs.Semicolon) (λ _. pure x)) (λ ts rest front ends. seen ts rest front) (sign_reads (suc room) d signs.Semicolon _ fits (λ p. pure_reads x Ends))
     where
       seen : (ts rest : List Symbol) → Front (leaf_of d (Mark signs.Semicolon) ∷ []) ts rest → bind (end_of_swap (suc room) b) (λ _. pure x) ts ≡ bind (sign (suc room) signs.Semicolon) (λ _. pure x) ts
       seen ts rest front = rw (ap (sees_terminal signs.Semicolon) (front-next (leaf_of d (Mark signs.Semicolon)) [] ts rest front)) refl
 
   pub swap_reads : (a b : Expression) (Ends : List Symbol → Type 0) → IsExpression 0 a → IsExpression 0 b → Reads (statement room (nested_statements room)) (Swap a b) (yields.statement d (Swap a b)) Ends
-  unfolding behind swap
   swap_reads a b Ends is_a is_b = begun_reads room d a (loosest a is_a) (leaf_of d (Mark signs.Swap) ∷ (yields.expression d b ++ leaf_of d (Mark signs.Semicolon) ∷ [])) (λ w r front. ap (sees_terminal signs.Colon) (front-next (leaf_of d (Mark signs.Swap)) _ w r front))
       (then_reads _ (expression_here a (loosest a is_a))
       (reads_as (swap room (nested_statements room) a)
@@ -199,7 +194,6 @@ module _ (room d : ℕ) (fits : Fits (suc room) d) where
 
   -- behind the condition and the statement
   pub if_reads : (p : Place) (c : Expression) (s : Statement) → IsExpression 11 c → ReadsStatement room (suc d) s → Reads (statement room (nested_statements room)) (If p c s) (yields.statement d (If p c s)) (EndsStatement true)
-  unfolding if_statement else_part
   if_reads p c s is h = by_choice (leaf_at d (Word words.If) p) _ (advance_reads_at d (Word words.If) p _ (shallow room d fits)
       (between_then _ _ (yields.expression (suc d) c) (yields.statement (suc d) s) (then_reads _ (condition_reads c is)
       (nothing_reads _ h.reads (unstarted_reads is_else _ _ (λ ts rest front ends. ap (λ (w : List Symbol). starts is_else (next w)) front ∙ ends.no_else refl) (pure_reads (If p c s) (EndsStatement true)))
@@ -208,7 +202,6 @@ module _ (room d : ℕ) (fits : Fits (suc room) d) where
 
   pub if_else_reads : (p : Place) (c : Expression) (s t : Statement) → IsExpression 11 c → wants_else s ≡ false → ReadsStatement room (suc d) s → ReadsStatement room (suc d) t
       → Reads (statement room (nested_statements room)) (IfElse p c s t) (yields.statement d (IfElse p c s t)) (EndsStatement (wants_else t))
-  unfolding if_statement else_part
   if_else_reads p c s t is closed h k = by_choice (leaf_at d (Word words.If) p) _ (advance_reads_at d (Word words.If) p _ (shallow room d fits)
       (between_then _ _ (yields.expression (suc d) c) (yields.statement (suc d) s ++ (leaf_of d (Word words.Else) ∷ yields.statement (suc d) t)) (then_reads _ (condition_reads c is)
       (then_reads _ h.reads (starts_reads is_else _ _ (leaf_of d (Word words.Else)) _ refl (word_reads (suc room) d words.Else _ fits (λ q. last_reads (λ (v : Statement). pure (IfElse p c s v)) (λ ts. refl) k.reads)))
@@ -219,7 +212,6 @@ module _ (room d : ℕ) (fits : Fits (suc room) d) where
       apart e = cc
 
   pub while_reads : (p : Place) (c : Expression) (s : Statement) → IsExpression 11 c → ReadsStatement room (suc d) s → Reads (statement room (nested_statements room)) (While p c s) (yields.statement d (While p c s)) (EndsStatement (wants_else s))
-  unfolding while_statement
   while_reads p c s is h = by_choice (leaf_at d (Word words.While) p) _ (advance_reads_at d (Word words.While) p _ (shallow room d fits)
       (between_then _ _ (yields.expression (suc d) c) (yields.statement (suc d) s) (then_reads _ (condition_reads c is) (last_reads (λ (v : Statement). pure (While p c v)) (λ ts. refl) h.reads) (λ mid rest front ends. tt))))
 
@@ -231,7 +223,6 @@ module _ (room d : ℕ) (fits : Fits (suc room) d) where
   begins_no_semicolon _ h = refl
 
   return_value_reads : (v : Option Expression) → IsExpressionOrNone v → Reads (return_value room (nested_statements room)) v (yields.optional (yields.expression d) v) EndsValue
-  unfolding return_value
   return_value_reads None is = seen_reads signs.Semicolon _ _ (λ ts rest front ends. ap (sees signs.Semicolon) front ∙ ends.semicolon) (pure_reads None EndsValue)
   return_value_reads (Some e) is = unseen_reads signs.Semicolon _ _ (λ ts rest front ends. at_start ts rest front) (last_reads (λ (v : Expression). pure (Some v)) (λ ts. refl) (reads_before (Stops 11) (expression_here e is) (λ rest ends. ends.stops)))
     where
@@ -253,12 +244,10 @@ module _ (room d : ℕ) (fits : Fits (suc room) d) where
   continue_reads p Ends = by_choice (leaf_at d (Word words.Continue) p) _ (advance_reads_at d (Word words.Continue) p _ (shallow room d fits) (sign_reads (suc room) d signs.Semicolon _ fits (λ q. pure_reads (Continue p) Ends)))
 
   thrown_reads : (v : Option Expression) → IsExpressionOrNone v → Reads (thrown room (nested_statements room)) v (yields.optional (yields.thrown (suc d)) v) NoParen
-  unfolding thrown
   thrown_reads None is = unseen_reads signs.LeftParen _ _ (λ ts rest front ends. ap (sees signs.LeftParen) front ∙ ends.paren) (pure_reads None NoParen)
   thrown_reads (Some e) is = sees_reads signs.LeftParen _ _ (leaf_of (suc d) (Mark signs.LeftParen)) _ refl (last_reads (λ (v : Expression). pure (Some v)) (λ ts. refl) (nested_group_reads room (suc d) (deeper room d fits) e NoParen (all_read e) is))
 
   pub throw_reads : (p : Place) (x : Named) (v : Option Expression) (Ends : List Symbol → Type 0) → IsExpressionOrNone v → Reads (statement room (nested_statements room)) (Throw p x v) (yields.statement d (Throw p x v)) Ends
-  unfolding throw_statement
   throw_reads p x v Ends is = by_choice (leaf_at d (Word words.Throw) p) _ (advance_reads_at d (Word words.Throw) p _ (shallow room d fits)
       (word_reads (suc room) d words.New _ fits (λ q. identifier_reads room (suc d) x _ (deeper room d fits)
       (then_reads _ (thrown_reads v is) (sign_reads (suc room) d signs.Semicolon _ fits (λ r. pure_reads (Throw p x v) Ends))
@@ -266,7 +255,6 @@ module _ (room d : ℕ) (fits : Fits (suc room) d) where
 
   pub try_reads : (p : Place) (s : Statement) (cs : Clauses) (Ends : List Symbol → Type 0) → ReadsStatement room (suc d) s
       → Reads (clauses room (nested_statements room)) cs (yields.clauses (suc d) cs) EndsClauses → Reads (statement room (nested_statements room)) (Try p s cs) (yields.statement d (Try p s cs)) Ends
-  unfolding try_statement
   try_reads p s cs Ends h k = by_choice (leaf_at d (Word words.Try) p) _ (advance_reads_at d (Word words.Try) p _ (shallow room d fits)
       (then_reads _ h.reads (word_reads (suc room) d words.Catch _ fits (λ q. sign_reads (suc room) d signs.LeftBrace _ fits (λ q.
       then_reads _ k (sign_reads room (suc d) signs.RightBrace _ (deeper room d fits) (λ q. pure_reads (Try p s cs) Ends)) (λ mid rest front ends. before_brace mid rest front))))

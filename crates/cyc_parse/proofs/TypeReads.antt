@@ -41,12 +41,10 @@ mark_plain pointers.NonNull = refl
 mark_plain pointers.Fat = refl
 
 pub region_of_reads_any : (room d : ℕ) → Fits room d → (r : Named) (Ends : List Symbol → Type 0) → Reads (region_of room) r (leaf_of d (Mark signs.Less) ∷ leaf_at d (RegionName r.name) r.place ∷ leaf_of d (Mark signs.Greater) ∷ []) Ends
-unfolding region_of
 region_of_reads_any room d fits r Ends = sign_reads room d signs.Less _ fits (λ p. region_reads room d 0 r _ fits zero-le (sign_reads room d signs.Greater _ fits (λ q. pure_reads r Ends)))
 
 module _ (room d : ℕ) (fits : Fits room d) (shallow : d ≤ max_nesting) where
   optional_region_reads : (r : Option Named) → Reads (optional_region room) r (yields.optional (yields.region_name d) r) NoRegion
-  unfolding optional_region
   optional_region_reads None = unstarted_reads begins_region _ _ (λ ts rest front ends. ap (λ (s : List Symbol). starts begins_region (next s)) front ∙ ends.none) (pure_reads None NoRegion)
   optional_region_reads (Some r) = starts_reads begins_region _ _ (leaf_at d (RegionName r.name) r.place) [] refl (region_reads room d 0 r _ fits zero-le (pure_reads (Some r) NoRegion))
 
@@ -64,7 +62,6 @@ module _ (room d : ℕ) (fits : Fits room d) (shallow : d ≤ max_nesting) where
       then_reads _ (optional_region_reads m.region) (last_reads (λ (v : List Pointer). pure (m ∷ v)) (λ ts. refl) (pointers_reads left (suc i) ms (omega arith))) (marks_end (suc i) ms)))
 
   pub with_pointers_reads : (p : Place) (b : BaseType) (ms : List Pointer) → Reads (with_pointers room p b) (record { place = p; base = b; marks = ms }) (yields.marks d ms) EndsType
-  unfolding with_pointers
   with_pointers_reads p b ms = last_reads (λ (v : List Pointer). pure (record { place = p; base = b; marks = v })) (λ ts. refl) (pointers_reads 64 1 ms refl)
 
   pub optional_regions_reads : (rs : List Named) → Reads (optional_regions room) rs (yields.region_list d rs) NotLess

@@ -20,7 +20,7 @@ at_end a [] = Ok (a, [])
 at_end a (t ∷ ts) = refuse Unexpected (t ∷ ts)
 
 -- a program, and nothing behind it
-unfoldable pub whole_program : Parser (List Declaration)
+abbrev pub whole_program : Parser (List Declaration)
 whole_program = program_of >>= at_end
 
 -- the code of a refusal at the first of these symbols

@@ -19,48 +19,51 @@ begins_constructor t = is_some (identifier_name t)
 abbrev pub begins_void : Terminal → Bool
 begins_void t = is_some (is_word words.Void t)
 
-unfoldable pub member : ℕ → Parser Member
+abbrev pub member : ℕ → Parser Member
 member room = written_type room >>= (λ t. identifier room >>= (λ x. pure (record { of_type = t; name = x })))
 
 -- ---- structs and exceptions: each field and constructor ends in a semicolon. The number counts those that may still come.
 
-unfoldable pub field : ℕ → Parser Member
+abbrev pub field : ℕ → Parser Member
 field room = member room >>= (λ m. sign room signs.Semicolon >> pure m)
 
 -- whether a constructor has an `int`
-unfoldable pub has_int : ℕ → Parser Bool
+abbrev pub has_int : ℕ → Parser Bool
 has_int room = if_sees signs.LeftParen (sign room signs.LeftParen >> word (inside room) words.Int >> sign (inside room) signs.RightParen >> pure true) (pure false)
 
-unfoldable pub constructor : ℕ → Parser Constructor
+abbrev pub constructor : ℕ → Parser Constructor
 constructor room = identifier room >>= (λ c. has_int room >>= (λ b. sign room signs.Semicolon >> pure (record { name = c; has_int = b })))
 
+abbrev pub no_more_of : {A : Type 0} → (Terminal → Bool) → Parser (List A)
+no_more_of begins = if_starts begins (refuse TooLong) (pure [])
+
 unfoldable pub more_of : {A : Type 0} → (Terminal → Bool) → Parser A → ℕ → Parser (List A)
-more_of begins item zero = if_starts begins (refuse TooLong) (pure [])
+more_of begins item zero = no_more_of begins
 more_of begins item (suc left) = if_starts begins (item >>= (λ x. more_of begins item left >>= (λ xs. pure (x ∷ xs)))) (pure [])
 
-unfoldable pub some_of : {A : Type 0} → (Terminal → Bool) → Parser A → Parser (List A)
+abbrev pub some_of : {A : Type 0} → (Terminal → Bool) → Parser A → Parser (List A)
 some_of begins item = item >>= (λ x. more_of begins item 63 >>= (λ xs. pure (x ∷ xs)))
 
 -- ---- parameters
 
-unfoldable pub parameter_list : ℕ → Parser ParameterList
+abbrev pub parameter_list : ℕ → Parser ParameterList
 parameter_list room = if_starts begins_void (advance >> pure Void)
     (if_starts begins_type (separated room begins_type (member room) >>= (λ ms. pure (Listed ms))) (pure (Listed [])))
 
 -- the regions of an effect, up to its closing brace
-unfoldable pub effect_regions : ℕ → Parser (List Named)
+abbrev pub effect_regions : ℕ → Parser (List Named)
 effect_regions room = if_starts begins_region (regions room) (pure [])
 
-unfoldable pub effect : ℕ → Parser (Option (List Named))
+abbrev pub effect : ℕ → Parser (Option (List Named))
 effect room = if_sees signs.Semicolon (sign room signs.Semicolon >> sign room signs.LeftBrace >> effect_regions (inside room) >>= (λ rs. sign (inside room) signs.RightBrace >> pure (Some rs))) (pure None)
 
-unfoldable pub constraint : ℕ → Parser Constraint
+abbrev pub constraint : ℕ → Parser Constraint
 constraint room = region_name room >>= (λ a. sign room signs.Greater >> region_name room >>= (λ b. pure (record { longer = a; shorter = b })))
 
-unfoldable pub constraints : ℕ → Parser (List Constraint)
+abbrev pub constraints : ℕ → Parser (List Constraint)
 constraints room = if_sees signs.Colon (sign room signs.Colon >> separated room begins_region (constraint room)) (pure [])
 
-unfoldable pub parameters : ℕ → Parser Parameters
+abbrev pub parameters : ℕ → Parser Parameters
 parameters room = parameter_list room >>= (λ ps. effect room >>= (λ e. constraints room >>= (λ cs. pure (record { list = ps; effect = e; constraints = cs }))))
 
 -- ---- declarations
@@ -72,35 +75,35 @@ value_by room (Some (Word words.Null)) = advance >>= (λ p. pure (NullPointer p)
 value_by room (Some (Mark signs.Minus)) = advance >>= (λ p. take (inside room) number_value (λ n q. n) >>= (λ n. pure (Negative p n)))
 value_by room _ = refuse Unexpected
 
-unfoldable pub value : ℕ → Parser GlobalValue
+abbrev pub value : ℕ → Parser GlobalValue
 value room = choose (value_by room)
 
 module _ (room : ℕ) where
   abbrev pub here : ℕ
   here = suc room
 
-  unfoldable pub global_value : Parser (Option GlobalValue)
+  abbrev pub global_value : Parser (Option GlobalValue)
   global_value = if_sees signs.Assign (sign here signs.Assign >> value room >>= (λ v. pure (Some v))) (pure None)
 
   -- behind a type and a name
-  unfoldable pub global : WrittenType → Named → Parser Declaration
+  abbrev pub global : WrittenType → Named → Parser Declaration
   global t x = global_value >>= (λ v. sign here signs.Semicolon >> pure (Global t x v))
 
-  unfoldable pub function : Option WrittenType → Named → Parser Declaration
+  abbrev pub function : Option WrittenType → Named → Parser Declaration
   function t f = sign here signs.LeftParen >> parameters room >>= (λ ps. sign room signs.RightParen >> body room (nested_statements room) >>= (λ b. pure (Function t f ps b)))
 
   -- behind the type that a declaration begins with
-  unfoldable pub typed : WrittenType → Parser Declaration
+  abbrev pub typed : WrittenType → Parser Declaration
   typed t = identifier here >>= (λ x. if_sees signs.LeftParen (function (Some t) x) (global t x))
 
-  unfoldable pub struct_fields : Named → List Named → Parser Declaration
+  abbrev pub struct_fields : Named → List Named → Parser Declaration
   struct_fields s rs = sign here signs.LeftBrace >> some_of begins_type (field room) >>= (λ fs. sign room signs.RightBrace >> sign here signs.Semicolon >> pure (StructType s rs fs))
 
   -- behind `struct`: a struct is declared, or its type begins another declaration
-  unfoldable pub struct_or_typed : Place → Parser Declaration
+  abbrev pub struct_or_typed : Place → Parser Declaration
   struct_or_typed p = identifier here >>= (λ s. optional_regions here >>= (λ rs. if_sees signs.LeftBrace (struct_fields s rs) (with_pointers here p (Struct s rs) >>= typed)))
 
-  unfoldable pub exceptions : Parser Declaration
+  abbrev pub exceptions : Parser Declaration
   exceptions = word here words.Datatype >> word here words.Exn >> sign here signs.LeftBrace >> some_of begins_constructor (constructor room) >>= (λ cs. sign room signs.RightBrace >> sign here signs.Semicolon >> pure (Exceptions cs))
 
   abbrev pub declaration_by : Option Terminal → Parser Declaration
@@ -119,9 +122,9 @@ module _ (room : ℕ) where
     | Some t ↦ declaration >>= (λ d. declarations_in turns >>= (λ ds. pure (d ∷ ds)))
   ])
 
-  unfoldable pub program : Parser (List Declaration)
+  abbrev pub program : Parser (List Declaration)
   program = declaration >>= (λ d. (λ ts. declarations_in (length ts) ts) >>= (λ ds. pure (d ∷ ds)))
 
 -- The program that the symbols spell. A symbol of a program stands at most 200 deep.
-unfoldable pub program_of : List Symbol → Result (List Declaration × List Symbol) Refusal
+abbrev pub program_of : List Symbol → Result (List Declaration × List Symbol) Refusal
 program_of ts = program 200 ts

@@ -100,8 +100,12 @@ binary_of e (ThenOperation o p r os) = Binary e (ThenOperation o p r os)
 
 -- ---- chains of binary operators, given the parser of an operand with its prefixes and postfixes
 
+-- behind as many operators as a chain may have
+abbrev pub no_more_operations : ℕ → Parser Operations
+no_more_operations k = if_is (operator_at k) (λ o. refuse TooLong) (pure NoOperations)
+
 unfoldable pub operations : Parser Expression → ℕ → ℕ → Parser Operations
-operations operand k zero = if_is (operator_at k) (λ o. refuse TooLong) (pure NoOperations)
+operations operand k zero = no_more_operations k
 operations operand k (suc left) = if_is (operator_at k) (λ o. advance >>= (λ p. operand >>= (λ e. operations operand k left >>= (λ os. pure (ThenOperation o p e os))))) (pure NoOperations)
 
 -- goes on from a first operand by the operators of the levels up to this one
@@ -119,15 +123,19 @@ pub record Nested : Type 0 where
   pub group : Parser Expression
   pub initial : Parser Initial
 
+-- behind as many postfixes as an operand may have
+abbrev pub no_more_postfixes : Parser Postfixes
+no_more_postfixes = if_sees signs.LeftBracket (refuse TooLong) (if_sees signs.Arrow (refuse TooLong) (pure NoPostfixes))
+
 module _ (room : ℕ) (inner : Nested) where
-  unfoldable pub group : Parser Expression
+  abbrev pub group : Parser Expression
   group = sign (suc room) signs.LeftParen >> inner.expression >>= (λ e. sign room signs.RightParen >> pure e)
 
-  unfoldable pub arguments : Parser Expressions
+  abbrev pub arguments : Parser Expressions
   arguments = if_sees signs.RightParen (pure NoExpressions) (separated room begins_expression inner.expression >>= (λ es. pure (chain_of es)))
 
   -- an expression that begins with this name
-  unfoldable pub from_name : Named → Parser Expression
+  abbrev pub from_name : Named → Parser Expression
   from_name x = if_sees signs.LeftParen (sign (suc room) signs.LeftParen >> arguments >>= (λ es. sign room signs.RightParen >> pure (Call x es))) (pure (Variable x))
 
   abbrev pub primary_by : Option Terminal → Parser Expression
@@ -147,13 +155,13 @@ module _ (room : ℕ) (inner : Nested) where
   primary = choose primary_by
 
   unfoldable pub postfixes : ℕ → Parser Postfixes
-  postfixes zero = if_sees signs.LeftBracket (refuse TooLong) (if_sees signs.Arrow (refuse TooLong) (pure NoPostfixes))
+  postfixes zero = no_more_postfixes
   postfixes (suc left) =
       if_sees signs.LeftBracket (sign (suc room) signs.LeftBracket >> inner.expression >>= (λ e. sign room signs.RightBracket >> postfixes left >>= (λ ps. pure (ThenIndex e ps))))
       (if_sees signs.Arrow (sign (suc room) signs.Arrow >> identifier (suc room) >>= (λ x. postfixes left >>= (λ ps. pure (ThenField x ps))))
       (pure NoPostfixes))
 
-  unfoldable pub with_postfixes : Parser Expression → Parser Expression
+  abbrev pub with_postfixes : Parser Expression → Parser Expression
   with_postfixes first = first >>= (λ e. postfixes max_items >>= (λ ps. pure (chained e ps)))
 
   abbrev pub unary_by : Option Terminal → Parser Expression
@@ -169,13 +177,13 @@ module _ (room : ℕ) (inner : Nested) where
   unfoldable pub unary : Parser Expression
   unary = choose unary_by
 
-  unfoldable pub assignment : Expression → Parser Expression
+  abbrev pub assignment : Expression → Parser Expression
   assignment e = if_sees signs.Assign (sign (suc room) signs.Assign >> inner.expression >>= (λ v. pure (Assign e v))) (pure e)
 
-  unfoldable pub binary : Parser Expression
+  abbrev pub binary : Parser Expression
   binary = unary >>= climb unary 10
 
-  unfoldable pub expression : Parser Expression
+  abbrev pub expression : Parser Expression
   expression = binary >>= assignment
 
   -- the values of a struct's fields, as many as there are
@@ -183,18 +191,18 @@ module _ (room : ℕ) (inner : Nested) where
   more_values zero = pure NoExpressions
   more_values (suc turns) = if_sees signs.Comma (sign room signs.Comma >> inner.expression >>= (λ e. more_values turns >>= (λ es. pure (MoreExpressions e es)))) (pure NoExpressions)
 
-  unfoldable pub values : Parser Expressions
+  abbrev pub values : Parser Expressions
   values = inner.expression >>= (λ e. (λ ts. more_values (length ts) ts) >>= (λ es. pure (MoreExpressions e es)))
 
-  unfoldable pub fields : Named → List Named → Parser Initial
+  abbrev pub fields : Named → List Named → Parser Initial
   fields s rs = sign (suc room) signs.LeftBrace >> values >>= (λ es. sign room signs.RightBrace >> pure (Fields s rs es))
 
   -- a struct's name opens its fields, with region arguments or without, or the name begins an expression
-  unfoldable pub initial_from_name : Named → Parser Initial
+  abbrev pub initial_from_name : Named → Parser Initial
   initial_from_name s = if_sees signs.LeftBrace (fields s [])
       (λ ts. (if opens_regions ts then region_list (suc room) >>= (λ rs. fields s rs) else with_postfixes (from_name s) >>= (λ e. pure (Plain e))) ts)
 
-  unfoldable pub array : Parser Initial
+  abbrev pub array : Parser Initial
   array = sign (suc room) signs.LeftBrace >> word room words.For >>= (λ p. identifier room >>= (λ x. sign room signs.Less >> inner.binary >>= (λ n. sign room signs.Colon >> inner.expression >>= (λ e. sign room signs.RightBrace >> pure (Array p x n e)))))
 
   abbrev pub initial_by : Option Terminal → Parser Initial

@@ -183,11 +183,15 @@ refuse_item begins why = λ ts. refuse (reason_by begins why (next ts)) ts
 
 -- ---- lists with commas. The number counts the items that may still come.
 
+-- behind as many items as a list may have
+abbrev pub no_more_items : {A : Type 0} → ℕ → (Terminal → Bool) → Parser (List A)
+no_more_items room begins = if_sees marks.Comma (sign room marks.Comma >> refuse_item begins TooLong) (pure [])
+
 unfoldable pub more_items : {A : Type 0} → ℕ → (Terminal → Bool) → Parser A → ℕ → Parser (List A)
-more_items room begins item zero = if_sees marks.Comma (sign room marks.Comma >> refuse_item begins TooLong) (pure [])
+more_items room begins item zero = no_more_items room begins
 more_items room begins item (suc left) = if_sees marks.Comma (sign room marks.Comma >> item >>= (λ x. more_items room begins item left >>= (λ xs. pure (x ∷ xs)))) (pure [])
 
-unfoldable pub separated : {A : Type 0} → ℕ → (Terminal → Bool) → Parser A → Parser (List A)
+abbrev pub separated : {A : Type 0} → ℕ → (Terminal → Bool) → Parser A → Parser (List A)
 separated room begins item = item >>= (λ x. more_items room begins item 63 >>= (λ xs. pure (x ∷ xs)))
 
 -- ---- lists of regions
@@ -195,7 +199,7 @@ separated room begins item = item >>= (λ x. more_items room begins item 63 >>= 
 abbrev pub begins_region : Terminal → Bool
 begins_region t = is_some (region_of_terminal t)
 
-unfoldable pub regions : ℕ → Parser (List Named)
+abbrev pub regions : ℕ → Parser (List Named)
 regions room = separated room begins_region (region_name room)
 
 -- `<` and a region: only so do region arguments begin
@@ -204,5 +208,5 @@ opens_regions [] = false
 opens_regions (t ∷ ts) = is_some (is_sign marks.Less t.terminal) && starts begins_region (next ts)
 
 -- region arguments in their brackets
-unfoldable pub region_list : ℕ → Parser (List Named)
+abbrev pub region_list : ℕ → Parser (List Named)
 region_list room = sign room marks.Less >> regions room >>= (λ rs. sign room marks.Greater >> pure rs)

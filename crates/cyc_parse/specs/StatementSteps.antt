@@ -15,34 +15,34 @@ abbrev pub after_symbol : {A : Type 0} → (Place → Parser A) → Parser A
 after_symbol f = advance >>= f
 
 module _ (room : ℕ) (inner : Nested) where
-  unfoldable pub return_statement : Place → Parser Statement
+  abbrev pub return_statement : Place → Parser Statement
   return_statement p = return_value room inner >>= (λ v. sign (suc room) signs.Semicolon >> pure (Return p v))
 
   -- a statement that begins with this name
-  unfoldable pub named_statement : ℕ → Parser Statement
+  abbrev pub named_statement : ℕ → Parser Statement
   named_statement x = advance >>= (λ p. statement_from_name room inner (record { name = x; place = p }))
 
-  unfoldable pub block_statement : Parser Statement
+  abbrev pub block_statement : Parser Statement
   block_statement = body room inner >>= (λ b. pure (Block b))
 
-  unfoldable pub expression_statement : Parser Statement
+  abbrev pub expression_statement : Parser Statement
   expression_statement = expression room inner >>= behind room inner
 
   -- the brace that closes behind the clauses of a `try`
-  unfoldable pub end_of_try : Place → Statement → Clauses → Parser Statement
+  abbrev pub end_of_try : Place → Statement → Clauses → Parser Statement
   end_of_try p s cs = sign room signs.RightBrace >> pure (Try p s cs)
 
-  unfoldable pub let_item : Parser Item
+  abbrev pub let_item : Parser Item
   let_item = choose (let_by room inner)
 
-  unfoldable pub one_item : Parser (Option Item)
+  abbrev pub one_item : Parser (Option Item)
   one_item = if_starts begins_item (item room inner >>= (λ i. pure (Some i))) (pure None)
 
   -- a clause, as what it makes of those behind it
-  unfoldable pub one_clause : Parser (Option (Clauses → Clauses))
+  abbrev pub one_clause : Parser (Option (Clauses → Clauses))
   one_clause = if_starts is_case (word room words.Case >> sign room signs.And >> identifier room >>= (λ x. caught room inner >>= (λ v. sign room signs.Colon >> inner.items >>= (λ is. pure (Some (Case x v is)))))) (pure None)
 
-  unfoldable pub default_clause : Parser Clauses
+  abbrev pub default_clause : Parser Clauses
   default_clause = if_starts is_default (word room words.Default >> sign room signs.Colon >> inner.items >>= (λ is. pure (Default is))) (pure NoClauses)
 
 abbrev pub then_clause : Clause → Clauses → Clauses

@@ -122,7 +122,7 @@ abbrev mutual
   is_variable (Assign a b) = false
 
 -- Behind the right side of a swap: `<` may be the begin of region arguments, and then what follows it is unexpected.
-unfoldable pub end_of_swap : ℕ → Expression → Parser Place
+abbrev pub end_of_swap : ℕ → Expression → Parser Place
 end_of_swap room e = if_sees signs.Semicolon (sign room signs.Semicolon)
     (λ ts. (if sees signs.Less ts && ends_in_new e then advance >> refuse Unexpected else refuse Unexpected) ts)
 
@@ -136,36 +136,36 @@ module _ (room : ℕ) (inner : Nested) where
   abbrev pub here : ℕ
   here = suc room
 
-  unfoldable pub body : Parser Body
+  abbrev pub body : Parser Body
   body = sign here signs.LeftBrace >>= (λ p. inner.items >>= (λ is. sign room signs.RightBrace >>= (λ q. pure (Braces p is q))))
 
-  unfoldable pub expression : Parser Expression
+  abbrev pub expression : Parser Expression
   expression = (nested here).expression
 
   -- an expression that begins with this name
-  unfoldable pub expression_from : Named → Parser Expression
+  abbrev pub expression_from : Named → Parser Expression
   expression_from x = (with_postfixes room (nested room) (from_name room (nested room) x) >>= climb (nested here).unary 10) >>= assignment room (nested room)
 
-  unfoldable pub swap : Expression → Parser Statement
+  abbrev pub swap : Expression → Parser Statement
   swap a = sign here signs.Swap >> (nested here).unary >>= (λ b. end_of_swap here b >> pure (Swap a b))
 
   -- behind the expression that a statement begins with
-  unfoldable pub behind : Expression → Parser Statement
+  abbrev pub behind : Expression → Parser Statement
   behind e = λ ts. (if sees signs.Swap ts && is_unary e then swap e else sign here signs.Semicolon >> pure (Evaluate e)) ts
 
-  unfoldable pub statement_from_name : Named → Parser Statement
+  abbrev pub statement_from_name : Named → Parser Statement
   statement_from_name x = if_sees signs.Colon (sign here signs.Colon >> body >>= (λ b. pure (Labelled x b))) (expression_from x >>= behind)
 
-  unfoldable pub else_part : Place → Expression → Statement → Parser Statement
+  abbrev pub else_part : Place → Expression → Statement → Parser Statement
   else_part p c s = if_starts is_else (word here words.Else >> inner.statement >>= (λ t. pure (IfElse p c s t))) (pure (If p c s))
 
-  unfoldable pub return_value : Parser (Option Expression)
+  abbrev pub return_value : Parser (Option Expression)
   return_value = if_sees signs.Semicolon (pure None) (expression >>= (λ e. pure (Some e)))
 
-  unfoldable pub thrown : Parser (Option Expression)
+  abbrev pub thrown : Parser (Option Expression)
   thrown = if_sees signs.LeftParen ((nested room).group >>= (λ e. pure (Some e))) (pure None)
 
-  unfoldable pub caught : Parser (Option Named)
+  abbrev pub caught : Parser (Option Named)
   caught = if_sees signs.LeftParen (sign room signs.LeftParen >> identifier (inside room) >>= (λ v. sign (inside room) signs.RightParen >> pure (Some v))) (pure None)
 
   -- the number bounds the clauses: as many as there are symbols
@@ -175,19 +175,19 @@ module _ (room : ℕ) (inner : Nested) where
       if_starts is_case (word room words.Case >> sign room signs.And >> identifier room >>= (λ x. caught >>= (λ v. sign room signs.Colon >> inner.items >>= (λ is. clauses_in turns >>= (λ cs. pure (Case x v is cs))))))
       (if_starts is_default (word room words.Default >> sign room signs.Colon >> inner.items >>= (λ is. pure (Default is))) (pure NoClauses))
 
-  unfoldable pub clauses : Parser Clauses
+  abbrev pub clauses : Parser Clauses
   clauses = if_starts begins_clause (λ ts. clauses_in (length ts) ts) (refuse Unexpected)
 
-  unfoldable pub if_statement : Place → Parser Statement
+  abbrev pub if_statement : Place → Parser Statement
   if_statement p = (nested here).group >>= (λ c. inner.statement >>= (λ s. else_part p c s))
 
-  unfoldable pub while_statement : Place → Parser Statement
+  abbrev pub while_statement : Place → Parser Statement
   while_statement p = (nested here).group >>= (λ c. inner.statement >>= (λ s. pure (While p c s)))
 
-  unfoldable pub throw_statement : Place → Parser Statement
+  abbrev pub throw_statement : Place → Parser Statement
   throw_statement p = word here words.New >> identifier room >>= (λ x. thrown >>= (λ v. sign here signs.Semicolon >> pure (Throw p x v)))
 
-  unfoldable pub try_statement : Place → Parser Statement
+  abbrev pub try_statement : Place → Parser Statement
   try_statement p = inner.statement >>= (λ s. word here words.Catch >> sign here signs.LeftBrace >> clauses >>= (λ cs. sign room signs.RightBrace >> pure (Try p s cs)))
 
   abbrev pub statement_by : Option Terminal → Parser Statement
@@ -208,26 +208,26 @@ module _ (room : ℕ) (inner : Nested) where
 
   -- ---- items
 
-  unfoldable pub local_value : Parser (Option Expression)
+  abbrev pub local_value : Parser (Option Expression)
   local_value = if_sees signs.Assign (sign here signs.Assign >> (nested room).expression >>= (λ e. pure (Some e))) (pure None)
 
-  unfoldable pub local : Parser Item
+  abbrev pub local : Parser Item
   local = written_type here >>= (λ t. identifier here >>= (λ x. local_value >>= (λ v. sign here signs.Semicolon >> pure (Local t x v))))
 
-  unfoldable pub opened_key : Parser (Option Named)
+  abbrev pub opened_key : Parser (Option Named)
   opened_key = if_sees signs.Assign (sign here signs.Assign >> word room words.Open >> sign room signs.LeftParen >> identifier (inside room) >>= (λ k. sign (inside room) signs.RightParen >> pure (Some k))) (pure None)
 
-  unfoldable pub region : Parser Item
+  abbrev pub region : Parser Item
   region = word here words.Region >> region_of here >>= (λ r. identifier here >>= (λ h. opened_key >>= (λ k. sign here signs.Semicolon >> pure (Region r h k))))
 
-  unfoldable pub alias : Parser Item
+  abbrev pub alias : Parser Item
   alias = word here words.Alias >> region_of here >>= (λ r. written_type here >>= (λ t. identifier here >>= (λ x. sign here signs.Assign >> identifier room >>= (λ y. sign here signs.Semicolon >> pure (Alias r t x y)))))
 
   -- `= new_ukey()`
-  unfoldable pub new_key : Parser (Unit {0})
+  abbrev pub new_key : Parser (Unit {0})
   new_key = sign here signs.Assign >> word room words.NewKey >> sign room signs.LeftParen >> sign (inside room) signs.RightParen >> sign here signs.Semicolon >> pure tt
 
-  unfoldable pub dynamic_region : Parser Item
+  abbrev pub dynamic_region : Parser Item
   dynamic_region = word here words.NewDynamicRegion >> sign here signs.LeftBrace >> region_of room >>= (λ r. identifier room >>= (λ k. sign room signs.RightBrace >> new_key >> pure (DynamicRegion r k)))
 
   abbrev pub let_by : Option Terminal → Parser Item
@@ -251,7 +251,7 @@ module _ (room : ℕ) (inner : Nested) where
   items_in zero = pure NoItems
   items_in (suc turns) = if_starts begins_item (item >>= (λ i. items_in turns >>= (λ is. pure (MoreItems i is)))) (pure NoItems)
 
-  unfoldable pub items : Parser Items
+  abbrev pub items : Parser Items
   items = λ ts. items_in (length ts) ts
 
 -- the parsers with so many levels of nesting left; with none, what begins here stands too deep

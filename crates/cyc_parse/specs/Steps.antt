@@ -15,41 +15,41 @@ use Rattle.cyc_parse.specs.Declarations.{declaration}
 use Rattle.cyc_parse.specs.Expressions.{Nested, binary_operator, operator_at, chained, binary_of, operations, climb, postfixes, unary}
 
 -- an item behind a comma
-unfoldable pub after_comma : {A : Type 0} → ℕ → Parser A → Parser (Option A)
+abbrev pub after_comma : {A : Type 0} → ℕ → Parser A → Parser (Option A)
 after_comma room item = if_sees signs.Comma (sign room signs.Comma >> item >>= (λ x. pure (Some x))) (pure None)
 
-unfoldable pub one_pointer : ℕ → Parser (Option Pointer)
+abbrev pub one_pointer : ℕ → Parser (Option Pointer)
 one_pointer room = choose (λ t. elim (mark_at t) [
   | None ↦ pure None
   | Some k ↦ advance >> optional_region room >>= (λ r. pure (Some (record { kind = k; region = r })))
 ])
 
 -- the next item, where one begins
-unfoldable pub one_of : {A : Type 0} → (Terminal → Bool) → Parser A → Parser (Option A)
+abbrev pub one_of : {A : Type 0} → (Terminal → Bool) → Parser A → Parser (Option A)
 one_of begins item = if_starts begins (item >>= (λ x. pure (Some x))) (pure None)
 
 -- ---- expressions
 
-unfoldable pub freed_key : ℕ → Parser Expression
+abbrev pub freed_key : ℕ → Parser Expression
 freed_key room = advance >>= (λ p. sign (suc room) signs.LeftParen >> identifier room >>= (λ k. sign room signs.RightParen >> pure (FreeKey p k)))
 
-unfoldable pub bracketed : ℕ → Nested → Parser Expression
+abbrev pub bracketed : ℕ → Nested → Parser Expression
 bracketed room inner = advance >>= (λ p. inner.expression >>= (λ e. sign room signs.RightParen >> pure (Bracketed p e)))
 
-unfoldable pub prefixed : Nested → PrefixOperator → Parser Expression
+abbrev pub prefixed : Nested → PrefixOperator → Parser Expression
 prefixed inner o = advance >>= (λ p. inner.unary >>= (λ e. pure (Prefixed p o e)))
 
-unfoldable pub created : Nested → Parser Expression
+abbrev pub created : Nested → Parser Expression
 created inner = advance >>= (λ p. inner.initial >>= (λ i. pure (New p i)))
 
-unfoldable pub created_in : Nested → Parser Expression
+abbrev pub created_in : Nested → Parser Expression
 created_in inner = advance >>= (λ p. inner.group >>= (λ h. inner.initial >>= (λ i. pure (RegionNew p h i))))
 
-unfoldable pub with_chain : ℕ → Nested → Expression → Parser Expression
+abbrev pub with_chain : ℕ → Nested → Expression → Parser Expression
 with_chain room inner e = postfixes room inner max_items >>= (λ ps. pure (chained e ps))
 
 -- a postfix, as what it makes of those behind it
-unfoldable pub one_postfix : ℕ → Nested → Parser (Option (Postfixes → Postfixes))
+abbrev pub one_postfix : ℕ → Nested → Parser (Option (Postfixes → Postfixes))
 one_postfix room inner =
     if_sees signs.LeftBracket (sign (suc room) signs.LeftBracket >> inner.expression >>= (λ e. sign room signs.RightBracket >> pure (Some (ThenIndex e))))
     (if_sees signs.Arrow (sign (suc room) signs.Arrow >> identifier (suc room) >>= (λ x. pure (Some (ThenField x))))
@@ -72,19 +72,19 @@ abbrev pub then_operation : Operation → Operations → Operations
 then_operation o = ThenOperation o.operator (place_of_span o.span) (view_expression o.operand)
 
 -- an operator with its operand, as what they make of those behind them
-unfoldable pub one_operation : Parser Expression → ℕ → Parser (Option (Operations → Operations))
+abbrev pub one_operation : Parser Expression → ℕ → Parser (Option (Operations → Operations))
 one_operation operand k = choose (λ t. elim (operator_at k t) [
   | None ↦ pure None
   | Some o ↦ advance >>= (λ p. operand >>= (λ e. pure (Some (ThenOperation o p e))))
 ])
 
 -- goes on from a first operand by the operators of the level above this one
-unfoldable pub one_level : ℕ → Nested → ℕ → Expression → Parser Expression
+abbrev pub one_level : ℕ → Nested → ℕ → Expression → Parser Expression
 one_level room inner below e = climb (unary room inner) below e >>= (λ first. operations (operand room inner below) (suc below) max_items >>= (λ os. pure (binary_of first os)))
 
 -- ---- declarations
 
-unfoldable pub one_declaration : ℕ → Parser (Option Declaration)
+abbrev pub one_declaration : ℕ → Parser (Option Declaration)
 one_declaration room = choose (λ t. elim t [
   | None ↦ pure None
   | Some t ↦ declaration room >>= (λ d. pure (Some d))

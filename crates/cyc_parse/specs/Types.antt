@@ -28,21 +28,25 @@ mark_at (Some (Mark signs.At)) = Some pointers.NonNull
 mark_at (Some (Mark signs.Question)) = Some pointers.Fat
 mark_at _ = None
 
-unfoldable pub optional_region : ℕ → Parser (Option Named)
+abbrev pub optional_region : ℕ → Parser (Option Named)
 optional_region room = if_starts begins_region (region_name room >>= (λ r. pure (Some r))) (pure None)
 
+-- behind as many pointer marks as a type may have
+abbrev pub no_more_pointers : Parser (List Pointer)
+no_more_pointers = if_is mark_at (λ k. refuse TooLong) (pure [])
+
 unfoldable pub pointers_of : ℕ → ℕ → Parser (List Pointer)
-pointers_of room zero = if_is mark_at (λ k. refuse TooLong) (pure [])
+pointers_of room zero = no_more_pointers
 pointers_of room (suc left) = if_is mark_at (λ k. advance >> optional_region room >>= (λ r. pointers_of room left >>= (λ ms. pure (record { kind = k; region = r } ∷ ms)))) (pure [])
 
-unfoldable pub with_pointers : ℕ → Place → BaseType → Parser WrittenType
+abbrev pub with_pointers : ℕ → Place → BaseType → Parser WrittenType
 with_pointers room p b = pointers_of room max_items >>= (λ ms. pure (record { place = p; base = b; marks = ms }))
 
 unfoldable pub optional_regions : ℕ → Parser (List Named)
 optional_regions room = if_sees signs.Less (region_list room) (pure [])
 
 -- the one region of a handle's or a key's type
-unfoldable pub region_of : ℕ → Parser Named
+abbrev pub region_of : ℕ → Parser Named
 region_of room = sign room signs.Less >> region_name room >>= (λ r. sign room signs.Greater >> pure r)
 
 abbrev pub base_by : ℕ → Option Terminal → Parser WrittenType

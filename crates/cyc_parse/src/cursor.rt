@@ -1,4 +1,5 @@
 //! The symbols that are left, and the parsers of one symbol.
+#![tactic(auto, unfolding(crate::specs::Parsing::take))]
 ghost use Rattle.std.specs.Prelude.{◌≡◌, ℕ, suc, length, map, option_map, if◌then◌else◌};
 ghost use Rattle.cyc_parse.specs.declared.stop.Reason.TheVariants as reasons;
 ghost use Rattle.cyc_parse.specs.declared.stop.Stop.TheVariants.{Refused};
@@ -115,7 +116,6 @@ impl<'a> Parser<'a> {
         self.advance()
     }
 
-    #[tactic(auto, unfolding(crate::specs::Parsing::take))]
     pub(crate) fn take_word(&mut self, wanted: Keyword) -> Result<Span, Stop>
         ensures { (room : ℕ) → Gives place_of_span result (word (suc room) wanted self.old) self.new }
     {
@@ -125,7 +125,6 @@ impl<'a> Parser<'a> {
         }
     }
 
-    #[tactic(auto, unfolding(crate::specs::Parsing::take))]
     pub(crate) fn take_identifier(&mut self) -> Result<Ident, Stop>
         ensures { (room : ℕ) → Gives view_name result (identifier (suc room) self.old) self.new }
     {
@@ -136,7 +135,6 @@ impl<'a> Parser<'a> {
         Ok(Ident { name, span })
     }
 
-    #[tactic(auto, unfolding(crate::specs::Parsing::take))]
     pub(crate) fn take_region_name(&mut self) -> Result<Ident, Stop>
         ensures { (room : ℕ) → Gives view_name result (region_name (suc room) self.old) self.new }
     {
@@ -158,7 +156,6 @@ impl<'a> Parser<'a> {
         self.accept(room)
     }
 
-    #[tactic(auto, unfolding(crate::specs::Parsing::take))]
     pub(crate) fn take_word_inside(&mut self, room: u32, wanted: Keyword) -> Result<Span, Stop>
         ensures { Gives place_of_span result (word room wanted self.old) self.new }
     {
@@ -168,7 +165,6 @@ impl<'a> Parser<'a> {
         }
     }
 
-    #[tactic(auto, unfolding(crate::specs::Parsing::take))]
     pub(crate) fn take_identifier_inside(&mut self, room: u32) -> Result<Ident, Stop>
         ensures { Gives view_name result (identifier room self.old) self.new }
     {
@@ -179,7 +175,6 @@ impl<'a> Parser<'a> {
         Ok(Ident { name, span })
     }
 
-    #[tactic(auto, unfolding(crate::specs::Parsing::take))]
     pub(crate) fn take_region_name_inside(&mut self, room: u32) -> Result<Ident, Stop>
         ensures { Gives view_name result (region_name room self.old) self.new }
     {

@@ -1,12 +1,13 @@
 //! The parser of declarations and of programs. A declaration stands at no depth: its brackets are the first level of
 //! nesting.
-ghost use Rattle.std.specs.Prelude.{◌≡◌, ℕ, suc, map, option_map, []};
+ghost use Rattle.std.specs.Prelude.{◌≡◌, ℕ, suc, map, option_map, List, []};
 ghost use Rattle.cyc_syntax.specs.TreeView.{place_of_span, view_name, view_type, view_member, view_constructor, view_value, view_constraint, view_list, view_parameters, view_declaration};
+ghost use Rattle.cyc_syntax.specs.Trees as trees;
 ghost use Rattle.cyc_parse.specs.Code.{Gives};
-ghost use Rattle.cyc_parse.specs.Parsing.{next, starts, take, begins_region, more_items, separated};
+ghost use Rattle.cyc_parse.specs.Parsing.{next, starts, take, begins_region, no_more_items, separated};
 ghost use Rattle.cyc_parse.specs.Types.{begins_type};
 ghost use Rattle.cyc_parse.specs.Steps.{after_comma, one_of, one_declaration};
-ghost use Rattle.cyc_parse.specs.Declarations.{begins_void, number_value, begins_constructor, member, field, has_int, constructor, more_of, some_of, parameter_list, effect_regions, effect, constraint, constraints, parameters, value, global_value, global, function, typed, struct_fields, struct_or_typed, exceptions, declaration, program_of};
+ghost use Rattle.cyc_parse.specs.Declarations.{begins_void, number_value, begins_constructor, member, field, has_int, constructor, no_more_of, some_of, parameter_list, effect_regions, effect, constraint, constraints, parameters, value, global_value, global, function, typed, struct_fields, struct_or_typed, exceptions, declaration, program_of};
 
 use crate::cursor::{Parser, refusal};
 use crate::stop::{Reason, Stop};
@@ -40,7 +41,6 @@ impl<'a> Parser<'a> {
     }
 
     /// A field without its semicolon, or a parameter.
-    #[tactic(auto, unfolding(crate::specs::Declarations::member, crate::specs::Parsing::bind))]
     fn parse_member(&mut self) -> Result<Member, Stop>
         ensures { (room : ℕ) → Gives view_member result (member (suc room) self.old) self.new }
     {
@@ -49,7 +49,6 @@ impl<'a> Parser<'a> {
         Ok(Member { of_type, name })
     }
 
-    #[tactic(auto, unfolding(crate::specs::Declarations::field, crate::specs::Parsing::bind))]
     fn parse_field(&mut self) -> Result<Member, Stop>
         ensures { (room : ℕ) → Gives view_member result (field (suc room) self.old) self.new }
     {
@@ -58,7 +57,6 @@ impl<'a> Parser<'a> {
         Ok(member)
     }
 
-    #[tactic(auto, unfolding(crate::specs::Steps::one_of, crate::specs::Parsing::if_starts, crate::specs::Parsing::bind))]
     fn parse_next_field(&mut self) -> Result<Option<Member>, Stop>
         ensures { (room : ℕ) → Gives (option_map view_member) result (one_of begins_type (field (suc room)) self.old) self.new }
     {
@@ -68,9 +66,8 @@ impl<'a> Parser<'a> {
         Ok(Some(self.parse_field()?))
     }
 
-    #[tactic(auto, unfolding(crate::specs::Declarations::more_of, crate::specs::Parsing::if_starts))]
     fn end_fields(&mut self) -> Result<(), Stop>
-        ensures { (room : ℕ) → Gives (λ _. []) result (more_of begins_type (field (suc room)) 0 self.old) self.new }
+        ensures { Gives {Y = List trees.Member} (λ _. []) result (no_more_of begins_type self.old) self.new }
     {
         if self.begins_type() {
             return Err(Stop::Refused(Reason::TooLong));
@@ -79,7 +76,6 @@ impl<'a> Parser<'a> {
     }
 
     /// The fields of a struct, at least one.
-    #[tactic(auto, unfolding(crate::specs::Declarations::some_of, crate::specs::Parsing::bind))]
     fn parse_field_list(&mut self) -> Result<Vec<Member>, Stop>
         ensures { (room : ℕ) → Gives (λ v. map view_member v.items) result (some_of begins_type (field (suc room)) self.old) self.new }
     {
@@ -97,7 +93,6 @@ impl<'a> Parser<'a> {
     }
 
     /// `(int)`, if it comes next.
-    #[tactic(auto, unfolding(crate::specs::Declarations::has_int, crate::specs::Parsing::if_sees, crate::specs::Parsing::bind))]
     fn parse_int(&mut self) -> Result<bool, Stop>
         ensures { Gives (λ b. b) result (has_int 200 self.old) self.new }
     {
@@ -110,7 +105,6 @@ impl<'a> Parser<'a> {
         Ok(true)
     }
 
-    #[tactic(auto, unfolding(crate::specs::Declarations::constructor, crate::specs::Parsing::bind))]
     fn parse_constructor(&mut self) -> Result<Constructor, Stop>
         ensures { Gives view_constructor result (constructor 200 self.old) self.new }
     {
@@ -120,7 +114,6 @@ impl<'a> Parser<'a> {
         Ok(Constructor { name, has_int })
     }
 
-    #[tactic(auto, unfolding(crate::specs::Steps::one_of, crate::specs::Parsing::if_starts, crate::specs::Parsing::bind))]
     fn parse_next_constructor(&mut self) -> Result<Option<Constructor>, Stop>
         ensures { Gives (option_map view_constructor) result (one_of begins_constructor (constructor 200) self.old) self.new }
     {
@@ -130,9 +123,8 @@ impl<'a> Parser<'a> {
         Ok(Some(self.parse_constructor()?))
     }
 
-    #[tactic(auto, unfolding(crate::specs::Declarations::more_of, crate::specs::Parsing::if_starts))]
     fn end_constructors(&mut self) -> Result<(), Stop>
-        ensures { Gives (λ _. []) result (more_of begins_constructor (constructor 200) 0 self.old) self.new }
+        ensures { Gives {Y = List trees.Constructor} (λ _. []) result (no_more_of begins_constructor self.old) self.new }
     {
         if self.begins_constructor() {
             return Err(Stop::Refused(Reason::TooLong));
@@ -141,7 +133,6 @@ impl<'a> Parser<'a> {
     }
 
     /// The constructors of `exn`, at least one.
-    #[tactic(auto, unfolding(crate::specs::Declarations::some_of, crate::specs::Parsing::bind))]
     fn parse_constructor_list(&mut self) -> Result<Vec<Constructor>, Stop>
         ensures { Gives (λ v. map view_constructor v.items) result (some_of begins_constructor (constructor 200) self.old) self.new }
     {
@@ -160,7 +151,6 @@ impl<'a> Parser<'a> {
 
     // ---- parameters
 
-    #[tactic(auto, unfolding(crate::specs::Steps::after_comma, crate::specs::Parsing::if_sees, crate::specs::Parsing::bind))]
     fn parse_member_after_comma(&mut self) -> Result<Option<Member>, Stop>
         ensures { (room : ℕ) → Gives (option_map view_member) result (after_comma (suc room) (member (suc room)) self.old) self.new }
     {
@@ -171,9 +161,8 @@ impl<'a> Parser<'a> {
         Ok(Some(self.parse_member()?))
     }
 
-    #[tactic(auto, unfolding(crate::specs::Parsing::more_items, crate::specs::Parsing::if_sees, crate::specs::Parsing::bind, crate::specs::Parsing::refuse_item))]
     fn end_members(&mut self) -> Result<(), Stop>
-        ensures { (room : ℕ) → Gives (λ _. []) result (more_items (suc room) begins_type (member (suc room)) 0 self.old) self.new }
+        ensures { (room : ℕ) → Gives {Y = List trees.Member} (λ _. []) result (no_more_items (suc room) begins_type self.old) self.new }
     {
         if !self.sees(Sign::Comma) {
             return Ok(());
@@ -183,7 +172,6 @@ impl<'a> Parser<'a> {
     }
 
     /// Parameters with commas between.
-    #[tactic(auto, unfolding(crate::specs::Parsing::separated, crate::specs::Parsing::bind))]
     fn parse_members(&mut self) -> Result<Vec<Member>, Stop>
         ensures { (room : ℕ) → Gives (λ v. map view_member v.items) result (separated (suc room) begins_type (member (suc room)) self.old) self.new }
     {
@@ -200,9 +188,8 @@ impl<'a> Parser<'a> {
         Ok(members)
     }
 
-    #[tactic(auto, unfolding(crate::specs::Declarations::parameter_list, crate::specs::Parsing::if_starts, crate::specs::Parsing::bind))]
     fn parse_parameter_list(&mut self) -> Result<ParameterList, Stop>
-        ensures { (room : ℕ) → Gives view_list result (parameter_list (suc room) self.old) self.new }
+        ensures { Gives view_list result (parameter_list 200 self.old) self.new }
     {
         if self.begins_void() {
             self.advance()?;
@@ -217,7 +204,6 @@ impl<'a> Parser<'a> {
     }
 
     /// The regions of an effect, which may be none.
-    #[tactic(auto, unfolding(crate::specs::Declarations::effect_regions, crate::specs::Parsing::if_starts))]
     fn parse_effect_regions(&mut self) -> Result<Vec<Ident>, Stop>
         ensures { (room : ℕ) → Gives (λ v. map view_name v.items) result (effect_regions (suc room) self.old) self.new }
     {
@@ -228,7 +214,6 @@ impl<'a> Parser<'a> {
         }
     }
 
-    #[tactic(auto, unfolding(crate::specs::Declarations::effect, crate::specs::Parsing::if_sees, crate::specs::Parsing::bind))]
     fn parse_effect(&mut self) -> Result<Option<Vec<Ident>>, Stop>
         ensures { Gives (option_map (λ v. map view_name v.items)) result (effect 200 self.old) self.new }
     {
@@ -242,7 +227,6 @@ impl<'a> Parser<'a> {
         Ok(Some(regions))
     }
 
-    #[tactic(auto, unfolding(crate::specs::Declarations::constraint, crate::specs::Parsing::bind))]
     fn parse_constraint(&mut self) -> Result<Constraint, Stop>
         ensures { (room : ℕ) → Gives view_constraint result (constraint (suc room) self.old) self.new }
     {
@@ -252,7 +236,6 @@ impl<'a> Parser<'a> {
         Ok(Constraint { longer, shorter })
     }
 
-    #[tactic(auto, unfolding(crate::specs::Steps::after_comma, crate::specs::Parsing::if_sees, crate::specs::Parsing::bind))]
     fn parse_constraint_after_comma(&mut self) -> Result<Option<Constraint>, Stop>
         ensures { (room : ℕ) → Gives (option_map view_constraint) result (after_comma (suc room) (constraint (suc room)) self.old) self.new }
     {
@@ -263,9 +246,8 @@ impl<'a> Parser<'a> {
         Ok(Some(self.parse_constraint()?))
     }
 
-    #[tactic(auto, unfolding(crate::specs::Parsing::more_items, crate::specs::Parsing::if_sees, crate::specs::Parsing::bind, crate::specs::Parsing::refuse_item))]
     fn end_constraints(&mut self) -> Result<(), Stop>
-        ensures { (room : ℕ) → Gives (λ _. []) result (more_items (suc room) begins_region (constraint (suc room)) 0 self.old) self.new }
+        ensures { (room : ℕ) → Gives {Y = List trees.Constraint} (λ _. []) result (no_more_items (suc room) begins_region self.old) self.new }
     {
         if !self.sees(Sign::Comma) {
             return Ok(());
@@ -275,7 +257,6 @@ impl<'a> Parser<'a> {
     }
 
     /// Constraints with commas between.
-    #[tactic(auto, unfolding(crate::specs::Parsing::separated, crate::specs::Parsing::bind))]
     fn parse_constraint_list(&mut self) -> Result<Vec<Constraint>, Stop>
         ensures { (room : ℕ) → Gives (λ v. map view_constraint v.items) result (separated (suc room) begins_region (constraint (suc room)) self.old) self.new }
     {
@@ -292,9 +273,8 @@ impl<'a> Parser<'a> {
         Ok(constraints)
     }
 
-    #[tactic(auto, unfolding(crate::specs::Declarations::constraints, crate::specs::Parsing::if_sees, crate::specs::Parsing::bind))]
     fn parse_constraints(&mut self) -> Result<Vec<Constraint>, Stop>
-        ensures { (room : ℕ) → Gives (λ v. map view_constraint v.items) result (constraints (suc room) self.old) self.new }
+        ensures { Gives (λ v. map view_constraint v.items) result (constraints 200 self.old) self.new }
     {
         if !self.sees(Sign::Colon) {
             return Ok(Vec::new(self.alloc()));
@@ -304,7 +284,6 @@ impl<'a> Parser<'a> {
     }
 
     /// What stands between the brackets of a function's head.
-    #[tactic(auto, unfolding(crate::specs::Declarations::parameters, crate::specs::Parsing::bind))]
     fn parse_parameters(&mut self) -> Result<Parameters, Stop>
         ensures { Gives view_parameters result (parameters 200 self.old) self.new }
     {
@@ -331,7 +310,6 @@ impl<'a> Parser<'a> {
         Ok(value)
     }
 
-    #[tactic(auto, unfolding(crate::specs::Declarations::value, crate::specs::Parsing::choose, crate::specs::Parsing::bind))]
     fn parse_value(&mut self) -> Result<GlobalValue, Stop>
         ensures { Gives view_value result (value 200 self.old) self.new }
     {
@@ -358,7 +336,6 @@ impl<'a> Parser<'a> {
     }
 
     /// The initial value of a global, if one is given.
-    #[tactic(auto, unfolding(crate::specs::Declarations::global_value, crate::specs::Parsing::if_sees, crate::specs::Parsing::bind))]
     fn parse_global_value(&mut self) -> Result<Option<GlobalValue>, Stop>
         ensures { Gives (option_map view_value) result (global_value 200 self.old) self.new }
     {
@@ -370,7 +347,6 @@ impl<'a> Parser<'a> {
     }
 
     /// A global, behind its type and its name.
-    #[tactic(auto, unfolding(crate::specs::Declarations::global, crate::specs::Parsing::bind))]
     fn parse_global(&mut self, of_type: WrittenType, name: Ident) -> Result<Declaration, Stop>
         ensures { Gives view_declaration result (global 200 (view_type of_type) (view_name name) self.old) self.new }
     {
@@ -384,7 +360,6 @@ impl<'a> Parser<'a> {
     }
 
     /// A function, behind its result's type and its name.
-    #[tactic(auto, unfolding(crate::specs::Declarations::function, crate::specs::Parsing::bind))]
     fn parse_function(
         &mut self,
         of_type: Option<WrittenType>,
@@ -405,7 +380,6 @@ impl<'a> Parser<'a> {
     }
 
     /// A declaration that begins with this type.
-    #[tactic(auto, unfolding(crate::specs::Declarations::typed, crate::specs::Parsing::if_sees, crate::specs::Parsing::bind))]
     fn parse_typed(&mut self, of_type: WrittenType) -> Result<Declaration, Stop>
         ensures { Gives view_declaration result (typed 200 (view_type of_type) self.old) self.new }
     {
@@ -418,9 +392,8 @@ impl<'a> Parser<'a> {
     }
 
     /// A struct, behind its name and its regions.
-    #[tactic(auto, unfolding(crate::specs::Declarations::struct_fields, crate::specs::Parsing::bind))]
     fn parse_struct(&mut self, name: Ident, regions: Vec<Ident>) -> Result<Declaration, Stop>
-        ensures { (room : ℕ) → Gives view_declaration result (struct_fields (suc room) (view_name name) (map view_name regions.items) self.old) self.new }
+        ensures { Gives view_declaration result (struct_fields 200 (view_name name) (map view_name regions.items) self.old) self.new }
     {
         self.take_sign(Sign::LeftBrace)?;
         let fields = self.parse_field_list()?;
@@ -434,7 +407,6 @@ impl<'a> Parser<'a> {
     }
 
     /// Behind `struct`: a struct is declared, or its type begins another declaration.
-    #[tactic(auto, unfolding(crate::specs::Declarations::struct_or_typed, crate::specs::Parsing::if_sees, crate::specs::Parsing::bind))]
     fn parse_struct_or_typed(&mut self, span: Span) -> Result<Declaration, Stop>
         ensures { Gives view_declaration result (struct_or_typed 200 (place_of_span span) self.old) self.new }
     {
@@ -448,7 +420,6 @@ impl<'a> Parser<'a> {
     }
 
     /// `datatype exn`
-    #[tactic(auto, unfolding(crate::specs::Declarations::exceptions, crate::specs::Parsing::bind))]
     fn parse_exceptions(&mut self) -> Result<Declaration, Stop>
         ensures { Gives view_declaration result (exceptions 200 self.old) self.new }
     {
@@ -483,7 +454,6 @@ impl<'a> Parser<'a> {
         }
     }
 
-    #[tactic(auto, unfolding(crate::specs::Steps::one_declaration, crate::specs::Parsing::choose, crate::specs::Parsing::bind))]
     fn parse_next_declaration(&mut self) -> Result<Option<Declaration>, Stop>
         ensures { Gives (option_map view_declaration) result (one_declaration 200 self.old) self.new }
     {
@@ -494,7 +464,6 @@ impl<'a> Parser<'a> {
     }
 
     /// A program: at least one declaration, up to the end of the symbols.
-    #[tactic(auto, unfolding(crate::specs::Declarations::program_of, crate::specs::Declarations::program, crate::specs::Parsing::bind))]
     pub(crate) fn parse_program(&mut self) -> Result<Vec<Declaration>, Stop>
         ensures { Gives (λ v. map view_declaration v.items) result (program_of self.old) self.new }
     {

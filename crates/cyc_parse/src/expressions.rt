@@ -1,14 +1,14 @@
 //! The parser of expressions: chains of binary operators by their levels, from the tightest. A function with `room`
 //! reads at a level of nesting below which so many are left.
-ghost use Rattle.std.specs.Prelude.{◌≡◌, ◌<◌, suc, true, map, option_map, [], Ok};
+ghost use Rattle.std.specs.Prelude.{◌≡◌, ◌<◌, suc, true, map, option_map, List, [], Ok};
 ghost use Rattle.cyc_syntax.specs.TreeView.{view_name, view_expression, view_initial, expressions_of, postfixes_of, operations_of, then_postfix};
 ghost use Rattle.cyc_parse.specs.Boxes.{view_boxed, view_boxed_initial};
 ghost use Rattle.cyc_parse.specs.Code.{Gives};
-ghost use Rattle.cyc_parse.specs.Parsing.{next, starts, separated, more_items, opens_regions};
+ghost use Rattle.cyc_parse.specs.Parsing.{next, starts, separated, no_more_items, opens_regions};
 ghost use Rattle.cyc_parse.specs.Steps.{after_comma, one_postfix, one_operation, then_operation, prefixed, created, created_in, freed_key, bracketed, with_chain, has_operator, operand, one_level};
 ghost use Rattle.cyc_syntax.specs.Grammar.{level};
-ghost use Rattle.cyc_syntax.specs.Trees.{NoPostfixes, NoOperations, Call, Plain, Fields};
-ghost use Rattle.cyc_parse.specs.Expressions.{binary_operator, chained, binary_of, nested, begins_expression, begins_initial, operator_at, operations, climb, group, arguments, from_name, primary, postfixes, with_postfixes, unary, assignment, binary, expression, values, fields, initial_from_name, array, initial};
+ghost use Rattle.cyc_syntax.specs.Trees.{Expression, NoPostfixes, NoOperations, Call, Plain, Fields};
+ghost use Rattle.cyc_parse.specs.Expressions.{binary_operator, chained, binary_of, nested, begins_expression, begins_initial, operator_at, no_more_operations, operations, climb, group, arguments, from_name, primary, no_more_postfixes, postfixes, with_postfixes, unary, assignment, binary, expression, values, fields, initial_from_name, array, initial};
 
 use crate::cursor::{Parser, refusal};
 use crate::stop::{Reason, Stop};
@@ -170,7 +170,6 @@ impl<'a> Parser<'a> {
 
     /// An expression in round brackets.
     #[cycle(expression)]
-    #[tactic(auto, unfolding(crate::specs::Expressions::group, crate::specs::Parsing::bind))]
     pub(crate) fn parse_group_here(&mut self, room: u32) -> Result<Box<Expr>, Stop>
         ensures { Gives view_boxed result (group room (nested room) self.old) self.new }
     {
@@ -181,7 +180,6 @@ impl<'a> Parser<'a> {
     }
 
     #[cycle(expression)]
-    #[tactic(auto, unfolding(crate::specs::Steps::after_comma, crate::specs::Parsing::if_sees, crate::specs::Parsing::bind))]
     fn parse_argument_after_comma(&mut self, room: u32) -> Result<Option<Expr>, Stop>
         ensures { Gives (option_map view_expression) result (after_comma room (nested room).expression self.old) self.new }
     {
@@ -193,9 +191,8 @@ impl<'a> Parser<'a> {
         Ok(Some(Box::into_inner(argument)))
     }
 
-    #[tactic(auto, unfolding(crate::specs::Parsing::more_items, crate::specs::Parsing::if_sees, crate::specs::Parsing::bind, crate::specs::Parsing::refuse_item))]
     fn end_arguments(&mut self, room: u32) -> Result<(), Stop>
-        ensures { Gives (λ _. []) result (more_items room begins_expression (nested room).expression 0 self.old) self.new }
+        ensures { Gives {Y = List Expression} (λ _. []) result (no_more_items room begins_expression self.old) self.new }
     {
         if !self.sees(Sign::Comma) {
             return Ok(());
@@ -205,7 +202,6 @@ impl<'a> Parser<'a> {
     }
 
     #[cycle(expression)]
-    #[tactic(auto, unfolding(crate::specs::Parsing::separated, crate::specs::Parsing::bind))]
     fn parse_argument_list(&mut self, room: u32) -> Result<Vec<Expr>, Stop>
         ensures { Gives (λ v. map view_expression v.items) result (separated room begins_expression (nested room).expression self.old) self.new }
     {
@@ -224,7 +220,7 @@ impl<'a> Parser<'a> {
 
     /// The arguments of a call, up to its closing bracket.
     #[cycle(expression)]
-    #[tactic(auto, unfolding(crate::specs::Expressions::arguments, crate::specs::Parsing::if_sees, crate::specs::Parsing::bind), using(crate::proofs::Levels::chain_of_view))]
+    #[tactic(auto, unfolding(crate::specs::Parsing::if_sees, crate::specs::Parsing::bind), using(crate::proofs::Levels::chain_of_view))]
     fn parse_arguments(&mut self, room: u32) -> Result<Vec<Expr>, Stop>
         ensures { Gives (λ v. expressions_of v.items) result (arguments room (nested room) self.old) self.new }
     {
@@ -237,7 +233,6 @@ impl<'a> Parser<'a> {
 
     /// An expression that begins with this name: a call or a variable.
     #[cycle(expression)]
-    #[tactic(auto, unfolding(crate::specs::Expressions::from_name, crate::specs::Parsing::if_sees, crate::specs::Parsing::bind))]
     pub(crate) fn parse_from_name(&mut self, room: u32, name: Ident) -> Result<Box<Expr>, Stop>
         ensures { Gives view_boxed result (from_name room (nested room) (view_name name) self.old) self.new }
     {
@@ -251,7 +246,6 @@ impl<'a> Parser<'a> {
     }
 
     /// `free_ukey(..)`
-    #[tactic(auto, unfolding(crate::specs::Expressions::primary, crate::specs::Parsing::choose, crate::specs::Parsing::bind, crate::specs::Steps::freed_key))]
     fn parse_freed_key(&mut self, room: u32) -> Result<Box<Expr>, Stop>
         ensures { Gives view_boxed result (freed_key room self.old) self.new }
     {
@@ -264,7 +258,6 @@ impl<'a> Parser<'a> {
 
     /// An expression in round brackets, as a tree.
     #[cycle(expression)]
-    #[tactic(auto, unfolding(crate::specs::Parsing::bind, crate::specs::Steps::bracketed))]
     fn parse_bracketed(&mut self, room: u32) -> Result<Box<Expr>, Stop>
         ensures { Gives view_boxed result (bracketed room (nested room) self.old) self.new }
     {
@@ -275,7 +268,7 @@ impl<'a> Parser<'a> {
     }
 
     #[cycle(expression)]
-    #[tactic(auto, unfolding(crate::specs::Expressions::primary, crate::specs::Parsing::choose, crate::specs::Parsing::bind, crate::specs::Steps::freed_key, crate::specs::Steps::bracketed))]
+    #[tactic(auto, unfolding(crate::specs::Expressions::primary, crate::specs::Parsing::choose, crate::specs::Parsing::bind))]
     fn parse_primary(&mut self, room: u32) -> Result<Box<Expr>, Stop>
         ensures { Gives view_boxed result (primary room (nested room) self.old) self.new }
     {
@@ -322,7 +315,6 @@ impl<'a> Parser<'a> {
 
     /// `[..]` or `->` and a field's name, if one comes next.
     #[cycle(expression)]
-    #[tactic(auto, unfolding(crate::specs::Steps::one_postfix, crate::specs::Parsing::if_sees, crate::specs::Parsing::bind))]
     fn parse_postfix(&mut self, room: u32) -> Result<Option<Postfix>, Stop>
         ensures { Gives (option_map then_postfix) result (one_postfix room (nested room) self.old) self.new }
     {
@@ -342,9 +334,8 @@ impl<'a> Parser<'a> {
         Ok(None)
     }
 
-    #[tactic(auto, unfolding(crate::specs::Expressions::postfixes, crate::specs::Parsing::if_sees))]
-    fn end_postfixes(&mut self, room: u32) -> Result<(), Stop>
-        ensures { Gives (λ _. NoPostfixes) result (postfixes room (nested room) 0 self.old) self.new }
+    fn end_postfixes(&mut self) -> Result<(), Stop>
+        ensures { Gives (λ _. NoPostfixes) result (no_more_postfixes self.old) self.new }
     {
         if self.sees(Sign::LeftBracket) || self.sees(Sign::Arrow) {
             return Err(Stop::Refused(Reason::TooLong));
@@ -363,13 +354,12 @@ impl<'a> Parser<'a> {
             };
             postfixes.push(postfix)?;
         }
-        self.end_postfixes(room)?;
+        self.end_postfixes()?;
         Ok(postfixes)
     }
 
     /// Goes on from an operand by its postfixes.
     #[cycle(expression)]
-    #[tactic(auto, unfolding(crate::specs::Steps::with_chain, crate::specs::Parsing::bind))]
     pub(crate) fn parse_rest_of_operand(
         &mut self,
         room: u32,
@@ -384,7 +374,6 @@ impl<'a> Parser<'a> {
     // ---- prefixes
 
     #[cycle(expression)]
-    #[tactic(auto, unfolding(crate::specs::Steps::prefixed, crate::specs::Parsing::bind))]
     fn parse_prefixed(&mut self, room: u32, operator: PrefixOperator) -> Result<Box<Expr>, Stop>
         ensures { Gives view_boxed result (prefixed (nested room) operator self.old) self.new }
     {
@@ -399,7 +388,6 @@ impl<'a> Parser<'a> {
 
     /// `new`
     #[cycle(expression)]
-    #[tactic(auto, unfolding(crate::specs::Steps::created, crate::specs::Parsing::bind))]
     fn parse_new(&mut self, room: u32) -> Result<Box<Expr>, Stop>
         ensures { Gives view_boxed result (created (nested room) self.old) self.new }
     {
@@ -410,7 +398,6 @@ impl<'a> Parser<'a> {
 
     /// `rnew(..)`
     #[cycle(expression)]
-    #[tactic(auto, unfolding(crate::specs::Steps::created_in, crate::specs::Parsing::bind))]
     fn parse_region_new(&mut self, room: u32) -> Result<Box<Expr>, Stop>
         ensures { Gives view_boxed result (created_in (nested room) self.old) self.new }
     {
@@ -426,7 +413,7 @@ impl<'a> Parser<'a> {
 
     /// An operand with its prefixes and postfixes.
     #[cycle(expression)]
-    #[tactic(auto, unfolding(crate::specs::Expressions::unary, crate::specs::Expressions::with_postfixes, crate::specs::Parsing::choose, crate::specs::Parsing::bind, crate::specs::Steps::prefixed, crate::specs::Steps::created, crate::specs::Steps::created_in, crate::specs::Steps::with_chain))]
+    #[tactic(auto, unfolding(crate::specs::Expressions::unary, crate::specs::Parsing::choose, crate::specs::Parsing::bind))]
     pub(crate) fn parse_unary_here(&mut self, room: u32) -> Result<Box<Expr>, Stop>
         ensures { Gives view_boxed result (unary room (nested room) self.old) self.new }
     {
@@ -483,7 +470,6 @@ impl<'a> Parser<'a> {
     }
 
     #[cycle(expression)]
-    #[tactic(auto, unfolding(crate::specs::Steps::one_operation, crate::specs::Steps::operand, crate::specs::Parsing::choose, crate::specs::Parsing::bind))]
     fn parse_operation(&mut self, room: u32, below: u32) -> Result<Option<Operation>, Stop>
         ensures { Gives (option_map then_operation) result (one_operation (operand room (nested room) below) (suc below) self.old) self.new }
     {
@@ -500,9 +486,8 @@ impl<'a> Parser<'a> {
         }))
     }
 
-    #[tactic(auto, unfolding(crate::specs::Expressions::operations, crate::specs::Parsing::if_is))]
-    fn end_operations(&mut self, room: u32, below: u32) -> Result<(), Stop>
-        ensures { Gives (λ _. NoOperations) result (operations (operand room (nested room) below) (suc below) 0 self.old) self.new }
+    fn end_operations(&mut self, below: u32) -> Result<(), Stop>
+        ensures { Gives (λ _. NoOperations) result (no_more_operations (suc below) self.old) self.new }
     {
         match self.operator(below) {
             Some(_) => Err(Stop::Refused(Reason::TooLong)),
@@ -521,14 +506,14 @@ impl<'a> Parser<'a> {
             };
             operations.push(operation)?;
         }
-        self.end_operations(room, below)?;
+        self.end_operations(below)?;
         Ok(operations)
     }
 
     /// Goes on from a first operand by the operators of the levels up to this one. Where none of them comes next, no level
     /// is tried.
     #[cycle(expression)]
-    #[tactic(auto, using(crate::proofs::Levels::climb_step, crate::proofs::Levels::climb_stops), unfolding(crate::specs::Steps::one_level))]
+    #[tactic(auto, using(crate::proofs::Levels::climb_step, crate::proofs::Levels::climb_stops))]
     pub(crate) fn climb(
         &mut self,
         room: u32,
@@ -544,7 +529,6 @@ impl<'a> Parser<'a> {
     }
 
     #[cycle(expression)]
-    #[tactic(auto, unfolding(crate::specs::Steps::one_level, crate::specs::Parsing::bind))]
     fn climb_level(&mut self, room: u32, below: u32, first: Box<Expr>) -> Result<Box<Expr>, Stop>
         ensures { Gives view_boxed result (one_level room (nested room) below (view_boxed first) self.old) self.new }
     {
@@ -554,7 +538,6 @@ impl<'a> Parser<'a> {
     }
 
     #[cycle(expression)]
-    #[tactic(auto, unfolding(crate::specs::Expressions::binary, crate::specs::Parsing::bind))]
     fn parse_binary_here(&mut self, room: u32) -> Result<Box<Expr>, Stop>
         ensures { Gives view_boxed result (binary room (nested room) self.old) self.new }
     {
@@ -563,7 +546,6 @@ impl<'a> Parser<'a> {
     }
 
     #[cycle(expression)]
-    #[tactic(auto, unfolding(crate::specs::Expressions::assignment, crate::specs::Parsing::if_sees, crate::specs::Parsing::bind))]
     pub(crate) fn parse_assignment(
         &mut self,
         room: u32,
@@ -580,7 +562,6 @@ impl<'a> Parser<'a> {
     }
 
     #[cycle(expression)]
-    #[tactic(auto, unfolding(crate::specs::Expressions::expression, crate::specs::Parsing::bind))]
     pub(crate) fn parse_expression_here(&mut self, room: u32) -> Result<Box<Expr>, Stop>
         ensures { Gives view_boxed result (expression room (nested room) self.old) self.new }
     {
@@ -592,7 +573,6 @@ impl<'a> Parser<'a> {
 
     /// The values of a struct's fields, at least one.
     #[cycle(expression)]
-    #[tactic(auto, unfolding(crate::specs::Expressions::values, crate::specs::Parsing::bind))]
     fn parse_values(&mut self, room: u32) -> Result<Vec<Expr>, Stop>
         ensures { Gives (λ v. expressions_of v.items) result (values room (nested room) self.old) self.new }
     {
@@ -610,7 +590,6 @@ impl<'a> Parser<'a> {
     }
 
     #[cycle(expression)]
-    #[tactic(auto, unfolding(crate::specs::Expressions::fields, crate::specs::Parsing::bind))]
     fn parse_fields(
         &mut self,
         room: u32,
@@ -627,7 +606,6 @@ impl<'a> Parser<'a> {
 
     /// A struct's name opens its fields, with region arguments or without, or the name begins an expression.
     #[cycle(expression)]
-    #[tactic(auto, unfolding(crate::specs::Expressions::initial_from_name, crate::specs::Expressions::with_postfixes, crate::specs::Parsing::if_sees, crate::specs::Parsing::bind, crate::specs::Steps::with_chain))]
     fn parse_initial_from_name(&mut self, room: u32, name: Ident) -> Result<Box<Initial>, Stop>
         ensures { Gives view_boxed_initial result (initial_from_name room (nested room) (view_name name) self.old) self.new }
     {
@@ -645,7 +623,6 @@ impl<'a> Parser<'a> {
 
     /// `{for variable < length : element}`
     #[cycle(expression)]
-    #[tactic(auto, unfolding(crate::specs::Expressions::array, crate::specs::Parsing::bind))]
     fn parse_array(&mut self, room: u32) -> Result<Box<Initial>, Stop>
         ensures { Gives view_boxed_initial result (array room (nested room) self.old) self.new }
     {

@@ -1,5 +1,5 @@
 //! The parser: the tree of a list of tokens, exactly where there is one.
-#![tactic(auto)]
+#![tactic(auto, unfolding(crate::specs::Parsing::bind, crate::specs::Parsing::choose, crate::specs::Parsing::if_sees, crate::specs::Parsing::if_starts, crate::specs::Parsing::if_is, crate::specs::Parsing::refuse_item))]
 
 mod cursor;
 mod declarations;

@@ -1,5 +1,6 @@
 //! The parser of statements and of the items of blocks. A function with `room` reads at a level of nesting below which
 //! so many are left.
+#![tactic(auto, unfolding(crate::specs::Parsing::bind, crate::specs::Parsing::choose, crate::specs::Parsing::if_sees, crate::specs::Parsing::if_starts, crate::specs::Parsing::refuse_item, crate::specs::Expressions::nested))]
 ghost use Rattle.std.specs.Prelude.{◌≡◌, ℕ, suc, length, option_map};
 ghost use Rattle.cyc_syntax.specs.TreeView.{place_of_span, view_name, view_expression, view_initial, view_statement, view_item, view_block, items_of, clauses_of, default_of};
 ghost use Rattle.cyc_syntax.specs.Trees as trees;
@@ -130,7 +131,6 @@ impl<'a> Parser<'a> {
 
     /// Behind the right side of a swap. There `<` may be the begin of region arguments, and then what follows it is
     /// unexpected.
-    #[tactic(auto, unfolding(crate::specs::Statements::end_of_swap, crate::specs::Parsing::if_sees, crate::specs::Parsing::bind))]
     fn end_swap(&mut self, right: &Expr) -> Result<Span, Stop>
         ensures { (room : ℕ) → Gives place_of_span result (end_of_swap (suc room) (view_expression right.now) self.old) self.new }
     {
@@ -143,7 +143,6 @@ impl<'a> Parser<'a> {
         Err(Stop::Refused(Reason::Unexpected))
     }
 
-    #[tactic(auto, unfolding(crate::specs::Statements::swap, crate::specs::Expressions::nested, crate::specs::Parsing::bind))]
     fn parse_swap(&mut self, room: u32, left: Box<Expr>) -> Result<Stmt, Stop>
         ensures { Gives view_statement result (swap room (nested_statements room) (view_boxed left) self.old) self.new }
     {
@@ -157,7 +156,6 @@ impl<'a> Parser<'a> {
     }
 
     /// Goes on behind the expression that a statement begins with.
-    #[tactic(auto, unfolding(crate::specs::Statements::behind, crate::specs::Parsing::bind))]
     fn parse_rest_of_statement(&mut self, room: u32, value: Box<Expr>) -> Result<Stmt, Stop>
         ensures { Gives view_statement result (behind room (nested_statements room) (view_boxed value) self.old) self.new }
     {
@@ -171,7 +169,6 @@ impl<'a> Parser<'a> {
     }
 
     /// An expression that begins with this name.
-    #[tactic(auto, unfolding(crate::specs::Statements::expression_from, crate::specs::Expressions::nested, crate::specs::Expressions::with_postfixes, crate::specs::Parsing::bind, crate::specs::Steps::with_chain))]
     fn parse_expression_from(&mut self, room: u32, name: Ident) -> Result<Box<Expr>, Stop>
         ensures { Gives view_boxed result (expression_from room (nested_statements room) (view_name name) self.old) self.new }
     {
@@ -181,7 +178,6 @@ impl<'a> Parser<'a> {
         self.parse_assignment(room, target)
     }
 
-    #[tactic(auto, unfolding(crate::specs::StatementSteps::expression_statement, crate::specs::Statements::expression, crate::specs::Expressions::nested, crate::specs::Parsing::bind))]
     fn parse_expression_statement(&mut self, room: u32) -> Result<Stmt, Stop>
         ensures { Gives view_statement result (expression_statement room (nested_statements room) self.old) self.new }
     {
@@ -191,7 +187,6 @@ impl<'a> Parser<'a> {
 
     /// A label's colon follows the name, or the name begins an expression.
     #[cycle(statement)]
-    #[tactic(auto, unfolding(crate::specs::Statements::statement_from_name, crate::specs::Parsing::if_sees, crate::specs::Parsing::bind))]
     fn parse_statement_from_name(&mut self, room: u32, name: Ident) -> Result<Stmt, Stop>
         ensures { Gives view_statement result (statement_from_name room (nested_statements room) (view_name name) self.old) self.new }
     {
@@ -205,7 +200,6 @@ impl<'a> Parser<'a> {
     }
 
     #[cycle(statement)]
-    #[tactic(auto, unfolding(crate::specs::StatementSteps::named_statement, crate::specs::Parsing::bind))]
     fn parse_named_statement(&mut self, room: u32, name: Name) -> Result<Stmt, Stop>
         ensures { Gives view_statement result (named_statement room (nested_statements room) name.number self.old) self.new }
     {
@@ -215,7 +209,6 @@ impl<'a> Parser<'a> {
 
     // ---- statements that begin with words and signs
 
-    #[tactic(auto, unfolding(crate::specs::Parsing::bind))]
     fn parse_empty(&mut self) -> Result<Stmt, Stop>
         ensures { Gives view_statement result (after_symbol (λ p. pure (trees.Empty p)) self.old) self.new }
     {
@@ -225,7 +218,6 @@ impl<'a> Parser<'a> {
 
     /// Items in braces.
     #[cycle(statement)]
-    #[tactic(auto, unfolding(crate::specs::Statements::body, crate::specs::Parsing::bind))]
     pub(crate) fn parse_block(&mut self, room: u32) -> Result<Block, Stop>
         ensures { Gives view_block result (body room (nested_statements room) self.old) self.new }
     {
@@ -236,7 +228,6 @@ impl<'a> Parser<'a> {
     }
 
     #[cycle(statement)]
-    #[tactic(auto, unfolding(crate::specs::StatementSteps::block_statement, crate::specs::Parsing::bind))]
     fn parse_block_statement(&mut self, room: u32) -> Result<Stmt, Stop>
         ensures { Gives view_statement result (block_statement room (nested_statements room) self.old) self.new }
     {
@@ -244,7 +235,6 @@ impl<'a> Parser<'a> {
     }
 
     #[cycle(statement)]
-    #[tactic(auto, unfolding(crate::specs::Statements::else_part, crate::specs::Parsing::if_starts, crate::specs::Parsing::bind))]
     fn parse_else_part(
         &mut self,
         room: u32,
@@ -274,7 +264,6 @@ impl<'a> Parser<'a> {
 
     /// `if`
     #[cycle(statement)]
-    #[tactic(auto, unfolding(crate::specs::Statements::if_statement, crate::specs::Expressions::nested, crate::specs::Parsing::bind))]
     fn parse_if(&mut self, room: u32) -> Result<Stmt, Stop>
         ensures { Gives view_statement result (after_symbol (if_statement room (nested_statements room)) self.old) self.new }
     {
@@ -286,7 +275,6 @@ impl<'a> Parser<'a> {
 
     /// `while`
     #[cycle(statement)]
-    #[tactic(auto, unfolding(crate::specs::Statements::while_statement, crate::specs::Expressions::nested, crate::specs::Parsing::bind))]
     fn parse_while(&mut self, room: u32) -> Result<Stmt, Stop>
         ensures { Gives view_statement result (after_symbol (while_statement room (nested_statements room)) self.old) self.new }
     {
@@ -300,7 +288,6 @@ impl<'a> Parser<'a> {
         })
     }
 
-    #[tactic(auto, unfolding(crate::specs::Statements::return_value, crate::specs::Statements::expression, crate::specs::Expressions::nested, crate::specs::Parsing::if_sees, crate::specs::Parsing::bind))]
     fn parse_return_value(&mut self, room: u32) -> Result<Option<Box<Expr>>, Stop>
         ensures { Gives (option_map view_boxed) result (return_value room (nested_statements room) self.old) self.new }
     {
@@ -311,7 +298,6 @@ impl<'a> Parser<'a> {
     }
 
     /// Behind `return`.
-    #[tactic(auto, unfolding(crate::specs::StatementSteps::return_statement, crate::specs::Parsing::bind))]
     fn parse_return(&mut self, room: u32, span: Span) -> Result<Stmt, Stop>
         ensures { Gives view_statement result (return_statement room (nested_statements room) (place_of_span span) self.old) self.new }
     {
@@ -324,7 +310,6 @@ impl<'a> Parser<'a> {
     }
 
     /// The value of an exception, in round brackets.
-    #[tactic(auto, unfolding(crate::specs::Statements::thrown, crate::specs::Parsing::if_sees, crate::specs::Parsing::bind))]
     fn parse_thrown(&mut self, room: u32) -> Result<Option<Box<Expr>>, Stop>
         ensures { Gives (option_map view_boxed) result (thrown room (nested_statements room) self.old) self.new }
     {
@@ -335,7 +320,6 @@ impl<'a> Parser<'a> {
     }
 
     /// `throw`
-    #[tactic(auto, unfolding(crate::specs::Statements::throw_statement, crate::specs::Parsing::bind))]
     fn parse_throw(&mut self, room: u32) -> Result<Stmt, Stop>
         ensures { Gives view_statement result (after_symbol (throw_statement room (nested_statements room)) self.old) self.new }
     {
@@ -352,7 +336,6 @@ impl<'a> Parser<'a> {
     }
 
     /// The variable of a clause, in round brackets.
-    #[tactic(auto, unfolding(crate::specs::Statements::caught, crate::specs::Parsing::if_sees, crate::specs::Parsing::bind))]
     fn parse_caught(&mut self, room: u32) -> Result<Option<Ident>, Stop>
         ensures { Gives (option_map view_name) result (caught room (nested_statements room) self.old) self.new }
     {
@@ -367,7 +350,6 @@ impl<'a> Parser<'a> {
 
     /// `case &exception(variable): ..`, if one comes next.
     #[cycle(statement)]
-    #[tactic(auto, unfolding(crate::specs::StatementSteps::one_clause, crate::specs::Parsing::if_starts, crate::specs::Parsing::bind))]
     fn parse_clause(&mut self, room: u32) -> Result<Option<Clause>, Stop>
         ensures { Gives (option_map then_clause) result (one_clause room (nested_statements room) self.old) self.new }
     {
@@ -389,7 +371,6 @@ impl<'a> Parser<'a> {
 
     /// The items of `default: ..`, if it comes next.
     #[cycle(statement)]
-    #[tactic(auto, unfolding(crate::specs::StatementSteps::default_clause, crate::specs::Parsing::if_starts, crate::specs::Parsing::bind))]
     fn parse_default_clause(&mut self, room: u32) -> Result<Option<Vec<Item>>, Stop>
         ensures { Gives default_of result (default_clause room (nested_statements room) self.old) self.new }
     {
@@ -422,7 +403,6 @@ impl<'a> Parser<'a> {
 
     /// The clauses of a `catch`, at least one.
     #[cycle(statement)]
-    #[tactic(auto, unfolding(crate::specs::Statements::clauses, crate::specs::Parsing::if_starts))]
     fn parse_clauses(&mut self, room: u32) -> Result<Handlers, Stop>
         ensures { Gives (λ h. clauses_of h.clauses.items (default_of h.default)) result (clauses room (nested_statements room) self.old) self.new }
     {
@@ -433,7 +413,6 @@ impl<'a> Parser<'a> {
     }
 
     /// The brace that closes behind the clauses of a `try`.
-    #[tactic(auto, unfolding(crate::specs::StatementSteps::end_of_try, crate::specs::Parsing::bind))]
     fn end_try(
         &mut self,
         room: u32,
@@ -449,7 +428,6 @@ impl<'a> Parser<'a> {
 
     /// `try`
     #[cycle(statement)]
-    #[tactic(auto, unfolding(crate::specs::Statements::try_statement, crate::specs::StatementSteps::end_of_try, crate::specs::Parsing::bind))]
     fn parse_try(&mut self, room: u32) -> Result<Stmt, Stop>
         ensures { Gives view_statement result (after_symbol (try_statement room (nested_statements room)) self.old) self.new }
     {
@@ -462,7 +440,7 @@ impl<'a> Parser<'a> {
     }
 
     #[cycle(statement)]
-    #[tactic(auto, unfolding(crate::specs::Statements::statement, crate::specs::Parsing::choose, crate::specs::Parsing::bind, crate::specs::StatementSteps::named_statement, crate::specs::StatementSteps::block_statement, crate::specs::StatementSteps::expression_statement, crate::specs::StatementSteps::return_statement))]
+    #[tactic(auto, unfolding(crate::specs::Statements::statement, crate::specs::Parsing::choose, crate::specs::Parsing::bind))]
     fn parse_statement_here(&mut self, room: u32) -> Result<Stmt, Stop>
         ensures { Gives view_statement result (statement room (nested_statements room) self.old) self.new }
     {
@@ -494,7 +472,6 @@ impl<'a> Parser<'a> {
 
     // ---- items
 
-    #[tactic(auto, unfolding(crate::specs::Statements::local_value, crate::specs::Parsing::if_sees, crate::specs::Parsing::bind))]
     fn parse_local_value(&mut self, room: u32) -> Result<Option<Box<Expr>>, Stop>
         ensures { Gives (option_map view_boxed) result (local_value room (nested_statements room) self.old) self.new }
     {
@@ -505,7 +482,6 @@ impl<'a> Parser<'a> {
         Ok(Some(self.parse_expression(room)?))
     }
 
-    #[tactic(auto, unfolding(crate::specs::Statements::local, crate::specs::Parsing::bind))]
     fn parse_local(&mut self, room: u32) -> Result<Item, Stop>
         ensures { Gives view_item result (local room (nested_statements room) self.old) self.new }
     {
@@ -521,7 +497,6 @@ impl<'a> Parser<'a> {
     }
 
     /// `= open(key)`
-    #[tactic(auto, unfolding(crate::specs::Statements::opened_key, crate::specs::Parsing::if_sees, crate::specs::Parsing::bind))]
     fn parse_opened_key(&mut self, room: u32) -> Result<Option<Ident>, Stop>
         ensures { Gives (option_map view_name) result (opened_key room (nested_statements room) self.old) self.new }
     {
@@ -536,7 +511,6 @@ impl<'a> Parser<'a> {
         Ok(Some(key))
     }
 
-    #[tactic(auto, unfolding(crate::specs::Statements::region, crate::specs::Parsing::bind))]
     fn parse_region(&mut self, room: u32) -> Result<Item, Stop>
         ensures { Gives view_item result (region room (nested_statements room) self.old) self.new }
     {
@@ -553,7 +527,6 @@ impl<'a> Parser<'a> {
     }
 
     /// Behind `let`.
-    #[tactic(auto, unfolding(crate::specs::Statements::alias, crate::specs::Parsing::bind))]
     fn parse_alias(&mut self, room: u32) -> Result<Item, Stop>
         ensures { Gives view_item result (alias room (nested_statements room) self.old) self.new }
     {
@@ -573,7 +546,6 @@ impl<'a> Parser<'a> {
     }
 
     /// The one region of a type, in its brackets.
-    #[tactic(auto, unfolding(crate::specs::Types::region_of, crate::specs::Parsing::bind))]
     fn parse_region_inside(&mut self, room: u32) -> Result<Ident, Stop>
         ensures { Gives view_name result (region_of room self.old) self.new }
     {
@@ -584,7 +556,6 @@ impl<'a> Parser<'a> {
     }
 
     /// `= new_ukey();`
-    #[tactic(auto, unfolding(crate::specs::Statements::new_key, crate::specs::Parsing::bind))]
     fn parse_new_key(&mut self, room: u32) -> Result<(), Stop>
         ensures { Gives (λ _. tt) result (new_key room (nested_statements room) self.old) self.new }
     {
@@ -597,7 +568,6 @@ impl<'a> Parser<'a> {
     }
 
     /// Behind `let`.
-    #[tactic(auto, unfolding(crate::specs::Statements::dynamic_region, crate::specs::Parsing::bind))]
     fn parse_dynamic_region(&mut self, room: u32) -> Result<Item, Stop>
         ensures { Gives view_item result (dynamic_region room (nested_statements room) self.old) self.new }
     {
@@ -611,7 +581,6 @@ impl<'a> Parser<'a> {
     }
 
     /// Behind `let`.
-    #[tactic(auto, unfolding(crate::specs::StatementSteps::let_item, crate::specs::Parsing::choose))]
     fn parse_let_item(&mut self, room: u32) -> Result<Item, Stop>
         ensures { Gives view_item result (let_item room (nested_statements room) self.old) self.new }
     {
@@ -623,7 +592,7 @@ impl<'a> Parser<'a> {
     }
 
     #[cycle(statement)]
-    #[tactic(auto, unfolding(crate::specs::Statements::item, crate::specs::Parsing::choose, crate::specs::Parsing::bind, crate::specs::StatementSteps::let_item))]
+    #[tactic(auto, unfolding(crate::specs::Statements::item, crate::specs::Parsing::choose, crate::specs::Parsing::bind))]
     fn parse_item(&mut self, room: u32) -> Result<Item, Stop>
         ensures { Gives view_item result (item room (nested_statements room) self.old) self.new }
     {
@@ -647,7 +616,6 @@ impl<'a> Parser<'a> {
 
     /// An item, if one comes next.
     #[cycle(statement)]
-    #[tactic(auto, unfolding(crate::specs::StatementSteps::one_item, crate::specs::Parsing::if_starts, crate::specs::Parsing::bind))]
     fn parse_next_item(&mut self, room: u32) -> Result<Option<Item>, Stop>
         ensures { Gives (option_map view_item) result (one_item room (nested_statements room) self.old) self.new }
     {
@@ -658,7 +626,6 @@ impl<'a> Parser<'a> {
     }
 
     #[cycle(statement)]
-    #[tactic(auto, unfolding(crate::specs::Statements::items))]
     fn parse_items_here(&mut self, room: u32) -> Result<Vec<Item>, Stop>
         ensures { Gives (λ v. items_of v.items) result (items room (nested_statements room) self.old) self.new }
     {

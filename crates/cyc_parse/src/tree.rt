@@ -116,7 +116,6 @@ fn declarations_of(alloc: Global, symbols: &[Symbol], end: Span) -> Result<Vec<D
 
 impl<'a> Parser<'a> {
     /// A program, and nothing behind it.
-    #[tactic(auto, unfolding(crate::specs::Answers::whole_program, crate::specs::Parsing::bind))]
     fn parse_whole_program(&mut self) -> Result<Vec<Declaration>, Stop>
         ensures { Gives (λ v. map view_declaration v.items) result (whole_program self.old) self.new }
     {

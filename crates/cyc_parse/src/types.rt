@@ -1,10 +1,11 @@
 //! The parser of types.
-ghost use Rattle.std.specs.Prelude.{◌≡◌, ℕ, suc, map, option_map, []};
+ghost use Rattle.std.specs.Prelude.{◌≡◌, ℕ, suc, map, option_map, List, []};
 ghost use Rattle.cyc_syntax.specs.TreeView.{place_of_span, view_name, view_pointer, view_base, view_type};
+ghost use Rattle.cyc_syntax.specs.Trees.{Named};
 ghost use Rattle.cyc_parse.specs.Code.{Gives};
-ghost use Rattle.cyc_parse.specs.Parsing.{next, starts, begins_region, region_name, more_items, regions, region_list};
+ghost use Rattle.cyc_parse.specs.Parsing.{next, starts, begins_region, region_name, no_more_items, regions, region_list};
 ghost use Rattle.cyc_parse.specs.Steps.{after_comma, one_pointer};
-ghost use Rattle.cyc_parse.specs.Types.{begins_type, mark_at, optional_region, region_of, pointers_of, with_pointers, optional_regions, written_type};
+ghost use Rattle.cyc_parse.specs.Types.{begins_type, mark_at, optional_region, region_of, no_more_pointers, pointers_of, with_pointers, optional_regions, written_type};
 
 use crate::cursor::{Parser, refusal};
 use crate::stop::{Reason, Stop};
@@ -33,7 +34,6 @@ impl<'a> Parser<'a> {
         )
     }
 
-    #[tactic(auto, unfolding(crate::specs::Steps::after_comma, crate::specs::Parsing::if_sees, crate::specs::Parsing::bind))]
     fn parse_region_after_comma(&mut self) -> Result<Option<Ident>, Stop>
         ensures { (room : ℕ) → Gives (option_map view_name) result (after_comma (suc room) (region_name (suc room)) self.old) self.new }
     {
@@ -45,9 +45,8 @@ impl<'a> Parser<'a> {
     }
 
     /// After as many regions as a list may have: one more is too long.
-    #[tactic(auto, unfolding(crate::specs::Parsing::more_items, crate::specs::Parsing::if_sees, crate::specs::Parsing::bind, crate::specs::Parsing::refuse_item))]
     fn end_regions(&mut self) -> Result<(), Stop>
-        ensures { (room : ℕ) → Gives (λ _. []) result (more_items (suc room) begins_region (region_name (suc room)) 0 self.old) self.new }
+        ensures { (room : ℕ) → Gives {Y = List Named} (λ _. []) result (no_more_items (suc room) begins_region self.old) self.new }
     {
         if !self.sees(Sign::Comma) {
             return Ok(());
@@ -57,7 +56,6 @@ impl<'a> Parser<'a> {
     }
 
     /// Region names with commas between.
-    #[tactic(auto, unfolding(crate::specs::Parsing::regions, crate::specs::Parsing::separated, crate::specs::Parsing::bind))]
     pub(crate) fn parse_regions(&mut self) -> Result<Vec<Ident>, Stop>
         ensures { (room : ℕ) → Gives (λ v. map view_name v.items) result (regions (suc room) self.old) self.new }
     {
@@ -75,7 +73,6 @@ impl<'a> Parser<'a> {
     }
 
     /// Region arguments in their brackets.
-    #[tactic(auto, unfolding(crate::specs::Parsing::region_list, crate::specs::Parsing::bind))]
     pub(crate) fn parse_region_list(&mut self) -> Result<Vec<Ident>, Stop>
         ensures { (room : ℕ) → Gives (λ v. map view_name v.items) result (region_list (suc room) self.old) self.new }
     {
@@ -97,7 +94,6 @@ impl<'a> Parser<'a> {
     }
 
     /// The one region of a handle's or a key's type, in its brackets.
-    #[tactic(auto, unfolding(crate::specs::Types::region_of, crate::specs::Parsing::bind))]
     pub(crate) fn parse_region_of(&mut self) -> Result<Ident, Stop>
         ensures { (room : ℕ) → Gives view_name result (region_of (suc room) self.old) self.new }
     {
@@ -107,7 +103,6 @@ impl<'a> Parser<'a> {
         Ok(region)
     }
 
-    #[tactic(auto, unfolding(crate::specs::Types::optional_region, crate::specs::Parsing::if_starts, crate::specs::Parsing::bind))]
     fn parse_optional_region(&mut self) -> Result<Option<Ident>, Stop>
         ensures { (room : ℕ) → Gives (option_map view_name) result (optional_region (suc room) self.old) self.new }
     {
@@ -129,7 +124,6 @@ impl<'a> Parser<'a> {
         }
     }
 
-    #[tactic(auto, unfolding(crate::specs::Steps::one_pointer, crate::specs::Parsing::choose, crate::specs::Parsing::bind))]
     fn parse_pointer(&mut self) -> Result<Option<Pointer>, Stop>
         ensures { (room : ℕ) → Gives (option_map view_pointer) result (one_pointer (suc room) self.old) self.new }
     {
@@ -141,9 +135,8 @@ impl<'a> Parser<'a> {
         Ok(Some(Pointer { kind, region }))
     }
 
-    #[tactic(auto, unfolding(crate::specs::Types::pointers_of, crate::specs::Parsing::if_is))]
     fn end_pointers(&mut self) -> Result<(), Stop>
-        ensures { (room : ℕ) → Gives (λ _. []) result (pointers_of (suc room) 0 self.old) self.new }
+        ensures { Gives (λ _. []) result (no_more_pointers self.old) self.new }
     {
         match self.mark() {
             Some(_) => Err(Stop::Refused(Reason::TooLong)),
@@ -166,7 +159,6 @@ impl<'a> Parser<'a> {
         Ok(pointers)
     }
 
-    #[tactic(auto, unfolding(crate::specs::Types::with_pointers, crate::specs::Parsing::bind))]
     pub(crate) fn parse_rest_of_type(
         &mut self,
         span: Span,

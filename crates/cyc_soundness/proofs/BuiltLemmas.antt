@@ -1,18 +1,20 @@
 -- What is built so far stands in the class that a theorem speaks of.
-use Rattle.std.proofs.Common.{◌≡◌, true, false, List, [], ◌∷◌, Option, Some, None}
+use Rattle.std.proofs.Common.{◌≡◌, ℕ, suc, ◌+◌, true, false, List, [], ◌∷◌, Option, Some, None}
 use Rattle.std.specs.Prelude.{◌&&◌}
 use Rattle.std.specs.List.{list_all}
 use Rattle.cyc_types.specs.TypedTrees.{Expression, Number, Copy, Call, Unary, Binary, Assign, Converted, Convert, Arguments, NoArguments, MoreArguments, Operations, NoOperations, ThenCompute, ThenTest, Statement, Block, Empty, Evaluate, If, While, Return, Break, Continue, Items, NoItems, MoreItems, Execute, Declare, Function, Program}
+use Rattle.cyc_types.specs.Declarations.{declared_regions}
 use Rattle.cyc_types.specs.IntPart.{is_empty}
 use Rattle.cyc_types.specs.Built.{is_built_type, is_built_result, is_built_kind, is_built_expression, is_built_converted, are_built_arguments, are_built_operations, is_built_value, is_built_statement, are_built_items, is_built_global, is_built_function, is_built}
-use Rattle.cyc_soundness.specs.Classes.{KeepsToHeap, InConverted, InArguments, InOperations, InValue, InStatement, InItems, InFunctions, IsOfTheHeap}
+use Rattle.cyc_soundness.specs.Lives.{AsHeap}
+use Rattle.cyc_soundness.specs.Classes.{InExpression, InConverted, InArguments, InOperations, InValue, InStatement, InItems, InFunctions, IsOfTheHeap}
 use Rattle.cyc_soundness.proofs.Numbers.{both_true}
 
 not_built : {A : Type 0} → false ≡ true → A
 not_built e = absurd (let k : false ≡ true = e in cc)
 
 mutual
-  expression_kept : (a : Expression) → is_built_expression a ≡ true → KeepsToHeap a
+  expression_kept : (a : Expression) → is_built_expression a ≡ true → InExpression AsHeap a
   expression_kept (Number n) e = tt
   expression_kept (Copy l t) e = tt
   expression_kept (Call f cs t) e = arguments_kept cs e
@@ -23,16 +25,16 @@ mutual
   expression_kept (Assign l c t) e = converted_kept c e
   expression_kept a e = not_built e
 
-  converted_kept : (c : Converted) → is_built_converted c ≡ true → InConverted c
+  converted_kept : (c : Converted) → is_built_converted c ≡ true → InConverted AsHeap c
   converted_kept (Convert from to a) e = expression_kept a (both_true (is_built_expression a) (is_built_kind from && is_built_kind to) e).0
 
-  arguments_kept : (cs : Arguments) → are_built_arguments cs ≡ true → InArguments cs
+  arguments_kept : (cs : Arguments) → are_built_arguments cs ≡ true → InArguments AsHeap cs
   arguments_kept NoArguments e = tt
   arguments_kept (MoreArguments c cs) e =
       let both = both_true (is_built_converted c) (are_built_arguments cs) e in
       (converted_kept c both.0, arguments_kept cs both.1)
 
-  operations_kept : (os : Operations) → are_built_operations os ≡ true → InOperations os
+  operations_kept : (os : Operations) → are_built_operations os ≡ true → InOperations AsHeap os
   operations_kept NoOperations e = tt
   operations_kept (ThenCompute o a os) e =
       let both = both_true (is_built_expression a) (are_built_operations os) e in
@@ -42,45 +44,45 @@ mutual
       (expression_kept a both.0, operations_kept os both.1)
   operations_kept os e = not_built e
 
-value_kept : (v : Option Converted) → is_built_value v ≡ true → InValue v
+value_kept : (v : Option Converted) → is_built_value v ≡ true → InValue AsHeap v
 value_kept None e = tt
 value_kept (Some c) e = converted_kept c e
 
 mutual
-  statement_kept : (s : Statement) → is_built_statement s ≡ true → InStatement s
-  statement_kept (Block r js) e = items_kept js e
-  statement_kept Empty e = tt
-  statement_kept (Evaluate a) e = expression_kept a e
-  statement_kept (If a s t) e =
+  statement_kept : (n : ℕ) (s : Statement) → is_built_statement s ≡ true → InStatement AsHeap n s
+  statement_kept n (Block r js) e = items_kept (suc n) js e
+  statement_kept n Empty e = tt
+  statement_kept n (Evaluate a) e = expression_kept a e
+  statement_kept n (If a s t) e =
       let whole = both_true (is_built_expression a) (is_built_statement s && is_built_statement t) e in
       let both = both_true (is_built_statement s) (is_built_statement t) whole.1 in
-      (expression_kept a whole.0, statement_kept s both.0, statement_kept t both.1)
-  statement_kept (While p a s) e =
+      (expression_kept a whole.0, statement_kept n s both.0, statement_kept (n + declared_regions s) t both.1)
+  statement_kept n (While p a s) e =
       let both = both_true (is_built_expression a) (is_built_statement s) e in
-      (expression_kept a both.0, statement_kept s both.1)
-  statement_kept (Return v) e = value_kept v e
-  statement_kept Break e = tt
-  statement_kept Continue e = tt
-  statement_kept s e = not_built e
+      (expression_kept a both.0, statement_kept n s both.1)
+  statement_kept n (Return v) e = value_kept v e
+  statement_kept n Break e = tt
+  statement_kept n Continue e = tt
+  statement_kept n s e = not_built e
 
-  items_kept : (js : Items) → are_built_items js ≡ true → InItems js
-  items_kept NoItems e = tt
-  items_kept (MoreItems (Execute s) js) e =
+  items_kept : (n : ℕ) (js : Items) → are_built_items js ≡ true → InItems AsHeap n js
+  items_kept n NoItems e = tt
+  items_kept n (MoreItems (Execute s) js) e =
       let both = both_true (is_built_statement s) (are_built_items js) e in
-      (statement_kept s both.0, items_kept js both.1)
-  items_kept (MoreItems (Declare n t v) js) e =
+      (statement_kept n s both.0, items_kept (n + declared_regions s) js both.1)
+  items_kept n (MoreItems (Declare l t v) js) e =
       let whole = both_true (is_built_type t) (is_built_value v && are_built_items js) e in
       let both = both_true (is_built_value v) (are_built_items js) whole.1 in
-      (value_kept v both.0, items_kept js both.1)
-  items_kept js e = not_built e
+      (tt, value_kept v both.0, items_kept n js both.1)
+  items_kept n js e = not_built e
 
-functions_kept : (hs : List Function) → list_all is_built_function hs ≡ true → InFunctions hs
+functions_kept : (hs : List Function) → list_all is_built_function hs ≡ true → InFunctions AsHeap hs
 functions_kept [] e = tt
 functions_kept (h ∷ hs) e =
     let whole = both_true (is_built_function h) (list_all is_built_function hs) e in
     let parts = both_true (list_all is_built_type h.parameters) (is_built_result h.result && are_built_items h.body) whole.0 in
     let body = both_true (is_built_result h.result) (are_built_items h.body) parts.1 in
-    (items_kept h.body body.1, functions_kept hs whole.1)
+    (items_kept (suc h.variables) h.body body.1, functions_kept hs whole.1)
 
 pub built_kept : (p : Program) → is_built p ≡ true → IsOfTheHeap p
 built_kept p e =

@@ -5,12 +5,15 @@ use Rattle.std.proofs.lemmas.Bool.{eq-eqb}
 use Rattle.cyc_types.specs.declared.typed.Kind.TheVariants as kinds
 use Rattle.cyc_types.specs.declared.typed.Callee.{Callee}
 use Rattle.cyc_types.specs.declared.typed.Callee.TheVariants as callees
-use Rattle.cyc_types.specs.Types.{Ty}
+use Rattle.cyc_types.specs.Types.{Ty, result_type}
 use Rattle.cyc_types.specs.Types as types
-use Rattle.cyc_types.specs.TypedTrees.{Items, Clauses, NoClauses, Default, Case, Function, Program}
-use Rattle.cyc_types.specs.Declarations.{caught_types, item_types}
+use Rattle.cyc_types.specs.TypedTrees.{Items, Clauses, NoClauses, Default, Case, Function}
+use Rattle.cyc_types.specs.Declarations.{caught_types, item_types, item_regions}
+use Rattle.cyc_types.specs.Outlives.{live_regions}
+use Rattle.cyc_types.specs.declared.region.Region.TheVariants as regions
+use Rattle.cyc_types.specs.declared.scope.ScopeKind.TheVariants as scopes
 use Rattle.cyc_types.specs.Rules.{Derives}
-use Rattle.cyc_types.specs.typing.WellTyped.{LocalInScope, Context, IsCaught, in_block, with_local, with_caught, behind_clause, WellTypedItems, WellTypedClauses, body_context, parameters_in_scope}
+use Rattle.cyc_types.specs.typing.WellTyped.{LocalInScope, Context, IsLive, IsCaught, in_block, with_local, with_caught, behind_clause, WellTypedItems, WellTypedClauses, body_context, parameters_in_scope}
 use Rattle.cyc_types.specs.flow.States as flow
 use Rattle.cyc_types.specs.flow.States.{Unreached, Full, meet, with_fullness, with_each, is_reached}
 use Rattle.cyc_types.specs.flow.Statements.{Known, locks_of, or_clause, rule_items, rule_clauses}
@@ -23,21 +26,22 @@ use Rattle.cyc_meaning.specs.Parts.{wrong, inside, region_end, declared}
 use Rattle.cyc_meaning.specs.Exceptions.{catches, step_catching}
 use Rattle.cyc_meaning.specs.Nesting.{ends_of, IsNested}
 use Rattle.cyc_meaning.specs.Step.{called, values_of, prints, reads, step_calling, step_entering, step_binding}
-use Rattle.cyc_soundness.specs.Lives.{RunTy, RunValue, Value, read}
+use Rattle.cyc_soundness.specs.Lives.{Life, RunTy, RunValue, Value, Lives, at, value_at, lives_of, Reading, AsHeap, ByScope}
 use Rattle.cyc_soundness.specs.Lives as lives
 use Rattle.cyc_soundness.specs.Worlds.{Typing, HasType, AreOperands, IsTyped, Grows}
-use Rattle.cyc_soundness.specs.Frames.{InScope, Variable, Level, IsScope, AreBelow, IsBound, AreVariables, LiveIn, Within, itself, older, AreSet, Holds, Implies, Exits, loop_of, around, AreBreaks, IsContext, KnowsProgram}
-use Rattle.cyc_soundness.specs.Classes.{InItems, InClauses}
-use Rattle.cyc_soundness.specs.Stacks.{Continues, Catches, IsAccepted, Val, Go, turned, IsCalled, IsBlocked, AreFull, IsBody, IsStack, IsWell}
+use Rattle.cyc_soundness.specs.Frames.{InScope, Variable, Names, Instance, Home, lives_in, read, IsScope, AreBelow, IsBound, AreVariables, IsLasting, LiveIn, Within, itself, older, AreSet, Holds, Implies, Exits, HasResult, loop_of, around, AreBreaks, Stand, IsHome, IsContext, KnowsProgram}
+use Rattle.cyc_soundness.specs.Classes.{IsDeclarable, InItems, InClauses, Source}
+use Rattle.cyc_soundness.specs.Stacks.{regions_at_call, IsInstance, Continues, Catches, IsAccepted, Val, Go, turned, IsCalled, IsBlocked, AreFull, IsBody, IsStack, IsWell}
 use Rattle.cyc_soundness.proofs.TypeLemmas.{is_kind_same, kind_meant}
 use Rattle.cyc_soundness.proofs.FlowLemmas.{implies_self, implies_after, meet_second}
 use Rattle.cyc_soundness.proofs.RuleLemmas.{breaks_clauses, clauses_implied, no_locks}
 use Rattle.cyc_soundness.proofs.WorldLemmas.{type_grown, operands_grown, opened_typed}
-use Rattle.cyc_soundness.proofs.StackLemmas.{AreAccepted, stack_grown, below_more, live_more}
+use Rattle.cyc_soundness.proofs.StackLemmas.{AreAccepted, stack_grown, below_more}
+use Rattle.cyc_soundness.proofs.RegionLemmas.{live_more, there_lasting, opened_life, opened_lasting, stand_opened, new_home, context_inside, other_same, named_function, known_body}
 use Rattle.cyc_soundness.proofs.Cells.{running}
 use Rattle.cyc_soundness.proofs.Objects.{operands_reversed}
-use Rattle.cyc_soundness.proofs.Supply.{declares}
-use Rattle.cyc_soundness.proofs.Execution.{context_inside, breaks_before}
+use Rattle.cyc_soundness.proofs.Supply.{new_life, declares}
+use Rattle.cyc_soundness.proofs.Execution.{block_scope, block_live, block_stack, context_behind, breaks_before}
 
 -- ---- lists of operands
 
@@ -48,11 +52,11 @@ turned_length (a ∷ as') bs =
     let r : length (turned as' (a ∷ bs)) ≡ suc (length as') + length bs = omega (arith, e) in
     r
 
-operands_count : (g : Typing) (ts : List Ty) (vs : List Operand) → AreOperands g (map read ts) vs → length vs ≡ length ts
-operands_count g [] [] are = refl
-operands_count g [] (v ∷ vs) are = absurd are
-operands_count g (t ∷ ts) [] are = absurd are
-operands_count g (t ∷ ts) (v ∷ vs) are = ap suc (operands_count g ts vs are.1)
+operands_count : (n : Lives) (g : Typing) (ts : List Ty) (vs : List Operand) → AreOperands g (map (at n) ts) vs → length vs ≡ length ts
+operands_count n g [] [] are = refl
+operands_count n g [] (v ∷ vs) are = absurd are
+operands_count n g (t ∷ ts) [] are = absurd are
+operands_count n g (t ∷ ts) (v ∷ vs) are = ap suc (operands_count n g ts vs are.1)
 
 pub blocked_of : (o : Option Ty) (f : flow.State) → ((t : Ty) → o ≡ Some t → is_reached f ≡ false) → IsBlocked o f
 blocked_of None f ends = tt
@@ -61,18 +65,31 @@ blocked_of (Some t) f ends = ends t refl
 all_set : (g : Typing) (f : flow.State) (bs : List InScope) → AreFull g bs → AreSet g f bs
 all_set g f [] are = tt
 all_set g f (Variable b ∷ bs) (is, are) = (λ s. is, all_set g f bs are)
-all_set g f (Level l ∷ bs) (is, are) = (tt, all_set g f bs are)
+all_set g f (b ∷ bs) (is, are) = (tt, all_set g f bs are)
 
 full_grown : (g h : Typing) → Grows g h → (bs : List InScope) → AreFull g bs → AreFull h bs
 full_grown g h grows [] are = tt
 full_grown g h grows (Variable b ∷ bs) (is, are) = (grows.filled b.object 1 is, full_grown g h grows bs are)
-full_grown g h grows (Level l ∷ bs) (is, are) = (tt, full_grown g h grows bs are)
+full_grown g h grows (b ∷ bs) (is, are) = (tt, full_grown g h grows bs are)
 
-module _ (p : Program) (accepted : AreAccepted p) where
+-- a function without a result gives nothing
+result_given : (o : Option Ty) (n : Lives) → HasResult o (value_at n (result_type o))
+result_given None n = refl
+result_given (Some t) n = tt
+
+new_int : (m : Reading) (n : ℕ) → IsDeclarable m n types.Int
+new_int AsHeap n = tt
+new_int ByScope n = tt
+
+-- the region of a block is live in it
+block_region : (c : Context) → IsLive (in_block c) (regions.Variable c.next_region)
+block_region c = (0, (let e : 0 < suc (length (live_regions c.regions.live c.regions.opened)) = omega arith in e), refl)
+
+module _ (p : Source) (accepted : AreAccepted p) where
   module _ (g : Typing) (x : Exits) (bs : List InScope) (e : Environment) (w : World) (typed : IsTyped g w.regions w.objects) (globals : KnowsProgram g p) (bound : IsBound e.locals e.counters bs) (variables : AreVariables g bs) where
     -- ---- calls
 
-    printed_on : (ts : List RunTy) (vs : List Operand) (k : List Entry) (f : flow.State) → LiveIn (ends_of k) bs → Holds g f bs → turned ts [] ≡ lives.Int ∷ [] → AreOperands g ts vs
+    printed_on : (ts : List RunTy) (vs : List Operand) (k : List Entry) (f : flow.State) → LiveIn k bs → Holds g f bs → turned ts [] ≡ lives.Int ∷ [] → AreOperands g ts vs
         → IsStack p g x bs (Val (Value lives.Int) f) k → IsWell p (prints (values_of vs) k e w)
     printed_on [] vs k f live holds same are stack = absurd (let z : [] ≡ lives.Int ∷ [] = same in cc)
     printed_on (t ∷ []) [] k f live holds same are stack = absurd are
@@ -88,7 +105,7 @@ module _ (p : Program) (accepted : AreAccepted p) where
             (Given (record { kind = kinds.Int; value = values.Int (word % 256) })) k live (Value lives.Int, f, holds, (refl, tt), stack)
         go value has = absurd has
 
-    read_on : (ts : List RunTy) (vs : List Operand) (k : List Entry) (f : flow.State) → LiveIn (ends_of k) bs → Holds g f bs → turned ts [] ≡ [] → AreOperands g ts vs
+    read_on : (ts : List RunTy) (vs : List Operand) (k : List Entry) (f : flow.State) → LiveIn k bs → Holds g f bs → turned ts [] ≡ [] → AreOperands g ts vs
         → IsStack p g x bs (Val (Value lives.Int) f) k → IsWell p (reads (values_of vs) k e w)
     read_on [] [] k f live holds same are stack =
         running p g x bs e _ typed globals bound variables (Given _) k live (Value lives.Int, f, holds, (refl, tt), stack)
@@ -96,111 +113,178 @@ module _ (p : Program) (accepted : AreAccepted p) where
     read_on (t ∷ ts) vs k f live holds same are stack =
         let e1 : length (turned ts (t ∷ [])) ≡ length ts + 1 = turned_length ts (t ∷ []) in let e2 : length (turned ts (t ∷ [])) ≡ 0 = ap length same in absurd (omega (arith, e1, e2))
 
-    pub call : (callee : Callee) (vs : List Operand) (k : List Entry) (ts : List RunTy) (r : RunValue) (f : flow.State) → LiveIn (ends_of k) bs → Holds g f bs → IsCalled p callee (turned ts []) r → AreOperands g ts vs
-        → IsStack p g x bs (Val r f) k → IsWell p (step_calling p callee vs k e w)
+    -- what is live in a callee has not ended
+    instance_lasting : (k : List Entry) (h : Function) (these : ℕ → Life) (alive : ℕ → Bool) → LiveIn k bs → IsInstance p bs h these alive → (n : ℕ) → alive n ≡ true → IsLasting (ends_of k) (these n)
+    instance_lasting k h these alive live instance n is =
+        let (r, there, same) = instance.lasting n is in
+        subst (λ l. IsLasting (ends_of k) l) same (there_lasting (ends_of k) bs r live.0 there)
+
+    pub call : (callee : Callee) (vs : List Operand) (k : List Entry) (ts : List RunTy) (r : RunValue) (f : flow.State) → LiveIn k bs → Holds g f bs → IsCalled p bs callee (turned ts []) r → AreOperands g ts vs
+        → IsStack p g x bs (Val r f) k → IsWell p (step_calling p.program callee vs k e w)
     call callees.Putchar vs k ts r f live holds (types_is, result_is) are stack = printed_on ts vs k f live holds types_is are (subst (λ z. IsStack p g x bs (Val z f) k) result_is stack)
     call callees.Getchar vs k ts r f live holds (types_is, result_is) are stack = read_on ts vs k f live holds types_is are (subst (λ z. IsStack p g x bs (Val z f) k) result_is stack)
-    call (callees.Function n) vs k ts r f live holds (h, at, types_is, result_is) are stack =
-        let (end, ok) = accepted n h at in
-        let arguments : AreOperands g (map read h.parameters) (reverse vs) = subst (λ us. AreOperands g us (reverse vs)) types_is (operands_reversed g ts vs are) in
-        let y : Exits = record { loop = None; result = h.result } in
-        subst (λ o. IsWell p (called o (reverse vs) (Caller e ∷ k) w)) (sym at)
-        (subst (λ (b : Bool). IsWell p (if b then Running (Entering h (reverse vs)) (Caller e ∷ k) no_locals w else wrong w)) (sym (eq-eqb (length (reverse vs)) (length h.parameters) (operands_count g h.parameters (reverse vs) arguments)))
-        (running p g y [] no_locals w typed globals tt tt (Entering h (reverse vs)) (Caller e ∷ k) tt (
+    call (callees.Function n) vs k ts r f live holds (h, these, alive, there, instance, types_is, result_is) are stack =
+        let (end, ok) = accepted n h there in
+        let arguments : AreOperands g (map (at (lives_of these)) h.parameters) (reverse vs) = subst (λ us. AreOperands g us (reverse vs)) types_is (operands_reversed g ts vs are) in
+        let given : RunValue = value_at (lives_of these) (result_type h.result) in
+        let y : Exits = record { loop = None; result = h.result; gives = given } in
+        let cs : List InScope = Instance these alive ∷ [] in
+        subst (λ o. IsWell p (called o (reverse vs) (Caller e ∷ k) w)) (sym there)
+        (subst (λ (b : Bool). IsWell p (if b then Running (Entering h (reverse vs)) (Caller e ∷ k) no_locals w else wrong w))
+        (sym (eq-eqb (length (reverse vs)) (length h.parameters) (operands_count (lives_of these) g h.parameters (reverse vs) arguments)))
+        (running p g y cs no_locals w typed globals (tt, tt) (tt, tt) (Entering h (reverse vs)) (Caller e ∷ k) ((instance_lasting k h these alive live instance, tt), refl) (
           end,
+          these,
+          alive,
           ok,
-          (refl, refl),
+          (refl, refl, refl),
           refl,
+          instance.stand,
           arguments,
-          (x, bs, f, refl, blocked_of h.result end ok.ends, bound, variables, live, holds, subst (λ z. IsStack p g x bs (Val z f) k) result_is stack),
+          (x, bs, f, refl, blocked_of h.result end ok.ends, result_given h.result (lives_of these), bound, variables, live, holds, subst (λ z. IsStack p g x bs (Val z f) k) result_is stack),
         )))
 
-    pub enter : (h : Function) (vs : List Operand) (k : List Entry) (end : flow.State) → IsAccepted p h end → IsBody x h → bs ≡ [] → AreOperands g (map read h.parameters) vs → IsStack p g x bs (Go end) k
-        → IsWell p (step_entering h vs k e w)
-    enter h vs k end ok body none are stack =
+    pub enter : (h : Function) (vs : List Operand) (k : List Entry) (end : flow.State) (these : ℕ → Life) (alive : ℕ → Bool) → LiveIn k bs → IsAccepted p h end → IsBody x bs h → bs ≡ Instance these alive ∷ []
+        → Stand p.reading (regions_at_call h) bs → AreOperands g (map (read bs) h.parameters) vs → IsStack p g x bs (Go end) k → IsWell p (step_entering h vs k e w)
+    enter h vs k end these alive live ok body these_are stand are stack =
         let count : 0 + length h.parameters ≡ length h.parameters = omega arith in
-        running p g x [] (inside e w) (opened w) (opened_typed g w.regions (new_region Stack ∷ []) w.objects typed) globals tt tt (Binding 0 h.parameters vs h.body) (region_end e w ∷ k) tt
-        (h, end, [], [], itself [], ok, body, refl, refl, count, are, refl, tt, tt, (end, implies_self end, tt, subst (λ cs. IsStack p g x cs (Go end) k) none stack))
+        let region = length w.regions in
+        let l : Life = opened_life p.reading region (ends_of k) in
+        let cs : List InScope = Home region ∷ Names 0 l true ∷ bs in
+        let bare : IsScope p.reading (lives_in cs) [] bs = subst (λ z. IsScope p.reading (lives_in cs) [] z) (sym these_are) ([], refl, refl) in
+        let below : AreBelow 0 bs = subst (λ z. AreBelow 0 z) (sym these_are) (tt, tt) in
+        let full : AreFull g bs = subst (λ z. AreFull g z) (sym these_are) (tt, tt) in
+        let named = named_function p.reading p.program h ok.typed in
+        let same = other_same p.reading region (ends_of k) (regions_at_call h) bs stand in
+        running p g x cs (inside e w) (opened w) (opened_typed g w.regions (new_region Stack ∷ []) w.objects typed) globals (tt, (tt, bound)) (tt, (tt, variables)) (Binding 0 h.parameters vs h.body) (region_end e w ∷ k)
+        ((tt, ((λ is. opened_lasting p.reading region (ends_of k)), live_more region (ends_of k) bs live.0)), refl) (
+          h,
+          end,
+          [],
+          cs,
+          itself cs,
+          ok,
+          (body.0, body.1, sym (named.result (lives_in bs) (lives_in cs) same) ∙ body.2),
+          refl,
+          refl,
+          count,
+          subst (λ us. AreOperands g us vs) (named.parameters (lives_in bs) (lives_in cs) same) are,
+          ([], refl, ([], refl, bare)),
+          (tt, (tt, below)),
+          (tt, (tt, full)),
+          stand_opened p.reading scopes.Block 0 region (ends_of k) (regions_at_call h) bs refl live.0 named.live named.pairs stand,
+          new_home p.reading 0 region (ends_of k) bs,
+          (bs, 0, l, true, end, refl, implies_self end, live, stack),
+        )
 
-    begin : (h : Function) (number : ℕ) (js : Items) (k : List Entry) (end : flow.State) (vs : List LocalInScope) (cs : List InScope) → LiveIn (ends_of k) bs → Within cs bs → IsAccepted p h end → IsBody x h → js ≡ h.body
-        → vs ≡ parameters_in_scope h.parameters 0 [] → number + 0 ≡ length h.parameters → IsScope vs bs → AreBelow number bs → AreFull g bs → IsStack p g x cs (Go end) k
-        → IsWell p (Running Proceeding (Rest js ∷ k) e w)
-    begin h number js k end vs cs live within ok (loop, result) body scope_is count scope below full stack =
+    begin : (h : Function) (number : ℕ) (js : Items) (k : List Entry) (end : flow.State) (vs : List LocalInScope) (cs : List InScope) → LiveIn k bs → Within cs bs → IsAccepted p h end → IsBody x bs h → js ≡ h.body
+        → vs ≡ parameters_in_scope h.parameters 0 [] → number + 0 ≡ length h.parameters → IsScope p.reading (lives_in bs) vs bs → AreBelow number bs → AreFull g bs
+        → Stand p.reading (body_context p.program h).regions bs → IsHome p.reading 0 bs → IsStack p g x cs (Go end) k → IsWell p (Running Proceeding (Rest js ∷ k) e w)
+    begin h number js k end vs cs live within ok (loop, result, gives) body scope_is count scope below full stand at_home stack =
         let flows = subst (λ o. Derives (rule_items (record { loop = loop_of o; locks = [] }) h.body (record { now = start_of h; breaks = Unreached })) (record { now = end; breaks = ok.breaks })) (sym loop) ok.flows in
-        let rest : Continues x (body_context p h) h.body (start_of h) end =
+        let rest : Continues p.reading x (body_context p.program h) h.body (start_of h) end =
         record { before = Unreached; behind = ok.breaks; typed = ok.typed.body; flows = flows; breaks = subst (λ o. AreBreaks o ok.breaks) (sym loop) tt; kept = ok.kept } in
         let last : number ≤ length h.parameters = omega (arith, count) in
-        let stands : IsContext p x bs (body_context p h) = record {
+        let stands : IsContext p x bs (body_context p.program h) = record {
           globals = refl;
           functions = refl;
           structs = refl;
           result = sym result;
+          gives = gives;
           loop = λ no. (let z : false ≡ true = no in absurd (cc));
-          scope = subst (λ z. IsScope z bs) scope_is scope;
+          scope = subst (λ z. IsScope p.reading (lives_in bs) z bs) scope_is scope;
           below = below_more number (length h.parameters) bs last below;
           counters = λ l less. absurd (omega (arith, less));
+          known = known_body p.reading p.program h ok.typed;
+          regions = stand;
+          home = at_home;
         } in
         subst (λ z. IsWell p (Running Proceeding (Rest z ∷ k) e w)) (sym body)
         (running p g x bs e w typed globals bound variables Proceeding (Rest h.body ∷ k) live
-        (start_of h, (refl, all_set g (start_of h) bs full), (cs, body_context p h, end, within, stands, rest, stack)))
+        (start_of h, (refl, all_set g (start_of h) bs full), (cs, body_context p.program h, end, within, stands, rest, stack)))
 
-    pub bind : (number : ℕ) (ts : List Ty) (arguments : List Operand) (js : Items) (k : List Entry) (h : Function) (end : flow.State) (vs : List LocalInScope) (cs : List InScope) → IsNested k e w → LiveIn (ends_of k) bs
-        → Within cs bs → IsAccepted p h end → IsBody x h → js ≡ h.body → parameters_in_scope ts number vs ≡ parameters_in_scope h.parameters 0 [] → number + length ts ≡ length h.parameters
-        → AreOperands g (map read ts) arguments → IsScope vs bs → AreBelow number bs → AreFull g bs → IsStack p g x cs (Go end) k → IsWell p (step_binding number ts arguments js k e w)
-    bind number [] [] js k h end vs cs nests live within ok body body_is scope_is count are scope below full stack = begin h number js k end vs cs live within ok body body_is scope_is count scope below full stack
-    bind number [] (v ∷ arguments) js k h end vs cs nests live within ok body body_is scope_is count are scope below full stack = absurd are
-    bind number (t ∷ ts) [] js k h end vs cs nests live within ok body body_is scope_is count are scope below full stack = absurd are
-    bind number (t ∷ ts) (v ∷ arguments) js k h end vs cs nests live within ok body body_is scope_is count (is, are) scope below full stack =
+    pub bind : (number : ℕ) (ts : List Ty) (arguments : List Operand) (js : Items) (k : List Entry) (h : Function) (end : flow.State) (vs : List LocalInScope) (cs : List InScope) → IsNested k e w → LiveIn k bs
+        → Within cs bs → IsAccepted p h end → IsBody x bs h → js ≡ h.body → parameters_in_scope ts number vs ≡ parameters_in_scope h.parameters 0 [] → number + length ts ≡ length h.parameters
+        → AreOperands g (map (read bs) ts) arguments → IsScope p.reading (lives_in bs) vs bs → AreBelow number bs → AreFull g bs → Stand p.reading (body_context p.program h).regions bs → IsHome p.reading 0 bs
+        → IsStack p g x cs (Go end) k → IsWell p (step_binding number ts arguments js k e w)
+    bind number [] [] js k h end vs cs nests live within ok body body_is scope_is count are scope below full stand at_home stack =
+        begin h number js k end vs cs live within ok body body_is scope_is count scope below full stand at_home stack
+    bind number [] (v ∷ arguments) js k h end vs cs nests live within ok body body_is scope_is count are scope below full stand at_home stack = absurd are
+    bind number (t ∷ ts) [] js k h end vs cs nests live within ok body body_is scope_is count are scope below full stand at_home stack = absurd are
+    bind number (t ∷ ts) (v ∷ arguments) js k h end vs cs nests live within ok body body_is scope_is count (is, are) scope below full stand at_home stack =
         let more : suc number + length ts ≡ length h.parameters = omega (arith, count) in
+        let l = new_life p.reading bs 0 e.home k live at_home nests.2 in
         subst (λ (b : Bool). IsWell p (if b then declared (region_at w e.home) (Binding (suc number) ts arguments js) number (values.kind_of t) (Some v.value) k e w else wrong w))
-        (sym (is_kind_same v.kind (values.kind_of t) (is.0 ∙ kind_meant t)))
-        (declares p g x bs e w typed globals bound variables number (values.kind_of t) t (Some v.value) 1 (Binding (suc number) ts arguments js) k nests live below
-        (λ grows. ((sym (kind_meant t), type_grown g _ grows (read t) v.value is.1), tt))
+        (sym (is_kind_same v.kind (values.kind_of t) (is.0 ∙ kind_meant (lives_in bs) t)))
+        (declares p g x bs e w typed globals bound variables number (values.kind_of t) t (Some v.value) 1 l.life (Binding (suc number) ts arguments js) k nests live below l.number l.lasting
+        (λ grows. ((sym (kind_meant (lives_in bs) t), type_grown g _ grows (read bs t) v.value is.1), tt))
         (λ grows filled. (
           h,
           end,
           record { number = number; of_type = t; region = 0; is_place = true } ∷ vs,
           cs,
-          older _ cs bs within,
+          older _ cs bs tt within,
           ok,
           body,
           body_is,
           scope_is,
           more,
-          operands_grown g _ grows (map read ts) arguments are,
-          (vs, (_, refl, refl, refl), scope),
+          operands_grown g _ grows (map (read bs) ts) arguments are,
+          (vs, (_, refl, refl, refl, refl, l.homed), scope),
           ((let less : number < suc number = omega arith in less), below_more number (suc number) bs (let le : number ≤ suc number = omega arith in le) below),
           (filled, full_grown g _ grows bs full),
+          stand,
+          at_home,
           stack_grown p g _ grows x cs (Go end) k stack,
         )))
 
     -- ---- clauses
 
-    begin_clause : (js : Items) (k : List Entry) (c : Context) (start h before : flow.State) (l : Known) → LiveIn (ends_of k) bs → IsContext p x bs c → Holds g start bs → WellTypedItems (in_block c) js
-        → Derives (rule_items (around x) js (record { now = start; breaks = before })) l → AreBreaks x.loop l.breaks → InItems js → Implies l.now h → IsStack p g x bs (Go h) k
+    abbrev scope : Context → List Entry → List InScope
+    scope c k = block_scope p g x bs e w typed globals bound variables c k
+
+    begin_clause : (js : Items) (k : List Entry) (c : Context) (start h before : flow.State) (l : Known) → LiveIn k bs → IsContext p x bs c → Holds g start bs → WellTypedItems (in_block c) js
+        → Derives (rule_items (around x) js (record { now = start; breaks = before })) l → AreBreaks x.loop l.breaks → InItems p.reading (suc c.next_region) js → Implies l.now h → IsStack p g x bs (Go h) k
         → IsWell p (Running Proceeding (Rest js ∷ region_end e w ∷ k) (inside e w) (opened w))
     begin_clause js k c start h before l live stands holds well flows are kept implies stack =
-        let rest : Continues x (in_block c) js start l.now = record { before = before; behind = l.breaks; typed = well; flows = flows; breaks = are; kept = kept } in
-        running p g x bs (inside e w) (opened w) (opened_typed g w.regions (new_region Stack ∷ []) w.objects typed) globals bound variables Proceeding (Rest js ∷ region_end e w ∷ k) (live_more _ (ends_of k) bs live)
-        (start, holds, (bs, in_block c, l.now, itself bs, context_inside p x bs c stands, rest, (h, implies, live, stack)))
+        let rest : Continues p.reading x (in_block c) js start l.now = record { before = before; behind = l.breaks; typed = well; flows = flows; breaks = are; kept = kept } in
+        running p g x (scope c k) (inside e w) (opened w) (opened_typed g w.regions (new_region Stack ∷ []) w.objects typed) globals (tt, (tt, bound)) (tt, (tt, variables)) Proceeding (Rest js ∷ region_end e w ∷ k)
+        (block_live p g x bs e w typed globals bound variables c k live)
+        (start, (holds.0, (tt, (tt, holds.1))), (scope c k, in_block c, l.now, itself (scope c k), context_inside p x bs c stands (length w.regions) (ends_of k) live.0, rest,
+        block_stack p g x bs e w typed globals bound variables c k l.now h live implies stack))
 
-    caught : (value : ℕ) (v : Option ℕ) (js : Items) (k : List Entry) (c : Context) (start h before : flow.State) (has : Bool) (l : Known) → LiveIn (ends_of k) bs → IsContext p x bs c → Holds g start bs → IsCaught c has v
-        → WellTypedItems (with_caught v (in_block c)) js → Derives (rule_items (around x) js (record { now = statements.with_caught v start; breaks = before })) l → AreBreaks x.loop l.breaks → InItems js → Implies l.now h
+    caught : (value : ℕ) (v : Option ℕ) (js : Items) (k : List Entry) (c : Context) (start h before : flow.State) (has : Bool) (l : Known) → LiveIn k bs → IsContext p x bs c → Holds g start bs → IsCaught c has v
+        → WellTypedItems (with_caught v (in_block c)) js → Derives (rule_items (around x) js (record { now = statements.with_caught v start; breaks = before })) l → AreBreaks x.loop l.breaks → InItems p.reading (suc c.next_region) js → Implies l.now h
         → IsStack p g x bs (Go h) k → IsWell p (catches value v js k e w)
     caught value None js k c start h before has l live stands holds is well flows are kept implies stack = begin_clause js k c start h before l live stands holds well flows are kept implies stack
     caught value (Some n) js k c start h before false l live stands holds is well flows are kept implies stack = absurd is
     caught value (Some n) js k c start h before true l live stands holds (number, there) well flows are kept implies stack =
-        let rest : Continues x (with_local true types.Int (in_block c)) js (with_fullness Full start n) l.now = record { before = before; behind = l.breaks; typed = well; flows = flows; breaks = are; kept = kept } in
-        running p g x bs (inside e w) (opened w) (opened_typed g w.regions (new_region Stack ∷ []) w.objects typed) globals bound variables (Naming n (record { kind = kinds.Int; value = values.Int value }) js) (region_end e w ∷ k) (live_more _ (ends_of k) bs live)
-        (in_block c, types.Int, start, l.now, context_inside p x bs c stands, holds, number, (refl, tt), rest, (h, implies, live, stack))
+        let rest : Continues p.reading x (with_local true types.Int (in_block c)) js (with_fullness Full start n) l.now = record { before = before; behind = l.breaks; typed = well; flows = flows; breaks = are; kept = kept } in
+        running p g x (scope c k) (inside e w) (opened w) (opened_typed g w.regions (new_region Stack ∷ []) w.objects typed) globals (tt, (tt, bound)) (tt, (tt, variables))
+        (Naming n (record { kind = kinds.Int; value = values.Int value }) js) (region_end e w ∷ k) (block_live p g x bs e w typed globals bound variables c k live) (
+          in_block c,
+          true,
+          types.Int,
+          scope c k,
+          start,
+          l.now,
+          itself (scope c k),
+          context_inside p x bs c stands (length w.regions) (ends_of k) live.0,
+          (holds.0, (tt, (tt, holds.1))),
+          (new_int p.reading (suc c.next_region), block_region c),
+          number,
+          (refl, tt),
+          rest,
+          block_stack p g x bs e w typed globals bound variables c k l.now h live implies stack,
+        )
 
-    pub catch : (tag value : ℕ) (ds : Clauses) (k : List Entry) (c : Context) (start f h before behind : flow.State) → LiveIn (ends_of k) bs → IsContext p x bs c → Holds g start bs → WellTypedClauses c ds
-        → Derives (rule_clauses (around x) start ds (record { now = f; breaks = before })) (record { now = h; breaks = behind }) → AreBreaks x.loop behind → InClauses ds → IsStack p g x bs (Go h) k
+    pub catch : (tag value : ℕ) (ds : Clauses) (k : List Entry) (c : Context) (start f h before behind : flow.State) → LiveIn k bs → IsContext p x bs c → Holds g start bs → WellTypedClauses c ds
+        → Derives (rule_clauses (around x) start ds (record { now = f; breaks = before })) (record { now = h; breaks = behind }) → AreBreaks x.loop behind → InClauses p.reading c.next_region ds → IsStack p g x bs (Go h) k
         → IsWell p (step_catching tag value ds k e w)
     catch tag value NoClauses k c start f h before behind live stands holds well flows are kept stack = running p g x bs e w typed globals bound variables (Throwing tag value) k live (Go h, stack)
     catch tag value (Default r js) k c start f h before behind live stands holds (number, well) (l, d, (u, known)) are kept stack =
         let now : h ≡ meet f (with_each Full (locks_of js) l.now) = ap (λ (z : Known). z.now) known in
-        let plain : h ≡ meet f l.now = now ∙ ap (λ ns. meet f (with_each Full ns l.now)) (no_locks js kept) in
+        let plain : h ≡ meet f l.now = now ∙ ap (λ ns. meet f (with_each Full ns l.now)) (no_locks p.reading (suc c.next_region) js kept) in
         begin_clause js k c start h before l live stands holds well d (subst (λ z. AreBreaks x.loop z) (ap (λ (z : Known). z.breaks) known) are) kept (subst (λ z. Implies l.now z) (sym plain) (meet_second f l.now)) stack
     catch tag value (Case n v r js ds) k c start f h before behind live stands holds (has, is, bind', number, well, later) (l, d, dlater) are (kjs, kds) stack = go (n == tag)
       where
@@ -212,23 +296,13 @@ module _ (p : Program) (accepted : AreAccepted p) where
 
         implies : Implies l.now h
         implies = implies_after l.now (or_clause f js l).now h
-            (subst (λ ns. Implies l.now (meet f (with_each Full ns l.now))) (sym (no_locks js kjs)) (meet_second f l.now))
+            (subst (λ ns. Implies l.now (meet f (with_each Full ns l.now))) (sym (no_locks p.reading (suc c.next_region) js kjs)) (meet_second f l.now))
             (clauses_implied (around x) start ds (or_clause f js l) (record { now = h; breaks = behind }) dlater)
 
         behind_stands : IsContext p x bs (behind_clause c v js)
-        behind_stands = record {
-          globals = stands.globals;
-          functions = stands.functions;
-          structs = stands.structs;
-          result = stands.result;
-          loop = stands.loop;
-          scope = stands.scope;
-          below = below_more c.next_local (c.next_local + (length (caught_types v) + length (item_types js))) bs
-              (let le : c.next_local ≤ c.next_local + (length (caught_types v) + length (item_types js)) = omega arith in le) stands.below;
-          counters = stands.counters;
-        }
+        behind_stands = context_behind p x bs c (length (caught_types v) + length (item_types js)) (suc (item_regions js)) stands
 
-        next : Catches x (behind_clause c v js) start ds (or_clause f js l).now h
+        next : Catches p.reading x (behind_clause c v js) start ds (or_clause f js l).now h
         next = record { before = l.breaks; behind = behind; typed = later; flows = dlater; breaks = are; kept = kds }
 
         go : (b : Bool) → IsWell p (if b then catches value v js k e w else Running (Catching tag value ds) k e w)

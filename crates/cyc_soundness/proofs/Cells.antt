@@ -4,28 +4,27 @@ use Rattle.std.specs.Prelude.{if◌then◌else◌}
 use Rattle.cyc_types.specs.declared.typed.Kind.{Kind}
 use Rattle.cyc_types.specs.Types.{Ty}
 use Rattle.cyc_types.specs.Types as types
-use Rattle.cyc_types.specs.TypedTrees.{Program}
 use Rattle.cyc_types.specs.typing.Tests.{is_struct}
 use Rattle.cyc_types.specs.flow.States as flow
 use Rattle.cyc_meaning.specs.Values.{Operand}
 use Rattle.cyc_meaning.specs.Values as values
-use Rattle.cyc_meaning.specs.State.{World, Object, Found, Closed, heap_number, globals_number, is_open, cell_at, written, Environment, Entry, Focus, Given, Running}
+use Rattle.cyc_meaning.specs.State.{World, Object, Found, Closed, cell_at, written, Environment, Entry, Focus, Given, Running}
 use Rattle.cyc_meaning.specs.Objects.{found_object, object_at}
 use Rattle.cyc_meaning.specs.Parts.{wrong, read, loaded, stored}
 use Rattle.cyc_meaning.specs.Nesting.{ends_of, AreOpen}
-use Rattle.cyc_soundness.specs.Lives.{Life, OfRegion, RunTy, Int, Pointer, Handle, Key, Struct, Value, kind_at}
-use Rattle.cyc_soundness.specs.Lives as lives
-use Rattle.cyc_soundness.specs.Worlds.{ObjectType, Typing, Outlasts, alike, heap as for_ever, globals as with_globals, IsFilled, IsPart, IsTarget, HasType, IsResult, IsOwner, IsTyped, Grows}
-use Rattle.cyc_soundness.specs.Frames.{InScope, IsBound, AreVariables, LiveIn, Holds, Exits, KnowsProgram}
+use Rattle.cyc_soundness.specs.Lives.{Life, RunTy, Int, Pointer, Handle, Key, Struct, Value, Lives, at, kind_at}
+use Rattle.cyc_soundness.specs.Worlds.{ObjectType, Typing, Outlasts, IsFilled, IsPart, IsTarget, HasType, IsResult, IsTyped, IsOpenLife, Grows}
+use Rattle.cyc_soundness.specs.Frames.{InScope, IsBound, AreVariables, LiveIn, Holds, Exits, IsLasting, KnowsProgram}
 use Rattle.cyc_soundness.specs.Stacks.{Val, IsStack, IsFocus, IsWell}
 use Rattle.cyc_soundness.proofs.Numbers.{slice_get-set_same, some_same}
 use Rattle.cyc_soundness.proofs.TypeLemmas.{is_kind_same}
 use Rattle.cyc_soundness.proofs.WorldLemmas.{cell_there, live_owner, risen, risen_past, with_filled, written_grows, cell_written, globals_grown, variables_grown}
-use Rattle.cyc_soundness.proofs.StackLemmas.{open_of, globals_among}
+use Rattle.cyc_soundness.proofs.StackLemmas.{open_of, globals_among, outlasting_open}
+use Rattle.cyc_soundness.specs.Classes.{Source}
 
 -- a typed state, by its parts
-pub running : (p : Program) (g : Typing) (x : Exits) (bs : List InScope) (e : Environment) (w : World) → IsTyped g w.regions w.objects → KnowsProgram g p → IsBound e.locals e.counters bs → AreVariables g bs
-    → (focus : Focus) (k : List Entry) → LiveIn (ends_of k) bs → IsFocus p g x bs focus k → IsWell p (Running focus k e w)
+pub running : (p : Source) (g : Typing) (x : Exits) (bs : List InScope) (e : Environment) (w : World) → IsTyped g w.regions w.objects → KnowsProgram g p → IsBound e.locals e.counters bs → AreVariables g bs
+    → (focus : Focus) (k : List Entry) → LiveIn k bs → IsFocus p g x bs focus k → IsWell p (Running focus k e w)
 running p g x bs e w typed globals bound variables focus k live stands =
     record { typing = g; exits = x; locals = bs; objects = typed; globals = globals; bound = bound; variables = variables; live = live; stands = stands }
 
@@ -33,45 +32,40 @@ running p g x bs e w typed globals bound variables focus k live stands =
 
 module _ (g : Typing) (w : World) (typed : IsTyped g w.regions w.objects) where
   -- no struct is in a cell
-  never_struct : (number : ℕ) (x : ObjectType) (n : ℕ) (ls : List Life) (offset region : ℕ) → slice_get g.objects number ≡ Some x → slice_get x.cells offset ≡ Some (Struct n ls) → x.life ≡ OfRegion region
-      → is_open (slice_get w.regions region) ≡ true → IsFilled g number (suc offset) → ⊥
-  never_struct number x n ls offset region there at life opens (m, flag, enough) =
-      let c = cell_there g w number offset region (Struct n ls) x typed there at life opens in
+  never_struct : (number : ℕ) (x : ObjectType) (n : ℕ) (ls : List Life) (offset : ℕ) → slice_get g.objects number ≡ Some x → slice_get x.cells offset ≡ Some (Struct n ls) → IsOpenLife w.regions x.life
+      → IsFilled g number (suc offset) → ⊥
+  never_struct number x n ls offset there at opens (m, flag, enough) =
+      let c = cell_there g w number offset (Struct n ls) x typed there at opens in
       let same : m ≡ c.filled = some_same m c.filled (sym flag ∙ c.flag) in
       let (v, content, has) = c.of.content (let less : offset < c.filled = omega (arith, same, enough) in less) in
       has
 
-  pub part_at : (number : ℕ) (x : ObjectType) (t : RunTy) (offset region : ℕ) → slice_get g.objects number ≡ Some x → slice_get x.cells offset ≡ Some t → x.life ≡ OfRegion region
-      → is_open (slice_get w.regions region) ≡ true → IsFilled g number (suc offset) → IsPart g number x t offset
-  part_at number x Int offset region there at life opens filled = (at, filled)
-  part_at number x (Pointer k t l) offset region there at life opens filled = (at, filled)
-  part_at number x (Handle l) offset region there at life opens filled = (at, filled)
-  part_at number x (Key l) offset region there at life opens filled = (at, filled)
-  part_at number x (Struct n ls) offset region there at life opens filled = absurd (never_struct number x n ls offset region there at life opens filled)
+  pub part_at : (number : ℕ) (x : ObjectType) (t : RunTy) (offset : ℕ) → slice_get g.objects number ≡ Some x → slice_get x.cells offset ≡ Some t → IsOpenLife w.regions x.life
+      → IsFilled g number (suc offset) → IsPart g number x t offset
+  part_at number x Int offset there at opens filled = (at, filled)
+  part_at number x (Pointer k t l) offset there at opens filled = (at, filled)
+  part_at number x (Handle l) offset there at opens filled = (at, filled)
+  part_at number x (Key l) offset there at opens filled = (at, filled)
+  part_at number x (Struct n ls) offset there at opens filled = absurd (never_struct number x n ls offset there at opens filled)
 
-  outlasting : (l m : Life) → Outlasts l m → m ≡ OfRegion heap_number → is_open (slice_get w.regions globals_number) ≡ true → (region : ℕ) × (l ≡ OfRegion region) × (is_open (slice_get w.regions region) ≡ true)
-  outlasting l m (alike _) same opens = (heap_number, same, typed.heap)
-  outlasting l m (for_ever _) same opens = (heap_number, refl, typed.heap)
-  outlasting l m (with_globals _) same opens = (globals_number, refl, opens)
-
-  -- what a pointer leads to lives in an open region
-  pub life_of : (k : List Entry) (l : Life) → AreOpen w.regions (ends_of k) → Outlasts l (OfRegion 0) → (region : ℕ) × (l ≡ OfRegion region) × (is_open (slice_get w.regions region) ≡ true)
-  life_of k l opens outlasts = outlasting l (OfRegion 0) outlasts refl (open_of w.regions (globals_among k) opens)
+  -- what a pointer leads to is there
+  pub life_of : (k : List Entry) (l m : Life) → AreOpen w.regions (ends_of k) → Outlasts l m → IsLasting (ends_of k) m → IsOpenLife w.regions l
+  life_of k l m opens outlasts lasting = outlasting_open w.regions (ends_of k) l m opens typed.heap (open_of w.regions (globals_among k) opens) outlasts lasting
 
   -- of an object that a pointer leads to
-  pub target_live : (k : List Entry) (t : RunTy) (object offset : ℕ) → AreOpen w.regions (ends_of k) → IsTarget g t (OfRegion 0) object offset → (x : Object) × (object_at w object ≡ Found x)
-  target_live k t object offset opens (x, there, shown, outlasts, part) =
+  pub target_live : (k : List Entry) (t : RunTy) (l : Life) (object offset : ℕ) → AreOpen w.regions (ends_of k) → IsLasting (ends_of k) l → IsTarget g t l object offset → (x : Object) × (object_at w object ≡ Found x)
+  target_live k t l object offset opens lasting (x, there, shown, outlasts, part) =
       let (y, m, stands, flag, is) = typed.each object x there in
-      let (region, life, open') = life_of k x.life opens outlasts in
-      (y, ap (λ o. found_object w o) stands ∙ ap (λ (b : Bool). if b then Found y else Closed) (live_owner w region y.owner (subst (λ l. IsOwner l y.owner) life is.owner) open'))
+      let open' = life_of k x.life l opens outlasts lasting in
+      (y, ap (λ o. found_object w o) stands ∙ ap (λ (b : Bool). if b then Found y else Closed) (live_owner w x.life y.owner is.owner open'))
 
 -- a place that holds a value, and no struct
-pub value_part : (g : Typing) (object : ℕ) (x : ObjectType) (t : Ty) (offset : ℕ) → is_struct t ≡ false → IsPart g object x (lives.read t) offset → (slice_get x.cells offset ≡ Some (lives.read t)) × IsFilled g object (suc offset)
-value_part g object x types.Int offset plain is = is
-value_part g object x (types.Pointer k t r) offset plain is = is
-value_part g object x (types.Handle r) offset plain is = is
-value_part g object x (types.Key r) offset plain is = is
-value_part g object x (types.Struct n rs) offset plain is = absurd (let e : true ≡ false = plain in cc)
+pub value_part : (n : Lives) (g : Typing) (object : ℕ) (x : ObjectType) (t : Ty) (offset : ℕ) → is_struct t ≡ false → IsPart g object x (at n t) offset → (slice_get x.cells offset ≡ Some (at n t)) × IsFilled g object (suc offset)
+value_part n g object x types.Int offset plain is = is
+value_part n g object x (types.Pointer k t r) offset plain is = is
+value_part n g object x (types.Handle r) offset plain is = is
+value_part n g object x (types.Key r) offset plain is = is
+value_part n g object x (types.Struct m rs) offset plain is = absurd (let e : true ≡ false = plain in cc)
 
 pub stored_part : (g : Typing) (object : ℕ) (x : ObjectType) (t : RunTy) (offset : ℕ) (v : values.Value) → HasType g t v → IsPart g object x t offset → (slice_get x.cells offset ≡ Some t) × IsFilled g object (suc offset)
 stored_part g object x Int offset v has is = is
@@ -82,13 +76,13 @@ stored_part g object x (Struct n ls) offset v has is = absurd has
 
 -- ---- reads and writes
 
-module _ (p : Program) (g : Typing) (x : Exits) (bs : List InScope) (e : Environment) (w : World) (typed : IsTyped g w.regions w.objects) (globals : KnowsProgram g p) (bound : IsBound e.locals e.counters bs) (variables : AreVariables g bs) where
+module _ (p : Source) (g : Typing) (x : Exits) (bs : List InScope) (e : Environment) (w : World) (typed : IsTyped g w.regions w.objects) (globals : KnowsProgram g p) (bound : IsBound e.locals e.counters bs) (variables : AreVariables g bs) where
   -- a cell is read
-  pub reads : (k : List Entry) (kind : Kind) (number offset region : ℕ) (t : RunTy) (y : ObjectType) (f : flow.State) → LiveIn (ends_of k) bs → Holds g f bs
-      → slice_get g.objects number ≡ Some y → slice_get y.cells offset ≡ Some t → y.life ≡ OfRegion region → is_open (slice_get w.regions region) ≡ true → IsFilled g number (suc offset) → kind_at t ≡ kind
+  pub reads : (k : List Entry) (kind : Kind) (number offset : ℕ) (t : RunTy) (y : ObjectType) (f : flow.State) → LiveIn k bs → Holds g f bs
+      → slice_get g.objects number ≡ Some y → slice_get y.cells offset ≡ Some t → IsOpenLife w.regions y.life → IsFilled g number (suc offset) → kind_at t ≡ kind
       → IsStack p g x bs (Val (Value t) f) k → IsWell p (loaded kind (cell_at w number offset) k e w)
-  reads k kind number offset region t y f live holds at cells life opens (m, flag, enough) same stack =
-      let c = cell_there g w number offset region t y typed at cells life opens in
+  reads k kind number offset t y f live holds at cells opens (m, flag, enough) same stack =
+      let c = cell_there g w number offset t y typed at cells opens in
       let count : m ≡ c.filled = some_same m c.filled (sym flag ∙ c.flag) in
       let (v, content, has) = c.of.content (let less : offset < c.filled = omega (arith, count, enough) in less) in
       subst (λ a. IsWell p (loaded kind a k e w)) (sym c.found)
@@ -97,12 +91,12 @@ module _ (p : Program) (g : Typing) (x : Exits) (bs : List InScope) (e : Environ
       (running p g x bs e w typed globals bound variables (Given (record { kind = kind; value = v })) k live (Value t, f, holds, (sym same, has), stack))))
 
   -- a cell is written whose place is given, and then it is gone on, where more is known
-  pub writes : (v : Operand) (focus : Focus) (k : List Entry) (number offset region m : ℕ) (t : RunTy) (y : ObjectType) → LiveIn (ends_of k) bs
-      → slice_get g.objects number ≡ Some y → slice_get y.cells offset ≡ Some t → y.life ≡ OfRegion region → is_open (slice_get w.regions region) ≡ true → slice_get g.filled number ≡ Some m → offset ≤ m
+  pub writes : (v : Operand) (focus : Focus) (k : List Entry) (number offset m : ℕ) (t : RunTy) (y : ObjectType) → LiveIn k bs
+      → slice_get g.objects number ≡ Some y → slice_get y.cells offset ≡ Some t → IsOpenLife w.regions y.life → slice_get g.filled number ≡ Some m → offset ≤ m
       → IsResult g (Value t) v → (Grows g (with_filled g number (risen offset m)) → IsFilled (with_filled g number (risen offset m)) number (suc offset) → IsFocus p (with_filled g number (risen offset m)) x bs focus k)
       → IsWell p (stored (cell_at w number offset) number offset v focus k e w)
-  writes v focus k number offset region m t y live at cells life opens flag few is goes =
-      let c = cell_there g w number offset region t y typed at cells life opens in
+  writes v focus k number offset m t y live at cells opens flag few is goes =
+      let c = cell_there g w number offset t y typed at cells opens in
       let count : m ≡ c.filled = some_same m c.filled (sym flag ∙ c.flag) in
       let few_too : offset ≤ c.filled = omega (arith, count, few) in
       let h = with_filled g number (risen offset c.filled) in
@@ -114,23 +108,23 @@ module _ (p : Program) (g : Typing) (x : Exits) (bs : List InScope) (e : Environ
       (subst (λ (b : Bool). IsWell p (if b then Running focus k e (written w number offset (record { object = c.object; cell = c.of.cell }) v.value) else wrong w))
       (sym (is_kind_same c.of.cell.kind v.kind (c.of.kind ∙ sym is.0)))
       (running p h x bs e (written w number offset (record { object = c.object; cell = c.of.cell }) v.value)
-      (cell_written g w number offset y t v.value typed at cells c few_too is.1) (globals_grown g h grows p globals) bound (variables_grown g h grows bs variables) focus k live (goes_on grows now)))
+      (cell_written g w number offset y t v.value typed at cells c few_too is.1) (globals_grown g h grows p (λ n ls. refl) globals) bound (variables_grown g h grows bs variables) focus k live (goes_on grows now)))
 
   -- a place that a pointer leads to is read
-  pub reads_target : (k : List Entry) (kind : Kind) (object offset : ℕ) (t : Ty) (f : flow.State) → AreOpen w.regions (ends_of k) → LiveIn (ends_of k) bs → Holds g f bs
-      → IsTarget g (lives.read t) (OfRegion 0) object offset → is_struct t ≡ false → kind_at (lives.read t) ≡ kind → IsStack p g x bs (Val (Value (lives.read t)) f) k
+  pub reads_target : (k : List Entry) (kind : Kind) (object offset : ℕ) (n : Lives) (t : Ty) (l : Life) (f : flow.State) → AreOpen w.regions (ends_of k) → LiveIn k bs → IsLasting (ends_of k) l → Holds g f bs
+      → IsTarget g (at n t) l object offset → is_struct t ≡ false → kind_at (at n t) ≡ kind → IsStack p g x bs (Val (Value (at n t)) f) k
       → IsWell p (loaded kind (cell_at w object offset) k e w)
-  reads_target k kind object offset t f opens live holds (y, there, shown, outlasts, part) plain same stack =
-      let (region, life, open') = life_of g w typed k y.life opens outlasts in
-      let (cells, filled) = value_part g object y t offset plain part in
-      reads k kind object offset region (lives.read t) y f live holds there cells life open' filled same stack
+  reads_target k kind object offset n t l f opens live lasting holds (y, there, shown, outlasts, part) plain same stack =
+      let open' = life_of g w typed k y.life l opens outlasts lasting in
+      let (cells, filled) = value_part n g object y t offset plain part in
+      reads k kind object offset (at n t) y f live holds there cells open' filled same stack
 
   -- and is written
-  pub writes_target : (v : Operand) (k : List Entry) (object offset : ℕ) (t : RunTy) (focus : Focus) → AreOpen w.regions (ends_of k) → LiveIn (ends_of k) bs
-      → IsTarget g t (OfRegion 0) object offset → IsResult g (Value t) v → ((h : Typing) → Grows g h → IsFocus p h x bs focus k)
+  pub writes_target : (v : Operand) (k : List Entry) (object offset : ℕ) (t : RunTy) (l : Life) (focus : Focus) → AreOpen w.regions (ends_of k) → LiveIn k bs → IsLasting (ends_of k) l
+      → IsTarget g t l object offset → IsResult g (Value t) v → ((h : Typing) → Grows g h → IsFocus p h x bs focus k)
       → IsWell p (stored (cell_at w object offset) object offset v focus k e w)
-  writes_target v k object offset t focus opens live (y, there, shown, outlasts, part) is goes =
-      let (region, life, open') = life_of g w typed k y.life opens outlasts in
+  writes_target v k object offset t l focus opens live lasting (y, there, shown, outlasts, part) is goes =
+      let open' = life_of g w typed k y.life l opens outlasts lasting in
       let (cells, (m, flag, enough)) = stored_part g object y t offset v.value is.1 part in
       let few : offset ≤ m = omega (arith, enough) in
-      writes v focus k object offset region m t y live there cells life open' flag few is (λ grows now. goes (with_filled g object (risen offset m)) grows)
+      writes v focus k object offset m t y live there cells open' flag few is (λ grows now. goes (with_filled g object (risen offset m)) grows)

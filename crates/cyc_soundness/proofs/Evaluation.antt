@@ -9,6 +9,7 @@ use Rattle.cyc_types.specs.declared.typed.Callee.{Callee}
 use Rattle.cyc_types.specs.declared.typed.Callee.TheVariants as callees
 use Rattle.cyc_types.specs.declared.typed.UnaryOperator.TheVariants as unary
 use Rattle.cyc_types.specs.declared.region.Region.{Region}
+use Rattle.cyc_types.specs.declared.region.Region.TheVariants as regions
 use Rattle.cyc_types.specs.Types.{Ty, ValueType, result_type, substituted_ty}
 use Rattle.cyc_types.specs.Types as types
 use Rattle.cyc_types.specs.TypedTrees.{Local, Global, Expression, Number, NullPointer, HeapRegion, Counter, Copy, Move, Peek, Load, AddressOf, AddressOfCell, NumberOfElements, Call, Unary, Binary, Assign, New, OnHeap, AsUnique, ByHandle, type_of_place, peeked, Convert, Arguments, NoArguments, MoreArguments, Operations, NoOperations, ThenCompute, ThenTest, ThenPointer, ThenPointerPeek, GlobalVariable, Signature, Function, Program}
@@ -16,8 +17,8 @@ use Rattle.cyc_types.specs.TypedTrees as typed'
 use Rattle.cyc_types.specs.Rules.{Derives}
 use Rattle.cyc_types.specs.typing.Tests.{is_moved, is_tested}
 use Rattle.cyc_types.specs.typing.Tests as tests
-use Rattle.cyc_types.specs.typing.Expressions.{assigned_type}
-use Rattle.cyc_types.specs.typing.WellTyped.{Context, HasLocal, IsCallee, WellTyped, IsPeek, IsLeft, ArePassed, Converts, PointerOperation, IsChain, signature_of}
+use Rattle.cyc_types.specs.typing.Expressions.{assigned_type, instantiated}
+use Rattle.cyc_types.specs.typing.WellTyped.{Context, HasLocal, AreLive, AreOutliving, IsCallee, WellTyped, IsPeek, IsLeft, ArePassed, Converts, PointerOperation, IsChain, signature_of}
 use Rattle.cyc_types.specs.flow.States as flow
 use Rattle.cyc_types.specs.flow.States.{Full, meet, fullness, with_fullness, is_vacant}
 use Rattle.cyc_types.specs.flow.Expressions.{and_peeked, peek_behind, rule, rule_arguments, rule_operations}
@@ -29,20 +30,21 @@ use Rattle.cyc_meaning.specs.Pointers.{takes_kind, followed}
 use Rattle.cyc_meaning.specs.State.{InRegion, Unique, World, heap_number, cell_at, Environment, ConvertTo, Operate, Chain, Apply, ApplyPointer, Decide, Store, Pass, CountElements, PlaceBy, LoadFrom, TakeAddress, StoreTo, Entry, Needs, NeedsPlace, Focus, Evaluating, Locating, Given, Calling, Running}
 use Rattle.cyc_meaning.specs.Parts.{target_of_value, target_by, leads_to, wrong, computed, loaded_from, stored}
 use Rattle.cyc_meaning.specs.Nesting.{ends_of, AreOpen}
-use Rattle.cyc_meaning.specs.Step.{step_evaluating, counts, passes, assigned, decided, tested, awaits_right, chained, converts}
-use Rattle.cyc_soundness.specs.Lives.{RunTy, RunValue, Value, kind_at, read_value, OfRegion}
+use Rattle.cyc_meaning.specs.Step.{step_evaluating, addressed, counts, passes, assigned, decided, tested, awaits_right, chained, converts}
+use Rattle.cyc_soundness.specs.Lives.{Life, heap_life, as_heap, Reading, Lives, AsHeap, ByScope, RunTy, RunValue, Value, kind_at}
 use Rattle.cyc_soundness.specs.Lives as lives
-use Rattle.cyc_soundness.specs.Worlds.{Typing, IsFull, variable_type, global_type, globals as with_globals, IsResult, AreOperands, IsTyped}
-use Rattle.cyc_soundness.specs.Frames.{IsAmong, Bound, InScope, Variable, IsBound, AreVariables, LiveIn, IsSet, Holds, Implies, Exits, IsContext, KnowsProgram}
-use Rattle.cyc_soundness.specs.Classes.{KeepsToHeap, InArguments, InOperations}
-use Rattle.cyc_soundness.specs.Stacks.{Evaluates, Val, turned, IsCalled, pointer, null, IsStack, IsFocus, IsWell}
+use Rattle.cyc_soundness.specs.Worlds.{Typing, IsFull, variable_type, global_type, Outlasts, alike, globals as with_globals, AgreesWith, IsResult, AreOperands, IsTyped, IsOpenLife}
+use Rattle.cyc_soundness.specs.Frames.{IsAmong, Bound, InScope, Variable, IsBound, AreVariables, IsHomed, LiveIn, IsSet, Holds, Implies, Exits, IsContext, KnowsProgram, lives_in, read, read_value}
+use Rattle.cyc_soundness.specs.Classes.{HasScopes, InExpression, InArguments, InOperations, Source}
+use Rattle.cyc_soundness.specs.Stacks.{Evaluates, Val, turned, IsCalled, null, IsStack, IsFocus, IsWell}
 use Rattle.cyc_soundness.specs.Stacks as stacks
 use Rattle.cyc_soundness.proofs.Numbers.{some_same, both}
-use Rattle.cyc_soundness.proofs.TypeLemmas.{place_type, target_typed, is_kind_same, kind_read, kind_meant, instances_read, result_read}
+use Rattle.cyc_soundness.proofs.TypeLemmas.{place_type, target_typed, is_kind_same, kind_read, kind_meant}
 use Rattle.cyc_soundness.proofs.FlowLemmas.{implies_self, meet_first, meet_second, vacant_implied, holds_implied, reached_with}
 use Rattle.cyc_soundness.proofs.WorldLemmas.{risen, with_filled, result_grown, holds_grown}
-use Rattle.cyc_soundness.proofs.StackLemmas.{stack_grown, pointer_left, bound_of, place_local, among_bound, among_variable, among_live, among_level, among_set, set_stored, open_of, globals_among}
-use Rattle.cyc_soundness.proofs.ValueLemmas.{zero_is, converted, kind_given}
+use Rattle.cyc_soundness.proofs.StackLemmas.{stack_grown, pointer_left, bound_of, bound_to, lasting_open, place_local, among_bound, among_variable, among_live, among_level, among_set, set_stored, open_of, globals_among}
+use Rattle.cyc_soundness.proofs.ValueLemmas.{zero_is, converted_by, kind_given}
+use Rattle.cyc_soundness.proofs.RegionLemmas.{agrees_of, there_of, cell_live, global_means, these_by, live_by, instance_is, parameters_mean, result_means}
 use Rattle.cyc_soundness.proofs.Cells.{running, part_at, reads, writes}
 use Rattle.cyc_soundness.proofs.Objects.{makes_on}
 use Rattle.cyc_soundness.proofs.Places.{takes, gives, converted_leads}
@@ -56,65 +58,85 @@ of_map f [] i y found = absurd (let e : None ≡ Some y = found in cc)
 of_map f (x ∷ xs) zero y found = (x, refl, some_same (f x) y found)
 of_map f (x ∷ xs) (suc i) y found = of_map f xs i y found
 
-left_typed : (well : Type 0) (c : Context) (a : Expression) (v : ValueType) (os : Operations) → InOperations os → IsLeft well c a v os → well ⊎ IsPeek c a v
-left_typed well c a v NoOperations kept is = inl is
-left_typed well c a v (ThenCompute o b os) kept is = inl is
-left_typed well c a v (ThenTest o b os) kept is = is
-left_typed well c a v (ThenPointer o b os) kept is = inl is
-left_typed well c a v (ThenPointerPeek n o b os) kept is = inr is.0
+left_typed : (m : Reading) (well : Type 0) (c : Context) (a : Expression) (v : ValueType) (os : Operations) → InOperations m os → IsLeft well c a v os → well ⊎ IsPeek c a v
+left_typed m well c a v NoOperations kept is = inl is
+left_typed m well c a v (ThenCompute o b os) kept is = inl is
+left_typed m well c a v (ThenTest o b os) kept is = is
+left_typed m well c a v (ThenPointer o b os) kept is = inl is
+left_typed m well c a v (ThenPointerPeek n o b os) kept is = inr is.0
 
-module _ (p : Program) where
-  called_is : (c : Context) (callee : Callee) (s : Signature) (m : List Region) → c.functions ≡ map signature_of p.functions → IsCallee c callee s
-      → IsCalled p callee (map lives.read (map (substituted_ty m) s.parameters)) (read_value (result_type (option_map (substituted_ty m) s.result)))
-  called_is c callee s m functions is =
-      subst (λ ts. IsCalled p callee ts (read_value (result_type (option_map (substituted_ty m) s.result)))) (sym (instances_read m s.parameters))
-      (subst (λ r. IsCalled p callee (map lives.read s.parameters) r) (sym (result_read m s.result)) (plain callee is))
-    where
-      plain : (callee : Callee) → IsCallee c callee s → IsCalled p callee (map lives.read s.parameters) (read_value (result_type s.result))
-      plain callees.Putchar is = subst (λ (z : Signature). IsCalled p callees.Putchar (map lives.read z.parameters) (read_value (result_type z.result))) (sym is) (refl, refl)
-      plain callees.Getchar is = subst (λ (z : Signature). IsCalled p callees.Getchar (map lives.read z.parameters) (read_value (result_type z.result))) (sym is) (refl, refl)
-      plain (callees.Function n) is =
-          let (h, at, same) = of_map signature_of p.functions n s (ap (λ ss. slice_get ss n) (sym functions) ∙ is) in
-          subst (λ (z : Signature). IsCalled p (callees.Function n) (map lives.read z.parameters) (read_value (result_type z.result))) same (h, at, refl, refl)
+-- a local whose address is taken is there as long as the region of its block
+homed : (m : Reading) (these : Lives) (region : ℕ) (l : Life) → HasScopes m → IsHomed m these region l → l ≡ these (regions.Variable region)
+homed AsHeap these region l scopes is = absurd scopes
+homed ByScope these region l scopes is = is
+
+module _ (p : Source) where
+  -- what is called takes and gives this, where its region variables stand for what is put in their place
+  called_is : (x : Exits) (bs : List InScope) (c : Context) (callee : Callee) (s : Signature) (m : List Region) → IsContext p x bs c → IsCallee c callee s → AreLive c (instantiated m s).effect
+      → AreOutliving c (instantiated m s).constraints
+      → IsCalled p bs callee (map (read bs) (map (substituted_ty m) s.parameters)) (read_value bs (result_type (option_map (substituted_ty m) s.result)))
+  called_is x bs c callees.Putchar s m stands is alive outlive =
+      subst (λ (z : Signature). IsCalled p bs callees.Putchar (map (read bs) (map (substituted_ty m) z.parameters)) (read_value bs (result_type (option_map (substituted_ty m) z.result)))) (sym is) (refl, refl)
+  called_is x bs c callees.Getchar s m stands is alive outlive =
+      subst (λ (z : Signature). IsCalled p bs callees.Getchar (map (read bs) (map (substituted_ty m) z.parameters)) (read_value bs (result_type (option_map (substituted_ty m) z.result)))) (sym is) (refl, refl)
+  called_is x bs c (callees.Function n) s m stands is alive outlive =
+      let (h, there, same) = of_map signature_of p.program.functions n s (ap (λ ss. slice_get ss n) (sym stands.functions) ∙ is) in
+      let these = these_by (lives_in bs) m in
+      let instance = instance_is p x bs c stands h m (subst (λ (z : Signature). AreLive c (instantiated m z).effect) (sym same) alive) (subst (λ (z : Signature). AreOutliving c (instantiated m z).constraints) (sym same) outlive) in
+      subst (λ (z : Signature). IsCalled p bs (callees.Function n) (map (read bs) (map (substituted_ty m) z.parameters)) (read_value bs (result_type (option_map (substituted_ty m) z.result)))) same
+      (h, these, live_by p.reading h.effect, there, instance, parameters_mean (lives_in bs) refl refl m h.parameters, result_means (lives_in bs) refl refl m h.result)
 
   module _ (g : Typing) (x : Exits) (bs : List InScope) (e : Environment) (w : World) (typed : IsTyped g w.regions w.objects) (globals : KnowsProgram g p) (bound : IsBound e.locals e.counters bs) (variables : AreVariables g bs) where
-    on : (focus : Focus) (k : List Entry) → LiveIn (ends_of k) bs → IsFocus p g x bs focus k → IsWell p (Running focus k e w)
+    on : (focus : Focus) (k : List Entry) → LiveIn k bs → IsFocus p g x bs focus k → IsWell p (Running focus k e w)
     on focus k live stands = running p g x bs e w typed globals bound variables focus k live stands
 
     -- a value is handed on
-    pub hands : (k : List Entry) (r s : RunValue) (v : Operand) (f h : flow.State) → LiveIn (ends_of k) bs → Holds g f bs → h ≡ f → r ≡ s → IsResult g s v → IsStack p g x bs (Val r h) k
+    pub hands : (k : List Entry) (r s : RunValue) (v : Operand) (f h : flow.State) → LiveIn k bs → Holds g f bs → h ≡ f → r ≡ s → IsResult g s v → IsStack p g x bs (Val r h) k
         → IsWell p (Running (Given v) k e w)
     hands k r s v f h live holds same_flow same_type is stack =
         on (Given v) k live (r, h, subst (λ z. Holds g z bs) (sym same_flow) holds, subst (λ z. IsResult g z v) (sym same_type) is, stack)
 
     -- ---- variables
 
-    from_local : (k : List Entry) (c : Context) (n : ℕ) (u : Ty) (t : ValueType) (f h : flow.State) → AreOpen w.regions (ends_of k) → LiveIn (ends_of k) bs → IsContext p x bs c → Holds g f bs
-        → (r : ℕ) × HasLocal c.locals n u r → IsSet f n → Implies f h → t ≡ types.Value u → IsStack p g x bs (Val (read_value t) h) k
+    open_local : (k : List Entry) (b : Bound) → AreOpen w.regions (ends_of k) → LiveIn k bs → IsAmong (Variable b) bs → IsOpenLife w.regions b.life
+    open_local k b opens live among = lasting_open w.regions (ends_of k) b.life opens typed.heap (among_live (ends_of k) among live.0)
+
+    -- a global, whose type means the same everywhere
+    global_there : (n : ℕ) (u : Ty) (c : Context) → IsContext p x bs c → slice_get c.globals n ≡ Some u
+        → (slice_get (map (λ (v : GlobalVariable). v.of_type) p.program.globals) n ≡ Some u) × (read bs u ≡ lives.at as_heap u)
+    global_there n u c stands has =
+        let there = ap (λ ts. slice_get ts n) (sym stands.globals) ∙ has in
+        let (at, full, closed) = globals.globals n u there in
+        (there, global_means p.reading c.regions bs u stands.regions closed)
+
+    from_local : (k : List Entry) (c : Context) (n : ℕ) (u : Ty) (t : ValueType) (f h : flow.State) → AreOpen w.regions (ends_of k) → LiveIn k bs → IsContext p x bs c → Holds g f bs
+        → (r : ℕ) × HasLocal c.locals n u r → IsSet f n → Implies f h → t ≡ types.Value u → IsStack p g x bs (Val (read_value bs t) h) k
         → IsWell p (loaded_from (values.kind_of u) (e.locals n) k e w)
     from_local k c n u t f h opens live stands holds (r, has) is_set implies same stack =
-        let (b, among, number, of_type) = bound_of c.locals bs n u r stands.scope has in
+        let (b, among, number, of_type) = bound_of p.reading (lives_in bs) c.locals bs n u r stands.scope has in
         let full : IsFull g b.object = among_set g f among holds.1 (subst (λ m. IsSet f m) (sym number) is_set) in
         let there : e.locals n ≡ Some b.object = ap e.locals (sym number) ∙ among_bound e among bound in
         subst (λ o. IsWell p (loaded_from (values.kind_of u) o k e w)) (sym there)
-        (reads p g x bs e w typed globals bound variables k (values.kind_of u) b.object 0 b.region b.of_type (variable_type b.of_type b.region) h live (holds_implied g f h bs implies holds)
-        (among_variable g among variables) refl refl (open_of w.regions (among_live (ends_of k) among live) opens) full (ap kind_at of_type ∙ kind_meant u)
-        (subst (λ z. IsStack p g x bs (Val z h) k) (ap read_value same ∙ ap Value (sym of_type)) stack))
+        (reads p g x bs e w typed globals bound variables k (values.kind_of u) b.object 0 b.of_type (variable_type b.of_type b.life b.is_hidden) h live (holds_implied g f h bs implies holds)
+        (among_variable g among variables) refl (open_local k b opens live among) full (ap kind_at of_type ∙ kind_meant (lives_in bs) u)
+        (subst (λ z. IsStack p g x bs (Val z h) k) (ap (read_value bs) same ∙ ap Value (sym of_type)) stack))
 
-    from_global : (k : List Entry) (n : ℕ) (u : Ty) (t : ValueType) (f : flow.State) → AreOpen w.regions (ends_of k) → LiveIn (ends_of k) bs → Holds g f bs
-        → slice_get (map (λ (v : GlobalVariable). v.of_type) p.globals) n ≡ Some u → t ≡ types.Value u → IsStack p g x bs (Val (read_value t) f) k
+    from_global : (k : List Entry) (c : Context) (n : ℕ) (u : Ty) (t : ValueType) (f : flow.State) → AreOpen w.regions (ends_of k) → LiveIn k bs → IsContext p x bs c → Holds g f bs
+        → slice_get c.globals n ≡ Some u → t ≡ types.Value u → IsStack p g x bs (Val (read_value bs t) f) k
         → IsWell p (loaded_from (values.kind_of u) (Some n) k e w)
-    from_global k n u t f opens live holds there same stack =
-        let (at, full) = globals.globals n u there in
-        reads p g x bs e w typed globals bound variables k (values.kind_of u) n 0 1 (lives.read u) (global_type (lives.read u)) f live holds at refl refl (open_of w.regions (globals_among k) opens) full (kind_meant u) (subst (λ z. IsStack p g x bs (Val z f) k) (ap read_value same) stack)
+    from_global k c n u t f opens live stands holds has same stack =
+        let (there, means) = global_there n u c stands has in
+        let (at, full, closed) = globals.globals n u there in
+        reads p g x bs e w typed globals bound variables k (values.kind_of u) n 0 (lives.at as_heap u) (global_type (lives.at as_heap u)) f live holds at refl (open_of w.regions (globals_among k) opens) full (kind_meant as_heap u)
+        (subst (λ z. IsStack p g x bs (Val z f) k) (ap (read_value bs) same ∙ ap Value means) stack)
 
     -- ---- arguments
 
     pub pass_on : (k : List Entry) (callee : Callee) (before : List Operand) (done : List RunTy) (as' : Arguments) (ts : List Ty) (c : Context) (r : ValueType) (f h : flow.State) (q : List ℕ)
-        → LiveIn (ends_of k) bs → IsContext p x bs c → Holds g f bs → ArePassed c ts as' → Derives (rule_arguments q as' f) h → InArguments as' → AreOperands g done before
-        → IsCalled p callee (turned done (map lives.read ts)) (read_value r) → IsStack p g x bs (Val (read_value r) h) k → IsWell p (passes callee before as' k e w)
+        → LiveIn k bs → IsContext p x bs c → Holds g f bs → ArePassed c ts as' → Derives (rule_arguments q as' f) h → InArguments p.reading as' → AreOperands g done before
+        → IsCalled p bs callee (turned done (map (read bs) ts)) (read_value bs r) → IsStack p g x bs (Val (read_value bs r) h) k → IsWell p (passes callee before as' k e w)
     pass_on k callee before done NoArguments [] c r f h q live stands holds passed (u, same) kept operands called stack =
-        on (Calling callee before) k live (done, read_value r, h, subst (λ z. Holds g z bs) (sym same) holds, called, operands, stack)
+        on (Calling callee before) k live (done, read_value bs r, h, subst (λ z. Holds g z bs) (sym same) holds, called, operands, stack)
     pass_on k callee before done NoArguments (t ∷ ts) c r f h q live stands holds passed flows kept operands called stack = absurd passed
     pass_on k callee before done (MoreArguments d as') [] c r f h q live stands holds passed flows kept operands called stack = absurd passed
     pass_on k callee before done (MoreArguments (Convert from to a) as') (t ∷ ts) c r f h q live stands holds ((v, well, conv, from_is, to_is), passed) (f1, d, ds) (one, kept) operands called stack =
@@ -129,38 +151,38 @@ module _ (p : Program) where
           (
             [],
             bs,
-            Val (Value (lives.read t)) f1,
-            stacks.converts c v t f1 conv from_is to_is (target_typed c a v (inl well)),
+            Val (Value (read bs t)) f1,
+            stacks.converts c v t f1 (agrees_of p x bs c stands) conv from_is to_is (target_typed c a v (inl well)),
             tt,
-            (done, bs, Val (read_value r) h, stacks.passes c done t ts r f1 h stands (record { waiting = q; typed = passed; flows = ds; kept = kept }) called, operands, stack),
+            (done, bs, Val (read_value bs r) h, stacks.passes c done t ts r f1 h stands (record { waiting = q; typed = passed; flows = ds; kept = kept }) called, operands, stack),
           ),
         )
 
     -- ---- expressions
 
-    pub evaluate : (a : Expression) (k : List Entry) (c : Context) (t : ValueType) (f h : flow.State) (q : List ℕ) → AreOpen w.regions (ends_of k) → LiveIn (ends_of k) bs → IsContext p x bs c → Holds g f bs
-        → WellTyped c a t ⊎ IsPeek c a t → Derives (rule q a f) h → KeepsToHeap a → IsStack p g x bs (Val (read_value t) h) k → IsWell p (step_evaluating a k e w)
+    pub evaluate : (a : Expression) (k : List Entry) (c : Context) (t : ValueType) (f h : flow.State) (q : List ℕ) → AreOpen w.regions (ends_of k) → LiveIn k bs → IsContext p x bs c → Holds g f bs
+        → WellTyped c a t ⊎ IsPeek c a t → Derives (rule q a f) h → InExpression p.reading a → IsStack p g x bs (Val (read_value bs t) h) k → IsWell p (step_evaluating a k e w)
     evaluate (Number n) k c t f h q opens live stands holds (inl is) (u, same) kept stack =
-        hands k (read_value t) (Value lives.Int) (record { kind = kinds.Int; value = values.Int n }) f h live holds same (ap read_value is) (refl, tt) stack
+        hands k (read_value bs t) (Value lives.Int) (record { kind = kinds.Int; value = values.Int n }) f h live holds same (ap (read_value bs) is) (refl, tt) stack
     evaluate NullPointer k c t f h q opens live stands holds (inl is) (u, same) kept stack =
-        hands k (read_value t) lives.Null (record { kind = kinds.Nullable; value = values.Null }) f h live holds same (ap read_value is) (refl, refl) stack
+        hands k (read_value bs t) lives.Null (record { kind = kinds.Nullable; value = values.Null }) f h live holds same (ap (read_value bs) is) (refl, refl) stack
     evaluate HeapRegion k c t f h q opens live stands holds (inl is) (u, same) kept stack =
-        hands k (read_value t) (Value (lives.Handle (OfRegion 0))) (record { kind = kinds.Handle; value = values.Handle 0 }) f h live holds same (ap read_value is) (refl, refl) stack
+        hands k (read_value bs t) (Value (lives.Handle heap_life)) (record { kind = kinds.Handle; value = values.Handle 0 }) f h live holds same (ap (read_value bs) is) (refl, refl) stack
     evaluate (Counter l) k c t f h q opens live stands holds (inl (less, is)) (u, same) kept stack =
         let (index, counted) = among_level e (stands.counters l less) bound in
         subst (λ o. IsWell p (counts o k e w)) (sym counted)
-        (hands k (read_value t) (Value lives.Int) (record { kind = kinds.Int; value = values.Int index }) f h live holds same (ap read_value is) (refl, tt) stack)
+        (hands k (read_value bs t) (Value lives.Int) (record { kind = kinds.Int; value = values.Int index }) f h live holds same (ap (read_value bs) is) (refl, tt) stack)
     evaluate (Copy (Local place n) u) k c t f h q opens live stands holds (inl ((has, there), moved, same)) (demands, known) kept stack =
         from_local k c n u t f h opens live stands holds has (not_true (is_vacant (fullness f n)) demands.0) (subst (λ z. Implies f z) (sym known) (implies_self f)) same stack
     evaluate (Copy (Global n) u) k c t f h q opens live stands holds (inl (there, moved, same)) (demands, known) kept stack =
-        from_global k n u t h opens live (subst (λ z. Holds g z bs) (sym known) holds) (ap (λ ts. slice_get ts n) (sym stands.globals) ∙ there) same stack
+        from_global k c n u t h opens live stands (subst (λ z. Holds g z bs) (sym known) holds) there same stack
     evaluate (Move place n u) k c t f h q opens live stands holds (inl ((has, there), moved, same)) (demands, known) kept stack =
         from_local k c n u t f h opens live stands holds has (not_true (is_vacant (fullness f n)) demands.0) (subst (λ z. Implies f z) (sym known) (vacant_implied f n)) same stack
     evaluate (Peek place n u) k c t f h q opens live stands holds (inr ((has, there), unique, same)) (demands, known) kept stack =
         from_local k c n u t f h opens live stands holds has (not_true (is_vacant (fullness f n)) demands.0) (subst (λ z. Implies f z) (sym known) (implies_self f)) same stack
     evaluate (Call callee as' u) k c t f h q opens live stands holds (inl (s, m, is, count, apart, passed, alive, outlive, gives_u, same)) flows kept stack =
         pass_on k callee [] [] as' (map (substituted_ty m) s.parameters) c (result_type (option_map (substituted_ty m) s.result)) f h q live stands holds passed flows kept tt
-        (called_is c callee s m stands.functions is) (subst (λ z. IsStack p g x bs (Val (read_value z) h) k) (same ∙ gives_u) stack)
+        (called_is x bs c callee s m stands is alive outlive) (subst (λ z. IsStack p g x bs (Val (read_value bs z) h) k) (same ∙ gives_u) stack)
     evaluate (Unary unary.Not a) k c t f h q opens live stands holds (inl (v, (well, is_tested'), same)) flows kept stack =
         on (Evaluating a) (Needs (Operate unary.Not) ∷ k) live (
           c,
@@ -170,7 +192,7 @@ module _ (p : Program) where
           stands,
           holds,
           record { waiting = q; typed = well; flows = flows; kept = kept },
-          ([], bs, Val (Value lives.Int) h, stacks.denies v h is_tested', tt, subst (λ z. IsStack p g x bs (Val (read_value z) h) k) same stack),
+          ([], bs, Val (Value lives.Int) h, stacks.denies v h is_tested', tt, subst (λ z. IsStack p g x bs (Val (read_value bs z) h) k) same stack),
         )
     evaluate (Unary unary.Negate a) k c t f h q opens live stands holds (inl (v, (well, int), same)) flows kept stack =
         on (Evaluating a) (Needs (Operate unary.Negate) ∷ k) live (
@@ -181,7 +203,7 @@ module _ (p : Program) where
           stands,
           holds,
           record { waiting = q; typed = inl (subst (λ z. WellTyped c a z) int well); flows = flows; kept = kept },
-          ([], bs, Val (Value lives.Int) h, stacks.negates h, tt, subst (λ z. IsStack p g x bs (Val (read_value z) h) k) same stack),
+          ([], bs, Val (Value lives.Int) h, stacks.negates h, tt, subst (λ z. IsStack p g x bs (Val (read_value bs z) h) k) same stack),
         )
     evaluate (Unary unary.Complement a) k c t f h q opens live stands holds (inl (v, (well, int), same)) flows kept stack =
         on (Evaluating a) (Needs (Operate unary.Complement) ∷ k) live (
@@ -192,7 +214,7 @@ module _ (p : Program) where
           stands,
           holds,
           record { waiting = q; typed = inl (subst (λ z. WellTyped c a z) int well); flows = flows; kept = kept },
-          ([], bs, Val (Value lives.Int) h, stacks.complements h, tt, subst (λ z. IsStack p g x bs (Val (read_value z) h) k) same stack),
+          ([], bs, Val (Value lives.Int) h, stacks.complements h, tt, subst (λ z. IsStack p g x bs (Val (read_value bs z) h) k) same stack),
         )
     evaluate (Binary a os u) k c t f h q opens live stands holds (inl (v, left, chain, same)) (f1, d, ds) (one, kept) stack =
         on (Evaluating a) (Needs (Chain os) ∷ k) live (
@@ -202,18 +224,18 @@ module _ (p : Program) where
           f1,
           stands,
           holds,
-          record { waiting = q; typed = left_typed (WellTyped c a v) c a v os kept left; flows = d; kept = one },
+          record { waiting = q; typed = left_typed p.reading (WellTyped c a v) c a v os kept left; flows = d; kept = one },
           (
             [],
             bs,
-            Val (Value (lives.read u)) h,
+            Val (Value (read bs u)) h,
             stacks.chains c v u f1 h stands (record { waiting = q; typed = chain; flows = ds; kept = kept }),
             tt,
-            subst (λ z. IsStack p g x bs (Val (read_value z) h) k) same stack,
+            subst (λ z. IsStack p g x bs (Val (read_value bs z) h) k) same stack,
           ),
         )
     evaluate (Assign (Local place n) (Convert from to a) u) k c t f h q opens live stands holds (inl (v, r, (m, has, region, there), (s, well, conv, from_is, to_is), gives_u, same)) (f1, d, (demands, known)) kept stack =
-        let (b, among, number, of_type) = bound_of c.locals bs n v m stands.scope (place_local c.locals n v m has) in
+        let (b, among, number, of_type) = bound_of p.reading (lives_in bs) c.locals bs n v m stands.scope (place_local c.locals n v m has) in
         let at : e.locals n ≡ Some b.object = ap e.locals (sym number) ∙ among_bound e among bound in
         let known_is : h ≡ with_fullness Full f1 b.number = known ∙ ap (λ i. with_fullness Full f1 i) (sym number) in
         subst (λ o. IsWell p (assigned o (Convert from to a) k e w)) (sym at) (
@@ -228,16 +250,16 @@ module _ (p : Program) where
           (
             [],
             bs,
-            Val (Value (lives.read v)) f1,
-            stacks.converts c s v f1 conv from_is to_is (target_typed c a s (inl well)),
+            Val (Value (read bs v)) f1,
+            stacks.converts c s v f1 (agrees_of p x bs c stands) conv from_is to_is (target_typed c a s (inl well)),
             tt,
             (
               [],
               bs,
-              Val (read_value (assigned_type v)) (with_fullness Full f1 b.number),
+              Val (read_value bs (assigned_type v)) (with_fullness Full f1 b.number),
               stacks.stores_local b v f1 among of_type,
               tt,
-              subst (λ z. IsStack p g x bs (Val (read_value (assigned_type v)) z) k) known_is (subst (λ z. IsStack p g x bs (Val (read_value z) h) k) (same ∙ gives_u) stack),
+              subst (λ z. IsStack p g x bs (Val (read_value bs (assigned_type v)) z) k) known_is (subst (λ z. IsStack p g x bs (Val (read_value bs z) h) k) (same ∙ gives_u) stack),
             ),
           ),
         ))
@@ -253,16 +275,16 @@ module _ (p : Program) where
           (
             [],
             bs,
-            Val (Value (lives.read v)) f1,
-            stacks.converts c s v f1 conv from_is to_is (target_typed c a s (inl well)),
+            Val (Value (read bs v)) f1,
+            stacks.converts c s v f1 (agrees_of p x bs c stands) conv from_is to_is (target_typed c a s (inl well)),
             tt,
             (
               [],
               bs,
-              Val (read_value (assigned_type v)) f1,
-              stacks.stores_global n v f1 (ap (λ ts. slice_get ts n) (sym stands.globals) ∙ there),
+              Val (read_value bs (assigned_type v)) f1,
+              stacks.stores_global n v f1 (global_there n v c stands there).0 (global_there n v c stands there).1,
               tt,
-              subst (λ z. IsStack p g x bs (Val (read_value (assigned_type v)) z) k) known (subst (λ z. IsStack p g x bs (Val (read_value z) h) k) (same ∙ gives_u) stack),
+              subst (λ z. IsStack p g x bs (Val (read_value bs (assigned_type v)) z) k) known (subst (λ z. IsStack p g x bs (Val (read_value bs z) h) k) (same ∙ gives_u) stack),
             ),
           ),
         )
@@ -270,37 +292,54 @@ module _ (p : Program) where
         on (Locating d) (NeedsPlace (LoadFrom (values.kind_of (type_of_place d))) ∷ k) live (
           c,
           u,
+          r,
           f,
           h,
           stands,
           holds,
-          record { waiting = q; region = r; typed = cell; flows = flows; kept = kept },
+          record { waiting = q; typed = cell; flows = flows; kept = kept },
           (
-            Val (Value (lives.read u)) h,
-            stacks.loads_from u h plain (ap values.kind_of (sym (place_type c d u r cell))),
+            Val (Value (read bs u)) h,
+            stacks.loads_from u r h (there_of p x bs c stands r (cell_live c d u r cell)) plain (ap values.kind_of (sym (place_type c d u r cell))),
             tt,
-            subst (λ z. IsStack p g x bs (Val (read_value z) h) k) same stack,
+            subst (λ z. IsStack p g x bs (Val (read_value bs z) h) k) same stack,
           ),
         )
-    evaluate (AddressOf (Global n) u) k c t f h q opens live stands holds (inl (v, r, (region, there), plain, u_is, same)) (unit, known) kept stack =
-        let (at, full) = globals.globals n v (ap (λ ts. slice_get ts n) (sym stands.globals) ∙ there) in
-        let part = part_at g w typed n (global_type (lives.read v)) (lives.read v) 0 1 at refl refl (open_of w.regions (globals_among k) opens) full in
-        hands k (read_value t) (Value (pointer marks.NonNull (lives.read v))) (record { kind = kinds.NonNull; value = values.Thin n 0 }) f h live holds known
-        (ap read_value (same ∙ ap types.Value u_is)) (refl, (global_type (lives.read v), at, refl, with_globals (OfRegion 0), part)) stack
+    evaluate (AddressOf (Global n) u) k c t f h q opens live stands holds (inl (v, r, (region, has), plain, u_is, same)) (unit, known) kept stack =
+        let (there, means) = global_there n v c stands has in
+        let (at, full, closed) = globals.globals n v there in
+        let part = part_at g w typed n (global_type (lives.at as_heap v)) (lives.at as_heap v) 0 at refl (open_of w.regions (globals_among k) opens) full in
+        let is : read_value bs t ≡ Value (lives.Pointer marks.NonNull (lives.at as_heap v) (lives_in bs r)) =
+        ap (read_value bs) (same ∙ ap types.Value u_is) ∙ ap (λ z. Value (lives.Pointer marks.NonNull z (lives_in bs r))) means in
+        hands k (read_value bs t) (Value (lives.Pointer marks.NonNull (lives.at as_heap v) (lives_in bs r))) (record { kind = kinds.NonNull; value = values.Thin n 0 }) f h live holds known
+        is (refl, (global_type (lives.at as_heap v), at, refl, with_globals (lives_in bs r), part)) stack
+    evaluate (AddressOf (Local place n) u) k c t f h q opens live stands holds (inl (v, r, (m, has, region, there), plain, u_is, same)) (demands, known) kept stack =
+        let l = bound_to p.reading (lives_in bs) c.locals bs n v m stands.scope (place_local c.locals n v m has) in
+        let b = l.bound in
+        let at : e.locals n ≡ Some b.object = ap e.locals (sym l.number) ∙ among_bound e l.among bound in
+        let full : IsFull g b.object = among_set g f l.among holds.1 (subst (λ m. IsSet f m) (sym l.number) (not_true (is_vacant (fullness f n)) demands.0)) in
+        let life : b.life ≡ lives_in bs r = homed p.reading (lives_in bs) m b.life kept l.life ∙ ap (lives_in bs) (sym region) in
+        let y = variable_type b.of_type b.life b.is_hidden in
+        let part = part_at g w typed b.object y (read bs v) 0 (among_variable g l.among variables) (ap (λ z. Some z) l.of_type) (open_local k b opens live l.among) full in
+        subst (λ o. IsWell p (addressed o k e w)) (sym at)
+        (hands k (read_value bs t) (Value (lives.Pointer marks.NonNull (read bs v) (lives_in bs r))) (record { kind = kinds.NonNull; value = values.Thin b.object 0 }) f h live holds known
+        (ap (read_value bs) (same ∙ ap types.Value u_is))
+        (refl, (y, among_variable g l.among variables, l.hidden ∙ plain, subst (λ z. Outlasts b.life z) life (alike b.life), part)) stack)
     evaluate (AddressOfCell d u) k c t f h q opens live stands holds (inl (v, r, cell, plain, other, u_is, same)) flows kept stack =
         on (Locating d) (NeedsPlace TakeAddress ∷ k) live (
           c,
           v,
+          r,
           f,
           h,
           stands,
           holds,
-          record { waiting = q; region = r; typed = cell; flows = flows; kept = kept },
+          record { waiting = q; typed = cell; flows = flows; kept = kept },
           (
-            Val (Value (pointer marks.NonNull (lives.read v))) h,
-            stacks.takes_address (lives.read v) h,
+            Val (Value (lives.Pointer marks.NonNull (read bs v) (lives_in bs r))) h,
+            stacks.takes_address (read bs v) (lives_in bs r) h,
             tt,
-            subst (λ z. IsStack p g x bs (Val (read_value z) h) k) (same ∙ ap types.Value u_is) stack,
+            subst (λ z. IsStack p g x bs (Val (read_value bs z) h) k) (same ∙ ap types.Value u_is) stack,
           ),
         )
     evaluate (NumberOfElements a) k c t f h q opens live stands holds (inl (u, r, well, same)) flows kept stack =
@@ -312,30 +351,31 @@ module _ (p : Program) where
           stands,
           holds,
           record { waiting = q; typed = well; flows = flows; kept = kept },
-          ([], bs, Val (Value lives.Int) h, stacks.counts_elements u h, tt, subst (λ z. IsStack p g x bs (Val (read_value z) h) k) same stack),
+          ([], bs, Val (Value lives.Int) h, stacks.counts_elements (read bs u) (lives_in bs r) h, tt, subst (λ z. IsStack p g x bs (Val (read_value bs z) h) k) same stack),
         )
     evaluate (typed'.Store d (Convert from to a) u) k c t f h q opens live stands holds (inl (v, r, cell, (s, well, conv, from_is, to_is), gives_u, same)) (f1, dp, dc) (kd, kc) stack =
         on (Locating d) (NeedsPlace (StoreTo (peeked d) (Convert from to a)) ∷ k) live (
           c,
           v,
+          r,
           f,
           f1,
           stands,
           holds,
-          record { waiting = q; region = r; typed = cell; flows = dp; kept = kd },
+          record { waiting = q; typed = cell; flows = dp; kept = kd },
           (
-            Val (read_value (assigned_type v)) h,
-            stacks.stores_to c s v f1 h stands (record { waiting = and_peeked (peek_behind d) q; typed = inl well; flows = dc; kept = kc }) conv from_is to_is,
+            Val (read_value bs (assigned_type v)) h,
+            stacks.stores_to c s v r f1 h (there_of p x bs c stands r (cell_live c d v r cell)) stands (record { waiting = and_peeked (peek_behind d) q; typed = inl well; flows = dc; kept = kc }) conv from_is to_is,
             tt,
-            subst (λ z. IsStack p g x bs (Val (read_value z) h) k) (same ∙ gives_u) stack,
+            subst (λ z. IsStack p g x bs (Val (read_value bs z) h) k) (same ∙ gives_u) stack,
           ),
         )
     evaluate (New OnHeap i u) k c t f h q opens live stands holds (inl (m, v, r, region, made, u_is, same)) (f1, (unit, known), di) kept stack =
-        makes_on p g x bs e w typed globals bound variables i (InRegion heap_number) k c m v f1 h q live stands (subst (λ z. Holds g z bs) (sym known) holds) refl made di kept.1
-        (subst (λ z. IsStack p g x bs (Val (read_value z) h) k) (same ∙ ap types.Value u_is) stack)
+        makes_on p g x bs e w typed globals bound variables i (InRegion heap_number) k c m v regions.Heap f1 h q opens live stands (subst (λ z. Holds g z bs) (sym known) holds) tt refl made di kept.1
+        (subst (λ z. IsStack p g x bs (Val (read_value bs z) h) k) (same ∙ ap types.Value (u_is ∙ ap (λ z. types.Pointer m v z) region)) stack)
     evaluate (New AsUnique i u) k c t f h q opens live stands holds (inl (m, v, r, region, made, u_is, same)) (f1, (unit, known), di) kept stack =
-        makes_on p g x bs e w typed globals bound variables i (Unique true) k c m v f1 h q live stands (subst (λ z. Holds g z bs) (sym known) holds) (refl, refl) made di kept.1
-        (subst (λ z. IsStack p g x bs (Val (read_value z) h) k) (same ∙ ap types.Value u_is) stack)
+        makes_on p g x bs e w typed globals bound variables i (Unique true) k c m v regions.Unique f1 h q opens live stands (subst (λ z. Holds g z bs) (sym known) holds) tt (refl, refl) made di kept.1
+        (subst (λ z. IsStack p g x bs (Val (read_value bs z) h) k) (same ∙ ap types.Value (u_is ∙ ap (λ z. types.Pointer m v z) region)) stack)
     evaluate (New (ByHandle a) i u) k c t f h q opens live stands holds (inl (m, v, r, (well, alive), made, u_is, same)) (f1, d, di) (ka, ki) stack =
         on (Evaluating a) (Needs (PlaceBy i) ∷ k) live (
           c,
@@ -348,10 +388,10 @@ module _ (p : Program) where
           (
             [],
             bs,
-            Val (Value (pointer m (lives.read v))) h,
-            stacks.places_by c m v f1 h stands (record { waiting = q; typed = made; flows = di; kept = ki }),
+            Val (Value (lives.Pointer m (read bs v) (lives_in bs r))) h,
+            stacks.places_by c m v r f1 h stands (record { waiting = q; typed = made; flows = di; kept = ki }) (there_of p x bs c stands r alive),
             tt,
-            subst (λ z. IsStack p g x bs (Val (read_value z) h) k) (same ∙ ap types.Value u_is) stack,
+            subst (λ z. IsStack p g x bs (Val (read_value bs z) h) k) (same ∙ ap types.Value u_is) stack,
           ),
         )
     evaluate (Peek place n u) k c t f h q opens live stands holds (inl is) flows kept stack = absurd is
@@ -361,34 +401,34 @@ module _ (p : Program) where
     -- ---- what waits for a value
 
     -- a right operand of pointers
-    null_on : {o : PointerOperator} (peek : Option ℕ) (q : List ℕ) (kind : Kind) (value : values.Value) (b : Expression) (os : Operations) (k : List Entry) (c : Context) (v w' : ValueType) (f f1 : flow.State) → LiveIn (ends_of k) bs
-        → kind ≡ kinds.Nullable → value ≡ values.Null → IsContext p x bs c → Holds g f bs → PointerOperation c o types.Null v w' → Evaluates c b f v f1
-        → IsStack p g x bs (Val (read_value w') f1) (Needs (Chain os) ∷ k) → IsWell p (Running (Evaluating b) (Needs (ApplyPointer peek o (record { kind = kind; value = value })) ∷ Needs (Chain os) ∷ k) e w)
+    null_on : {o : PointerOperator} (peek : Option ℕ) (q : List ℕ) (kind : Kind) (value : values.Value) (b : Expression) (os : Operations) (k : List Entry) (c : Context) (v w' : ValueType) (f f1 : flow.State) → LiveIn k bs
+        → kind ≡ kinds.Nullable → value ≡ values.Null → IsContext p x bs c → Holds g f bs → PointerOperation c o types.Null v w' → Evaluates p.reading c b f v f1
+        → IsStack p g x bs (Val (read_value bs w') f1) (Needs (Chain os) ∷ k) → IsWell p (Running (Evaluating b) (Needs (ApplyPointer peek o (record { kind = kind; value = value })) ∷ Needs (Chain os) ∷ k) e w)
     null_on {o} peek q kind value b os k c v w' f f1 live kind_is value_is stands holds op evaluates stack =
         subst (λ z. IsWell p (Running (Evaluating b) (Needs (ApplyPointer peek o (record { kind = z; value = value })) ∷ Needs (Chain os) ∷ k) e w)) (sym kind_is)
         (subst (λ z. IsWell p (Running (Evaluating b) (Needs (ApplyPointer peek o (record { kind = kinds.Nullable; value = z })) ∷ Needs (Chain os) ∷ k) e w)) (sym value_is)
         (on (Evaluating b) (Needs (ApplyPointer peek o null) ∷ Needs (Chain os) ∷ k) live
-        (c, v, f, f1, stands, holds, evaluates, (pointer marks.Nullable lives.Int ∷ [], bs, Val (read_value w') f1, stacks.null_points c v w' f1 op, ((refl, tt), tt), stack))))
+        (c, v, f, f1, stands, holds, evaluates, (lives.Pointer marks.Nullable lives.Int heap_life ∷ [], bs, Val (read_value bs w') f1, stacks.null_points c v w' f1 op, ((refl, tt), tt), stack))))
 
-    pointed : (o : PointerOperator) (peek : Option ℕ) (q : List ℕ) (left : Operand) (b : Expression) (os : Operations) (k : List Entry) (c : Context) (s v w' : ValueType) (f f1 : flow.State) → LiveIn (ends_of k) bs → IsContext p x bs c → Holds g f bs
-        → IsResult g (read_value s) left → PointerOperation c o s v w' → Evaluates c b f v f1 → IsStack p g x bs (Val (read_value w') f1) (Needs (Chain os) ∷ k)
+    pointed : (o : PointerOperator) (peek : Option ℕ) (q : List ℕ) (left : Operand) (b : Expression) (os : Operations) (k : List Entry) (c : Context) (s v w' : ValueType) (f f1 : flow.State) → LiveIn k bs → IsContext p x bs c → Holds g f bs
+        → IsResult g (read_value bs s) left → PointerOperation c o s v w' → Evaluates p.reading c b f v f1 → IsStack p g x bs (Val (read_value bs w') f1) (Needs (Chain os) ∷ k)
         → IsWell p (awaits_right (takes_kind o left.kind) (ApplyPointer peek o left) b os k e w)
     pointed o peek q left b os k c s v w' f f1 live stands holds is op evaluates stack =
-        subst (λ z. IsWell p (awaits_right z (ApplyPointer peek o left) b os k e w)) (sym (takes g left op is)) (go s is op)
+        subst (λ z. IsWell p (awaits_right z (ApplyPointer peek o left) b os k e w)) (sym (takes (lives_in bs) g left op is)) (go s is op)
       where
-        go : (s : ValueType) → IsResult g (read_value s) left → PointerOperation c o s v w' → IsWell p (Running (Evaluating b) (Needs (ApplyPointer peek o left) ∷ Needs (Chain os) ∷ k) e w)
+        go : (s : ValueType) → IsResult g (read_value bs s) left → PointerOperation c o s v w' → IsWell p (Running (Evaluating b) (Needs (ApplyPointer peek o left) ∷ Needs (Chain os) ∷ k) e w)
         go types.Void is op = absurd (pointer_left op refl)
         go types.Null is op = null_on {o = o} peek q left.kind left.value b os k c v w' f f1 live is.0 is.1 stands holds op evaluates stack
         go (types.Value t) is op = on (Evaluating b) (Needs (ApplyPointer peek o left) ∷ Needs (Chain os) ∷ k) live
-            (c, v, f, f1, stands, holds, evaluates, (lives.read t ∷ [], bs, Val (read_value w') f1, stacks.points c t v w' f1 op, (is, tt), stack))
+            (c, v, f, f1, stands, holds, evaluates, (read bs t ∷ [], bs, Val (read_value bs w') f1, stacks.points c t v w' f1 stands op, (is, tt), stack))
 
     -- a left operand stands before what is left of its chain
-    pub chain_on : (os : Operations) (v : Operand) (k : List Entry) (c : Context) (s : ValueType) (u : Ty) (f h : flow.State) (q : List ℕ) → LiveIn (ends_of k) bs → IsContext p x bs c → Holds g f bs
-        → IsResult g (read_value s) v → IsChain c s os u → Derives (rule_operations q os f) h → InOperations os → IsStack p g x bs (Val (Value (lives.read u)) h) k → IsWell p (chained os v k e w)
+    pub chain_on : (os : Operations) (v : Operand) (k : List Entry) (c : Context) (s : ValueType) (u : Ty) (f h : flow.State) (q : List ℕ) → LiveIn k bs → IsContext p x bs c → Holds g f bs
+        → IsResult g (read_value bs s) v → IsChain c s os u → Derives (rule_operations q os f) h → InOperations p.reading os → IsStack p g x bs (Val (Value (read bs u)) h) k → IsWell p (chained os v k e w)
     chain_on NoOperations v k c s u f h q live stands holds is chain (unit, same) kept stack =
-        hands k (Value (lives.read u)) (read_value s) v f h live holds same (ap read_value (sym chain)) is stack
+        hands k (Value (read bs u)) (read_value bs s) v f h live holds same (ap (read_value bs) (sym chain)) is stack
     chain_on (ThenCompute o b os) v k c s u f h q live stands holds is (int, well, chain) (f1, d, ds) (one, kept) stack =
-        let is_int : IsResult g (Value lives.Int) v = subst (λ z. IsResult g (read_value z) v) int is in
+        let is_int : IsResult g (Value lives.Int) v = subst (λ z. IsResult g (read_value bs z) v) int is in
         subst (λ z. IsWell p (awaits_right z (Apply o v) b os k e w)) (sym (is_kind_same v.kind kinds.Int is_int.0)) (
         on (Evaluating b) (Needs (Apply o v) ∷ Needs (Chain os) ∷ k) live (
           c,
@@ -404,13 +444,13 @@ module _ (p : Program) where
             Val (Value lives.Int) f1,
             stacks.applies f1,
             (is_int, tt),
-            ([], bs, Val (Value (lives.read u)) h, stacks.chains c (types.Value types.Int) u f1 h stands (record { waiting = q; typed = chain; flows = ds; kept = kept }), tt, stack),
+            ([], bs, Val (Value (read bs u)) h, stacks.chains c (types.Value types.Int) u f1 h stands (record { waiting = q; typed = chain; flows = ds; kept = kept }), tt, stack),
           ),
         ))
     chain_on (ThenTest o b os) v k c s u f h q live stands holds is (is_tested', (s2, well, tested2), chain) (f1, d, ds) (one, kept) stack =
-        let (fails, at_zero) = zero_is g s v is_tested' is in
+        let (fails, at_zero) = zero_is g (lives_in bs) s v is_tested' is in
         let waits : IsStack p g x bs (Val (Value lives.Int) (meet f f1)) (Needs (Chain os) ∷ k) =
-        ([], bs, Val (Value (lives.read u)) h, stacks.chains c (types.Value types.Int) u (meet f f1) h stands (record { waiting = q; typed = chain; flows = ds; kept = kept }), tt, stack) in
+        ([], bs, Val (Value (read bs u)) h, stacks.chains c (types.Value types.Int) u (meet f f1) h stands (record { waiting = q; typed = chain; flows = ds; kept = kept }), tt, stack) in
         subst (λ z. IsWell p (tested z o b os k e w)) (sym at_zero) (go fails waits (decides o fails))
       where
         go : (fails : Bool) → IsStack p g x bs (Val (Value lives.Int) (meet f f1)) (Needs (Chain os) ∷ k) → (b' : Bool) → IsWell p (decided b' fails b os k e w)
@@ -428,67 +468,67 @@ module _ (p : Program) where
         )
     chain_on (ThenPointer o b os) v k c s u f h q live stands holds is (v2, w2, well, op, chain) (f1, d, ds) (one, kept) stack =
         pointed o None q v b os k c s v2 w2 f f1 live stands holds is op (record { waiting = q; typed = well; flows = d; kept = one })
-        ([], bs, Val (Value (lives.read u)) h, stacks.chains c w2 u f1 h stands (record { waiting = q; typed = chain; flows = ds; kept = kept }), tt, stack)
+        ([], bs, Val (Value (read bs u)) h, stacks.chains c w2 u f1 h stands (record { waiting = q; typed = chain; flows = ds; kept = kept }), tt, stack)
     chain_on (ThenPointerPeek n o b os) v k c s u f h q live stands holds is (v2, w2, well, op, chain) (f1, d, ds) (one, kept) stack =
         pointed o (Some n) q v b os k c s v2 w2 f f1 live stands holds is op (record { waiting = and_peeked (Some n) q; typed = well; flows = d; kept = one })
-        ([], bs, Val (Value (lives.read u)) h, stacks.chains c w2 u f1 h stands (record { waiting = q; typed = chain; flows = ds; kept = kept }), tt, stack)
+        ([], bs, Val (Value (read bs u)) h, stacks.chains c w2 u f1 h stands (record { waiting = q; typed = chain; flows = ds; kept = kept }), tt, stack)
 
-    pub converted_on : (from to : Kind) (target : Option Kind) (v : Operand) (k : List Entry) (c : Context) (s : ValueType) (t : Ty) (f : flow.State) → LiveIn (ends_of k) bs → Holds g f bs → IsResult g (read_value s) v → Converts c s t
-        → from ≡ tests.kind_of_value s → to ≡ tests.kind_of t → target ≡ target_of_value s → IsStack p g x bs (Val (Value (lives.read t)) f) k → IsWell p (converts from to target v k e w)
-    converted_on from to target v k c s t f live holds is conv from_is to_is same stack =
-        let leads_so : leads_to w target (followed v.value) ≡ true = ap (λ z. leads_to w z (followed v.value)) same ∙ converted_leads g w typed c s t v conv is in
+    pub converted_on : (from to : Kind) (target : Option Kind) (v : Operand) (k : List Entry) (c : Context) (s : ValueType) (t : Ty) (f : flow.State) → LiveIn k bs → AgreesWith c.regions (lives_in bs) → Holds g f bs → IsResult g (read_value bs s) v → Converts c s t
+        → from ≡ tests.kind_of_value s → to ≡ tests.kind_of t → target ≡ target_of_value s → IsStack p g x bs (Val (Value (read bs t)) f) k → IsWell p (converts from to target v k e w)
+    converted_on from to target v k c s t f live agrees holds is conv from_is to_is same stack =
+        let leads_so : leads_to w target (followed v.value) ≡ true = ap (λ z. leads_to w z (followed v.value)) same ∙ converted_leads g w typed (lives_in bs) c s t v conv is in
         subst (λ (b : Bool). IsWell p (if b then computed to (conversion to v.value) k e w else wrong w))
-        (sym (both (is_kind v.kind from) (leads_to w target (followed v.value)) (is_kind_same v.kind from (kind_given g c s t v conv is ∙ sym from_is)) leads_so))
+        (sym (both (is_kind v.kind from) (leads_to w target (followed v.value)) (is_kind_same v.kind from (kind_given g (lives_in bs) c s t v conv is ∙ sym from_is)) leads_so))
         (subst (λ z. IsWell p (computed z (conversion z v.value) k e w)) (sym to_is)
-        (gives p g x bs e w typed globals bound variables k (tests.kind_of t) (lives.read t) f (conversion (tests.kind_of t) v.value) live holds (sym (kind_read t)) (converted g c s t v conv is) stack))
+        (gives p g x bs e w typed globals bound variables k (tests.kind_of t) (read bs t) f (conversion (tests.kind_of t) v.value) live holds (sym (kind_read (lives_in bs) t)) (converted_by g (lives_in bs) c s t v agrees conv is) stack))
 
-    pub denied_on : (v : Operand) (k : List Entry) (s : ValueType) (f : flow.State) → LiveIn (ends_of k) bs → Holds g f bs → is_tested s ≡ true → IsResult g (read_value s) v
+    pub denied_on : (v : Operand) (k : List Entry) (s : ValueType) (f : flow.State) → LiveIn k bs → Holds g f bs → is_tested s ≡ true → IsResult g (read_value bs s) v
         → IsStack p g x bs (Val (Value lives.Int) f) k → IsWell p (computed kinds.Int (truth_result (is_zero v.value)) k e w)
     denied_on v k s f live holds is_tested' is stack =
-        let (b, at_zero) = zero_is g s v is_tested' is in
+        let (b, at_zero) = zero_is g (lives_in bs) s v is_tested' is in
         subst (λ z. IsWell p (computed kinds.Int (truth_result z) k e w)) (sym at_zero) (gives p g x bs e w typed globals bound variables k kinds.Int lives.Int f (Gives (values.Int (truth b))) live holds refl tt stack)
 
-    pub decided_on : (v : Operand) (k : List Entry) (s : ValueType) (f h : flow.State) → LiveIn (ends_of k) bs → Holds g f bs → is_tested s ≡ true → Implies f h → IsResult g (read_value s) v
+    pub decided_on : (v : Operand) (k : List Entry) (s : ValueType) (f h : flow.State) → LiveIn k bs → Holds g f bs → is_tested s ≡ true → Implies f h → IsResult g (read_value bs s) v
         → IsStack p g x bs (Val (Value lives.Int) h) k → IsWell p (computed kinds.Int (truth_of (is_zero v.value)) k e w)
     decided_on v k s f h live holds is_tested' implies is stack =
-        let (b, at_zero) = zero_is g s v is_tested' is in
+        let (b, at_zero) = zero_is g (lives_in bs) s v is_tested' is in
         subst (λ z. IsWell p (computed kinds.Int (truth_of z) k e w)) (sym at_zero) (gives p g x bs e w typed globals bound variables k kinds.Int lives.Int h (Gives (values.Int (truth (not b)))) live (holds_implied g f h bs implies holds) refl tt stack)
 
-    handed : (h : Typing) (t : Ty) (v : Operand) (b : Bool) → IsResult h (Value (lives.read t)) v → IsResult h (read_value (if b then types.Void else types.Value t)) v
+    handed : (h : Typing) (t : Ty) (v : Operand) (b : Bool) → IsResult h (Value (read bs t)) v → IsResult h (read_value bs (if b then types.Void else types.Value t)) v
     handed h t v true is = tt
     handed h t v false is = is
 
-    pub writes_local : (v : Operand) (k : List Entry) (b : Bound) (t : Ty) (f : flow.State) → AreOpen w.regions (ends_of k) → LiveIn (ends_of k) bs → IsAmong (Variable b) bs → b.of_type ≡ lives.read t
-        → Holds g f bs → IsResult g (Value (lives.read t)) v → IsStack p g x bs (Val (read_value (assigned_type t)) (with_fullness Full f b.number)) k
+    pub writes_local : (v : Operand) (k : List Entry) (b : Bound) (t : Ty) (f : flow.State) → AreOpen w.regions (ends_of k) → LiveIn k bs → IsAmong (Variable b) bs → b.of_type ≡ read bs t
+        → Holds g f bs → IsResult g (Value (read bs t)) v → IsStack p g x bs (Val (read_value bs (assigned_type t)) (with_fullness Full f b.number)) k
         → IsWell p (stored (cell_at w b.object 0) b.object 0 v (Given v) k e w)
     writes_local v k b t f opens live among of_type (reached, are) is stack =
         let there = among_variable g among variables in
-        let (y, m, stands, flag, typed_is) = typed.each b.object (variable_type b.of_type b.region) there in
-        writes p g x bs e w typed globals bound variables v (Given v) k b.object 0 b.region m (lives.read t) (variable_type b.of_type b.region) live there
-        (ap (λ u. Some u) of_type) refl (open_of w.regions (among_live (ends_of k) among live) opens) flag (let few : 0 ≤ m = omega arith in few) is
+        let (y, m, stands, flag, typed_is) = typed.each b.object (variable_type b.of_type b.life b.is_hidden) there in
+        writes p g x bs e w typed globals bound variables v (Given v) k b.object 0 m (read bs t) (variable_type b.of_type b.life b.is_hidden) live there
+        (ap (λ u. Some u) of_type) (open_local k b opens live among) flag (let few : 0 ≤ m = omega arith in few) is
         (λ grows now. (
-          read_value (assigned_type t),
+          read_value bs (assigned_type t),
           with_fullness Full f b.number,
           (
             reached_with Full f b.number reached,
             set_stored (with_filled g b.object (risen 0 m)) e f b.number b.object bs bound (among_bound e among bound) now (holds_grown g (with_filled g b.object (risen 0 m)) grows f bs (reached, are)).1,
           ),
-          handed (with_filled g b.object (risen 0 m)) t v (is_moved t) (result_grown g (with_filled g b.object (risen 0 m)) grows (Value (lives.read t)) v is),
-          stack_grown p g (with_filled g b.object (risen 0 m)) grows x bs (Val (read_value (assigned_type t)) (with_fullness Full f b.number)) k stack,
+          handed (with_filled g b.object (risen 0 m)) t v (is_moved t) (result_grown g (with_filled g b.object (risen 0 m)) grows (Value (read bs t)) v is),
+          stack_grown p g (with_filled g b.object (risen 0 m)) grows x bs (Val (read_value bs (assigned_type t)) (with_fullness Full f b.number)) k stack,
         ))
 
-    pub writes_global : (v : Operand) (k : List Entry) (n : ℕ) (t : Ty) (f : flow.State) → AreOpen w.regions (ends_of k) → LiveIn (ends_of k) bs
-        → slice_get (map (λ (v : GlobalVariable). v.of_type) p.globals) n ≡ Some t → Holds g f bs → IsResult g (Value (lives.read t)) v → IsStack p g x bs (Val (read_value (assigned_type t)) f) k
+    pub writes_global : (v : Operand) (k : List Entry) (n : ℕ) (t : Ty) (f : flow.State) → AreOpen w.regions (ends_of k) → LiveIn k bs
+        → slice_get (map (λ (v : GlobalVariable). v.of_type) p.program.globals) n ≡ Some t → read bs t ≡ lives.at as_heap t → Holds g f bs → IsResult g (Value (read bs t)) v → IsStack p g x bs (Val (read_value bs (assigned_type t)) f) k
         → IsWell p (stored (cell_at w n 0) n 0 v (Given v) k e w)
-    writes_global v k n t f opens live there holds is stack =
-        let (at, full) = globals.globals n t there in
-        let (y, m, stands, flag, typed_is) = typed.each n (global_type (lives.read t)) at in
-        writes p g x bs e w typed globals bound variables v (Given v) k n 0 1 m (lives.read t) (global_type (lives.read t)) live at
-        refl refl (open_of w.regions (globals_among k) opens) flag (let few : 0 ≤ m = omega arith in few) is
+    writes_global v k n t f opens live there means holds is stack =
+        let (at, full, closed) = globals.globals n t there in
+        let (y, m, stands, flag, typed_is) = typed.each n (global_type (lives.at as_heap t)) at in
+        writes p g x bs e w typed globals bound variables v (Given v) k n 0 m (read bs t) (global_type (lives.at as_heap t)) live at
+        (ap (λ z. Some z) (sym means)) (open_of w.regions (globals_among k) opens) flag (let few : 0 ≤ m = omega arith in few) is
         (λ grows now. (
-          read_value (assigned_type t),
+          read_value bs (assigned_type t),
           f,
           holds_grown g (with_filled g n (risen 0 m)) grows f bs holds,
-          handed (with_filled g n (risen 0 m)) t v (is_moved t) (result_grown g (with_filled g n (risen 0 m)) grows (Value (lives.read t)) v is),
-          stack_grown p g (with_filled g n (risen 0 m)) grows x bs (Val (read_value (assigned_type t)) f) k stack,
+          handed (with_filled g n (risen 0 m)) t v (is_moved t) (result_grown g (with_filled g n (risen 0 m)) grows (Value (read bs t)) v is),
+          stack_grown p g (with_filled g n (risen 0 m)) grows x bs (Val (read_value bs (assigned_type t)) f) k stack,
         ))

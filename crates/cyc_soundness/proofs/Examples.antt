@@ -1,44 +1,60 @@
 -- Texts of which the theorem speaks: both sets of rules accept them, they stand in the class, and their runs end as is said. Each is
 -- proved by computation, so that the theorem is not about nothing.
-use Rattle.std.proofs.Common.{◌≡◌, ℕ, List, [], ◌∷◌, Some, None, Ok, Err, pos, refl}
+use Rattle.std.proofs.Common.{◌≡◌, ℕ, suc, List, [], ◌∷◌, ◌<◌, Some, None, Ok, Err, pos, refl, arith}
 use Rattle.std.specs.Prelude.{codes}
+use Rattle.cyc_words.specs.Word.{slt_of}
 use Rattle.cyc_words.specs.Ending.{Returned}
 use Rattle.cyc_syntax.specs.declared.tree.PointerKind.{PointerKind}
 use Rattle.cyc_syntax.specs.declared.tree.PointerKind.TheVariants as marks
 use Rattle.cyc_syntax.specs.declared.tree.PrefixOperator.TheVariants as prefixes
 use Rattle.cyc_syntax.specs.declared.tree.BinaryOperator.TheVariants as operators
 use Rattle.cyc_syntax.specs.Symbols.{Place}
-use Rattle.cyc_syntax.specs.Trees.{Named, BaseType, Int, Struct, Handle, WrittenType, Expression, Number, Null, HeapRegion, UniqueRegion, Variable, Call, NumberOfElements, Chained, Prefixed, New, RegionNew, Binary, Assign, Plain, Fields, Array, NoExpressions, MoreExpressions, NoPostfixes, ThenIndex, ThenField, NoOperations, ThenOperation, Evaluate, Swap, Return, Try, Braces, Items, NoItems, MoreItems, Execute, Local, Default, Listed, Declaration, StructType, Global, Function}
+use Rattle.cyc_syntax.specs.Trees.{Named, BaseType, Int, Struct, Handle, WrittenType, Expression, Number, Null, HeapRegion, UniqueRegion, Variable, Call, NumberOfElements, Chained, Prefixed, New, RegionNew, Binary, Assign, Plain, Fields, Array, NoExpressions, MoreExpressions, NoPostfixes, ThenIndex, ThenField, NoOperations, ThenOperation, Block, Labelled, Evaluate, Swap, While, Return, Try, Braces, Items, NoItems, MoreItems, Execute, Local, Region, Default, Listed, Declaration, StructType, Global, Function}
 use Rattle.cyc_types.specs.TypedTrees as typed
 use Rattle.cyc_types.specs.Rules.{Checked}
 use Rattle.cyc_types.specs.typing.Programs.{rule_program, check_of, IsTypedProgram}
-use Rattle.cyc_types.specs.flow.Programs.{flow_of}
+use Rattle.cyc_types.specs.typing.WellTyped.{IsWellTypedProgram}
+use Rattle.cyc_types.specs.flow.Programs.{flow_of, IsAllowedProgram}
 use Rattle.cyc_types.specs.flow.Programs as flow
 use Rattle.cyc_types.proofs.RuleLaws.{answers_tree}
 use Rattle.cyc_types.proofs.typing.ProgramLemmas.{program_well}
 use Rattle.cyc_meaning.specs.State.{Status, HasEnded, status_of}
 use Rattle.cyc_meaning.specs.Run.{run}
-use Rattle.cyc_soundness.specs.Classes.{IsOfTheHeap}
+use Rattle.cyc_soundness.specs.Classes.{IsOfTheHeap, IsOfScopes}
 use Rattle.cyc_soundness.specs.Sound.{IsSound}
-use Rattle.cyc_soundness.proofs.Whole.{heap_sound}
+use Rattle.cyc_soundness.proofs.Whole.{heap_sound, scopes_sound}
 
 -- ---- what is said of a text
 
--- the typed program keeps the flow rules, stands in the class, and ends so
+-- the typed program keeps the flow rules, stands in this class, and ends so
+abbrev EndsIn : (typed.Program → Type 0) → Checked typed.Program → Status → Type 0
+EndsIn class (Ok p) s = (flow_of p ≡ Ok tt) × class p × (status_of (run p [] 200) ≡ s)
+EndsIn class (Err f) s = ⊥
+
 abbrev Ends : Checked typed.Program → Status → Type 0
-Ends (Ok p) s = (flow_of p ≡ Ok tt) × IsOfTheHeap p × (status_of (run p [] 200) ≡ s)
-Ends (Err f) s = ⊥
+Ends = EndsIn IsOfTheHeap
+
+abbrev EndsByScope : Checked typed.Program → Status → Type 0
+EndsByScope = EndsIn IsOfScopes
 
 -- and so no run of it is dead or wrong
-pub never_dead : (texts : List (List ℕ)) (tree : List Declaration) (s : Status) → Ends (check_of texts tree) s
-    → (p : typed.Program) × IsTypedProgram texts tree p × IsSound p × (status_of (run p [] 200) ≡ s)
-never_dead texts tree s ends = go (check_of texts tree) refl ends
+never_dead_in : (class : typed.Program → Type 0) → ((p : typed.Program) → IsWellTypedProgram p → IsAllowedProgram p → class p → IsSound p) → (texts : List (List ℕ)) (tree : List Declaration) (s : Status)
+    → EndsIn class (check_of texts tree) s → (p : typed.Program) × IsTypedProgram texts tree p × IsSound p × (status_of (run p [] 200) ≡ s)
+never_dead_in class sound texts tree s ends = go (check_of texts tree) refl ends
   where
-    go : (r : Checked typed.Program) → check_of texts tree ≡ r → Ends r s → (p : typed.Program) × IsTypedProgram texts tree p × IsSound p × (status_of (run p [] 200) ≡ s)
+    go : (r : Checked typed.Program) → check_of texts tree ≡ r → EndsIn class r s → (p : typed.Program) × IsTypedProgram texts tree p × IsSound p × (status_of (run p [] 200) ≡ s)
     go (Ok p) is (allowed, kept, ended) =
         let derived : IsTypedProgram texts tree p = answers_tree (rule_program texts tree) p is in
-        (p, derived, heap_sound p (program_well texts tree p derived) (answers_tree (flow.rule_program p) tt allowed) kept, ended)
+        (p, derived, sound p (program_well texts tree p derived) (answers_tree (flow.rule_program p) tt allowed) kept, ended)
     go (Err f) is none = absurd none
+
+pub never_dead : (texts : List (List ℕ)) (tree : List Declaration) (s : Status) → Ends (check_of texts tree) s
+    → (p : typed.Program) × IsTypedProgram texts tree p × IsSound p × (status_of (run p [] 200) ≡ s)
+never_dead texts tree s ends = never_dead_in IsOfTheHeap heap_sound texts tree s ends
+
+pub never_dead_by_scope : (texts : List (List ℕ)) (tree : List Declaration) (s : Status) → EndsByScope (check_of texts tree) s
+    → (p : typed.Program) × IsTypedProgram texts tree p × IsSound p × (status_of (run p [] 200) ≡ s)
+never_dead_by_scope texts tree s ends = never_dead_in IsOfScopes scopes_sound texts tree s ends
 
 -- ---- trees
 
@@ -78,7 +94,7 @@ fields : Ends (check_of texts (
     (MoreItems (Execute (Evaluate (Assign (field 4) (New (at 10) (Plain (Number (at 11) 3))))))
     (MoreItems (Execute (Return (at 12) (Some (plus (field 3) (Prefixed (at 13) prefixes.Dereference (field 4)))))) NoItems)))
     ∷ [])) (HasEnded (Returned (pos 7)))
-fields = (refl, (((tt, (tt, (tt, tt))), ((tt, (tt, tt)), ((tt, (tt, tt)), tt))), tt), refl)
+fields = (refl, ((tt, (tt, (tt, (tt, tt))), ((tt, (tt, tt)), ((tt, (tt, tt)), tt))), tt), refl)
 
 -- int main(){ int ?p = new {for i < 3 : i * i}; return p[2] + numelts(p + 1); }
 elements : Ends (check_of texts (
@@ -86,7 +102,7 @@ elements : Ends (check_of texts (
     MoreItems (Local (written Int (marks.Fat ∷ [])) (named 2 5) (Some (New (at 6) (Array (at 7) (named 5 8) (Number (at 9) 3) (Binary (Variable (named 5 10)) (ThenOperation operators.Multiply (at 11) (Variable (named 5 12)) NoOperations))))))
     (MoreItems (Execute (Return (at 13) (Some (plus (Chained (Variable (named 2 14)) (ThenIndex (Number (at 15) 2) NoPostfixes)) (NumberOfElements (at 16) (plus (Variable (named 2 17)) (Number (at 18) 1))))))) NoItems))
     ∷ [])) (HasEnded (Returned (pos 6)))
-elements = (refl, (((tt, (tt, (tt, (tt, tt)))), (((tt, tt), ((tt, (tt, tt)), tt)), tt)), tt), refl)
+elements = (refl, ((tt, (tt, (tt, (tt, (tt, tt)))), (((tt, tt), ((tt, (tt, tt)), tt)), tt)), tt), refl)
 
 -- struct S { int x; int n; }; int main(){ struct S @p = new S{1, 5}; p->x :=: p->n; return p->x; }
 swapped : Ends (check_of texts (
@@ -96,7 +112,7 @@ swapped : Ends (check_of texts (
     (MoreItems (Execute (Swap (field 3) (field 4)))
     (MoreItems (Execute (Return (at 12) (Some (field 3)))) NoItems)))
     ∷ [])) (HasEnded (Returned (pos 5)))
-swapped = (refl, (((tt, (tt, (tt, tt))), ((tt, tt), (tt, tt))), tt), refl)
+swapped = (refl, ((tt, (tt, (tt, (tt, tt))), ((tt, tt), (tt, tt))), tt), refl)
 
 -- int main(){ int @`U p = rnew(unique_region) 5; return *p; }
 unique : Ends (check_of texts (
@@ -104,7 +120,7 @@ unique : Ends (check_of texts (
     MoreItems (Local (into 6) (named 2 5) (Some (RegionNew (at 6) (UniqueRegion (at 7)) (Plain (Number (at 8) 5)))))
     (MoreItems (Execute (Return (at 9) (Some (Prefixed (at 10) prefixes.Dereference (Variable (named 2 11)))))) NoItems))
     ∷ [])) (HasEnded (Returned (pos 5)))
-unique = (refl, (((tt, tt), (tt, tt)), tt), refl)
+unique = (refl, ((tt, (tt, tt), (tt, tt)), tt), refl)
 
 -- int main(){ int *p = NULL; try return *p; catch { default: return 9; } }
 caught : Ends (check_of texts (
@@ -112,7 +128,7 @@ caught : Ends (check_of texts (
     MoreItems (Local (written Int (marks.Nullable ∷ [])) (named 2 5) (Some (Null (at 6))))
     (MoreItems (Execute (Try (at 7) (Return (at 8) (Some (Prefixed (at 9) prefixes.Dereference (Variable (named 2 10))))) (Default (MoreItems (Execute (Return (at 11) (Some (Number (at 12) 9)))) NoItems)))) NoItems))
     ∷ [])) (HasEnded (Returned (pos 9)))
-caught = (refl, ((tt, ((tt, (tt, tt)), tt)), tt), refl)
+caught = (refl, ((tt, tt, ((tt, (tt, tt)), tt)), tt), refl)
 
 -- int x; int main(){ int *p = &x; *p = 8; return x; }
 global : Ends (check_of texts (
@@ -122,7 +138,7 @@ global : Ends (check_of texts (
     (MoreItems (Execute (Evaluate (Assign (Prefixed (at 8) prefixes.Dereference (Variable (named 2 9))) (Number (at 10) 8))))
     (MoreItems (Execute (Return (at 11) (Some (Variable (named 3 12))))) NoItems)))
     ∷ [])) (HasEnded (Returned (pos 8)))
-global = (refl, ((tt, ((tt, tt), (tt, tt))), tt), refl)
+global = (refl, ((tt, tt, ((tt, tt), (tt, tt))), tt), refl)
 
 -- int f(region_t<`r> h){ int @`r p = rnew(h) 6; return *p; } int main(){ return f(heap_region); }
 by_handle : Ends (check_of texts (
@@ -131,4 +147,85 @@ by_handle : Ends (check_of texts (
     (MoreItems (Execute (Return (at 9) (Some (Prefixed (at 10) prefixes.Dereference (Variable (named 2 11)))))) NoItems)) (at 12))
     ∷ main (MoreItems (Execute (Return (at 13) (Some (Call (named 7 14) (MoreExpressions (HeapRegion (at 15)) NoExpressions))))) NoItems)
     ∷ [])) (HasEnded (Returned (pos 6)))
-by_handle = (refl, (((tt, tt), (tt, tt)), (((tt, tt), tt), tt)), refl)
+by_handle = (refl, ((tt, (tt, tt), (tt, tt)), (((tt, tt), tt), tt)), refl)
+
+-- ---- texts of the class by scope
+
+abbrev address : ℕ → Expression
+address n = Prefixed (at 40) prefixes.AddressOf (Variable (named n 41))
+
+abbrev behind : ℕ → Expression
+behind n = Prefixed (at 42) prefixes.Dereference (Variable (named n 43))
+
+abbrev returned : Expression → Items
+returned a = MoreItems (Execute (Return (at 44) (Some a))) NoItems
+
+abbrev assigned : Expression → Expression → Items → Items
+assigned a b is = MoreItems (Execute (Evaluate (Assign a b))) is
+
+less : (n : ℕ) → n < suc n
+less n = omega arith
+
+-- int main(){ int x = 3; int @p = &x; *p = *p + 4; return x; }
+address_of_local : EndsByScope (check_of texts (
+    main (
+    MoreItems (Local (written Int []) (named 3 5) (Some (Number (at 6) 3)))
+    (MoreItems (Local (written Int (marks.NonNull ∷ [])) (named 2 7) (Some (address 3)))
+    (assigned (behind 2) (plus (behind 2) (Number (at 8) 4))
+    (returned (Variable (named 3 9))))))
+    ∷ [])) (HasEnded (Returned (pos 7)))
+address_of_local = (refl, (((tt, tt, ((tt, less 0), tt, ((tt, ((tt, (tt, tt)))), (tt, tt)))), tt), tt, tt), refl)
+
+-- int main(){ int x = 3; int @p = &x; { int y = 5; *p = y; } return x; }
+outer_from_inside : EndsByScope (check_of texts (
+    main (
+    MoreItems (Local (written Int []) (named 3 5) (Some (Number (at 6) 3)))
+    (MoreItems (Local (written Int (marks.NonNull ∷ [])) (named 2 7) (Some (address 3)))
+    (MoreItems (Execute (Block (Braces (at 8) (
+    MoreItems (Local (written Int []) (named 4 9) (Some (Number (at 10) 5)))
+    (assigned (behind 2) (Variable (named 4 11)) NoItems)) (at 12))))
+    (returned (Variable (named 3 13))))))
+    ∷ [])) (HasEnded (Returned (pos 5)))
+outer_from_inside = (refl, (((tt, tt, ((tt, less 0), tt, ((tt, tt, ((tt, tt), tt)), (tt, tt)))), tt), tt, tt), refl)
+
+-- int main(){ r:{ int x = 4; int @`r p = &x; return *p; } }
+labelled : EndsByScope (check_of texts (
+    main (
+    MoreItems (Execute (Labelled (named 8 5) (Braces (at 6) (
+    MoreItems (Local (written Int []) (named 3 7) (Some (Number (at 8) 4)))
+    (MoreItems (Local (into 8) (named 2 9) (Some (address 3)))
+    (returned (behind 2)))) (at 10)))) NoItems)
+    ∷ [])) (HasEnded (Returned (pos 4)))
+labelled = (refl, ((((tt, tt, ((tt, less 1), tt, (tt, tt))), tt), tt), tt, tt), refl)
+
+-- int f(region_t<`r> h){ int @`r p = rnew(h) 6; return *p; } int main(){ region<`r> h; return f(h); }
+lexical : EndsByScope (check_of texts (
+    Function (Some (written Int [])) (named 7 1) (record { list = Listed (record { of_type = written (Handle (named 8 2)) []; name = named 9 3 } ∷ []); effect = None; constraints = [] }) (Braces (at 4) (
+    MoreItems (Local (into 8) (named 2 5) (Some (RegionNew (at 6) (Variable (named 9 7)) (Plain (Number (at 8) 6)))))
+    (returned (behind 2))) (at 12))
+    ∷ main (MoreItems (Region (named 8 13) (named 9 14) None) (returned (Call (named 7 15) (MoreExpressions (Variable (named 9 16)) NoExpressions))))
+    ∷ [])) (HasEnded (Returned (pos 6)))
+lexical = (refl, ((((tt, less 1), (tt, tt), (tt, tt)), ((tt, ((tt, tt), tt)), tt)), tt, tt), refl)
+
+-- int main(){ int n = 0; while (n < 6) { region<`r> h; int @p = rnew(h) 3; n = n + *p; } return n; }
+opened_again : EndsByScope (check_of texts (
+    main (
+    MoreItems (Local (written Int []) (named 4 5) (Some (Number (at 6) 0)))
+    (MoreItems (Execute (While (at 7) (Binary (Variable (named 4 8)) (ThenOperation operators.Less (at 9) (Number (at 10) 6) NoOperations)) (Block (Braces (at 11) (
+    MoreItems (Region (named 8 12) (named 9 13) None)
+    (MoreItems (Local (written Int (marks.NonNull ∷ [])) (named 2 14) (Some (RegionNew (at 15) (Variable (named 9 16)) (Plain (Number (at 17) 3)))))
+    (assigned (Variable (named 4 18)) (plus (Variable (named 4 19)) (behind 2)) NoItems))) (at 20)))))
+    (returned (Variable (named 4 21)))))
+    ∷ [])) (HasEnded (Returned (pos 6)))
+unfolding slt_of
+opened_again = (refl, (((tt, tt, (((tt, (tt, tt)), (tt, ((tt, less 2), (tt, tt), ((tt, (tt, tt)), tt)))), (tt, tt))), tt), tt, tt), refl)
+
+-- int main(){ try { region<`r> h; int *p = NULL; return *p; } catch { default: return 9; } }
+left_by_exception : EndsByScope (check_of texts (
+    main (
+    MoreItems (Execute (Try (at 5) (Block (Braces (at 6) (
+    MoreItems (Region (named 8 7) (named 9 8) None)
+    (MoreItems (Local (written Int (marks.Nullable ∷ [])) (named 2 9) (Some (Null (at 10))))
+    (returned (behind 2)))) (at 11))) (Default (returned (Number (at 12) 9))))) NoItems)
+    ∷ [])) (HasEnded (Returned (pos 9)))
+left_by_exception = (refl, (((((tt, ((tt, tt), tt, (tt, tt))), (tt, tt)), tt), tt), tt, tt), refl)

@@ -1,35 +1,40 @@
 -- STATEMENTS and the items of blocks: each step leads to a typed state.
-use Rattle.std.proofs.Common.{◌≡◌, inl, ℕ, ◌+◌, ◌≤◌, Bool, true, false, List, [], ◌∷◌, length, Option, Some, None, refl, sym, ap, subst, ◌∙◌, arith}
+use Rattle.std.proofs.Common.{◌≡◌, inl, ℕ, suc, ◌+◌, ◌≤◌, ◌<◌, Bool, true, false, List, [], ◌∷◌, length, Option, Some, None, refl, sym, ap, subst, ◌∙◌, arith}
 use Rattle.cyc_types.specs.declared.typed.Kind.{Kind}
-use Rattle.cyc_types.specs.Types.{Ty}
+use Rattle.cyc_types.specs.Types.{Ty, result_type}
 use Rattle.cyc_types.specs.Types as types
 use Rattle.cyc_types.specs.TypedTrees.{Expression, Convert, Statement, Block, Empty, Evaluate, Swap, If, While, Break, Continue, Throw, Try, Items, NoItems, MoreItems, Execute, Declare, DeclareRegion, OpenRegion, DeclareAlias, DeclareKey, Program}
 use Rattle.cyc_types.specs.TypedTrees as typed
 use Rattle.cyc_types.specs.Rules.{AllKept, Derives}
-use Rattle.cyc_types.specs.Declarations.{declared_types}
-use Rattle.cyc_types.specs.typing.WellTyped.{Context, IsReturned, IsThrown, in_block, behind, with_local, WellTypedStatement, WellTypedItems}
+use Rattle.cyc_types.specs.Declarations.{declared_types, declared_regions}
+use Rattle.cyc_types.specs.Outlives.{live_regions}
+use Rattle.cyc_types.specs.declared.region.Region.TheVariants as regions
+use Rattle.cyc_types.specs.declared.scope.ScopeKind.TheVariants as scopes
+use Rattle.cyc_types.specs.declared.typed.Kind.TheVariants as kinds
+use Rattle.cyc_types.specs.typing.WellTyped.{Context, IsReturned, IsThrown, in_block, behind, IsLive, with_local, with_opened, WellTypedStatement, WellTypedItems}
 use Rattle.cyc_types.specs.flow.States as flow
 use Rattle.cyc_types.specs.flow.States.{Unreached, Vacant, Full, meet, with_fullness, with_each}
 use Rattle.cyc_types.specs.flow.Expressions.{and_peeked}
 use Rattle.cyc_types.specs.flow.Statements.{peeked_side, side_demanded, Known, caught, rule_statement, rule_items}
 use Rattle.cyc_types.specs.flow.Statements as statements
 use Rattle.cyc_meaning.specs.Values as values
-use Rattle.cyc_meaning.specs.State.{Stack, new_region, World, opened, Environment, ConvertTo, Initialise, Choose, Test, ThrowWith, Entry, Needs, Discard, Rest, Handler, Focus, Evaluating, Executing, Proceeding, Breaking, Continuing, Returning, Throwing, State, Running}
+use Rattle.cyc_meaning.specs.State.{Stack, Lexical, new_region, opened_as, CloseLexical, Naming, World, opened, Environment, ConvertTo, Initialise, Choose, Test, ThrowWith, Entry, Needs, Discard, Rest, Handler, Focus, Evaluating, Executing, Proceeding, Breaking, Continuing, Returning, Throwing, State, Running}
 use Rattle.cyc_meaning.specs.State as state
 use Rattle.cyc_meaning.specs.Parts.{target_by, inside, region_end}
 use Rattle.cyc_meaning.specs.Exceptions.{throws}
 use Rattle.cyc_meaning.specs.Nesting.{ends_of, IsNested}
 use Rattle.cyc_meaning.specs.Step.{step_executing, returns, continues_with}
-use Rattle.cyc_soundness.specs.Lives.{Value, read}
-use Rattle.cyc_soundness.specs.Worlds.{Typing, IsTyped}
-use Rattle.cyc_soundness.specs.Frames.{InScope, IsBound, AreVariables, LiveIn, Within, itself, Holds, Implies, LoopExit, Exits, loop_of, around, AreBreaks, is_loop, IsContext, KnowsProgram}
-use Rattle.cyc_soundness.specs.Classes.{InStatement, InItems, InValue, InThrown}
+use Rattle.cyc_soundness.specs.Lives.{Life, Value, Reading, AsHeap, ByScope}
+use Rattle.cyc_soundness.specs.Worlds.{IsNumber, Typing, IsTyped}
+use Rattle.cyc_soundness.specs.Frames.{InScope, Names, Home, life_named, lives_in, read, read_value, IsBound, AreVariables, LiveIn, Within, itself, older, Holds, Implies, LoopExit, Exits, loop_of, around, AreBreaks, is_loop, IsContext, KnowsProgram}
+use Rattle.cyc_soundness.specs.Classes.{HasScopes, IsDeclarable, InStatement, InItems, InValue, InThrown, Source}
 use Rattle.cyc_soundness.specs.Stacks.{Evaluates, Executes, Continues, Catches, IsLoop, Val, Go, IsReturn, IsStack, IsFocus, IsWell}
 use Rattle.cyc_soundness.specs.Stacks as stacks
 use Rattle.cyc_soundness.proofs.TypeLemmas.{target_typed, kind_read, kind_meant}
 use Rattle.cyc_soundness.proofs.FlowLemmas.{implies_self, implies_after, meet_first, meet_second, at_least_implies, emptied_implied, holds_implied}
 use Rattle.cyc_soundness.proofs.RuleLemmas.{breaks_statement, breaks_items, breaks_clauses, clauses_implied, no_locks}
-use Rattle.cyc_soundness.proofs.StackLemmas.{within_bound, within_variables, within_live, within_holds, below_more, live_more}
+use Rattle.cyc_soundness.proofs.StackLemmas.{within_bound, within_variables, within_live, within_holds, below_more}
+use Rattle.cyc_soundness.proofs.RegionLemmas.{contains_more, live_more, same_name, known_behind, opened_life, opened_lasting, agrees_of, context_inside, context_lexical}
 use Rattle.cyc_soundness.proofs.WorldLemmas.{opened_typed}
 use Rattle.cyc_soundness.proofs.Cells.{running}
 use Rattle.cyc_soundness.proofs.Supply.{declares_blank}
@@ -37,48 +42,53 @@ use Rattle.cyc_soundness.proofs.Swapping.{kept_both, swap_on}
 use Rattle.cyc_types.specs.flow.Touched.{touched_statement}
 
 -- the same scope further on, where more numbers are given out
-pub context_after : (p : Program) (x : Exits) (bs : List InScope) (c : Context) (s : Statement) → IsContext p x bs c → IsContext p x bs (behind c s)
-context_after p x bs c s stands = record {
+pub context_behind : (p : Source) (x : Exits) (bs : List InScope) (c : Context) (locals regions : ℕ) → IsContext p x bs c
+    → IsContext p x bs (record c { next_local = c.next_local + locals; next_region = c.next_region + regions })
+context_behind p x bs c locals regions stands = record {
   globals = stands.globals;
   functions = stands.functions;
   structs = stands.structs;
   result = stands.result;
+  gives = stands.gives;
   loop = stands.loop;
   scope = stands.scope;
-  below = below_more c.next_local (c.next_local + length (declared_types s)) bs (let le : c.next_local ≤ c.next_local + length (declared_types s) = omega arith in le) stands.below;
+  below = below_more c.next_local (c.next_local + locals) bs (let le : c.next_local ≤ c.next_local + locals = omega arith in le) stands.below;
   counters = stands.counters;
+  known = known_behind p.reading c.next_region (c.next_region + regions) c.regions c.locals c.result (let le : c.next_region ≤ c.next_region + regions = omega arith in le) stands.known;
+  regions = stands.regions;
+  home = stands.home;
 }
 
-pub context_inside : (p : Program) (x : Exits) (bs : List InScope) (c : Context) → IsContext p x bs c → IsContext p x bs (in_block c)
-context_inside p x bs c stands = record {
-  globals = stands.globals;
-  functions = stands.functions;
-  structs = stands.structs;
-  result = stands.result;
-  loop = stands.loop;
-  scope = stands.scope;
-  below = stands.below;
-  counters = stands.counters;
-}
+pub context_after : (p : Source) (x : Exits) (bs : List InScope) (c : Context) (s : Statement) → IsContext p x bs c → IsContext p x bs (behind c s)
+context_after p x bs c s stands = context_behind p x bs c (length (declared_types s)) (declared_regions s) stands
+
+-- the handle of a region that was opened
+handle_of : (m : Reading) (region : ℕ) (ns : List ℕ) → HasScopes m → IsNumber (opened_life m region ns) region
+handle_of AsHeap region ns scopes = absurd scopes
+handle_of ByScope region ns scopes = refl
+
+new_handle : (m : Reading) (n r : ℕ) → r ≡ n → IsDeclarable m (suc n) (types.Handle (regions.Variable r))
+new_handle AsHeap n r same = tt
+new_handle ByScope n r same = let e : r < suc n = omega (arith, same) in e
 
 -- fewer breaks are known before
 pub breaks_before : (l : Option LoopExit) (a b : flow.State) → Implies a b → AreBreaks l b → AreBreaks l a
 breaks_before None a b i are = tt
 breaks_before (Some l) a b i are = implies_after a b l.breaks i are
 
-module _ (p : Program) (g : Typing) (x : Exits) (bs : List InScope) (e : Environment) (w : World) (typed' : IsTyped g w.regions w.objects) (globals : KnowsProgram g p) (bound : IsBound e.locals e.counters bs) (variables : AreVariables g bs) where
-  on : (focus : Focus) (k : List Entry) → LiveIn (ends_of k) bs → IsFocus p g x bs focus k → IsWell p (Running focus k e w)
+module _ (p : Source) (g : Typing) (x : Exits) (bs : List InScope) (e : Environment) (w : World) (typed' : IsTyped g w.regions w.objects) (globals : KnowsProgram g p) (bound : IsBound e.locals e.counters bs) (variables : AreVariables g bs) where
+  on : (focus : Focus) (k : List Entry) → LiveIn k bs → IsFocus p g x bs focus k → IsWell p (Running focus k e w)
   on focus k live stands = running p g x bs e w typed' globals bound variables focus k live stands
 
-  return_none : (r : Option Ty) (c : Context) → IsReturned c r None → IsReturn g r None
+  return_none : (r : Option Ty) (c : Context) → IsReturned c r None → IsReturn g r x.gives None
   return_none None c is = tt
   return_none (Some t) c is = absurd is
 
-  return_on : (a : Expression) (from to : Kind) (k : List Entry) (c : Context) (f h : flow.State) (o : Option Ty) → LiveIn (ends_of k) bs → IsContext p x bs c → Holds g f bs → o ≡ x.result
-      → IsReturned c o (Some (Convert from to a)) → Derives (statements.rule_value (Some (Convert from to a)) f) h → InValue (Some (Convert from to a)) → IsStack p g x bs (Go Unreached) k
+  return_on : (a : Expression) (from to : Kind) (k : List Entry) (c : Context) (f h : flow.State) (o : Option Ty) → LiveIn k bs → IsContext p x bs c → Holds g f bs → o ≡ x.result → o ≡ c.result
+      → IsReturned c o (Some (Convert from to a)) → Derives (statements.rule_value (Some (Convert from to a)) f) h → InValue p.reading (Some (Convert from to a)) → IsStack p g x bs (Go Unreached) k
       → IsWell p (returns (Some (Convert from to a)) k e w)
-  return_on a from to k c f h None live stands holds result is flows kept stack = absurd is
-  return_on a from to k c f h (Some t) live stands holds result (s, well, conv, from_is, to_is) flows kept stack =
+  return_on a from to k c f h None live stands holds result same is flows kept stack = absurd is
+  return_on a from to k c f h (Some t) live stands holds result same (s, well, conv, from_is, to_is) flows kept stack =
       on (Evaluating a) (Needs (ConvertTo from to (target_by a)) ∷ Needs state.Return ∷ k) live (
         c,
         s,
@@ -87,22 +97,22 @@ module _ (p : Program) (g : Typing) (x : Exits) (bs : List InScope) (e : Environ
         stands,
         holds,
         record { waiting = []; typed = inl well; flows = flows; kept = kept },
-        ([], bs, Val (Value (read t)) h, stacks.converts c s t h conv from_is to_is (target_typed c a s (inl well)), tt, ([], bs, Go Unreached, stacks.returns t h Unreached (sym result), tt, stack)),
+        ([], bs, Val (Value (read bs t)) h, stacks.converts c s t h (agrees_of p x bs c stands) conv from_is to_is (target_typed c a s (inl well)), tt, ([], bs, Go Unreached, stacks.returns t (read bs t) h Unreached (sym result) (ap (λ o. read_value bs (result_type o)) same ∙ stands.gives), tt, stack)),
       )
 
-  break_on : (k : List Entry) (c : Context) (f h before behind' : flow.State) (o : Option LoopExit) → x.loop ≡ o → is_loop o ≡ true → LiveIn (ends_of k) bs → Holds g f bs → behind' ≡ meet before f
+  break_on : (k : List Entry) (c : Context) (f h before behind' : flow.State) (o : Option LoopExit) → x.loop ≡ o → is_loop o ≡ true → LiveIn k bs → Holds g f bs → behind' ≡ meet before f
       → AreBreaks o behind' → IsStack p g x bs (Go h) k → IsWell p (Running Breaking k e w)
   break_on k c f h before behind' None same is live holds known are stack = absurd (let z : false ≡ true = is in cc)
   break_on k c f h before behind' (Some l) same is live holds known are stack =
       on Breaking k live (l, h, same, holds_implied g f l.breaks bs (implies_after f behind' l.breaks (subst (λ z. Implies f z) (sym known) (meet_second before f)) are) holds, stack)
 
-  continue_on : (k : List Entry) (f h : flow.State) (o : Option LoopExit) → x.loop ≡ o → is_loop o ≡ true → LiveIn (ends_of k) bs → Holds g f bs
+  continue_on : (k : List Entry) (f h : flow.State) (o : Option LoopExit) → x.loop ≡ o → is_loop o ≡ true → LiveIn k bs → Holds g f bs
       → AllKept (statements.continue_demanded (loop_of o) f) → IsStack p g x bs (Go h) k → IsWell p (Running Continuing k e w)
   continue_on k f h None same is live holds kept stack = absurd (let z : false ≡ true = is in cc)
   continue_on k f h (Some l) same is live holds kept stack = on Continuing k live (l, h, same, holds_implied g f l.head bs (at_least_implies f l.head kept.0) holds, stack)
 
-  thrown : (has : Bool) (tag : ℕ) (a : Expression) (k : List Entry) (c : Context) (f h i : flow.State) → LiveIn (ends_of k) bs → IsContext p x bs c → Holds g f bs → IsThrown c has (Some a)
-      → Derives (statements.rule_thrown (Some a) f) h → InThrown (Some a) → IsStack p g x bs (Go i) k → IsWell p (throws tag (Some a) k e w)
+  thrown : (has : Bool) (tag : ℕ) (a : Expression) (k : List Entry) (c : Context) (f h i : flow.State) → LiveIn k bs → IsContext p x bs c → Holds g f bs → IsThrown c has (Some a)
+      → Derives (statements.rule_thrown (Some a) f) h → InThrown p.reading (Some a) → IsStack p g x bs (Go i) k → IsWell p (throws tag (Some a) k e w)
   thrown true tag a k c f h i live stands holds well flows kept stack =
       on (Evaluating a) (Needs (ThrowWith tag) ∷ k) live (
         c,
@@ -116,18 +126,34 @@ module _ (p : Program) (g : Typing) (x : Exits) (bs : List InScope) (e : Environ
       )
   thrown false tag a k c f h i live stands holds well flows kept stack = absurd well
 
+  -- ---- blocks
+
+  -- the scope of a block, whose region is open now
+  abbrev pub block_scope : Context → List Entry → List InScope
+  block_scope c k = Home (length w.regions) ∷ Names c.next_region (opened_life p.reading (length w.regions) (ends_of k)) true ∷ bs
+
+  pub block_live : (c : Context) (k : List Entry) → LiveIn k bs → LiveIn (region_end e w ∷ k) (block_scope c k)
+  block_live c k live = ((tt, ((λ is. opened_lasting p.reading (length w.regions) (ends_of k)), live_more (length w.regions) (ends_of k) bs live.0)), refl)
+
+  -- where it ends
+  pub block_stack : (c : Context) (k : List Entry) (f h : flow.State) → LiveIn k bs → Implies f h → IsStack p g x bs (Go h) k → IsStack p g x (block_scope c k) (Go f) (region_end e w ∷ k)
+  block_stack c k f h live implies stack = (bs, c.next_region, opened_life p.reading (length w.regions) (ends_of k), true, h, refl, implies, live, stack)
+
   -- ---- statements
 
-  pub execute : (s : Statement) (k : List Entry) (c : Context) (f h before behind' : flow.State) → LiveIn (ends_of k) bs → IsContext p x bs c → Holds g f bs → WellTypedStatement c s
-      → Derives (rule_statement (around x) s (record { now = f; breaks = before })) (record { now = h; breaks = behind' }) → AreBreaks x.loop behind' → InStatement s → IsStack p g x bs (Go h) k
+  pub execute : (s : Statement) (k : List Entry) (c : Context) (f h before behind' : flow.State) → LiveIn k bs → IsContext p x bs c → Holds g f bs → WellTypedStatement c s
+      → Derives (rule_statement (around x) s (record { now = f; breaks = before })) (record { now = h; breaks = behind' }) → AreBreaks x.loop behind' → InStatement p.reading c.next_region s → IsStack p g x bs (Go h) k
       → IsWell p (step_executing s k e w)
   execute (Block r js) k c f h before behind' live stands holds (number, well) (l, d, (u, known)) are kept stack =
-      let now : h ≡ l.now = ap (λ (z : Known). z.now) known ∙ ap (λ ns. with_each Full ns l.now) (no_locks js kept) in
+      let now : h ≡ l.now = ap (λ (z : Known). z.now) known ∙ ap (λ ns. with_each Full ns l.now) (no_locks p.reading (suc c.next_region) js kept) in
       let breaks : behind' ≡ l.breaks = ap (λ (z : Known). z.breaks) known in
-      let continues : Continues x (in_block c) js f l.now =
+      let continues : Continues p.reading x (in_block c) js f l.now =
       record { before = before; behind = l.breaks; typed = well; flows = d; breaks = subst (λ z. AreBreaks x.loop z) breaks are; kept = kept } in
-      running p g x bs (inside e w) (opened w) (opened_typed g w.regions (new_region Stack ∷ []) w.objects typed') globals bound variables Proceeding (Rest js ∷ region_end e w ∷ k) (live_more (length w.regions) (ends_of k) bs live)
-      (f, holds, (bs, in_block c, l.now, itself bs, context_inside p x bs c stands, continues, (h, subst (λ z. Implies l.now z) (sym now) (implies_self l.now), live, stack)))
+      running p g x (block_scope c k) (inside e w) (opened w) (opened_typed g w.regions (new_region Stack ∷ []) w.objects typed') globals (tt, (tt, bound)) (tt, (tt, variables)) Proceeding (Rest js ∷ region_end e w ∷ k)
+      (block_live c k live)
+      (f, (holds.0, (tt, (tt, holds.1))),
+      (block_scope c k, in_block c, l.now, itself (block_scope c k), context_inside p x bs c stands (length w.regions) (ends_of k) live.0, continues,
+      block_stack c k l.now h live (subst (λ z. Implies l.now z) (sym now) (implies_self l.now)) stack))
   execute Empty k c f h before behind' live stands holds well (u, known) are kept stack =
       on Proceeding k live (h, subst (λ z. Holds g z bs) (sym (ap (λ (z : Known). z.now) known)) holds, stack)
   execute (Evaluate a) k c f h before behind' live stands holds (t, well) (f1, d, (u, known)) are kept stack =
@@ -151,8 +177,8 @@ module _ (p : Program) (g : Typing) (x : Exits) (bs : List InScope) (e : Environ
       let breaks : behind' ≡ m.breaks = ap (λ (z : Known). z.breaks) known in
       let later : AreBreaks x.loop m.breaks = subst (λ z. AreBreaks x.loop z) breaks are in
       let sooner : AreBreaks x.loop l.breaks = breaks_before x.loop l.breaks m.breaks (breaks_statement (around x) t (record { now = f1; breaks = l.breaks }) m dt) later in
-      let one : Executes x c s f1 l.now = record { before = before; behind = l.breaks; typed = ws; flows = ds; breaks = sooner; kept = ks } in
-      let two : Executes x (behind c s) t f1 m.now = record { before = l.breaks; behind = m.breaks; typed = wt; flows = dt; breaks = later; kept = kt } in
+      let one : Executes p.reading x c s f1 l.now = record { before = before; behind = l.breaks; typed = ws; flows = ds; breaks = sooner; kept = ks } in
+      let two : Executes p.reading x (behind c s) t f1 m.now = record { before = l.breaks; behind = m.breaks; typed = wt; flows = dt; breaks = later; kept = kt } in
       on (Evaluating a) (Needs (Choose s t) ∷ k) live (
         c,
         v,
@@ -174,7 +200,7 @@ module _ (p : Program) (g : Typing) (x : Exits) (bs : List InScope) (e : Environ
   execute (While place a s) k c f h before behind' live stands holds ((v, well, tested), ws) (f1, d, (l, ds, (demands, known))) are (ka, ks) stack =
       let now : h ≡ meet f1 l.breaks = ap (λ (z : Known). z.now) known in
       let exit : LoopExit = record { place = place; head = f; breaks = l.breaks } in
-      let first : Evaluates c a f v f1 = record { waiting = []; typed = well; flows = d; kept = ka } in
+      let first : Evaluates p.reading c a f v f1 = record { waiting = []; typed = well; flows = d; kept = ka } in
       let loop : IsLoop p x bs exit a s v f1 h = record {
         context = c;
         now = l.now;
@@ -190,7 +216,7 @@ module _ (p : Program) (g : Typing) (x : Exits) (bs : List InScope) (e : Environ
   execute (typed.Return None) k c f h before behind' live stands holds is (f1, d, (u, known)) are kept stack =
       on (Returning None) k live (h, return_none x.result c (subst (λ r. IsReturned c r None) stands.result is), stack)
   execute (typed.Return (Some (Convert from to a))) k c f h before behind' live stands holds is (f1, d, (u, known)) are kept stack =
-      return_on a from to k c f f1 c.result live stands holds stands.result is d kept (subst (λ z. IsStack p g x bs (Go z) k) (ap (λ (z : Known). z.now) known) stack)
+      return_on a from to k c f f1 c.result live stands holds stands.result refl is d kept (subst (λ z. IsStack p g x bs (Go z) k) (ap (λ (z : Known). z.now) known) stack)
   execute Break k c f h before behind' live stands holds is (u, known) are kept stack =
       break_on k c f h before behind' x.loop refl (stands.loop is) live holds (ap (λ (z : Known). z.breaks) known) are stack
   execute Continue k c f h before behind' live stands holds is (demands, known) are kept stack = continue_on k f h x.loop refl (stands.loop is) live holds demands stack
@@ -198,8 +224,8 @@ module _ (p : Program) (g : Typing) (x : Exits) (bs : List InScope) (e : Environ
   execute (Throw tag (Some a)) k c f h before behind' live stands holds (has, is, well) (f1, d, (u, known)) are kept stack = thrown has tag a k c f f1 h live stands holds well d kept stack
   execute (Try s cs) k c f h before behind' live stands holds (ws, wcs) (l, ds, dcs) are (ks, kcs) stack =
       let sooner : AreBreaks x.loop l.breaks = breaks_before x.loop l.breaks behind' (breaks_clauses (around x) (caught f s) cs l (record { now = h; breaks = behind' }) dcs) are in
-      let one : Executes x c s f l.now = record { before = before; behind = l.breaks; typed = ws; flows = ds; breaks = sooner; kept = ks } in
-      let catches : Catches x (behind c s) (caught f s) cs l.now h = record { before = l.breaks; behind = behind'; typed = wcs; flows = dcs; breaks = are; kept = kcs } in
+      let one : Executes p.reading x c s f l.now = record { before = before; behind = l.breaks; typed = ws; flows = ds; breaks = sooner; kept = ks } in
+      let catches : Catches p.reading x (behind c s) (caught f s) cs l.now h = record { before = l.breaks; behind = behind'; typed = wcs; flows = dcs; breaks = are; kept = kcs } in
       on (Executing s) (Handler cs ∷ k) live (
         c,
         f,
@@ -221,27 +247,27 @@ module _ (p : Program) (g : Typing) (x : Exits) (bs : List InScope) (e : Environ
 
   -- ---- items
 
-  pub continue_with : (js : Items) (k : List Entry) (cs : List InScope) (c : Context) (f h before behind' : flow.State) → IsNested k e w → LiveIn (ends_of k) bs → Within cs bs → IsContext p x bs c → Holds g f bs
-      → WellTypedItems c js → Derives (rule_items (around x) js (record { now = f; breaks = before })) (record { now = h; breaks = behind' }) → AreBreaks x.loop behind' → InItems js
+  pub continue_with : (js : Items) (k : List Entry) (cs : List InScope) (c : Context) (f h before behind' : flow.State) → IsNested k e w → LiveIn k bs → Within cs bs → IsContext p x bs c → Holds g f bs
+      → WellTypedItems c js → Derives (rule_items (around x) js (record { now = f; breaks = before })) (record { now = h; breaks = behind' }) → AreBreaks x.loop behind' → InItems p.reading c.next_region js
       → IsStack p g x cs (Go h) k → IsWell p (continues_with js k e w)
   continue_with NoItems k cs c f h before behind' nests live within stands holds well (u, known) are kept stack =
       let now : h ≡ f = ap (λ (z : Known). z.now) known in
-      running p g x cs e w typed' globals (within_bound e cs bs within bound) (within_variables g cs bs within variables) Proceeding k (within_live (ends_of k) cs bs within live)
+      running p g x cs e w typed' globals (within_bound e cs bs within bound) (within_variables g cs bs within variables) Proceeding k (within_live k cs bs within live)
       (h, subst (λ z. Holds g z cs) (sym now) (within_holds g f cs bs within holds), stack)
   continue_with (MoreItems (Execute s) js) k cs c f h before behind' nests live within stands holds (ws, wjs) (l, ds, djs) are (ks, kjs) stack =
       let sooner : AreBreaks x.loop l.breaks = breaks_before x.loop l.breaks behind' (breaks_items (around x) js l (record { now = h; breaks = behind' }) djs) are in
-      let one : Executes x c s f l.now = record { before = before; behind = l.breaks; typed = ws; flows = ds; breaks = sooner; kept = ks } in
-      let rest : Continues x (behind c s) js l.now h = record { before = l.breaks; behind = behind'; typed = wjs; flows = djs; breaks = are; kept = kjs } in
+      let one : Executes p.reading x c s f l.now = record { before = before; behind = l.breaks; typed = ws; flows = ds; breaks = sooner; kept = ks } in
+      let rest : Continues p.reading x (behind c s) js l.now h = record { before = l.breaks; behind = behind'; typed = wjs; flows = djs; breaks = are; kept = kjs } in
       on (Executing s) (Rest js ∷ k) live (c, f, l.now, stands, holds, one, (cs, behind c s, h, within, context_after p x bs c s stands, rest, stack))
-  continue_with (MoreItems (Declare n t None) js) k cs c f h before behind' nests live within stands holds ((number, has, alive), initial, wjs) (l, (f1, (u1, known1), (u2, known2)), djs) are (kv, kjs) stack =
+  continue_with (MoreItems (Declare n t None) js) k cs c f h before behind' nests live within stands holds ((number, has, alive), initial, wjs) (l, (f1, (u1, known1), (u2, known2)), djs) are (named, kv, kjs) stack =
       let l_is : l ≡ record { now = with_fullness Vacant f n; breaks = before } = known2 ∙ ap (λ z. record { now = z; breaks = before }) known1 in
       let flows = subst (λ (z : Known). Derives (rule_items (around x) js z) (record { now = h; breaks = behind' })) l_is djs in
-      declares_blank p g x bs e w typed' globals bound variables n (values.kind_of t) t js cs c f h k nests live within stands holds number (sym (kind_meant t))
+      declares_blank p g x bs e w typed' globals bound variables n (values.kind_of t) t js cs c f h k nests live within stands holds (named, alive) number (sym (kind_meant (lives_in bs) t))
       (record { before = before; behind = behind'; typed = wjs; flows = flows; breaks = are; kept = kjs }) stack
-  continue_with (MoreItems (Declare n t (Some (Convert from to a))) js) k cs c f h before behind' nests live within stands holds ((number, has, alive), (s, well, conv, from_is, to_is), wjs) (l, (f2, (f1, d, (u1, known1)), (u2, known2)), djs) are (kv, kjs) stack =
+  continue_with (MoreItems (Declare n t (Some (Convert from to a))) js) k cs c f h before behind' nests live within stands holds ((number, has, alive), (s, well, conv, from_is, to_is), wjs) (l, (f2, (f1, d, (u1, known1)), (u2, known2)), djs) are (named, kv, kjs) stack =
       let l_is : l ≡ record { now = with_fullness Full f1 n; breaks = before } = known2 ∙ ap (λ z. record { now = z; breaks = before }) known1 in
       let flows = subst (λ (z : Known). Derives (rule_items (around x) js z) (record { now = h; breaks = behind' })) l_is djs in
-      let rest : Continues x (with_local true t c) js (with_fullness Full f1 n) h = record { before = before; behind = behind'; typed = wjs; flows = flows; breaks = are; kept = kjs } in
+      let rest : Continues p.reading x (with_local true t c) js (with_fullness Full f1 n) h = record { before = before; behind = behind'; typed = wjs; flows = flows; breaks = are; kept = kjs } in
       on (Evaluating a) (Needs (ConvertTo from to (target_by a)) ∷ Needs (Initialise n (values.kind_of t) js) ∷ k) live (
         c,
         s,
@@ -253,13 +279,40 @@ module _ (p : Program) (g : Typing) (x : Exits) (bs : List InScope) (e : Environ
         (
           [],
           bs,
-          Val (Value (read t)) f1,
-          stacks.converts c s t f1 conv from_is to_is (target_typed c a s (inl well)),
+          Val (Value (read bs t)) f1,
+          stacks.converts c s t f1 (agrees_of p x bs c stands) conv from_is to_is (target_typed c a s (inl well)),
           tt,
-          ([], cs, Go h, stacks.initialises cs c t f1 h within stands number (sym (kind_meant t) ∙ kind_read t) rest, tt, stack),
+          ([], cs, Go h, stacks.initialises cs c t f1 h within stands (named, alive) number (sym (kind_meant (lives_in bs) t) ∙ kind_read (lives_in bs) t) rest, tt, stack),
         ),
       )
-  continue_with (MoreItems (DeclareRegion r n) js) k cs c f h before behind' nests live within stands holds well flows are kept stack = absurd kept
+  continue_with (MoreItems (DeclareRegion r n) js) k cs c f h before behind' nests live within stands holds ((region, less), (number, has, alive), wjs) (l, (u, known), djs) are (scoped, kjs) stack =
+      let flows = subst (λ (z : Known). Derives (rule_items (around x) js z) (record { now = h; breaks = behind' })) known djs in
+      let t : Ty = types.Handle (regions.Variable r) in
+      let d : Context = with_opened scopes.Lexical c in
+      let rest : Continues p.reading x (with_local false t d) js (with_fullness Full f n) h = record { before = before; behind = behind'; typed = wjs; flows = flows; breaks = are; kept = kjs } in
+      let l : Life = opened_life p.reading (length w.regions) (ends_of k) in
+      let inner : List InScope = Names c.next_region l true ∷ bs in
+      let here : IsContext p x inner d = context_lexical p x bs c stands (length w.regions) (ends_of k) live.0 alive in
+      let stands_for : lives_in inner (regions.Variable r) ≡ l = ap (λ i. life_named inner i) region ∙ same_name c.next_region l (life_named bs c.next_region) in
+      let there : IsLive d (regions.Variable c.region) = contains_more (regions.Variable c.next_region) (regions.Variable c.region) (live_regions c.regions.live c.regions.opened) alive in
+      running p g x inner e (opened_as Lexical w) (opened_typed g w.regions (new_region Lexical ∷ []) w.objects typed') globals (tt, bound) (tt, variables)
+      (Naming n (record { kind = kinds.Handle; value = values.Handle (length w.regions) }) js) (CloseLexical (length w.regions) ∷ k)
+      (((λ is. opened_lasting p.reading (length w.regions) (ends_of k)), live_more (length w.regions) (ends_of k) bs live.0), live.1) (
+        d,
+        false,
+        t,
+        cs,
+        f,
+        h,
+        older (Names c.next_region l true) cs bs tt within,
+        here,
+        (holds.0, (tt, holds.1)),
+        (new_handle p.reading c.next_region r region, there),
+        number,
+        (refl, subst (λ z. IsNumber z (length w.regions)) (sym stands_for) (handle_of p.reading (length w.regions) (ends_of k) scoped)),
+        rest,
+        (h, implies_self h, within_live k cs bs within live, stack),
+      )
   continue_with (MoreItems (OpenRegion r n place key) js) k cs c f h before behind' nests live within stands holds well flows are kept stack = absurd kept
   continue_with (MoreItems (DeclareAlias r n t place source) js) k cs c f h before behind' nests live within stands holds well flows are kept stack = absurd kept
   continue_with (MoreItems (DeclareKey r n) js) k cs c f h before behind' nests live within stands holds well flows are kept stack = absurd kept

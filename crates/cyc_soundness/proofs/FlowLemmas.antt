@@ -4,7 +4,7 @@ use Rattle.std.specs.Prelude.{◌≢◌, get_or, slice_set, if◌then◌else◌}
 use Rattle.std.proofs.lemmas.List.{get_or-set_other}
 use Rattle.cyc_types.specs.flow.States.{Fullness, Vacant, Locked, Full, State, Unreached, Reached, lower, lower_each, meet, is_as_full, are_as_full, is_at_least, is_reached, fullness, with_fullness, is_vacant, is_locked, emptied}
 use Rattle.cyc_soundness.specs.Worlds.{Typing}
-use Rattle.cyc_soundness.specs.Frames.{InScope, Variable, Level, HoldsIts, IsSet, AreSet, Holds, Implies}
+use Rattle.cyc_soundness.specs.Frames.{InScope, Variable, HoldsIts, IsSet, AreSet, Holds, Implies}
 use Rattle.cyc_soundness.proofs.Numbers.{both_true}
 
 pub implies_self : (f : State) → Implies f f
@@ -102,7 +102,7 @@ emptied_implied (n ∷ ns) f =
 
 one_implied : (g : Typing) (f h : State) (b : InScope) → Implies f h → HoldsIts g f b → HoldsIts g h b
 one_implied g f h (Variable b) i is = λ e. is (i.set b.number e)
-one_implied g f h (Level l) i is = tt
+one_implied g f h b i is = tt
 
 are_set_implied : (g : Typing) (f h : State) (bs : List InScope) → Implies f h → AreSet g f bs → AreSet g h bs
 are_set_implied g f h [] i s = tt

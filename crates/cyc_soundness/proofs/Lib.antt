@@ -2,6 +2,7 @@
 mod Numbers
 mod TypeLemmas
 mod FlowLemmas
+mod RegionLemmas
 mod RuleLemmas
 mod WorldLemmas
 mod StackLemmas

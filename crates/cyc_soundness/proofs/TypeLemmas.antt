@@ -15,7 +15,7 @@ use Rattle.cyc_types.specs.typing.WellTyped.{Context, WellTyped, IsPeek, IsCell}
 use Rattle.cyc_meaning.specs.Values.{is_kind}
 use Rattle.cyc_meaning.specs.Values as values
 use Rattle.cyc_meaning.specs.Parts.{target_of_value, target_by}
-use Rattle.cyc_soundness.specs.Lives.{Lives, Value, at, kind_at, as_heap, read, read_value}
+use Rattle.cyc_soundness.specs.Lives.{Lives, Value, at, value_at, kind_at, AllOf, AllIn, AllInValue}
 use Rattle.cyc_soundness.specs.Lives as lives
 
 -- ---- kinds
@@ -37,22 +37,60 @@ mark_kinds marks.NonNull = refl
 mark_kinds marks.Fat = refl
 
 -- a kind does not depend on what regions stand for
-pub kind_by : (n : Lives) (t : Ty) → kind_at (at n t) ≡ tests.kind_of t
-kind_by n types.Int = refl
-kind_by n (types.Pointer k t r) = mark_kinds k
-kind_by n (types.Handle r) = refl
-kind_by n (types.Key r) = refl
-kind_by n (types.Struct m rs) = refl
+pub kind_read : (n : Lives) (t : Ty) → kind_at (at n t) ≡ tests.kind_of t
+kind_read n types.Int = refl
+kind_read n (types.Pointer k t r) = mark_kinds k
+kind_read n (types.Handle r) = refl
+kind_read n (types.Key r) = refl
+kind_read n (types.Struct m rs) = refl
 
-pub kind_read : (t : Ty) → kind_at (read t) ≡ tests.kind_of t
-kind_read t = kind_by as_heap t
+pub kind_meant : (n : Lives) (t : Ty) → kind_at (at n t) ≡ values.kind_of t
+kind_meant n types.Int = refl
+kind_meant n (types.Pointer k t r) = refl
+kind_meant n (types.Handle r) = refl
+kind_meant n (types.Key r) = refl
+kind_meant n (types.Struct s rs) = refl
 
-pub kind_meant : (t : Ty) → kind_at (read t) ≡ values.kind_of t
-kind_meant types.Int = refl
-kind_meant (types.Pointer k t r) = refl
-kind_meant (types.Handle r) = refl
-kind_meant (types.Key r) = refl
-kind_meant (types.Struct n rs) = refl
+-- ---- which regions a type names
+
+all_of : (P Q : Region → Type 0) → ((r : Region) → P r → Q r) → (rs : List Region) → AllOf P rs → AllOf Q rs
+all_of P Q so [] all = tt
+all_of P Q so (r ∷ rs) (one, all) = (so r one, all_of P Q so rs all)
+
+pub all_in : (P Q : Region → Type 0) → ((r : Region) → P r → Q r) → (t : Ty) → AllIn P t → AllIn Q t
+all_in P Q so types.Int all = tt
+all_in P Q so (types.Pointer k t r) (all, one) = (all_in P Q so t all, so r one)
+all_in P Q so (types.Handle r) one = so r one
+all_in P Q so (types.Key r) one = so r one
+all_in P Q so (types.Struct n rs) all = all_of P Q so rs all
+
+every_of : (P : Region → Type 0) → ((r : Region) → P r) → (rs : List Region) → AllOf P rs
+every_of P so [] = tt
+every_of P so (r ∷ rs) = (so r, every_of P so rs)
+
+pub every_in : (P : Region → Type 0) → ((r : Region) → P r) → (t : Ty) → AllIn P t
+every_in P so types.Int = tt
+every_in P so (types.Pointer k t r) = (every_in P so t, so r)
+every_in P so (types.Handle r) = so r
+every_in P so (types.Key r) = so r
+every_in P so (types.Struct n rs) = every_of P so rs
+
+same_of : (m n : Lives) (rs : List Region) → AllOf (λ r. m r ≡ n r) rs → map m rs ≡ map n rs
+same_of m n [] same = refl
+same_of m n (r ∷ rs) (one, same) = ap (λ l. l ∷ map m rs) one ∙ ap (λ ls. n r ∷ ls) (same_of m n rs same)
+
+-- a type is read alike where the regions that it names stand for the same
+pub read_alike : (m n : Lives) (t : Ty) → AllIn (λ r. m r ≡ n r) t → at m t ≡ at n t
+read_alike m n types.Int same = refl
+read_alike m n (types.Pointer k t r) (same, one) = ap (λ u. lives.Pointer k u (m r)) (read_alike m n t same) ∙ ap (λ l. lives.Pointer k (at n t) l) one
+read_alike m n (types.Handle r) same = ap lives.Handle same
+read_alike m n (types.Key r) same = ap lives.Key same
+read_alike m n (types.Struct s rs) same = ap (lives.Struct s) (same_of m n rs same)
+
+pub value_alike : (m n : Lives) (v : ValueType) → AllInValue (λ r. m r ≡ n r) v → value_at m v ≡ value_at n v
+value_alike m n types.Void same = refl
+value_alike m n types.Null same = refl
+value_alike m n (types.Value t) same = ap Value (read_alike m n t same)
 
 -- ---- instances
 
@@ -72,16 +110,13 @@ instance_by n m (types.Handle r) = refl
 instance_by n m (types.Key r) = refl
 instance_by n m (types.Struct s rs) = ap (lives.Struct s) (regions_by n m rs)
 
-pub instance_read : (m : List Region) (t : Ty) → read (substituted_ty m t) ≡ read t
-instance_read m t = instance_by as_heap m t
+pub instances_by : (n : Lives) (m : List Region) (ts : List Ty) → map (at n) (map (substituted_ty m) ts) ≡ map (at (lives_by n m)) ts
+instances_by n m [] = refl
+instances_by n m (t ∷ ts) = ap (λ u. u ∷ map (at n) (map (substituted_ty m) ts)) (instance_by n m t) ∙ ap (λ us. at (lives_by n m) t ∷ us) (instances_by n m ts)
 
-pub instances_read : (m : List Region) (ts : List Ty) → map read (map (substituted_ty m) ts) ≡ map read ts
-instances_read m [] = refl
-instances_read m (t ∷ ts) = ap (λ u. u ∷ map read (map (substituted_ty m) ts)) (instance_read m t) ∙ ap (λ us. read t ∷ us) (instances_read m ts)
-
-pub result_read : (m : List Region) (t : Option Ty) → read_value (result_type (option_map (substituted_ty m) t)) ≡ read_value (result_type t)
-result_read m None = refl
-result_read m (Some t) = ap Value (instance_read m t)
+pub result_by : (n : Lives) (m : List Region) (t : Option Ty) → value_at n (result_type (option_map (substituted_ty m) t)) ≡ value_at (lives_by n m) (result_type t)
+result_by n m None = refl
+result_by n m (Some t) = ap Value (instance_by n m t)
 
 -- ---- the types of trees
 

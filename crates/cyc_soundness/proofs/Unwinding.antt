@@ -1,46 +1,60 @@
 -- THE CONTROL STACK is left entry by entry: normally, by `break`, `continue` and `return`, and by an exception.
-use Rattle.std.proofs.Common.{◌≡◌, ℕ, true, false, List, [], ◌∷◌, Option, Some, None, refl, sym, ap, subst, ◌∙◌}
+use Rattle.std.proofs.Common.{◌≡◌, ℕ, Bool, true, false, List, [], ◌∷◌, Option, Some, None, refl, sym, ap, subst, ◌∙◌}
 use Rattle.cyc_types.specs.Types.{Ty, ValueType, result_type}
 use Rattle.cyc_types.specs.Types as types
-use Rattle.cyc_types.specs.TypedTrees.{Expression, Statement, Program}
+use Rattle.cyc_types.specs.TypedTrees.{Expression, Statement}
 use Rattle.cyc_types.specs.flow.States as flow
 use Rattle.cyc_types.specs.flow.States.{is_reached}
 use Rattle.cyc_meaning.specs.Values.{Operand}
 use Rattle.cyc_meaning.specs.Values as values
-use Rattle.cyc_meaning.specs.State.{World, closed, region_at, Environment, Test, Entry, Needs, NeedsPlace, Discard, Rest, Join, Loop, CloseRegion, Handler, Caller, Main, Focus, Evaluating, Given, Proceeding, Breaking, Continuing, Returning, Throwing, Catching, Running}
+use Rattle.cyc_meaning.specs.State.{World, closed, region_at, Environment, Test, Entry, Needs, NeedsPlace, Discard, Rest, Join, Loop, CloseRegion, CloseLexical, Handler, Caller, Main, Focus, Evaluating, Given, Proceeding, Breaking, Continuing, Returning, Throwing, Catching, Running}
 use Rattle.cyc_meaning.specs.Parts.{closing}
-use Rattle.cyc_meaning.specs.Nesting.{ends_of, IsNested}
+use Rattle.cyc_meaning.specs.Regions.{closing_lexical}
+use Rattle.cyc_meaning.specs.Nesting.{IsNested}
 use Rattle.cyc_meaning.specs.Step.{step_proceeding, step_breaking, step_continuing, returned, main_returned, step_returning, step_throwing}
-use Rattle.cyc_soundness.specs.Lives.{Value, read, read_value}
+use Rattle.cyc_soundness.specs.Lives.{Life, Value}
 use Rattle.cyc_soundness.specs.Lives as lives
 use Rattle.cyc_soundness.specs.Worlds.{Typing, HasType, IsTyped}
-use Rattle.cyc_soundness.specs.Frames.{InScope, IsBound, AreVariables, LiveIn, Holds, LoopExit, Exits, is_loop, KnowsProgram}
+use Rattle.cyc_soundness.specs.Frames.{InScope, Names, Home, IsBound, AreVariables, LiveIn, Holds, LoopExit, Exits, HasResult, is_loop, KnowsProgram}
 use Rattle.cyc_soundness.specs.Stacks.{IsLoop, Want, Nothing, Val, PlaceOf, Go, IsBlocked, IsReturn, IsStack, IsFocus, IsWell}
 use Rattle.cyc_soundness.specs.Stacks as stacks
 use Rattle.cyc_soundness.proofs.Numbers.{some_same}
 use Rattle.cyc_soundness.proofs.FlowLemmas.{holds_implied}
-use Rattle.cyc_soundness.proofs.StackLemmas.{void_goes, not_heap, within_bound, within_variables, within_live, within_holds, found_is, waits_within}
+use Rattle.cyc_soundness.proofs.StackLemmas.{void_goes, not_heap, lexical_not_heap, within_bound, within_variables, within_live, within_holds, found_is, waits_within}
 use Rattle.cyc_soundness.proofs.WorldLemmas.{closed_typed}
 use Rattle.cyc_soundness.proofs.Cells.{running}
 use Rattle.cyc_soundness.proofs.Execution.{continue_with}
+use Rattle.cyc_soundness.specs.Classes.{Source}
 
 never_loop : (o : Option LoopExit) (l : LoopExit) → is_loop o ≡ false → o ≡ Some l → ⊥
 never_loop o l none same = let z : true ≡ false = subst (λ u. is_loop u ≡ false) same none in absurd (cc)
 
-module _ (p : Program) (g : Typing) (e : Environment) (w : World) (typed : IsTyped g w.regions w.objects) (globals : KnowsProgram g p) where
+module _ (p : Source) (g : Typing) (e : Environment) (w : World) (typed : IsTyped g w.regions w.objects) (globals : KnowsProgram g p) where
   module _ (x : Exits) (bs : List InScope) (bound : IsBound e.locals e.counters bs) (variables : AreVariables g bs) where
-    on : (focus : Focus) (k : List Entry) → LiveIn (ends_of k) bs → IsFocus p g x bs focus k → IsWell p (Running focus k e w)
+    on : (focus : Focus) (k : List Entry) → LiveIn k bs → IsFocus p g x bs focus k → IsWell p (Running focus k e w)
     on focus k live stands = running p g x bs e w typed globals bound variables focus k live stands
 
-    closes : (focus : Focus) (region home : ℕ) (k : List Entry) → IsNested (CloseRegion region home ∷ k) e w → LiveIn (ends_of k) bs → IsFocus p g x bs focus k
-        → IsWell p (closing (region_at w region) focus region home k e w)
-    closes focus region home k nests live stands =
+    -- a region closes, whose name is out of scope then
+    closes : (focus : Focus) (region home number : ℕ) (l : Life) (alive : Bool) (k : List Entry) (cs : List InScope) → bs ≡ Home region ∷ Names number l alive ∷ cs → IsNested (CloseRegion region home ∷ k) e w → LiveIn k cs
+        → IsFocus p g x cs focus k → IsWell p (closing (region_at w region) focus region home k e w)
+    closes focus region home number l alive k cs same nests live stands =
         let (r, found) = found_is (region_at w region) nests.0.0 in
+        let (u, (v, outer)) = subst (λ z. IsBound e.locals e.counters z) same bound in
+        let (u2, (v2, outside)) = subst (λ z. AreVariables g z) same variables in
         subst (λ a. IsWell p (closing a focus region home k e w)) (sym found)
-        (running p g x bs (record e { home = home }) (closed w region r) (closed_typed g w.regions region (record r { is_open = false }) w.objects (not_heap region home k e w nests) typed) globals bound variables focus k live stands)
+        (running p g x cs (record e { home = home }) (closed w region r) (closed_typed g w.regions region (record r { is_open = false }) w.objects (not_heap region home k e w nests) typed) globals outer outside focus k live stands)
+
+    outside_holds : (f : flow.State) (region number : ℕ) (l : Life) (alive : Bool) (cs : List InScope) → bs ≡ Home region ∷ Names number l alive ∷ cs → Holds g f bs → Holds g f cs
+    outside_holds f region number l alive cs same holds = let (reached, (u, (v, are))) = subst (λ z. Holds g f z) same holds in (reached, are)
+
+    closes_lexical : (focus : Focus) (region : ℕ) (k : List Entry) → IsNested (CloseLexical region ∷ k) e w → LiveIn k bs → IsFocus p g x bs focus k → IsWell p (closing_lexical (region_at w region) focus region k e w)
+    closes_lexical focus region k nests live stands =
+        let (r, found) = found_is (region_at w region) nests.0.0 in
+        subst (λ a. IsWell p (closing_lexical a focus region k e w)) (sym found)
+        (running p g x bs e (closed w region r) (closed_typed g w.regions region (record r { is_open = false }) w.objects (lexical_not_heap region k e w nests) typed) globals bound variables focus k live stands)
 
     -- a loop's condition is evaluated again
-    tests_again : (condition : Expression) (body : Statement) (k : List Entry) (y : Exits) (l : LoopExit) (v : ValueType) (u h : flow.State) → LiveIn (ends_of k) bs → IsLoop p y bs l condition body v u h → Holds g l.head bs → IsStack p g y bs (Go h) k
+    tests_again : (condition : Expression) (body : Statement) (k : List Entry) (y : Exits) (l : LoopExit) (v : ValueType) (u h : flow.State) → LiveIn k bs → IsLoop p y bs l condition body v u h → Holds g l.head bs → IsStack p g y bs (Go h) k
         → IsWell p (Running (Evaluating condition) (Needs (Test condition body) ∷ k) e w)
     tests_again condition body k y l v u h live loop holds stack =
         running p g y bs e w typed globals bound variables (Evaluating condition) (Needs (Test condition body) ∷ k) live
@@ -48,58 +62,64 @@ module _ (p : Program) (g : Typing) (e : Environment) (w : World) (typed : IsTyp
 
     -- ---- to the end of a call
 
-    pub proceed : (k : List Entry) (f : flow.State) → IsNested k e w → LiveIn (ends_of k) bs → Holds g f bs → IsStack p g x bs (Go f) k → IsWell p (step_proceeding k e w)
+    pub proceed : (k : List Entry) (f : flow.State) → IsNested k e w → LiveIn k bs → Holds g f bs → IsStack p g x bs (Go f) k → IsWell p (step_proceeding k e w)
     proceed (Discard ∷ k) f nests live holds stack = on Proceeding k live (f, holds, stack)
     proceed (Rest js ∷ k) f nests live holds (cs, c, h, within, stands, rest, stack) =
         continue_with p g x bs e w typed globals bound variables js k cs c f h rest.before rest.behind nests live within stands holds rest.typed rest.flows rest.breaks rest.kept stack
     proceed (Join ∷ k) f nests live holds (h, i, stack) = on Proceeding k live (h, holds_implied g f h bs i holds, stack)
     proceed (Loop condition body ∷ k) f nests live holds (y, l, v, u, h, same, loop, i, stack) = tests_again condition body k y l v u h live loop (holds_implied g f l.head bs i holds) stack
-    proceed (CloseRegion region home ∷ k) f nests live holds (h, i, outer, stack) = closes Proceeding region home k nests outer (h, holds_implied g f h bs i holds, stack)
+    proceed (CloseRegion region home ∷ k) f nests live holds (cs, number, l, alive, h, same, i, outer, stack) =
+        closes Proceeding region home number l alive k cs same nests outer (h, holds_implied g f h cs i (outside_holds f region number l alive cs same holds), stack)
+    proceed (CloseLexical region ∷ k) f nests live holds (h, i, outer, stack) = closes_lexical Proceeding region k nests outer (h, holds_implied g f h bs i holds, stack)
     proceed (Handler cs ∷ k) f nests live holds (c, start, h, stands, known, catches, i, stack) = on Proceeding k live (h, holds_implied g f h bs i holds, stack)
-    proceed (Caller outer ∷ k) f nests live holds (y, cs, h, loop, blocked, bound', variables', live', holds', stack) = go x.result refl
+    proceed (Caller outer ∷ k) f nests live holds (y, cs, h, loop, blocked, gives, bound', variables', live', holds', stack) = go x.result refl
       where
         go : (o : Option Ty) → x.result ≡ o → IsWell p (Running Proceeding k outer w)
         go None same = running p g y cs outer w typed globals bound' variables' Proceeding k live'
-            (h, holds', void_goes p g y cs h (read_value (result_type x.result)) k (ap (λ z. read_value (result_type z)) same) stack)
+            (h, holds', void_goes p g y cs h x.gives k (subst (λ z. HasResult z x.gives) same gives) stack)
         go (Some t) same = let blocked_is : is_reached f ≡ false = subst (λ z. IsBlocked z f) same blocked in let z : true ≡ false = sym holds.0 ∙ blocked_is in absurd (cc)
-    proceed (Main ∷ k) f nests live holds (loop, int, blocked, stack) = let z : true ≡ false = sym holds.0 ∙ blocked in absurd (cc)
+    proceed (Main ∷ k) f nests live holds (loop, int, gives, blocked, stack) = let z : true ≡ false = sym holds.0 ∙ blocked in absurd (cc)
     proceed k f nests live holds stack = absurd stack
 
     -- ---- to the loop around
 
-    pub breaks : (k : List Entry) (l : LoopExit) (f : flow.State) → IsNested k e w → LiveIn (ends_of k) bs → x.loop ≡ Some l → Holds g l.breaks bs → IsStack p g x bs (Go f) k → IsWell p (step_breaking k e w)
+    pub breaks : (k : List Entry) (l : LoopExit) (f : flow.State) → IsNested k e w → LiveIn k bs → x.loop ≡ Some l → Holds g l.breaks bs → IsStack p g x bs (Go f) k → IsWell p (step_breaking k e w)
     breaks (Discard ∷ k) l f nests live same holds stack = on Breaking k live (l, f, same, holds, stack)
     breaks (Rest js ∷ k) l f nests live same holds (cs, c, h, within, stands, rest, stack) =
-        running p g x cs e w typed globals (within_bound e cs bs within bound) (within_variables g cs bs within variables) Breaking k (within_live (ends_of k) cs bs within live)
+        running p g x cs e w typed globals (within_bound e cs bs within bound) (within_variables g cs bs within variables) Breaking k (within_live k cs bs within live)
         (l, h, same, within_holds g l.breaks cs bs within holds, stack)
     breaks (Join ∷ k) l f nests live same holds (h, i, stack) = on Breaking k live (l, h, same, holds, stack)
     breaks (Loop condition body ∷ k) l f nests live same holds (y, m, v, u, h, around_is, loop, i, stack) =
         let one : m ≡ l = some_same m l (sym (ap (λ (z : Exits). z.loop) around_is) ∙ same) in
         running p g y bs e w typed globals bound variables Proceeding k live (h, holds_implied g m.breaks h bs loop.left (subst (λ (z : LoopExit). Holds g z.breaks bs) (sym one) holds), stack)
-    breaks (CloseRegion region home ∷ k) l f nests live same holds (h, i, outer, stack) = closes Breaking region home k nests outer (l, h, same, holds, stack)
+    breaks (CloseRegion region home ∷ k) l f nests live same holds (cs, number, m, alive, h, bs_are, i, outer, stack) =
+        closes Breaking region home number m alive k cs bs_are nests outer (l, h, same, outside_holds l.breaks region number m alive cs bs_are holds, stack)
+    breaks (CloseLexical region ∷ k) l f nests live same holds (h, i, outer, stack) = closes_lexical Breaking region k nests outer (l, h, same, holds, stack)
     breaks (Handler cs ∷ k) l f nests live same holds (c, start, h, stands, known, catches, i, stack) = on Breaking k live (l, h, same, holds, stack)
-    breaks (Caller outer ∷ k) l f nests live same holds (y, cs, h, loop, blocked, bound', variables', live', holds', stack) = absurd (never_loop x.loop l loop same)
-    breaks (Main ∷ k) l f nests live same holds (loop, int, blocked, stack) = absurd (never_loop x.loop l loop same)
+    breaks (Caller outer ∷ k) l f nests live same holds (y, cs, h, loop, blocked, gives, bound', variables', live', holds', stack) = absurd (never_loop x.loop l loop same)
+    breaks (Main ∷ k) l f nests live same holds (loop, int, gives, blocked, stack) = absurd (never_loop x.loop l loop same)
     breaks k l f nests live same holds stack = absurd stack
 
-    pub continues : (k : List Entry) (l : LoopExit) (f : flow.State) → IsNested k e w → LiveIn (ends_of k) bs → x.loop ≡ Some l → Holds g l.head bs → IsStack p g x bs (Go f) k → IsWell p (step_continuing k e w)
+    pub continues : (k : List Entry) (l : LoopExit) (f : flow.State) → IsNested k e w → LiveIn k bs → x.loop ≡ Some l → Holds g l.head bs → IsStack p g x bs (Go f) k → IsWell p (step_continuing k e w)
     continues (Discard ∷ k) l f nests live same holds stack = on Continuing k live (l, f, same, holds, stack)
     continues (Rest js ∷ k) l f nests live same holds (cs, c, h, within, stands, rest, stack) =
-        running p g x cs e w typed globals (within_bound e cs bs within bound) (within_variables g cs bs within variables) Continuing k (within_live (ends_of k) cs bs within live)
+        running p g x cs e w typed globals (within_bound e cs bs within bound) (within_variables g cs bs within variables) Continuing k (within_live k cs bs within live)
         (l, h, same, within_holds g l.head cs bs within holds, stack)
     continues (Join ∷ k) l f nests live same holds (h, i, stack) = on Continuing k live (l, h, same, holds, stack)
     continues (Loop condition body ∷ k) l f nests live same holds (y, m, v, u, h, around_is, loop, i, stack) =
         let one : m ≡ l = some_same m l (sym (ap (λ (z : Exits). z.loop) around_is) ∙ same) in
         tests_again condition body k y m v u h live loop (subst (λ (z : LoopExit). Holds g z.head bs) (sym one) holds) stack
-    continues (CloseRegion region home ∷ k) l f nests live same holds (h, i, outer, stack) = closes Continuing region home k nests outer (l, h, same, holds, stack)
+    continues (CloseRegion region home ∷ k) l f nests live same holds (cs, number, m, alive, h, bs_are, i, outer, stack) =
+        closes Continuing region home number m alive k cs bs_are nests outer (l, h, same, outside_holds l.head region number m alive cs bs_are holds, stack)
+    continues (CloseLexical region ∷ k) l f nests live same holds (h, i, outer, stack) = closes_lexical Continuing region k nests outer (l, h, same, holds, stack)
     continues (Handler cs ∷ k) l f nests live same holds (c, start, h, stands, known, catches, i, stack) = on Continuing k live (l, h, same, holds, stack)
-    continues (Caller outer ∷ k) l f nests live same holds (y, cs, h, loop, blocked, bound', variables', live', holds', stack) = absurd (never_loop x.loop l loop same)
-    continues (Main ∷ k) l f nests live same holds (loop, int, blocked, stack) = absurd (never_loop x.loop l loop same)
+    continues (Caller outer ∷ k) l f nests live same holds (y, cs, h, loop, blocked, gives, bound', variables', live', holds', stack) = absurd (never_loop x.loop l loop same)
+    continues (Main ∷ k) l f nests live same holds (loop, int, gives, blocked, stack) = absurd (never_loop x.loop l loop same)
     continues k l f nests live same holds stack = absurd stack
 
     -- ---- to the caller
 
-    main_on : (v : Option Operand) → IsReturn g (Some types.Int) v → IsWell p (main_returned v w)
+    main_on : (v : Option Operand) → IsReturn g (Some types.Int) (Value lives.Int) v → IsWell p (main_returned v w)
     main_on None is = absurd is
     main_on (Some v) is = go v.value is.1
       where
@@ -107,48 +127,50 @@ module _ (p : Program) (g : Typing) (e : Environment) (w : World) (typed : IsTyp
         go (values.Int word) has = tt
         go value has = absurd has
 
-    pub returns_on : (k : List Entry) (v : Option Operand) (f : flow.State) → IsNested k e w → LiveIn (ends_of k) bs → IsReturn g x.result v → IsStack p g x bs (Go f) k → IsWell p (step_returning v k e w)
+    pub returns_on : (k : List Entry) (v : Option Operand) (f : flow.State) → IsNested k e w → LiveIn k bs → IsReturn g x.result x.gives v → IsStack p g x bs (Go f) k → IsWell p (step_returning v k e w)
     returns_on (Discard ∷ k) v f nests live is stack = on (Returning v) k live (f, is, stack)
     returns_on (Rest js ∷ k) v f nests live is (cs, c, h, within, stands, rest, stack) =
-        running p g x cs e w typed globals (within_bound e cs bs within bound) (within_variables g cs bs within variables) (Returning v) k (within_live (ends_of k) cs bs within live) (h, is, stack)
+        running p g x cs e w typed globals (within_bound e cs bs within bound) (within_variables g cs bs within variables) (Returning v) k (within_live k cs bs within live) (h, is, stack)
     returns_on (Join ∷ k) v f nests live is (h, i, stack) = on (Returning v) k live (h, is, stack)
     returns_on (Loop condition body ∷ k) v f nests live is (y, m, t, u, h, around_is, loop, i, stack) =
-        running p g y bs e w typed globals bound variables (Returning v) k live (h, subst (λ (z : Exits). IsReturn g z.result v) around_is is, stack)
-    returns_on (CloseRegion region home ∷ k) v f nests live is (h, i, outer, stack) = closes (Returning v) region home k nests outer (h, is, stack)
+        running p g y bs e w typed globals bound variables (Returning v) k live (h, subst (λ (z : Exits). IsReturn g z.result z.gives v) around_is is, stack)
+    returns_on (CloseRegion region home ∷ k) v f nests live is (cs, number, l, alive, h, same, i, outer, stack) = closes (Returning v) region home number l alive k cs same nests outer (h, is, stack)
+    returns_on (CloseLexical region ∷ k) v f nests live is (h, i, outer, stack) = closes_lexical (Returning v) region k nests outer (h, is, stack)
     returns_on (Handler cs ∷ k) v f nests live is (c, start, h, stands, known, catches, i, stack) = on (Returning v) k live (h, is, stack)
-    returns_on (Caller outer ∷ k) v f nests live is (y, cs, h, loop, blocked, bound', variables', live', holds', stack) = go x.result v refl is
+    returns_on (Caller outer ∷ k) v f nests live is (y, cs, h, loop, blocked, gives, bound', variables', live', holds', stack) = go x.result v refl is
       where
-        go : (o : Option Ty) (v : Option Operand) → x.result ≡ o → IsReturn g o v → IsWell p (returned v k outer w)
+        go : (o : Option Ty) (v : Option Operand) → x.result ≡ o → IsReturn g o x.gives v → IsWell p (returned v k outer w)
         go None None same is = running p g y cs outer w typed globals bound' variables' Proceeding k live'
-            (h, holds', void_goes p g y cs h (read_value (result_type x.result)) k (ap (λ z. read_value (result_type z)) same) stack)
+            (h, holds', void_goes p g y cs h x.gives k (subst (λ z. HasResult z x.gives) same gives) stack)
         go None (Some v) same is = absurd is
         go (Some t) None same is = absurd is
         go (Some t) (Some v) same is = running p g y cs outer w typed globals bound' variables' (Given v) k live'
-            (Value (read t), h, holds', is, subst (λ z. IsStack p g y cs (Val (read_value (result_type z)) h) k) same stack)
-    returns_on (Main ∷ k) v f nests live is (loop, int, blocked, stack) = main_on v (subst (λ z. IsReturn g z v) int is)
+            (x.gives, h, holds', is, stack)
+    returns_on (Main ∷ k) v f nests live is (loop, int, gives, blocked, stack) = main_on v (subst (λ z. IsReturn g (Some types.Int) z v) gives (subst (λ z. IsReturn g z x.gives v) int is))
     returns_on k v f nests live is stack = absurd stack
 
     -- ---- to a `try`
 
-    pub throws_on : (k : List Entry) (tag value : ℕ) (want : Want) → IsNested k e w → LiveIn (ends_of k) bs → IsStack p g x bs want k → IsWell p (step_throwing tag value k e w)
+    pub throws_on : (k : List Entry) (tag value : ℕ) (want : Want) → IsNested k e w → LiveIn k bs → IsStack p g x bs want k → IsWell p (step_throwing tag value k e w)
     throws_on [] tag value want nests live stack = tt
     throws_on (Needs a ∷ k) tag value (Val r f) nests live (ts, cs, next, waits, are, stack) =
         let within = waits_within waits in
-        running p g x cs e w typed globals (within_bound e cs bs within bound) (within_variables g cs bs within variables) (Throwing tag value) k (within_live (ends_of k) cs bs within live) (next, stack)
-    throws_on (NeedsPlace a ∷ k) tag value (PlaceOf t f) nests live (next, waits, keeps, stack) = on (Throwing tag value) k live (next, stack)
+        running p g x cs e w typed globals (within_bound e cs bs within bound) (within_variables g cs bs within variables) (Throwing tag value) k (within_live k cs bs within live) (next, stack)
+    throws_on (NeedsPlace a ∷ k) tag value (PlaceOf t l f) nests live (next, waits, keeps, stack) = on (Throwing tag value) k live (next, stack)
     throws_on (Discard ∷ k) tag value (Val r f) nests live stack = on (Throwing tag value) k live (Go f, stack)
     throws_on (Discard ∷ k) tag value (Go f) nests live stack = on (Throwing tag value) k live (Go f, stack)
     throws_on (Rest js ∷ k) tag value (Go f) nests live (cs, c, h, within, stands, rest, stack) =
-        running p g x cs e w typed globals (within_bound e cs bs within bound) (within_variables g cs bs within variables) (Throwing tag value) k (within_live (ends_of k) cs bs within live) (Go h, stack)
+        running p g x cs e w typed globals (within_bound e cs bs within bound) (within_variables g cs bs within variables) (Throwing tag value) k (within_live k cs bs within live) (Go h, stack)
     throws_on (Join ∷ k) tag value (Go f) nests live (h, i, stack) = on (Throwing tag value) k live (Go h, stack)
     throws_on (Loop condition body ∷ k) tag value (Go f) nests live (y, m, t, u, h, around_is, loop, i, stack) =
         running p g y bs e w typed globals bound variables (Throwing tag value) k live (Go h, stack)
-    throws_on (CloseRegion region home ∷ k) tag value (Go f) nests live (h, i, outer, stack) = closes (Throwing tag value) region home k nests outer (Go h, stack)
+    throws_on (CloseRegion region home ∷ k) tag value (Go f) nests live (cs, number, l, alive, h, same, i, outer, stack) = closes (Throwing tag value) region home number l alive k cs same nests outer (Go h, stack)
+    throws_on (CloseLexical region ∷ k) tag value (Go f) nests live (h, i, outer, stack) = closes_lexical (Throwing tag value) region k nests outer (Go h, stack)
     throws_on (Handler cs ∷ k) tag value (Go f) nests live (c, start, h, stands, known, catches, i, stack) = on (Catching tag value cs) k live (c, start, f, h, stands, known, catches, stack)
-    throws_on (Caller outer ∷ k) tag value (Go f) nests live (y, cs, h, loop, blocked, bound', variables', live', holds', stack) =
-        running p g y cs outer w typed globals bound' variables' (Throwing tag value) k live' (Val (read_value (result_type x.result)) h, stack)
-    throws_on (Main ∷ k) tag value (Go f) nests live (loop, int, blocked, stack) = on (Throwing tag value) k live (Nothing, stack)
+    throws_on (Caller outer ∷ k) tag value (Go f) nests live (y, cs, h, loop, blocked, gives, bound', variables', live', holds', stack) =
+        running p g y cs outer w typed globals bound' variables' (Throwing tag value) k live' (Val x.gives h, stack)
+    throws_on (Main ∷ k) tag value (Go f) nests live (loop, int, gives, blocked, stack) = on (Throwing tag value) k live (Nothing, stack)
     throws_on k tag value Nothing nests live stack = absurd stack
     throws_on k tag value (Val r f) nests live stack = absurd stack
-    throws_on k tag value (PlaceOf t f) nests live stack = absurd stack
+    throws_on k tag value (PlaceOf t l f) nests live stack = absurd stack
     throws_on k tag value (Go f) nests live stack = absurd stack

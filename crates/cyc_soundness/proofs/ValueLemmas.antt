@@ -1,5 +1,5 @@
 -- What operators, tests and conversions give of typed values: a value of the type that is wanted, or an exception.
-use Rattle.std.proofs.Common.{◌≡◌, ℕ, ◌+◌, ◌<◌, Bool, true, false, Some, eqb, refl, sym, subst, ◌∙◌, arith}
+use Rattle.std.proofs.Common.{◌≡◌, ℕ, ◌+◌, ◌<◌, Bool, true, false, List, ◌∷◌, Some, eqb, refl, sym, subst, ◌∙◌, arith}
 use Rattle.std.specs.Prelude.{if◌then◌else◌, nat_lt}
 use Rattle.std.proofs.lemmas.Bool.{ltb-true}
 use Rattle.cyc_syntax.specs.declared.tree.PointerKind.{PointerKind}
@@ -9,6 +9,8 @@ use Rattle.cyc_types.specs.declared.typed.Operator.{Operator}
 use Rattle.cyc_types.specs.declared.typed.UnaryOperator.TheVariants as unary
 use Rattle.cyc_types.specs.Types.{Ty, ValueType}
 use Rattle.cyc_types.specs.Types as types
+use Rattle.cyc_types.specs.declared.region.Region.{Region}
+use Rattle.cyc_types.specs.Outlives.{RegionContext, IsGiven, itself, given, through}
 use Rattle.cyc_types.specs.typing.Tests.{is_tested}
 use Rattle.cyc_types.specs.typing.Tests as tests
 use Rattle.cyc_types.specs.typing.WellTyped.{Context, Converts}
@@ -16,17 +18,30 @@ use Rattle.cyc_meaning.specs.Values.{Operand}
 use Rattle.cyc_meaning.specs.Values as values
 use Rattle.cyc_meaning.specs.Operators.{Gives, Raises, is_zero, binary_result, has_no_result, unary_result, binary_word, division_by_zero, array_bounds}
 use Rattle.cyc_meaning.specs.Conversion.{conversion, thinned}
-use Rattle.cyc_soundness.specs.Lives.{Life, RunTy, Int, Pointer, Handle, Key, Lives, at, value_at, as_heap, read, read_value}
-use Rattle.cyc_soundness.specs.Lives as lives
-use Rattle.cyc_soundness.specs.Worlds.{Typing, Outlasts, alike, heap as for_ever, globals as with_globals, AgreesWith, IsTarget, HasType, IsResult, Fits}
+use Rattle.cyc_soundness.specs.Lives.{Life, RunTy, Int, Pointer, Handle, Key, Lives, at, value_at}
+use Rattle.cyc_soundness.specs.Worlds.{Typing, Outlasts, alike, heap as for_ever, globals as with_globals, encloses, IsEndOf, whole, behind, AgreesWith, IsTarget, HasType, IsResult, Fits}
 use Rattle.cyc_soundness.proofs.TypeLemmas.{kind_read}
 
 -- ---- what lasts as long
 
-outlasts_through : (a b c : Life) → Outlasts a b → Outlasts b c → Outlasts a c
+pub ends_through : (ls ms : List ℕ) (n : ℕ) (ns : List ℕ) → IsEndOf ls ms → IsEndOf (n ∷ ms) ns → IsEndOf ls ns
+ends_through ls ms n ns end whole = behind n ms end
+ends_through ls ms n ns end (behind o os later) = behind o os (ends_through ls ms n os end later)
+
+pub outlasts_through : (a b c : Life) → Outlasts a b → Outlasts b c → Outlasts a c
 outlasts_through a b c (alike _) second = second
 outlasts_through a b c (for_ever _) second = for_ever c
 outlasts_through a b c (with_globals _) second = with_globals c
+outlasts_through a b c (encloses l m ls ms end) (alike _) = encloses l m ls ms end
+outlasts_through a b c (encloses l m ls ms end) (for_ever _) = elim end [ ]
+outlasts_through a b c (encloses l m ls ms end) (with_globals _) = elim end [ ]
+outlasts_through a b c (encloses l m ls ms end) (encloses _ n _ ns later) = encloses l n ls ns (ends_through (l ∷ ls) ms m ns end later)
+
+-- Where what is given agrees, so does all that follows from it.
+pub given_agree : (c : RegionContext) (n : Lives) → ((a b : Region) → IsGiven c a b → Outlasts (n a) (n b)) → AgreesWith c n
+given_agree c n agree a b (itself _) = alike (n a)
+given_agree c n agree a b (given _ _ is) = agree a b is
+given_agree c n agree a d (through _ b _ first second) = outlasts_through (n a) (n b) (n d) (given_agree c n agree a b first) (given_agree c n agree b d second)
 
 module _ (g : Typing) where
   -- ---- ints
@@ -61,10 +76,10 @@ module _ (g : Typing) where
   pointer_zero marks.Fat t l v is = absurd is
 
   -- what is tested is zero or is not
-  pub zero_is : (t : ValueType) (v : Operand) → is_tested t ≡ true → IsResult g (read_value t) v → (b : Bool) × (is_zero v.value ≡ Some b)
-  zero_is (types.Value types.Int) v tested is = int_zero v.value is.1
-  zero_is (types.Value (types.Pointer k t r)) v tested is = pointer_zero k (read t) (lives.OfRegion 0) v.value is.1
-  zero_is t v tested is = absurd (let e : false ≡ true = tested in cc)
+  pub zero_is : (n : Lives) (t : ValueType) (v : Operand) → is_tested t ≡ true → IsResult g (value_at n t) v → (b : Bool) × (is_zero v.value ≡ Some b)
+  zero_is n (types.Value types.Int) v tested is = int_zero v.value is.1
+  zero_is n (types.Value (types.Pointer k t r)) v tested is = pointer_zero k (at n t) (n r) v.value is.1
+  zero_is n t v tested is = absurd (let e : false ≡ true = tested in cc)
 
   -- ---- conversions
 
@@ -151,15 +166,12 @@ module _ (g : Typing) where
       subst (λ z. Fits g (Pointer k (at n t) (n r)) (conversion (tests.kind_of_mark k) z)) (sym is.1) (null_converted k (at n t) (n r))
   converted_by n c s t v agrees conv is = absurd conv
 
-  pub converted : (c : Context) (s : ValueType) (t : Ty) (v : Operand) → Converts c s t → IsResult g (read_value s) v → Fits g (read t) (conversion (tests.kind_of t) v.value)
-  converted c s t v conv is = converted_by as_heap c s t v (λ a b outlives. alike (lives.OfRegion 0)) conv is
-
   -- and it has the kind that the tree says
-  pub kind_given : (c : Context) (s : ValueType) (t : Ty) (v : Operand) → Converts c s t → IsResult g (read_value s) v → v.kind ≡ tests.kind_of_value s
-  kind_given c types.Void types.Int v conv is = absurd conv
-  kind_given c types.Void (types.Pointer k t r) v conv is = absurd conv
-  kind_given c types.Void (types.Handle r) v conv is = absurd conv
-  kind_given c types.Void (types.Key r) v conv is = absurd conv
-  kind_given c types.Void (types.Struct n rs) v conv is = absurd conv
-  kind_given c types.Null t v conv is = is.0
-  kind_given c (types.Value s) t v conv is = is.0 ∙ kind_read s
+  pub kind_given : (n : Lives) (c : Context) (s : ValueType) (t : Ty) (v : Operand) → Converts c s t → IsResult g (value_at n s) v → v.kind ≡ tests.kind_of_value s
+  kind_given n c types.Void types.Int v conv is = absurd conv
+  kind_given n c types.Void (types.Pointer k t r) v conv is = absurd conv
+  kind_given n c types.Void (types.Handle r) v conv is = absurd conv
+  kind_given n c types.Void (types.Key r) v conv is = absurd conv
+  kind_given n c types.Void (types.Struct m rs) v conv is = absurd conv
+  kind_given n c types.Null t v conv is = is.0
+  kind_given n c (types.Value s) t v conv is = is.0 ∙ kind_read n s

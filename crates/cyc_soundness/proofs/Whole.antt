@@ -1,12 +1,14 @@
 -- THE WHOLE: every step of a typed state leads to a typed state, so no run of an accepted program of the class is dead or wrong.
-use Rattle.std.proofs.Common.{◌≡◌, ◌≢◌, inl, inr, ℕ, ◌≤◌, zero, suc, Bool, true, false, List, [], ◌∷◌, length, map, Option, Some, None, slice_get, refl, sym, ap, subst, arith}
-use Rattle.std.specs.Prelude.{if◌then◌else◌, option_map}
-use Rattle.std.proofs.lemmas.Bool.{eq-eqb}
+use Rattle.std.proofs.Common.{◌≡◌, ◌≢◌, inl, inr, ℕ, ◌≤◌, zero, suc, Bool, true, false, List, [], ◌∷◌, length, map, Option, Some, None, slice_get, refl, sym, ap, subst, ◌∙◌, arith}
+use Rattle.std.specs.Prelude.{if◌then◌else◌, ◌==◌}
+use Rattle.std.proofs.lemmas.Bool.{eq-eqb, eqb-true}
 use Rattle.cyc_syntax.specs.declared.tree.PointerKind.{PointerKind}
 use Rattle.cyc_syntax.specs.declared.tree.PointerKind.TheVariants as marks
 use Rattle.cyc_types.specs.declared.region.Region.{Region}
+use Rattle.cyc_types.specs.declared.region.Region.TheVariants as regions
+use Rattle.cyc_types.specs.Outlives.{RegionContext}
 use Rattle.cyc_syntax.specs.Symbols.{Place}
-use Rattle.cyc_types.specs.Types.{Ty}
+use Rattle.cyc_types.specs.Types.{Ty, result_type}
 use Rattle.cyc_types.specs.Types as types
 use Rattle.cyc_types.specs.TypedTrees.{StructType, GlobalVariable, Signature, Function, Program}
 use Rattle.cyc_types.specs.Rules.{AllKept, Derives}
@@ -20,16 +22,17 @@ use Rattle.cyc_types.specs.flow.Programs.{end_demanded, rule_functions, IsAllowe
 use Rattle.cyc_meaning.specs.Values as values
 use Rattle.cyc_meaning.specs.State.{World, Object, Environment, no_locals, first_world, global_object, constant_value, Entry, Needs, NeedsPlace, Discard, Main, Focus, Evaluating, Locating, Given, GivenPlace, Writing, Swapping, Beginning, Repeating, Executing, Proceeding, Calling, Entering, Binding, Naming, Breaking, Continuing, Returning, Throwing, Catching, State, Running, Ended, Dead, Wrong, GoesOn, HasEnded, IsDead, IsWrong, status_of}
 use Rattle.cyc_meaning.specs.Parts.{wrong}
-use Rattle.cyc_meaning.specs.Nesting.{ends_of, IsNested, Nests}
+use Rattle.cyc_meaning.specs.Nesting.{IsNested, Nests}
 use Rattle.cyc_meaning.specs.Places.{step_given_place}
 use Rattle.cyc_meaning.specs.Step.{called, step, stepped, step_given}
 use Rattle.cyc_meaning.specs.Run.{start, steps, run}
 use Rattle.cyc_meaning.proofs.Nested.{nests_step, nests_start}
-use Rattle.cyc_soundness.specs.Lives.{RunTy, RunValue, read}
-use Rattle.cyc_soundness.specs.Worlds.{ObjectType, Typing, global_type, HasType, IsResult, AreOperands, IsObject, IsTyped}
-use Rattle.cyc_soundness.specs.Frames.{InScope, IsBound, AreVariables, LiveIn, itself, Holds, Exits, KnowsProgram}
-use Rattle.cyc_soundness.specs.Classes.{InFunctions, IsOfTheHeap}
-use Rattle.cyc_soundness.specs.Stacks.{IsAccepted, Val, PlaceOf, pointer, IsStack, IsFocus, IsWell}
+use Rattle.cyc_soundness.specs.Lives.{Life, RunTy, RunValue, at, heap_life, lives_of, as_heap, Reading, AsHeap, ByScope}
+use Rattle.cyc_soundness.specs.Lives as lives
+use Rattle.cyc_soundness.specs.Worlds.{ObjectType, Typing, Outlasts, heap as for_ever, global_type, HasType, IsResult, AreOperands, IsObject, IsTyped}
+use Rattle.cyc_soundness.specs.Frames.{InScope, Instance, read, read_value, IsThereBy, IsBound, AreVariables, LiveIn, Holds, Exits, StandBy, lives_among, KnowsProgram}
+use Rattle.cyc_soundness.specs.Classes.{IsDeclarable, InFunctions, InGlobals, InFields, InStructs, IsOfTheHeap, IsOfScopes, Source, IsInClass}
+use Rattle.cyc_soundness.specs.Stacks.{IsAccepted, Val, PlaceOf, regions_at_call, IsStack, IsFocus, IsWell}
 use Rattle.cyc_soundness.specs.Sound.{IsSound}
 use Rattle.cyc_soundness.proofs.Numbers.{some_same}
 use Rattle.cyc_soundness.proofs.TypeLemmas.{kind_meant}
@@ -47,18 +50,18 @@ use Rattle.cyc_soundness.proofs.Unwinding.{proceed, breaks, continues, returns_o
 
 -- ---- a step
 
-module _ (p : Program) (accepted : AreAccepted p) (e : Environment) (w : World) (g : Typing) (x : Exits) (bs : List InScope) (objects : IsTyped g w.regions w.objects) (globals : KnowsProgram g p) (bound : IsBound e.locals e.counters bs) (variables : AreVariables g bs) where
-  given_on : (v : values.Operand) (k : List Entry) (r : RunValue) (f : flow.State) → IsNested k e w → LiveIn (ends_of k) bs → Holds g f bs → IsResult g r v → IsStack p g x bs (Val r f) k → IsWell p (step_given v k e w)
+module _ (p : Source) (accepted : AreAccepted p) (e : Environment) (w : World) (g : Typing) (x : Exits) (bs : List InScope) (objects : IsTyped g w.regions w.objects) (globals : KnowsProgram g p) (bound : IsBound e.locals e.counters bs) (variables : AreVariables g bs) where
+  given_on : (v : values.Operand) (k : List Entry) (r : RunValue) (f : flow.State) → IsNested k e w → LiveIn k bs → Holds g f bs → IsResult g r v → IsStack p g x bs (Val r f) k → IsWell p (step_given v k e w)
   given_on v (Needs a ∷ k) r f nests live holds is (ts, cs, next, waits, are, stack) = given p g x bs e w objects globals bound variables v k nests live holds is waits are stack
   given_on v (Discard ∷ k) r f nests live holds is stack = running p g x bs e w objects globals bound variables Proceeding k live (f, holds, stack)
   given_on v k r f nests live holds is stack = absurd stack
 
-  place_on : (place : values.Value) (k : List Entry) (t : RunTy) (f : flow.State) → IsNested k e w → LiveIn (ends_of k) bs → Holds g f bs → HasType g (pointer marks.NonNull t) place → IsStack p g x bs (PlaceOf t f) k
+  place_on : (place : values.Value) (k : List Entry) (t : RunTy) (l : Life) (f : flow.State) → IsNested k e w → LiveIn k bs → Holds g f bs → HasType g (lives.Pointer marks.NonNull t l) place → IsStack p g x bs (PlaceOf t l f) k
       → IsWell p (step_given_place place k e w)
-  place_on place (NeedsPlace a ∷ k) t f nests live holds has (next, waits, keeps, stack) = place_given p g x bs e w objects globals bound variables place k nests.0 live holds has waits keeps stack
-  place_on place k t f nests live holds has stack = absurd stack
+  place_on place (NeedsPlace a ∷ k) t l f nests live holds has (next, waits, keeps, stack) = place_given p g x bs e w objects globals bound variables place k nests.0 live holds has waits keeps stack
+  place_on place k t l f nests live holds has stack = absurd stack
 
-  step_well : (focus : Focus) (k : List Entry) → IsNested k e w → LiveIn (ends_of k) bs → IsFocus p g x bs focus k → IsWell p (stepped p focus k e w)
+  step_well : (focus : Focus) (k : List Entry) → IsNested k e w → LiveIn k bs → IsFocus p g x bs focus k → IsWell p (stepped p.program focus k e w)
   step_well (Evaluating a) k nests live (c, t, f, h, stands, holds, evaluates, stack) =
       evaluate p g x bs e w objects globals bound variables a k c t f h evaluates.waiting nests.0 live stands holds evaluates.typed evaluates.flows evaluates.kept stack
   step_well (Given v) k nests live (r, f, holds, is, stack) = given_on v k r f nests live holds is stack
@@ -66,22 +69,23 @@ module _ (p : Program) (accepted : AreAccepted p) (e : Environment) (w : World) 
       execute p g x bs e w objects globals bound variables s k c f h executes.before executes.behind live stands holds executes.typed executes.flows executes.breaks executes.kept stack
   step_well Proceeding k nests live (f, holds, stack) = proceed p g e w objects globals x bs bound variables k f nests live holds stack
   step_well (Calling callee arguments) k nests live (ts, r, f, holds, is, are, stack) = call p accepted g x bs e w objects globals bound variables callee arguments k ts r f live holds is are stack
-  step_well (Entering h arguments) k nests live (end, ok, body, none, are, stack) = enter p accepted g x bs e w objects globals bound variables h arguments k end ok body none are stack
-  step_well (Binding number ts arguments js) k nests live (h, end, vs, cs, within, ok, body, body_is, scope_is, count, are, scope, below, full, stack) =
-      bind p accepted g x bs e w objects globals bound variables number ts arguments js k h end vs cs nests live within ok body body_is scope_is count are scope below full stack
-  step_well (Naming number v js) k nests live (c, t, f, h, stands, holds, number_is, is, continues', stack) =
-      declares_full p g x bs e w objects globals bound variables number v.kind v.value t js bs c f h k nests live (itself bs) stands holds number_is is.0 is.1 continues' stack
-  step_well (Locating d) k nests live (c, t, f, h, stands, holds, locates, stack) =
-      locate p g x bs e w objects globals bound variables d k c t f h locates.waiting locates.region live stands holds locates.typed locates.flows locates.kept stack
-  step_well (GivenPlace place) k nests live (t, f, holds, has, stack) = place_on place k t f nests live holds has stack
-  step_well (Writing these (Some v)) k nests live (t, f, holds, making, stack) = write_on p g x bs e w objects globals bound variables these v t k f live holds making stack
+  step_well (Entering h arguments) k nests live (end, these, alive, ok, body, these_are, stand, are, stack) =
+      enter p accepted g x bs e w objects globals bound variables h arguments k end these alive live ok body these_are stand are stack
+  step_well (Binding number ts arguments js) k nests live (h, end, vs, cs, within, ok, body, body_is, scope_is, count, are, scope, below, full, stand, at_home, stack) =
+      bind p accepted g x bs e w objects globals bound variables number ts arguments js k h end vs cs nests live within ok body body_is scope_is count are scope below full stand at_home stack
+  step_well (Naming number v js) k nests live (c, is_place, t, cs, f, h, within, stands, holds, new, number_is, is, continues', stack) =
+      declares_full p g x bs e w objects globals bound variables number v.kind v.value is_place t js cs c f h k nests live within stands holds new number_is is.0 is.1 continues' stack
+  step_well (Locating d) k nests live (c, t, r, f, h, stands, holds, locates, stack) =
+      locate p g x bs e w objects globals bound variables d k c t f h locates.waiting r live stands holds locates.typed locates.flows locates.kept stack
+  step_well (GivenPlace place) k nests live (t, l, f, holds, has, stack) = place_on place k t l f nests live holds has stack
+  step_well (Writing these (Some v)) k nests live (t, r, f, holds, alive, making, stack) = write_on p g x bs e w objects globals bound variables these v t r k f nests.0 live holds alive making stack
   step_well (Writing these None) k nests live (f, holds, are, stack) = swapped_on p g x bs e w objects globals bound variables these k f nests.0 live holds are stack
   step_well (Swapping kind left right before) k nests live (t, f, holds, kind_is, plain, here, there, read_is, stack) =
       swapping_on p g x bs e w objects globals bound variables kind left right before t k f nests.0 live holds kind_is plain here there read_is stack
-  step_well (Beginning owner count level kind element) k nests live (c, t, f, stands, holds, owned, repeats, stack) =
-      begin_array p g x bs e w objects globals bound variables owner count level kind element k c t f live stands holds owned repeats stack
-  step_well (Repeating object count index level kind element) k nests live (c, t, f, stands, holds, repeats, array, stack) =
-      repeat_on p g x bs e w objects globals bound variables object count index level kind element k c t f live stands holds repeats array stack
+  step_well (Beginning owner count level kind element) k nests live (c, t, r, f, stands, holds, alive, owned, repeats, stack) =
+      begin_array p g x bs e w objects globals bound variables owner count level kind element k c t r f nests.0 live stands holds alive owned repeats stack
+  step_well (Repeating object count index level kind element) k nests live (c, t, r, f, stands, holds, alive, repeats, array, stack) =
+      repeat_on p g x bs e w objects globals bound variables object count index level kind element k c t r f nests.0 live stands holds alive repeats array stack
   step_well Breaking k nests live (l, f, same, holds, stack) = breaks p g e w objects globals x bs bound variables k l f nests live same holds stack
   step_well Continuing k nests live (l, f, same, holds, stack) = continues p g e w objects globals x bs bound variables k l f nests live same holds stack
   step_well (Returning v) k nests live (f, is, stack) = returns_on p g e w objects globals x bs bound variables k v f nests live is stack
@@ -89,18 +93,18 @@ module _ (p : Program) (accepted : AreAccepted p) (e : Environment) (w : World) 
   step_well (Catching tag value cs) k nests live (c, start', f, h, stands, holds, catches, stack) =
       catch p accepted g x bs e w objects globals bound variables tag value cs k c start' f h catches.before catches.behind live stands holds catches.typed catches.flows catches.breaks catches.kept stack
 
-pub well_step : (p : Program) (s : State) → AreAccepted p → Nests s → IsWell p s → IsWell p (step p s)
+pub well_step : (p : Source) (s : State) → AreAccepted p → Nests s → IsWell p s → IsWell p (step p.program s)
 well_step p (Running focus k e w) accepted nests well =
     step_well p accepted e w well.typing well.exits well.locals well.objects well.globals well.bound well.variables focus k nests well.live well.stands
 well_step p (Ended ending output input) accepted nests well = tt
 well_step p (Dead output input) accepted nests well = absurd well
 well_step p (Wrong output input) accepted nests well = absurd well
 
-pub well_steps : (p : Program) (n : ℕ) (s : State) → AreAccepted p → Nests s → IsWell p s → IsWell p (steps p n s)
+pub well_steps : (p : Source) (n : ℕ) (s : State) → AreAccepted p → Nests s → IsWell p s → IsWell p (steps p.program n s)
 well_steps p zero s accepted nests well = well
-well_steps p (suc n) s accepted nests well = well_steps p n (step p s) accepted (nests_step p s nests) (well_step p s accepted nests well)
+well_steps p (suc n) s accepted nests well = well_steps p n (step p.program s) accepted (nests_step p.program s nests) (well_step p s accepted nests well)
 
-well_alive : (p : Program) (s : State) → IsWell p s → (status_of s ≢ IsDead) × (status_of s ≢ IsWrong)
+well_alive : (p : Source) (s : State) → IsWell p s → (status_of s ≢ IsDead) × (status_of s ≢ IsWrong)
 well_alive p (Running focus k e w) well = (λ d. (let z : GoesOn ≡ IsDead = d in absurd (cc)), λ d. (let z : GoesOn ≡ IsWrong = d in absurd (cc)))
 well_alive p (Ended ending output input) well = (λ d. (let z : HasEnded ending ≡ IsDead = d in absurd (cc)), λ d. (let z : HasEnded ending ≡ IsWrong = d in absurd (cc)))
 well_alive p (Dead output input) well = absurd well
@@ -111,7 +115,7 @@ well_alive p (Wrong output input) well = absurd well
 ends_are : (o : Option Ty) (place : Place) (f : flow.State) → AllKept (end_demanded o place f) → (t : Ty) → o ≡ Some t → is_reached f ≡ false
 ends_are o place f kept t same = let demands = subst (λ z. AllKept (end_demanded z place f)) same kept in not_true (is_reached f) demands.0
 
-accepted_among : (p : Program) (hs : List Function) → AreWellTypedFunctions p hs → Derives (rule_functions hs) tt → InFunctions hs → (n : ℕ) (h : Function) → slice_get hs n ≡ Some h → (end : flow.State) × IsAccepted p h end
+accepted_among : (p : Source) (hs : List Function) → AreWellTypedFunctions p.program hs → Derives (rule_functions hs) tt → InFunctions p.reading hs → (n : ℕ) (h : Function) → slice_get hs n ≡ Some h → (end : flow.State) × IsAccepted p h end
 accepted_among p [] well flows kept n h found = absurd (let z : None ≡ Some h = found in cc)
 accepted_among p (f ∷ hs) (one, well) (u, (k, d, (demands, same)), flows) (in_one, kept) zero h found =
     let f_is : f ≡ h = (let z : Some f ≡ Some h = found in cc) in
@@ -125,76 +129,153 @@ accepted_among p (f ∷ hs) (one, well) (u, d, flows) (in_one, kept) (suc n) h f
 abbrev ones : List GlobalVariable → List ℕ
 ones vs = map (λ (v : GlobalVariable). 1) vs
 
-abbrev globals_typed : List StructType → List GlobalVariable → Typing
-globals_typed ss vs = record {
-  objects = map (λ (v : GlobalVariable). global_type (read v.of_type)) vs;
-  filled = ones vs;
-  fields = λ n ls. option_map (λ (s : StructType). map read s.fields) (slice_get ss n);
-}
+abbrev global_of : GlobalVariable → ObjectType
+global_of v = global_type (at as_heap v.of_type)
 
-null_typed : (g : Typing) (k : PointerKind) (t : Ty) (r : Region) → is_non_null (types.Pointer k t r) ≡ false → HasType g (read (types.Pointer k t r)) values.Null
+-- the cells of a struct, for as many lives as it has parameters
+abbrev cells_of : List Life → StructType → Option (List RunTy)
+cells_of ls s = if length ls == s.parameters then Some (map (at (lives_among ls)) s.fields) else None
+
+abbrev found_cells : List Life → Option StructType → Option (List RunTy)
+found_cells ls None = None
+found_cells ls (Some s) = cells_of ls s
+
+abbrev globals_typed : List StructType → List GlobalVariable → Typing
+globals_typed ss vs = record { objects = map global_of vs; filled = ones vs; fields = λ n ls. found_cells ls (slice_get ss n) }
+
+null_typed : (g : Typing) (k : PointerKind) (t : Ty) (r : Region) → is_non_null (types.Pointer k t r) ≡ false → HasType g (at as_heap (types.Pointer k t r)) values.Null
 null_typed g marks.Nullable t r is = tt
 null_typed g marks.NonNull t r is = absurd (let z : true ≡ false = is in cc)
 null_typed g marks.Fat t r is = tt
 
-value_typed : (g : Typing) (v : GlobalVariable) → IsWellTypedGlobal v → HasType g (read v.of_type) (constant_value v.value)
-value_typed g v (inl (int, (word, is))) = subst (λ z. HasType g (read v.of_type) (constant_value z)) (sym is) (subst (λ t. HasType g (read t) (values.Int word)) (sym int) tt)
+value_typed : (g : Typing) (v : GlobalVariable) → IsWellTypedGlobal v → HasType g (at as_heap v.of_type) (constant_value v.value)
+value_typed g v (inl (int, (word, is))) =
+    subst (λ z. HasType g (at as_heap v.of_type) (constant_value z)) (sym is) (subst (λ t. HasType g (at as_heap t) (values.Int word)) (sym int) tt)
 value_typed g v (inr (k, t, r, pointer, null, is)) =
-    subst (λ z. HasType g (read v.of_type) (constant_value z)) (sym is)
-    (subst (λ u. HasType g (read u) values.Null) (sym pointer) (null_typed g k t r (subst (λ u. is_non_null u ≡ false) pointer null)))
+    subst (λ z. HasType g (at as_heap v.of_type) (constant_value z)) (sym is)
+    (subst (λ u. HasType g (at as_heap u) values.Null) (sym pointer) (null_typed g k t r (subst (λ u. is_non_null u ≡ false) pointer null)))
 
-global_is : (g : Typing) (v : GlobalVariable) → IsWellTypedGlobal v → IsObject g 1 (global_type (read v.of_type)) (global_object v)
-global_is g v has = record { owner = refl; cells = ((sym (kind_meant v.of_type), value_typed g v has), tt) }
+global_is : (g : Typing) (v : GlobalVariable) → IsWellTypedGlobal v → IsObject g 1 (global_of v) (global_object v)
+global_is g v has = record { owner = refl; cells = ((sym (kind_meant as_heap v.of_type), value_typed g v has), tt) }
 
 mapped_length : {A B C : Type 0} (f : A → B) (h : A → C) (xs : List A) → length (map f xs) ≡ length (map h xs)
 mapped_length f h [] = refl
 mapped_length f h (x ∷ xs) = ap suc (mapped_length f h xs)
 
-globals_each : (g : Typing) (vs : List GlobalVariable) → AreWellTypedGlobals vs → (n : ℕ) (t : ObjectType) → slice_get (map (λ (v : GlobalVariable). global_type (read v.of_type)) vs) n ≡ Some t
+globals_each : (g : Typing) (vs : List GlobalVariable) → AreWellTypedGlobals vs → (n : ℕ) (t : ObjectType) → slice_get (map global_of vs) n ≡ Some t
     → (x : Object) × (filled : ℕ) × (slice_get (map global_object vs) n ≡ Some x) × (slice_get (ones vs) n ≡ Some filled) × IsObject g filled t x
 globals_each g [] have n t found = absurd (let z : None ≡ Some t = found in cc)
 globals_each g (v ∷ vs) (has, have) zero t found =
-    let t_is : global_type (read v.of_type) ≡ t = some_same (global_type (read v.of_type)) t found in
+    let t_is : global_of v ≡ t = some_same (global_of v) t found in
     (global_object v, 1, refl, refl, subst (λ z. IsObject g 1 z (global_object v)) t_is (global_is g v has))
 globals_each g (v ∷ vs) (has, have) (suc n) t found = globals_each g vs have n t found
 
-all_globals : (vs : List GlobalVariable) (n : ℕ) (t : Ty) → slice_get (map (λ (v : GlobalVariable). v.of_type) vs) n ≡ Some t
-    → (slice_get (map (λ (v : GlobalVariable). global_type (read v.of_type)) vs) n ≡ Some (global_type (read t))) × (slice_get (ones vs) n ≡ Some 1)
-all_globals [] n t found = absurd (let z : None ≡ Some t = found in cc)
-all_globals (v ∷ vs) zero t found = (ap (λ u. Some (global_type (read u))) (some_same v.of_type t found), refl)
-all_globals (v ∷ vs) (suc n) t found = all_globals vs n t found
+all_globals : (m : Reading) (vs : List GlobalVariable) → InGlobals m vs → (n : ℕ) (t : Ty) → slice_get (map (λ (v : GlobalVariable). v.of_type) vs) n ≡ Some t
+    → (slice_get (map global_of vs) n ≡ Some (global_type (at as_heap t))) × (slice_get (ones vs) n ≡ Some 1) × IsDeclarable m 0 t
+all_globals m [] kept n t found = absurd (let z : None ≡ Some t = found in cc)
+all_globals m (v ∷ vs) (one, kept) zero t found =
+    let same : v.of_type ≡ t = some_same v.of_type t found in
+    (ap (λ u. Some (global_type (at as_heap u))) same, refl, subst (λ u. IsDeclarable m 0 u) same one)
+all_globals m (v ∷ vs) (one, kept) (suc n) t found = all_globals m vs kept n t found
 
-well_start : (p : Program) (input : List ℕ) → AreAccepted p → IsWellTypedProgram p → IsWell p (start p input)
-well_start p input accepted well =
-    let (h, at, same) = of_map signature_of p.functions p.main (signature_of_ints []) well.main in
-    let (end, ok) = accepted p.main h at in
+all_fields : (m : Reading) (n : ℕ) (ts : List Ty) → InFields m n ts → (field : ℕ) (t : Ty) → slice_get ts field ≡ Some t → IsDeclarable m n t
+all_fields m n [] kept field t found = absurd (let z : None ≡ Some t = found in cc)
+all_fields m n (u ∷ ts) (one, kept) zero t found = subst (λ z. IsDeclarable m n z) (some_same u t found) one
+all_fields m n (u ∷ ts) (one, kept) (suc field) t found = all_fields m n ts kept field t found
+
+all_structs : (m : Reading) (ss : List StructType) → InStructs m ss → (n : ℕ) (s : StructType) → slice_get ss n ≡ Some s → InFields m s.parameters s.fields
+all_structs m [] kept n s found = absurd (let z : None ≡ Some s = found in cc)
+all_structs m (r ∷ ss) (one, kept) zero s found = subst (λ (z : StructType). InFields m z.parameters z.fields) (some_same r s found) one
+all_structs m (r ∷ ss) (one, kept) (suc n) s found = all_structs m ss kept n s found
+
+counted_cells : (ls : List Life) (s : StructType) → length ls ≡ s.parameters → cells_of ls s ≡ Some (map (at (lives_among ls)) s.fields)
+counted_cells ls s count = ap (λ (b : Bool). if b then Some (map (at (lives_among ls)) s.fields) else None) (eq-eqb (length ls) s.parameters count)
+
+cells_counted : (ls : List Life) (s : StructType) (ts : List RunTy) → cells_of ls s ≡ Some ts → length ls ≡ s.parameters
+cells_counted ls s ts is = go (length ls == s.parameters) refl is
+  where
+    go : (b : Bool) → (length ls == s.parameters) ≡ b → (if b then Some (map (at (lives_among ls)) s.fields) else None) ≡ Some ts → length ls ≡ s.parameters
+    go true same is = eqb-true (length ls) s.parameters same
+    go false other is = absurd (let z : None ≡ Some ts = is in cc)
+
+-- at the start all regions are read as the heap
+stand_first : (m : Reading) (c : RegionContext) → StandBy m c (λ n. heap_life) (λ n. true)
+stand_first AsHeap c = λ n. (refl, refl)
+stand_first ByScope c = record { there = λ r has. there r; agrees = λ a b given. agrees a b }
+  where
+    there : (r : Region) → IsThereBy (λ n. true) r
+    there regions.Heap = tt
+    there regions.Unique = tt
+    there (regions.Variable n) = refl
+
+    agrees : (a b : Region) → Outlasts (lives_of (λ n. heap_life) a) (lives_of (λ n. heap_life) b)
+    agrees regions.Heap b = for_ever (lives_of (λ n. heap_life) b)
+    agrees regions.Unique b = for_ever (lives_of (λ n. heap_life) b)
+    agrees (regions.Variable n) b = for_ever (lives_of (λ n. heap_life) b)
+
+well_start : (p : Source) (input : List ℕ) → AreAccepted p → IsWellTypedProgram p.program → IsInClass p → IsWell p (start p.program input)
+well_start p input accepted well (in_functions, in_globals, in_structs) =
+    let (h, found, same) = of_map signature_of p.program.functions p.program.main (signature_of_ints []) well.main in
+    let (end, ok) = accepted p.program.main h found in
     let none : h.parameters ≡ [] = ap (λ (s : Signature). s.parameters) same in
     let int : h.result ≡ Some types.Int = ap (λ (s : Signature). s.result) same in
-    let w = first_world p input in
-    let g = globals_typed p.structs p.globals in
-    let x : Exits = record { loop = None; result = h.result } in
+    let w = first_world p.program input in
+    let g = globals_typed p.program.structs p.program.globals in
+    let bs : List InScope = Instance (λ n. heap_life) (λ n. true) ∷ [] in
+    let x : Exits = record { loop = None; result = h.result; gives = read_value bs (result_type h.result) } in
     let objects : IsTyped g w.regions w.objects = record {
-      count = mapped_length global_object (λ (v : GlobalVariable). global_type (read v.of_type)) p.globals;
-      counts = mapped_length global_object (λ (v : GlobalVariable). 1) p.globals;
-      each = globals_each g p.globals well.globals;
+      count = mapped_length global_object global_of p.program.globals;
+      counts = mapped_length global_object (λ (v : GlobalVariable). 1) p.program.globals;
+      each = globals_each g p.program.globals well.globals;
       heap = refl;
     } in
     let knows : KnowsProgram g p = record {
-      globals = λ n t there. (let (object, flag) = all_globals p.globals n t there in (object, (1, flag, (let one : 1 ≤ 1 = omega arith in one))));
-      structs = λ n s ls there. ap (λ o. option_map (λ (s : StructType). map read s.fields) o) there;
+      globals = λ n t there. (let (object, flag, closed) = all_globals p.reading p.program.globals in_globals n t there in (object, (1, flag, (let one : 1 ≤ 1 = omega arith in one)), closed));
+      structs = λ n s ls there count. ap (found_cells ls) there ∙ counted_cells ls s count;
+      counts = λ n s ls ts there is. cells_counted ls s ts (sym (ap (found_cells ls) there) ∙ is);
+      fields = λ n s there. all_fields p.reading s.parameters s.fields (all_structs p.reading p.program.structs in_structs n s there);
     } in
     let count : 0 ≡ length h.parameters = sym (ap length none) in
-    subst (λ o. IsWell p (called o [] (Main ∷ []) w)) (sym at)
+    subst (λ o. IsWell p (called o [] (Main ∷ []) w)) (sym found)
     (subst (λ (b : Bool). IsWell p (if b then Running (Entering h []) (Main ∷ []) no_locals w else wrong w)) (sym (eq-eqb 0 (length h.parameters) count))
-    (running p g x [] no_locals w objects knows tt tt (Entering h []) (Main ∷ []) tt
-    (end, ok, (refl, refl), refl, subst (λ ts. AreOperands g (map read ts) []) (sym none) tt, (refl, int, ok.ends types.Int int, tt))))
+    (running p g x bs no_locals w objects knows (tt, tt) (tt, tt) (Entering h []) (Main ∷ []) (((λ n is. inl refl), tt), refl) (
+      end,
+      (λ n. heap_life),
+      (λ n. true),
+      ok,
+      (refl, refl, refl),
+      refl,
+      stand_first p.reading (regions_at_call h),
+      subst (λ ts. AreOperands g (map (read bs) ts) []) (sym none) tt,
+      (refl, int, ap (λ o. read_value bs (result_type o)) int, ok.ends types.Int int, tt),
+    )))
 
 -- ---- the theorem
 
+sound_by : (p : Source) → IsWellTypedProgram p.program → IsAllowedProgram p.program → IsInClass p → IsSound p.program
+sound_by p well allowed kept input count =
+    let accepted : AreAccepted p = accepted_among p p.program.functions well.functions allowed kept.0 in
+    well_alive p (run p.program input count) (well_steps p count (start p.program input) accepted (nests_start p.program input) (well_start p input accepted well kept))
+
+-- programs that are read by scope
+pub scopes_sound : (p : Program) → IsWellTypedProgram p → IsAllowedProgram p → IsOfScopes p → IsSound p
+scopes_sound p well allowed kept = sound_by (record { program = p; reading = ByScope }) well allowed kept
+
+globals_as_heap : (vs : List GlobalVariable) → InGlobals AsHeap vs
+globals_as_heap [] = tt
+globals_as_heap (v ∷ vs) = (tt, globals_as_heap vs)
+
+fields_as_heap : (n : ℕ) (ts : List Ty) → InFields AsHeap n ts
+fields_as_heap n [] = tt
+fields_as_heap n (t ∷ ts) = (tt, fields_as_heap n ts)
+
+structs_as_heap : (ss : List StructType) → InStructs AsHeap ss
+structs_as_heap [] = tt
+structs_as_heap (s ∷ ss) = (fields_as_heap s.parameters s.fields, structs_as_heap ss)
+
+-- and those that are read as the heap
 pub heap_sound : (p : Program) → IsWellTypedProgram p → IsAllowedProgram p → IsOfTheHeap p → IsSound p
-heap_sound p well allowed kept input count =
-    let accepted : AreAccepted p = accepted_among p p.functions well.functions allowed kept in
-    well_alive p (run p input count) (well_steps p count (start p input) accepted (nests_start p input) (well_start p input accepted well))
+heap_sound p well allowed kept = sound_by (record { program = p; reading = AsHeap }) well allowed (kept, globals_as_heap p.globals, structs_as_heap p.structs)
 
 -- what is built stands in this class
 pub built_sound : (p : Program) → IsWellTypedProgram p → IsAllowedProgram p → is_built p ≡ true → IsSound p

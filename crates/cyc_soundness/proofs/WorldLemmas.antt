@@ -3,14 +3,14 @@ use Rattle.std.proofs.Common.{◌≡◌, ◌≢◌, ℕ, zero, suc, ◌+◌, ◌
 use Rattle.std.specs.Prelude.{if◌then◌else◌, slice_get}
 use Rattle.std.proofs.lemmas.List.{length-set}
 use Rattle.cyc_syntax.specs.declared.tree.PointerKind.TheVariants as marks
-use Rattle.cyc_types.specs.TypedTrees.{Program}
 use Rattle.cyc_meaning.specs.Values.{Operand, Cell}
 use Rattle.cyc_meaning.specs.Values as values
 use Rattle.cyc_meaning.specs.State.{Region, Owner, InRegion, Unique, Object, World, Found, Closed, located, heap_number, is_open, is_live, cell_in, cell_at, written}
 use Rattle.cyc_meaning.proofs.ListLemmas.{slice_get-append, slice_get-end, slice_get-set_other}
-use Rattle.cyc_soundness.specs.Lives.{Life, OfRegion, RunTy, Int, Pointer, Handle, Key, Struct, RunValue, Void, Null, Value, kind_at, read}
-use Rattle.cyc_soundness.specs.Worlds.{ObjectType, Typing, IsFilled, IsPart, IsTarget, HasType, IsResult, AreOperands, IsContent, AreCells, IsOwner, IsObject, IsTyped, Grows}
-use Rattle.cyc_soundness.specs.Frames.{InScope, Variable, Level, IsOfVariable, HoldsIts, AreVariables, AreSet, Holds, KnowsProgram}
+use Rattle.cyc_soundness.specs.Lives.{Life, OfRegion, RunTy, Int, Pointer, Handle, Key, Struct, RunValue, Void, Null, Value, kind_at, at}
+use Rattle.cyc_soundness.specs.Worlds.{ObjectType, Typing, IsFilled, IsPart, IsTarget, HasType, IsResult, AreOperands, IsContent, AreCells, IsOwner, IsObject, IsTyped, IsOpenLife, Grows}
+use Rattle.cyc_soundness.specs.Frames.{InScope, Variable, lives_among, IsOfVariable, HoldsIts, AreVariables, AreSet, Holds, KnowsProgram}
+use Rattle.cyc_soundness.specs.Classes.{Source}
 use Rattle.cyc_types.specs.flow.States as flow
 use Rattle.cyc_soundness.proofs.Numbers.{same_or_other, slice_get-set_same, appended, some_same}
 
@@ -65,7 +65,7 @@ module _ (g h : Typing) (grows : Grows g h) where
 
   variable_grown : (b : InScope) → IsOfVariable g b → IsOfVariable h b
   variable_grown (Variable b) is = grows.objects b.object _ is
-  variable_grown (Level l) is = tt
+  variable_grown b is = tt
 
   pub variables_grown : (bs : List InScope) → AreVariables g bs → AreVariables h bs
   variables_grown [] are = tt
@@ -73,7 +73,7 @@ module _ (g h : Typing) (grows : Grows g h) where
 
   one_set_grown : (f : flow.State) (b : InScope) → HoldsIts g f b → HoldsIts h f b
   one_set_grown f (Variable b) is = λ s. grows.filled b.object 1 (is s)
-  one_set_grown f (Level l) is = tt
+  one_set_grown f b is = tt
 
   pub set_grown : (f : flow.State) (bs : List InScope) → AreSet g f bs → AreSet h f bs
   set_grown f [] are = tt
@@ -82,10 +82,12 @@ module _ (g h : Typing) (grows : Grows g h) where
   pub holds_grown : (f : flow.State) (bs : List InScope) → Holds g f bs → Holds h f bs
   holds_grown f bs (reached, are) = (reached, set_grown f bs are)
 
-  pub globals_grown : (p : Program) → KnowsProgram g p → KnowsProgram h p
-  globals_grown p knows = record {
-    globals = λ number t there. (grows.objects number _ (knows.globals number t there).0, grows.filled number 1 (knows.globals number t there).1);
-    structs = λ number s ls there. grows.fields number ls (map read s.fields) (knows.structs number s ls there);
+  pub globals_grown : (p : Source) → ((struct : ℕ) (ls : List Life) → g.fields struct ls ≡ h.fields struct ls) → KnowsProgram g p → KnowsProgram h p
+  globals_grown p same knows = record {
+    globals = λ number t there. (let (at, full, closed) = knows.globals number t there in (grows.objects number _ at, grows.filled number 1 full, closed));
+    structs = λ number s ls there count. grows.fields number ls (map (at (lives_among ls)) s.fields) (knows.structs number s ls there count);
+    counts = λ number s ls ts there is. knows.counts number s ls ts there (same number ls ∙ is);
+    fields = knows.fields;
   }
 
 -- ---- an object more
@@ -179,9 +181,10 @@ typed_cell g (u ∷ ts) (c ∷ cs) (suc n) (suc i) t (one, are) found =
     let rest = typed_cell g ts cs n i t are found in
     record { cell = rest.cell; at = rest.at; kind = rest.kind; content = λ less. rest.content (let e : i < n = omega (arith, less) in e) }
 
-pub live_owner : (w : World) (region : ℕ) (o : Owner) → IsOwner (OfRegion region) o → is_open (slice_get w.regions region) ≡ true → is_live w o ≡ true
-live_owner w region (InRegion number) same opens = subst (λ n. is_open (slice_get w.regions n) ≡ true) same opens
-live_owner w region (Unique live) (heap, same) opens = same
+pub live_owner : (w : World) (l : Life) (o : Owner) → IsOwner l o → IsOpenLife w.regions l → is_live w o ≡ true
+live_owner w (OfRegion region ns) (InRegion number) same opens = subst (λ n. is_open (slice_get w.regions n) ≡ true) same opens
+live_owner w (OfRegion region ns) (Unique live) (heap, same) opens = same
+live_owner w l o is opens = absurd opens
 
 -- what stands at a number, and its cell of this type
 pub record HasCell (g : Typing) (w : World) (number offset : ℕ) (x : ObjectType) (t : RunTy) : Type 0 where
@@ -194,12 +197,12 @@ pub record HasCell (g : Typing) (w : World) (number offset : ℕ) (x : ObjectTyp
   pub of : CellAt g filled t offset object.cells
   pub found : cell_at w number offset ≡ Found (record { object = object; cell = of.cell })
 
-pub cell_there : (g : Typing) (w : World) (number offset region : ℕ) (t : RunTy) (x : ObjectType) → IsTyped g w.regions w.objects → slice_get g.objects number ≡ Some x → slice_get x.cells offset ≡ Some t
-    → x.life ≡ OfRegion region → is_open (slice_get w.regions region) ≡ true → HasCell g w number offset x t
-cell_there g w number offset region t x typed at cells life opens =
+pub cell_there : (g : Typing) (w : World) (number offset : ℕ) (t : RunTy) (x : ObjectType) → IsTyped g w.regions w.objects → slice_get g.objects number ≡ Some x → slice_get x.cells offset ≡ Some t
+    → IsOpenLife w.regions x.life → HasCell g w number offset x t
+cell_there g w number offset t x typed at cells opens =
     let (y, n, there, flag, is) = typed.each number x at in
     let c = typed_cell g x.cells y.cells n offset t is.cells cells in
-    let live : is_live w y.owner ≡ true = live_owner w region y.owner (subst (λ l. IsOwner l y.owner) life is.owner) opens in
+    let live : is_live w y.owner ≡ true = live_owner w x.life y.owner is.owner opens in
     record {
       object = y;
       filled = n;

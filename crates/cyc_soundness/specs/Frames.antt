@@ -1,45 +1,113 @@
 -- THE LOCALS OF A CALL: to which objects the numbers in scope lead, what the flow rules say of them, and where control may go.
-use Rattle.std.specs.Prelude.{◌≡◌, ℕ, ◌<◌, Bool, true, false, List, [], ◌∷◌, map, Option, Some, None, slice_get}
+use Rattle.std.specs.Prelude.{◌≡◌, ◌⊎◌, ℕ, ◌<◌, ◌==◌, Bool, true, false, if◌then◌else◌, List, [], ◌∷◌, length, map, Option, Some, None, Contains, slice_get, slice_index_or}
 use Rattle.cyc_syntax.specs.Symbols.{Place}
-use Rattle.cyc_types.specs.Types.{Ty}
-use Rattle.cyc_types.specs.TypedTrees.{StructType, GlobalVariable, Program}
+use Rattle.cyc_types.specs.declared.region.Region.{Region}
+use Rattle.cyc_types.specs.declared.region.Region.TheVariants as regions
+use Rattle.cyc_types.specs.Types.{Ty, ValueType, result_type}
+use Rattle.cyc_types.specs.TypedTrees.{StructType, GlobalVariable}
+use Rattle.cyc_types.specs.Outlives.{RegionContext, live_regions, IsGiven}
+use Rattle.cyc_types.specs.typing.Tests.{is_moved}
 use Rattle.cyc_types.specs.typing.WellTyped.{LocalInScope, Context, signature_of}
 use Rattle.cyc_types.specs.flow.States as flow
 use Rattle.cyc_types.specs.flow.States.{fullness, is_vacant, is_reached}
 use Rattle.cyc_types.specs.flow.Statements.{Loop, Around}
-use Rattle.cyc_soundness.specs.Lives.{Life, RunTy, read}
-use Rattle.cyc_soundness.specs.Worlds.{Typing, IsFull, variable_type, global_type}
+use Rattle.cyc_meaning.specs.State.{globals_number, Entry, CloseRegion, Caller}
+use Rattle.cyc_meaning.specs.Nesting.{ends_of}
+use Rattle.cyc_soundness.specs.Lives.{Life, OfRegion, RunTy, RunValue, Void, Lives, at, value_at, heap_life, lives_of, as_heap, Reading, AsHeap, ByScope, AllIn, AllInValue, IsKnown}
+use Rattle.cyc_soundness.specs.Worlds.{Typing, IsFull, variable_type, global_type, IsEndOf, Outlasts, IsNumber}
+use Rattle.cyc_soundness.specs.Classes.{IsDeclarable, Source}
 
 pub data IsAmong {A : Type 0} (a : A) : List A → Type 0 where
   first : (as' : List A) → IsAmong a (a ∷ as')
   later : (b : A) (as' : List A) → IsAmong a as' → IsAmong a (b ∷ as')
 
--- a local in scope, with its object and the region that this lives in
+-- a local in scope, with its object and how long this is there
 pub record Bound : Type 0 where
   pub number : ℕ
   pub object : ℕ
   pub of_type : RunTy
-  pub region : ℕ
+  pub life : Life
+  -- no pointer leads to it
+  pub is_hidden : Bool
 
--- what is in scope: a local, or the counter of a `for` around
+-- what is in scope
 pub data InScope : Type 0 where
   Variable : Bound → InScope
+  -- the counter of a `for` around
   Level : (level : ℕ) → InScope
+  -- what the region variable of this number stands for, and whether that is live
+  Names : (number : ℕ) → Life → (is_live : Bool) → InScope
+  -- what all region variables of a call stand for, and which of that is live
+  Instance : (ℕ → Life) → (ℕ → Bool) → InScope
+  -- the region in which the variables of the innermost block live
+  Home : (region : ℕ) → InScope
+
+-- ---- regions
+
+-- a region variable that nothing here names stands for the heap
+abbrev pub life_named : List InScope → ℕ → Life
+life_named [] k = heap_life
+life_named (Variable b ∷ bs) k = life_named bs k
+life_named (Level l ∷ bs) k = life_named bs k
+life_named (Names number life live ∷ bs) k = if k == number then life else life_named bs k
+life_named (Instance these live ∷ bs) k = these k
+life_named (Home region ∷ bs) k = life_named bs k
+
+abbrev pub is_live_named : List InScope → ℕ → Bool
+is_live_named [] k = true
+is_live_named (Variable b ∷ bs) k = is_live_named bs k
+is_live_named (Level l ∷ bs) k = is_live_named bs k
+is_live_named (Names number life live ∷ bs) k = if k == number then live else is_live_named bs k
+is_live_named (Instance these live ∷ bs) k = live k
+is_live_named (Home region ∷ bs) k = is_live_named bs k
+
+-- what the regions of the function stand for here
+abbrev pub lives_in : List InScope → Lives
+lives_in bs = lives_of (λ n. life_named bs n)
+
+-- types as this run reads them here
+abbrev pub read : List InScope → Ty → RunTy
+read bs t = at (lives_in bs) t
+
+abbrev pub read_value : List InScope → ValueType → RunValue
+read_value bs t = value_at (lives_in bs) t
+
+abbrev pub IsThereBy : (ℕ → Bool) → Region → Type 0
+IsThereBy live regions.Heap = Unit {0}
+IsThereBy live regions.Unique = Unit {0}
+IsThereBy live (regions.Variable n) = live n ≡ true
+
+-- what this region stands for has not ended
+abbrev pub IsThere : List InScope → Region → Type 0
+IsThere bs r = IsThereBy (λ n. is_live_named bs n) r
+
+abbrev pub home_of : List InScope → ℕ
+home_of [] = globals_number
+home_of (Home region ∷ bs) = region
+home_of (b ∷ bs) = home_of bs
+
+-- ---- locals
+
+-- A pointer to a local is one into the region of its block; read as the heap, there are none.
+abbrev pub IsHomed : Reading → Lives → (region : ℕ) → Life → Type 0
+IsHomed AsHeap m region l = Unit {0}
+IsHomed ByScope m region l = l ≡ m (regions.Variable region)
 
 -- the newest in scope, and then the rest of the locals
-abbrev pub IsNewest : List LocalInScope → InScope → (rest : List LocalInScope) → Type 0
-IsNewest vs (Variable b) rest = (v : LocalInScope) × (vs ≡ v ∷ rest) × (v.number ≡ b.number) × (read v.of_type ≡ b.of_type)
-IsNewest vs (Level l) rest = vs ≡ rest
+abbrev pub IsNewest : Reading → Lives → List LocalInScope → InScope → (rest : List LocalInScope) → Type 0
+IsNewest r m vs (Variable b) rest =
+    (v : LocalInScope) × (vs ≡ v ∷ rest) × (v.number ≡ b.number) × (at m v.of_type ≡ b.of_type) × (is_moved v.of_type ≡ b.is_hidden) × IsHomed r m v.region b.life
+IsNewest r m vs b rest = vs ≡ rest
 
 -- the scope of a tree, as this run has it
-abbrev pub IsScope : List LocalInScope → List InScope → Type 0
-IsScope vs [] = vs ≡ []
-IsScope vs (b ∷ bs) = (rest : List LocalInScope) × IsNewest vs b rest × IsScope rest bs
+abbrev pub IsScope : Reading → Lives → List LocalInScope → List InScope → Type 0
+IsScope r m vs [] = vs ≡ []
+IsScope r m vs (b ∷ bs) = (rest : List LocalInScope) × IsNewest r m vs b rest × IsScope r m rest bs
 
 -- the numbers of locals in scope were given out before this one
 abbrev pub IsBelow : ℕ → InScope → Type 0
 IsBelow n (Variable b) = b.number < n
-IsBelow n (Level l) = Unit {0}
+IsBelow n b = Unit {0}
 
 abbrev pub AreBelow : ℕ → List InScope → Type 0
 AreBelow n [] = Unit {0}
@@ -49,6 +117,7 @@ AreBelow n (b ∷ bs) = IsBelow n b × AreBelow n bs
 abbrev pub HasMeaning : (locals counters : ℕ → Option ℕ) → InScope → Type 0
 HasMeaning locals counters (Variable b) = locals b.number ≡ Some b.object
 HasMeaning locals counters (Level l) = (index : ℕ) × (counters l ≡ Some index)
+HasMeaning locals counters b = Unit {0}
 
 abbrev pub IsBound : (locals counters : ℕ → Option ℕ) → List InScope → Type 0
 IsBound locals counters [] = Unit {0}
@@ -56,26 +125,48 @@ IsBound locals counters (b ∷ bs) = HasMeaning locals counters b × IsBound loc
 
 -- the objects of locals are variables of their types
 abbrev pub IsOfVariable : Typing → InScope → Type 0
-IsOfVariable g (Variable b) = slice_get g.objects b.object ≡ Some (variable_type b.of_type b.region)
-IsOfVariable g (Level l) = Unit {0}
+IsOfVariable g (Variable b) = slice_get g.objects b.object ≡ Some (variable_type b.of_type b.life b.is_hidden)
+IsOfVariable g b = Unit {0}
 
 abbrev pub AreVariables : Typing → List InScope → Type 0
 AreVariables g [] = Unit {0}
 AreVariables g (b ∷ bs) = IsOfVariable g b × AreVariables g bs
 
--- in regions that will end, and have not yet
+-- there to the end of one of these regions, of those that will end, or for ever
+abbrev pub IsLasting : List ℕ → Life → Type 0
+IsLasting regions (OfRegion number around) = (OfRegion number around ≡ heap_life) ⊎ IsEndOf (number ∷ around) regions
+IsLasting regions l = ⊥
+
+-- what is live has not ended
 abbrev pub IsLiveIn : List ℕ → InScope → Type 0
-IsLiveIn regions (Variable b) = IsAmong b.region regions
-IsLiveIn regions (Level l) = Unit {0}
+IsLiveIn regions (Variable b) = IsLasting regions b.life
+IsLiveIn regions (Names number life live) = live ≡ true → IsLasting regions life
+IsLiveIn regions (Instance these live) = (n : ℕ) → live n ≡ true → IsLasting regions (these n)
+IsLiveIn regions b = Unit {0}
 
-abbrev pub LiveIn : List ℕ → List InScope → Type 0
-LiveIn regions [] = Unit {0}
-LiveIn regions (b ∷ bs) = IsLiveIn regions b × LiveIn regions bs
+abbrev pub AreLiveIn : List ℕ → List InScope → Type 0
+AreLiveIn regions [] = Unit {0}
+AreLiveIn regions (b ∷ bs) = IsLiveIn regions b × AreLiveIn regions bs
 
--- an outer scope
+-- where the variables of the innermost block live
+abbrev pub home_in : List Entry → ℕ
+home_in [] = globals_number
+home_in (CloseRegion region outer ∷ stack) = region
+home_in (Caller outer ∷ stack) = globals_number
+home_in (entry ∷ stack) = home_in stack
+
+-- a scope above this stack
+abbrev pub LiveIn : List Entry → List InScope → Type 0
+LiveIn stack bs = AreLiveIn (ends_of stack) bs × (home_of bs ≡ home_in stack)
+
+-- an outer scope within the same block
+abbrev pub IsInner : InScope → Type 0
+IsInner (Home region) = ⊥
+IsInner b = Unit {0}
+
 pub data Within : (outer inner : List InScope) → Type 0 where
   itself : (bs : List InScope) → Within bs bs
-  older : (b : InScope) (bs cs : List InScope) → Within bs cs → Within bs (b ∷ cs)
+  older : (b : InScope) (bs cs : List InScope) → IsInner b → Within bs cs → Within bs (b ∷ cs)
 
 -- ---- flow
 
@@ -85,7 +176,7 @@ IsSet f n = is_vacant (fullness f n) ≡ false
 
 abbrev pub HoldsIts : Typing → flow.State → InScope → Type 0
 HoldsIts g f (Variable b) = IsSet f b.number → IsFull g b.object
-HoldsIts g f (Level l) = Unit {0}
+HoldsIts g f b = Unit {0}
 
 abbrev pub AreSet : Typing → flow.State → List InScope → Type 0
 AreSet g f [] = Unit {0}
@@ -112,6 +203,13 @@ pub record Exits : Type 0 where
   pub loop : Option LoopExit
   -- of the function
   pub result : Option Ty
+  -- as its caller reads it
+  pub gives : RunValue
+
+-- where there is no result, nothing is given
+abbrev pub HasResult : Option Ty → RunValue → Type 0
+HasResult None r = r ≡ Void
+HasResult (Some t) r = Unit {0}
 
 abbrev pub loop_of : Option LoopExit → Option Loop
 loop_of None = None
@@ -129,19 +227,71 @@ abbrev pub is_loop : Option LoopExit → Bool
 is_loop None = false
 is_loop (Some l) = true
 
--- the context of a tree in a function of this program, where control may go there and these locals are in scope
-pub record IsContext (p : Program) (x : Exits) (bs : List InScope) (c : Context) : Type 0 where
-  pub globals : c.globals ≡ map (λ (g : GlobalVariable). g.of_type) p.globals
-  pub functions : c.functions ≡ map signature_of p.functions
-  pub structs : c.structs ≡ p.structs
+-- ---- what the regions of a context stand for
+
+-- what is live has not ended, and what outlives another lasts as long
+pub record AreNamed (c : RegionContext) (these : ℕ → Life) (live : ℕ → Bool) : Type 0 where
+  pub there : (r : Region) → Contains (live_regions c.live c.opened) r → IsThereBy live r
+  pub agrees : (a b : Region) → IsGiven c a b → Outlasts (lives_of these a) (lives_of these b)
+
+abbrev pub StandBy : Reading → RegionContext → (ℕ → Life) → (ℕ → Bool) → Type 0
+StandBy AsHeap c these live = (n : ℕ) → (these n ≡ heap_life) × (live n ≡ true)
+StandBy ByScope c these live = AreNamed c these live
+
+abbrev pub Stand : Reading → RegionContext → List InScope → Type 0
+Stand m c bs = StandBy m c (λ n. life_named bs n) (λ n. is_live_named bs n)
+
+abbrev pub IsHomeBy : Reading → Life → (is_live : Bool) → (home : ℕ) → Type 0
+IsHomeBy AsHeap l live home = Unit {0}
+IsHomeBy ByScope l live home = IsNumber l home × (live ≡ true)
+
+-- the variables of the innermost block live in the region that this one stands for
+abbrev pub IsHome : Reading → (region : ℕ) → List InScope → Type 0
+IsHome m region bs = IsHomeBy m (life_named bs region) (is_live_named bs region) (home_of bs)
+
+abbrev pub AreKnownLocals : ℕ → List LocalInScope → Type 0
+AreKnownLocals n [] = Unit {0}
+AreKnownLocals n (v ∷ vs) = (AllIn (IsKnown n) v.of_type × (v.region < n)) × AreKnownLocals n vs
+
+-- only regions below this number are named
+pub record IsKnownBy (n : ℕ) (c : RegionContext) (vs : List LocalInScope) (result : Option Ty) : Type 0 where
+  pub live : (r : Region) → Contains (live_regions c.live c.opened) r → IsKnown n r
+  pub pairs : (a b : Region) → Contains c.written (a, b) → IsKnown n a × IsKnown n b
+  pub locals : AreKnownLocals n vs
+  pub gives : AllInValue (IsKnown n) (result_type result)
+
+abbrev pub AreKnown : Reading → ℕ → RegionContext → List LocalInScope → Option Ty → Type 0
+AreKnown AsHeap n c vs result = Unit {0}
+AreKnown ByScope n c vs result = IsKnownBy n c vs result
+
+-- the context of a tree in a function of this program, where control may go there and this is in scope
+pub record IsContext (p : Source) (x : Exits) (bs : List InScope) (c : Context) : Type 0 where
+  pub globals : c.globals ≡ map (λ (g : GlobalVariable). g.of_type) p.program.globals
+  pub functions : c.functions ≡ map signature_of p.program.functions
+  pub structs : c.structs ≡ p.program.structs
   pub result : c.result ≡ x.result
+  pub gives : read_value bs (result_type c.result) ≡ x.gives
   pub loop : c.in_loop ≡ true → is_loop x.loop ≡ true
-  pub scope : IsScope c.locals bs
+  pub scope : IsScope p.reading (lives_in bs) c.locals bs
   pub below : AreBelow c.next_local bs
   pub counters : (level : ℕ) → level < c.counters → IsAmong (Level level) bs
+  pub known : AreKnown p.reading c.next_region c.regions c.locals c.result
+  pub regions : Stand p.reading c.regions bs
+  pub home : IsHome p.reading c.region bs
+
+-- ---- programs
+
+-- the parameters of a struct stand for these
+abbrev pub lives_among : List Life → Lives
+lives_among ls = lives_of (λ n. slice_index_or ls n heap_life)
 
 -- what is known of a program: its globals are the first objects, and its structs have the cells of their fields
-pub record KnowsProgram (g : Typing) (p : Program) : Type 0 where
-  pub globals : (number : ℕ) (t : Ty) → slice_get (map (λ (v : GlobalVariable). v.of_type) p.globals) number ≡ Some t
-      → (slice_get g.objects number ≡ Some (global_type (read t))) × IsFull g number
-  pub structs : (number : ℕ) (s : StructType) (ls : List Life) → slice_get p.structs number ≡ Some s → g.fields number ls ≡ Some (map read s.fields)
+pub record KnowsProgram (g : Typing) (p : Source) : Type 0 where
+  pub globals : (number : ℕ) (t : Ty) → slice_get (map (λ (v : GlobalVariable). v.of_type) p.program.globals) number ≡ Some t
+      → (slice_get g.objects number ≡ Some (global_type (at as_heap t))) × IsFull g number × IsDeclarable p.reading 0 t
+  pub structs : (number : ℕ) (s : StructType) (ls : List Life) → slice_get p.program.structs number ≡ Some s → length ls ≡ s.parameters
+      → g.fields number ls ≡ Some (map (at (lives_among ls)) s.fields)
+  -- a struct has so many parameters
+  pub counts : (number : ℕ) (s : StructType) (ls : List Life) (ts : List RunTy) → slice_get p.program.structs number ≡ Some s → g.fields number ls ≡ Some ts → length ls ≡ s.parameters
+  -- its fields speak of no others
+  pub fields : (number : ℕ) (s : StructType) → slice_get p.program.structs number ≡ Some s → (field : ℕ) (t : Ty) → slice_get s.fields field ≡ Some t → IsDeclarable p.reading s.parameters t

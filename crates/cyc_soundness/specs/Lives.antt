@@ -1,18 +1,20 @@
 -- TYPES AS A RUN READS THEM. Trees name regions, which mean something in their function alone. States speak of lives: the region of a
 -- number, or a unique object. A type of a tree becomes one of a state by what each region of its function stands for. (One language of
 -- types in two readings is this project's own choice.)
-use Rattle.std.specs.Prelude.{ℕ, List, map}
+use Rattle.std.specs.Prelude.{◌≢◌, ℕ, ◌<◌, List, [], ◌∷◌, map}
 use Rattle.cyc_syntax.specs.declared.tree.PointerKind.{PointerKind}
 use Rattle.cyc_types.specs.declared.region.Region.{Region}
+use Rattle.cyc_types.specs.declared.region.Region.TheVariants as regions
 use Rattle.cyc_types.specs.declared.typed.Kind.{Kind}
 use Rattle.cyc_types.specs.declared.typed.Kind.TheVariants as kinds
 use Rattle.cyc_types.specs.Types.{Ty, ValueType}
 use Rattle.cyc_types.specs.Types as types
 use Rattle.cyc_meaning.specs.Values.{kind_of_mark}
 
--- how long something is there: to the end of a region, or until it is given back; nothing is there that is null for good
+-- How long something is there: to the end of a region, or until it is given back; nothing is there that is null for good. With a region
+-- that a scope ends come those that were open around that scope, the innermost first: they last as long.
 pub data Life : Type 0 where
-  OfRegion : (region : ℕ) → Life
+  OfRegion : (region : ℕ) → (around : List ℕ) → Life
   OfObject : (object : ℕ) → Life
   Never : Life
 
@@ -54,12 +56,56 @@ kind_at (Handle l) = kinds.Handle
 kind_at (Key l) = kinds.Key
 kind_at (Struct n ls) = kinds.Int
 
+-- ---- regions
+
+-- the heap is there for ever
+abbrev pub heap_life : Life
+heap_life = OfRegion 0 []
+
+-- region variables stand for these
+abbrev pub lives_of : (ℕ → Life) → Lives
+lives_of m regions.Heap = heap_life
+lives_of m regions.Unique = heap_life
+lives_of m (regions.Variable n) = m n
+
 -- Where nothing ends while it can be reached, every region may be read as the heap.
 abbrev pub as_heap : Lives
-as_heap r = OfRegion 0
+as_heap r = heap_life
 
-abbrev pub read : Ty → RunTy
-read t = at as_heap t
+-- how a theorem reads the regions of a program
+pub data Reading : Type 0 where
+  -- each as the heap: no pointer leads to what is anywhere else
+  AsHeap : Reading
+  -- each as what it stands for where it is in scope
+  ByScope : Reading
 
-abbrev pub read_value : ValueType → RunValue
-read_value t = value_at as_heap t
+-- ---- which regions a type names
+
+abbrev pub AllOf : (Region → Type 0) → List Region → Type 0
+AllOf P [] = Unit {0}
+AllOf P (r ∷ rs) = P r × AllOf P rs
+
+abbrev pub AllIn : (Region → Type 0) → Ty → Type 0
+AllIn P types.Int = Unit {0}
+AllIn P (types.Pointer k t r) = AllIn P t × P r
+AllIn P (types.Handle r) = P r
+AllIn P (types.Key r) = P r
+AllIn P (types.Struct n rs) = AllOf P rs
+
+-- of what an expression gives
+abbrev pub AllInValue : (Region → Type 0) → ValueType → Type 0
+AllInValue P types.Void = Unit {0}
+AllInValue P types.Null = Unit {0}
+AllInValue P (types.Value t) = AllIn P t
+
+-- a region variable with a number below this one, if it is a variable
+abbrev pub IsKnown : ℕ → Region → Type 0
+IsKnown n regions.Heap = Unit {0}
+IsKnown n regions.Unique = Unit {0}
+IsKnown n (regions.Variable m) = m < n
+
+-- another region than the variable of this number
+abbrev pub IsOther : ℕ → Region → Type 0
+IsOther n regions.Heap = Unit {0}
+IsOther n regions.Unique = Unit {0}
+IsOther n (regions.Variable m) = m ≢ n

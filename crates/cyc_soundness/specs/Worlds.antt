@@ -9,7 +9,7 @@ use Rattle.cyc_meaning.specs.Values.{Operand, Cell}
 use Rattle.cyc_meaning.specs.Values as values
 use Rattle.cyc_meaning.specs.Operators.{Result, Gives, Raises, Misfits}
 use Rattle.cyc_meaning.specs.State.{Region, Owner, InRegion, Unique, Object, heap_number, globals_number, is_open}
-use Rattle.cyc_soundness.specs.Lives.{Life, OfRegion, OfObject, RunTy, Int, Pointer, Handle, Key, Struct, RunValue, Void, Null, Value, Lives, kind_at}
+use Rattle.cyc_soundness.specs.Lives.{Life, OfRegion, OfObject, heap_life, RunTy, Int, Pointer, Handle, Key, Struct, RunValue, Void, Null, Value, Lives, kind_at}
 
 pub record ObjectType : Type 0 where
   pub cells : List RunTy
@@ -33,18 +33,28 @@ IsFilled g object count = (filled : ℕ) × (slice_get g.filled object ≡ Some 
 abbrev pub IsFull : Typing → (object : ℕ) → Type 0
 IsFull g object = IsFilled g object 1
 
--- an object of one cell in a region, to which no pointer leads
-abbrev pub variable_type : RunTy → (region : ℕ) → ObjectType
-variable_type t region = record { cells = t ∷ []; life = OfRegion region; is_hidden = true }
+-- an object of one cell
+abbrev pub variable_type : RunTy → Life → (is_hidden : Bool) → ObjectType
+variable_type t life hidden = record { cells = t ∷ []; life = life; is_hidden = hidden }
+
+abbrev pub global_life : Life
+global_life = OfRegion globals_number []
 
 abbrev pub global_type : RunTy → ObjectType
-global_type t = record { cells = t ∷ []; life = OfRegion globals_number; is_hidden = false }
+global_type t = variable_type t global_life false
 
--- what is there as long as the first is there as long as the second: the heap and the globals are for ever
+-- these are the last of those
+pub data IsEndOf (ms : List ℕ) : List ℕ → Type 0 where
+  whole : IsEndOf ms ms
+  behind : (n : ℕ) (ns : List ℕ) → IsEndOf ms ns → IsEndOf ms (n ∷ ns)
+
+-- What is there as long as the first is there as long as the second: the heap and the globals are for ever, and a region that was open
+-- around a scope is open to its end.
 pub data Outlasts : Life → Life → Type 0 where
   alike : (l : Life) → Outlasts l l
-  heap : (l : Life) → Outlasts (OfRegion 0) l
-  globals : (l : Life) → Outlasts (OfRegion 1) l
+  heap : (l : Life) → Outlasts heap_life l
+  globals : (l : Life) → Outlasts global_life l
+  encloses : (m n : ℕ) (ms ns : List ℕ) → IsEndOf (m ∷ ms) ns → Outlasts (OfRegion m ms) (OfRegion n ns)
 
 -- regions stand for lives of which those last as long that are known here to outlive the others
 abbrev pub AgreesWith : RegionContext → Lives → Type 0
@@ -62,6 +72,11 @@ abbrev pub IsTarget : Typing → RunTy → Life → (object offset : ℕ) → Ty
 IsTarget g t l object offset =
     (x : ObjectType) × (slice_get g.objects object ≡ Some x) × (x.is_hidden ≡ false) × Outlasts x.life l × IsPart g object x t offset
 
+-- the region of this number has this life
+abbrev pub IsNumber : Life → (region : ℕ) → Type 0
+IsNumber (OfRegion number around) region = number ≡ region
+IsNumber l region = ⊥
+
 -- a value of this type
 abbrev pub HasType : Typing → RunTy → values.Value → Type 0
 HasType g Int (values.Int word) = Unit {0}
@@ -70,8 +85,8 @@ HasType g (Pointer marks.Nullable t l) (values.Thin object offset) = IsTarget g 
 HasType g (Pointer marks.NonNull t l) (values.Thin object offset) = IsTarget g t l object offset
 HasType g (Pointer marks.Fat t l) values.Null = Unit {0}
 HasType g (Pointer marks.Fat t l) (values.Fat object start count index) = (i : ℕ) → i < count → IsTarget g t l object (start + i)
-HasType g (Handle l) (values.Handle region) = l ≡ OfRegion region
-HasType g (Key l) (values.Key region) = l ≡ OfRegion region
+HasType g (Handle l) (values.Handle region) = IsNumber l region
+HasType g (Key l) (values.Key region) = IsNumber l region
 HasType g t value = ⊥
 
 -- what an expression gave
@@ -113,8 +128,8 @@ AreCells g (t ∷ ts) (c ∷ cs) (suc n) = IsCell g true t c × AreCells g ts cs
 
 -- where nothing is given back, a unique object is there as long as the heap
 abbrev pub IsOwner : Life → Owner → Type 0
-IsOwner (OfRegion region) (InRegion number) = region ≡ number
-IsOwner (OfRegion region) (Unique live) = (region ≡ heap_number) × (live ≡ true)
+IsOwner (OfRegion region around) (InRegion number) = region ≡ number
+IsOwner (OfRegion region around) (Unique live) = (region ≡ heap_number) × (live ≡ true)
 IsOwner (OfObject object) (Unique live) = Unit {0}
 IsOwner l o = ⊥
 
@@ -129,6 +144,11 @@ pub record IsTyped (g : Typing) (regions : List Region) (objects : List Object) 
   pub each : (number : ℕ) (t : ObjectType) → slice_get g.objects number ≡ Some t
       → (x : Object) × (filled : ℕ) × (slice_get objects number ≡ Some x) × (slice_get g.filled number ≡ Some filled) × IsObject g filled t x
   pub heap : is_open (slice_get regions heap_number) ≡ true
+
+-- what has this life is there, by which regions are open
+abbrev pub IsOpenLife : List Region → Life → Type 0
+IsOpenLife regions (OfRegion number around) = is_open (slice_get regions number) ≡ true
+IsOpenLife regions l = ⊥
 
 -- ---- growth
 

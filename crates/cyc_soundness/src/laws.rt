@@ -15,14 +15,14 @@ ghost use Rattle.cyc_soundness.specs.Lives.{RunTy, Lives, at, value_at};
 ghost use Rattle.cyc_soundness.specs.Worlds.{Typing, AgreesWith, HasType, IsResult, Fits, Grows};
 ghost use Rattle.cyc_soundness.specs.Frames.{InScope, Exits};
 ghost use Rattle.cyc_soundness.specs.Stacks.{Want, IsStack};
-ghost use Rattle.cyc_soundness.specs.Classes.{IsOfTheHeap};
+ghost use Rattle.cyc_soundness.specs.Classes.{IsOfTheHeap, IsOfScopes, Source};
 ghost use Rattle.cyc_soundness.specs.Sound.{IsSound};
 
 /// What is known of a world only grows, and what was typed stays so: a value keeps its type for good, and so does a
 /// control stack.
 pub fn typings_stay()
     ensures values { (g h : Typing) → Grows g h → (t : RunTy) (v : Value) → HasType g t v → HasType h t v }
-    ensures stacks { (p : Program) (g h : Typing) → Grows g h → (x : Exits) (locals : List InScope) (want : Want) (stack : List Entry)
+    ensures stacks { (p : Source) (g h : Typing) → Grows g h → (x : Exits) (locals : List InScope) (want : Want) (stack : List Entry)
         → IsStack p g x locals want stack → IsStack p h x locals want stack }
 {}
 
@@ -37,6 +37,13 @@ pub fn conversions_fit()
 /// the typing rules and the flow rules accept it.
 pub fn heap_programs_are_sound()
     ensures { (p : Program) → IsWellTypedProgram p → IsAllowedProgram p → IsOfTheHeap p → IsSound p }
+{}
+
+/// No run of a program in which what ends does so with a scope is ever dead or wrong, where the typing rules and the flow
+/// rules accept it: a pointer may lead to a local or into a region that will close, and is not followed once that has
+/// ended.
+pub fn scoped_programs_are_sound()
+    ensures { (p : Program) → IsWellTypedProgram p → IsAllowedProgram p → IsOfScopes p → IsSound p }
 {}
 
 /// No run of a program that is built and that both sets of rules accept is ever dead or wrong.

@@ -3,9 +3,10 @@ use Rattle.std.proofs.lemmas.Result.{err_from_is_err_and}
 use Rattle.cyc_syntax.specs.Symbols.{Symbol}
 use Rattle.cyc_syntax.specs.Trees.{NoPostfixes, NoOperations, NoExpressions}
 use Rattle.cyc_syntax.specs.TreeView.{view_expression, then_postfix, postfixes_of, operations_of, expressions_of}
-use Rattle.cyc_parse.specs.Expressions.{nested, begins_expression, more_values}
+use Rattle.cyc_parse.specs.Expressions.{nested, begins_expression, more_values, postfixes, operations}
 use Rattle.cyc_parse.specs.Steps.{operand, then_operation}
-use Rattle.cyc_parse.proofs.Loops.{goes_on, fails, ends_as, is_full_as, onto-map, onto-expressions, onto-postfixes, onto-operations, more_items_steps, postfixes_steps, operations_steps, more_values_steps}
+use Rattle.cyc_parse.specs.Parsing.{more_items}
+use Rattle.cyc_parse.proofs.Loops.{goes_on, fails, fails_full, ends_as, is_full_as, onto-map, onto-expressions, onto-postfixes, onto-operations, more_items_steps, postfixes_steps, operations_steps, more_values_steps}
 use Rattle.cyc_parse.proofs.cursor.Parser.+expression.Goals as goal
 
 pub parse_argument_list-returns-in_err-argument : goal.parse_argument_list-returns-in_err-argument
@@ -21,7 +22,14 @@ pub parse_argument_list-loop-preserved : goal.parse_argument_list-loop-preserved
 parse_argument_list-loop-preserved t c =
     rw c.in_ok-push-2.ensures.items (goes_on view_expression _ _ _ _ (more_items_steps c.args.room begins_expression (nested c.args.room).expression) c.loop.arguments.items 64 c.loop.counter c.loop.self c.parse_argument_after_comma.new.self c.in_ok-argument.field-0 c.in-Some.argument _ c.loop-test.true c.in_ok-argument.ensures c.in-Some.is c.loop.invariant)
 
+pub parse_argument_list-returns-in_err-end_arguments : goal.parse_argument_list-returns-in_err-end_arguments
+unfolding more_items
+parse_argument_list-returns-in_err-end_arguments t c =
+    let p = err_from_is_err_and c.from_residual-in_err-end_arguments.result c.from_residual-in_err-end_arguments.ensures.1 in
+    rw (p.1, p.2) (fails_full view_expression _ _ _ _ (more_items_steps c.args.room begins_expression (nested c.args.room).expression) c.in_err-end_arguments.field-0.0 c.loop.arguments.items 64 c.loop.counter c.loop.self c.end_arguments.new.self _ c.loop-test.false c.in_err-end_arguments.ensures c.loop.invariant)
+
 pub parse_argument_list-returns : goal.parse_argument_list-returns
+unfolding more_items
 parse_argument_list-returns t c =
     is_full_as view_expression _ [] (map view_expression) (onto-map view_expression) _ _ (more_items_steps c.args.room begins_expression (nested c.args.room).expression) c.loop.arguments.items 64 c.loop.counter c.loop.self c.end_arguments.new.self _ c.loop-test.false c.in_ok-end_arguments.ensures c.loop.invariant
 
@@ -38,7 +46,14 @@ pub parse_postfixes-loop-preserved : goal.parse_postfixes-loop-preserved
 parse_postfixes-loop-preserved t c =
     rw c.in_ok-push.ensures.items (goes_on then_postfix _ _ _ _ (postfixes_steps c.args.room (nested c.args.room)) c.loop.postfixes.items 64 c.loop.counter c.loop.self c.parse_postfix.new.self c.in_ok-postfix.field-0 c.in-Some.postfix _ c.loop-test.true c.in_ok-postfix.ensures c.in-Some.is c.loop.invariant)
 
+pub parse_postfixes-returns-in_err-end_postfixes : goal.parse_postfixes-returns-in_err-end_postfixes
+unfolding postfixes
+parse_postfixes-returns-in_err-end_postfixes t c =
+    let p = err_from_is_err_and c.from_residual-in_err-end_postfixes.result c.from_residual-in_err-end_postfixes.ensures.1 in
+    rw (p.1, p.2) (fails_full then_postfix _ _ _ _ (postfixes_steps c.args.room (nested c.args.room)) c.in_err-end_postfixes.field-0.0 c.loop.postfixes.items 64 c.loop.counter c.loop.self c.end_postfixes.new.self _ c.loop-test.false c.in_err-end_postfixes.ensures c.loop.invariant)
+
 pub parse_postfixes-returns : goal.parse_postfixes-returns
+unfolding postfixes
 parse_postfixes-returns t c =
     is_full_as then_postfix _ NoPostfixes postfixes_of onto-postfixes _ _ (postfixes_steps c.args.room (nested c.args.room)) c.loop.postfixes.items 64 c.loop.counter c.loop.self c.end_postfixes.new.self _ c.loop-test.false c.in_ok-end_postfixes.ensures c.loop.invariant
 
@@ -55,7 +70,14 @@ pub parse_operations-loop-preserved : goal.parse_operations-loop-preserved
 parse_operations-loop-preserved t c =
     rw c.in_ok-push.ensures.items (goes_on then_operation _ _ _ _ (operations_steps (operand c.args.room (nested c.args.room) c.args.below) (suc c.args.below)) c.loop.operations.items 64 c.loop.counter c.loop.self c.parse_operation.new.self c.in_ok-operation.field-0 c.in-Some.operation _ c.loop-test.true c.in_ok-operation.ensures c.in-Some.is c.loop.invariant)
 
+pub parse_operations-returns-in_err-end_operations : goal.parse_operations-returns-in_err-end_operations
+unfolding operations
+parse_operations-returns-in_err-end_operations t c =
+    let p = err_from_is_err_and c.from_residual-in_err-end_operations.result c.from_residual-in_err-end_operations.ensures.1 in
+    rw (p.1, p.2) (fails_full then_operation _ _ _ _ (operations_steps (operand c.args.room (nested c.args.room) c.args.below) (suc c.args.below)) c.in_err-end_operations.field-0.0 c.loop.operations.items 64 c.loop.counter c.loop.self c.end_operations.new.self _ c.loop-test.false c.in_err-end_operations.ensures c.loop.invariant)
+
 pub parse_operations-returns : goal.parse_operations-returns
+unfolding operations
 parse_operations-returns t c =
     is_full_as then_operation _ NoOperations operations_of onto-operations _ _ (operations_steps (operand c.args.room (nested c.args.room) c.args.below) (suc c.args.below)) c.loop.operations.items 64 c.loop.counter c.loop.self c.end_operations.new.self _ c.loop-test.false c.in_ok-end_operations.ensures c.loop.invariant
 

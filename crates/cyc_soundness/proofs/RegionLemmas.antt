@@ -1,0 +1,653 @@
+-- What region variables stand for: where more of them are named, where a region is opened, and where a function is called.
+use Rattle.std.proofs.Common.{◌≡◌, ◌≢◌, ◌⊎◌, inl, inr, ℕ, zero, suc, ◌≤◌, ◌<◌, Bool, true, false, List, [], ◌∷◌, length, map, Some, slice_get, eqb, refl, sym, ap, subst, ◌∙◌, arith}
+use Rattle.std.specs.Prelude.{Option, None, option_map, if◌then◌else◌, ◌==◌, Contains, slice_index_or}
+use Rattle.std.proofs.lemmas.Bool.{eqb-true, eq-eqb, false_from_ne_true}
+use Rattle.cyc_types.specs.declared.region.Region.{Region}
+use Rattle.cyc_types.specs.declared.region.Region.TheVariants as regions
+use Rattle.cyc_types.specs.declared.scope.Scope.{Scope}
+use Rattle.cyc_types.specs.declared.scope.ScopeKind.{ScopeKind}
+use Rattle.cyc_types.specs.declared.scope.ScopeKind.TheVariants as scopes
+use Rattle.cyc_types.specs.Outlives.{RegionContext, live_regions, is_outlived_by_live, IsLiveAtOpening, IsGiven, OutlivesIn}
+use Rattle.cyc_types.specs.Regions.{substituted_region}
+use Rattle.cyc_types.specs.TypedTrees.{Dereference, Target, Member, Element, StructType, Function, Program}
+use Rattle.cyc_types.specs.Types.{Ty, ValueType, result_type, substituted_ty}
+use Rattle.cyc_types.specs.Types as types
+use Rattle.cyc_types.specs.typing.Scopes.{with_scope}
+use Rattle.cyc_types.specs.typing.WellTyped.{LocalInScope, Context, IsLive, AreLive, AreOutliving, IsCell, body_context, parameters_in_scope, IsNamed, AreNamed as AreNamedRegions, IsNamedIn, AreNamedIn, IsNamedResult, AreConstraints, IsWellTypedFunction, in_block, with_local, with_opened}
+use Rattle.cyc_soundness.specs.Lives.{Life, OfRegion, OfObject, Never, Lives, at, value_at, heap_life, lives_of, as_heap, Reading, AsHeap, ByScope, AllOf, AllIn, AllInValue, IsKnown, IsOther}
+use Rattle.cyc_soundness.specs.Worlds.{Outlasts, heap as for_ever, encloses, whole, behind, AgreesWith, IsNumber}
+use Rattle.cyc_soundness.specs.Classes.{IsDeclarable, Source}
+use Rattle.cyc_soundness.specs.Frames.{later, InScope, Variable, Level, Names, Instance, Home, life_named, is_live_named, lives_in, read, read_value, home_of, lives_among, IsThereBy, IsThere, IsHomed, IsScope, IsLasting, IsLiveIn, AreLiveIn, Exits, AreNamed, StandBy, Stand, IsHome, AreKnownLocals, AreKnown, IsContext}
+use Rattle.cyc_soundness.specs.Stacks.{IsNew, regions_at_call, IsInstance}
+use Rattle.cyc_soundness.proofs.TypeLemmas.{all_in, every_in, read_alike, value_alike, lives_by, instance_by, result_by}
+use Rattle.cyc_soundness.proofs.ValueLemmas.{given_agree}
+
+-- ---- lists
+
+pub contains_later : {A : Type 0} (x y : A) (xs : List A) → Contains (x ∷ xs) y → (x ≡ y) ⊎ Contains xs y
+contains_later x y xs (zero, less, same) = inl same
+contains_later x y xs (suc n, less, same) = inr (n, (let e : n < length xs = omega (arith, less) in e), same)
+
+pub contains_more : {A : Type 0} (x y : A) (xs : List A) → Contains xs y → Contains (x ∷ xs) y
+contains_more x y xs (n, less, same) = (suc n, (let e : suc n < suc (length xs) = omega (arith, less) in e), same)
+
+pub contains_none : {A B : Type 0} (y : A) → Contains [] y → B
+contains_none y (n, less, same) = absurd (omega (arith, less))
+
+-- ---- what lasts
+
+pub lasting_more : (n : ℕ) (ns : List ℕ) (l : Life) → IsLasting ns l → IsLasting (n ∷ ns) l
+lasting_more n ns (OfRegion m ms) (inl heap) = inl heap
+lasting_more n ns (OfRegion m ms) (inr end) = inr (behind n ns end)
+lasting_more n ns (OfObject o) is = is
+lasting_more n ns Never is = is
+
+one_more : (n : ℕ) (ns : List ℕ) (b : InScope) → IsLiveIn ns b → IsLiveIn (n ∷ ns) b
+one_more n ns (Variable b) is = lasting_more n ns b.life is
+one_more n ns (Names number l live) is = λ e. lasting_more n ns l (is e)
+one_more n ns (Instance these live) is = λ k e. lasting_more n ns (these k) (is k e)
+one_more n ns b is = tt
+
+pub live_more : (n : ℕ) (ns : List ℕ) (bs : List InScope) → AreLiveIn ns bs → AreLiveIn (n ∷ ns) bs
+live_more n ns [] are = tt
+live_more n ns (b ∷ bs) (is, are) = (one_more n ns b is, live_more n ns bs are)
+
+named_either : (b : Bool) (ns : List ℕ) (l m : Life) (first second : Bool) → (first ≡ true → IsLasting ns l) → (second ≡ true → IsLasting ns m) → (if b then first else second) ≡ true
+    → IsLasting ns (if b then l else m)
+named_either true ns l m first second one two e = one e
+named_either false ns l m first second one two e = two e
+
+named_lasting : (ns : List ℕ) (bs : List InScope) (k : ℕ) → AreLiveIn ns bs → is_live_named bs k ≡ true → IsLasting ns (life_named bs k)
+named_lasting ns [] k are live = inl refl
+named_lasting ns (Variable b ∷ bs) k (is, are) live = named_lasting ns bs k are live
+named_lasting ns (Level l ∷ bs) k (is, are) live = named_lasting ns bs k are live
+named_lasting ns (Home region ∷ bs) k (is, are) live = named_lasting ns bs k are live
+named_lasting ns (Instance these lives ∷ bs) k (is, are) live = is k live
+named_lasting ns (Names number l alive ∷ bs) k (is, are) live = named_either (k == number) ns l (life_named bs k) alive (is_live_named bs k) is (λ e. named_lasting ns bs k are e) live
+
+-- what a live region stands for has not ended
+pub there_lasting : (ns : List ℕ) (bs : List InScope) (r : Region) → AreLiveIn ns bs → IsThere bs r → IsLasting ns (lives_in bs r)
+there_lasting ns bs regions.Heap are there = inl refl
+there_lasting ns bs regions.Unique are there = inl refl
+there_lasting ns bs (regions.Variable n) are there = named_lasting ns bs n are there
+
+pub lasts_around : (ns : List ℕ) (n : ℕ) (l : Life) → IsLasting ns l → Outlasts l (OfRegion n ns)
+lasts_around ns n (OfRegion m ms) (inl heap) = subst (λ l. Outlasts l (OfRegion n ns)) (sym heap) (for_ever (OfRegion n ns))
+lasts_around ns n (OfRegion m ms) (inr end) = encloses m n ms ns end
+lasts_around ns n (OfObject o) is = absurd is
+lasts_around ns n Never is = absurd is
+
+-- ---- names
+
+abbrev pub with_name : (ℕ → Life) → (number : ℕ) → Life → ℕ → Life
+with_name these number l k = if k == number then l else these k
+
+other_name : {A : Type 0} (number k : ℕ) (a b : A) → k ≢ number → (if k == number then a else b) ≡ b
+other_name number k a b apart = ap (λ (z : Bool). if z then a else b) (false_from_ne_true (eqb k number) (λ h. apart (eqb-true k number h)))
+
+pub same_name : {A : Type 0} (number : ℕ) (a b : A) → (if number == number then a else b) ≡ a
+same_name number a b = ap (λ (z : Bool). if z then a else b) (eq-eqb number number refl)
+
+pub known_other : (n : ℕ) (r : Region) → IsKnown n r → IsOther n r
+known_other n regions.Heap known = tt
+known_other n regions.Unique known = tt
+known_other n (regions.Variable m) less = λ e. (let k : m ≡ n = e in absurd (omega (arith, less, k)))
+
+known_more : (n m : ℕ) (r : Region) → n ≤ m → IsKnown n r → IsKnown m r
+known_more n m regions.Heap most known = tt
+known_more n m regions.Unique most known = tt
+known_more n m (regions.Variable k) most less = omega (arith, less, most)
+
+-- another region stands for the same
+pub other_life : (number : ℕ) (l : Life) (live : Bool) (bs : List InScope) (r : Region) → IsOther number r → lives_in bs r ≡ lives_in (Names number l live ∷ bs) r
+other_life number l live bs regions.Heap other = refl
+other_life number l live bs regions.Unique other = refl
+other_life number l live bs (regions.Variable n) other = sym (other_name number n l (life_named bs n) other)
+
+other_there : (number : ℕ) (l : Life) (bs : List InScope) (r : Region) → IsOther number r → IsThere bs r → IsThere (Names number l true ∷ bs) r
+other_there number l bs regions.Heap other there = tt
+other_there number l bs regions.Unique other there = tt
+other_there number l bs (regions.Variable n) other there = other_name number n true (is_live_named bs n) other ∙ there
+
+-- ---- a region is opened
+
+opened_there : (number : ℕ) (l : Life) (bs : List InScope) (r : Region) → regions.Variable number ≡ r → IsThere (Names number l true ∷ bs) r
+opened_there number l bs r same = subst (λ z. IsThere (Names number l true ∷ bs) z) same (same_name number true (is_live_named bs number))
+
+-- what outlives a region that was opened before was live then, and this was opened
+at_opening : (live : List Region) (opened : List Scope) (a b : Region) → IsLiveAtOpening live opened a b → Contains (live_regions live opened) a × Contains (live_regions live opened) b
+at_opening live [] a b is = absurd is
+at_opening live (s ∷ earlier) a b (inl (kind, same, plain, has)) =
+    (contains_more s.region a (live_regions live earlier) has, (0, (let e : 0 < suc (length (live_regions live earlier)) = omega arith in e), sym same))
+at_opening live (s ∷ earlier) a b (inr is) =
+    let (one, two) = at_opening live earlier a b is in (contains_more s.region a (live_regions live earlier) one, contains_more s.region b (live_regions live earlier) two)
+
+module _ (kind : ScopeKind) (number region : ℕ) (ns : List ℕ) (c : RegionContext) (bs : List InScope) (outlived : is_outlived_by_live kind ≡ true) (live : AreLiveIn ns bs)
+    (others : (r : Region) → Contains (live_regions c.live c.opened) r → IsOther number r) (pairs : (a b : Region) → Contains c.written (a, b) → IsOther number a × IsOther number b) where
+  abbrev inner : List InScope
+  inner = Names number (OfRegion region ns) true ∷ bs
+
+  opened_named : AreNamed c (λ n. life_named bs n) (λ n. is_live_named bs n)
+      → AreNamed (with_scope kind (regions.Variable number) c) (λ n. life_named inner n) (λ n. is_live_named inner n)
+  opened_named names = record { there = there; agrees = agrees }
+    where
+      there : (r : Region) → Contains (regions.Variable number ∷ live_regions c.live c.opened) r → IsThere inner r
+      there r has = elim (contains_later (regions.Variable number) r (live_regions c.live c.opened) has) [
+        | inl new ↦ opened_there number (OfRegion region ns) bs r new
+        | inr old ↦ other_there number (OfRegion region ns) bs r (others r old) (names.there r old)
+      ]
+
+      moved : (a b : Region) → IsOther number a → IsOther number b → Outlasts (lives_in bs a) (lives_in bs b) → Outlasts (lives_in inner a) (lives_in inner b)
+      moved a b first second is =
+          subst (λ l. Outlasts l (lives_in inner b)) (other_life number (OfRegion region ns) true bs a first)
+          (subst (λ l. Outlasts (lives_in bs a) l) (other_life number (OfRegion region ns) true bs b second) is)
+
+      agrees : (a b : Region) → IsGiven (with_scope kind (regions.Variable number) c) a b → Outlasts (lives_in inner a) (lives_in inner b)
+      agrees a b (inl (heap, plain)) = subst (λ z. Outlasts (lives_in inner z) (lives_in inner b)) (sym heap) (for_ever (lives_in inner b))
+      agrees a b (inr (inl written)) = let (one, two) = pairs a b written in moved a b one two (names.agrees a b (inr (inl written)))
+      agrees a b (inr (inr (inl (kind', new, plain, has)))) =
+          subst (λ z. Outlasts (lives_in inner a) (lives_in inner z)) (sym new)
+          (subst (λ l. Outlasts (lives_in inner a) l) (sym (same_name number (OfRegion region ns) (life_named bs number)))
+          (subst (λ l. Outlasts l (OfRegion region ns)) (other_life number (OfRegion region ns) true bs a (others a has))
+          (lasts_around ns region (lives_in bs a) (there_lasting ns bs a live (names.there a has)))))
+      agrees a b (inr (inr (inr old))) =
+          let (one, two) = at_opening c.live c.opened a b old in moved a b (others a one) (others b two) (names.agrees a b (inr (inr old)))
+
+-- ---- the heap
+
+heap_lives : (these : ℕ → Life) (live : ℕ → Bool) → ((n : ℕ) → (these n ≡ heap_life) × (live n ≡ true)) → (r : Region) → lives_of these r ≡ heap_life
+heap_lives these live are regions.Heap = refl
+heap_lives these live are regions.Unique = refl
+heap_lives these live are (regions.Variable n) = (are n).0
+
+heap_there : (these : ℕ → Life) (live : ℕ → Bool) → ((n : ℕ) → (these n ≡ heap_life) × (live n ≡ true)) → (r : Region) → IsThereBy live r
+heap_there these live are regions.Heap = tt
+heap_there these live are regions.Unique = tt
+heap_there these live are (regions.Variable n) = (are n).1
+
+named_heap : (number : ℕ) (these : ℕ → Life) (live : ℕ → Bool) → ((n : ℕ) → (these n ≡ heap_life) × (live n ≡ true)) → (n : ℕ)
+    → ((if n == number then heap_life else these n) ≡ heap_life) × ((if n == number then true else live n) ≡ true)
+named_heap number these live are n = go (n == number)
+  where
+    go : (b : Bool) → ((if b then heap_life else these n) ≡ heap_life) × ((if b then true else live n) ≡ true)
+    go true = (refl, refl)
+    go false = are n
+
+-- ---- in a context
+
+there_by : (m : Reading) (c : RegionContext) (these : ℕ → Life) (live : ℕ → Bool) → StandBy m c these live → (r : Region) → Contains (live_regions c.live c.opened) r → IsThereBy live r
+there_by AsHeap c these live are r has = heap_there these live are r
+there_by ByScope c these live are r has = are.there r has
+
+pub agrees_by : (m : Reading) (c : RegionContext) (these : ℕ → Life) (live : ℕ → Bool) → StandBy m c these live → AgreesWith c (lives_of these)
+agrees_by AsHeap c these live are = λ a b outlives. subst (λ l. Outlasts l (lives_of these b)) (sym (heap_lives these live are a)) (for_ever (lives_of these b))
+agrees_by ByScope c these live are = given_agree c (lives_of these) are.agrees
+
+-- ---- what is known of other regions
+
+-- other regions stand for the same; read as the heap, all do
+abbrev pub IsOtherBy : Reading → ℕ → Region → Type 0
+IsOtherBy AsHeap n r = Unit {0}
+IsOtherBy ByScope n r = IsOther n r
+
+-- the life of a region that is opened
+abbrev pub opened_life : Reading → (region : ℕ) → (around : List ℕ) → Life
+opened_life AsHeap region ns = heap_life
+opened_life ByScope region ns = OfRegion region ns
+
+opened_same : (m : Reading) (number region : ℕ) (ns : List ℕ) (c : RegionContext) (bs : List InScope) → Stand m c bs → (r : Region) → IsOtherBy m number r
+    → lives_in bs r ≡ lives_in (Names number (opened_life m region ns) true ∷ bs) r
+opened_same AsHeap number region ns c bs stand r other =
+    let before = heap_lives (λ n. life_named bs n) (λ n. is_live_named bs n) stand r in
+    let now = heap_lives (λ n. life_named (Names number heap_life true ∷ bs) n) (λ n. is_live_named (Names number heap_life true ∷ bs) n) (named_heap number (λ n. life_named bs n) (λ n. is_live_named bs n) stand) r in
+    before ∙ sym now
+opened_same ByScope number region ns c bs stand r other = other_life number (OfRegion region ns) true bs r other
+
+others_in : (m : Reading) (n : ℕ) (t : Ty) → IsDeclarable m n t → AllIn (IsOtherBy m n) t
+others_in AsHeap n t known = every_in (λ r. Unit {0}) (λ r. tt) t
+others_in ByScope n t known = all_in (IsKnown n) (IsOther n) (known_other n) t known
+
+in_value : (P Q : Region → Type 0) → ((r : Region) → P r → Q r) → (v : ValueType) → AllInValue P v → AllInValue Q v
+in_value P Q so types.Void all = tt
+in_value P Q so types.Null all = tt
+in_value P Q so (types.Value t) all = all_in P Q so t all
+
+every_value : (P : Region → Type 0) → ((r : Region) → P r) → (v : ValueType) → AllInValue P v
+every_value P so types.Void = tt
+every_value P so types.Null = tt
+every_value P so (types.Value t) = every_in P so t
+
+others_value : (m : Reading) (n : ℕ) (c : RegionContext) (vs : List LocalInScope) (result : Option Ty) → AreKnown m n c vs result → AllInValue (IsOtherBy m n) (result_type result)
+others_value AsHeap n c vs result known = every_value (λ r. Unit {0}) (λ r. tt) (result_type result)
+others_value ByScope n c vs result known = in_value (IsKnown n) (IsOther n) (known_other n) (result_type result) known.gives
+
+abbrev AreOthers : Reading → ℕ → List LocalInScope → Type 0
+AreOthers m n [] = Unit {0}
+AreOthers m n (v ∷ vs) = (AllIn (IsOtherBy m n) v.of_type × IsOtherBy m n (regions.Variable v.region)) × AreOthers m n vs
+
+no_others : (n : ℕ) (vs : List LocalInScope) → AreOthers AsHeap n vs
+no_others n [] = tt
+no_others n (v ∷ vs) = ((every_in (λ r. Unit {0}) (λ r. tt) v.of_type, tt), no_others n vs)
+
+known_others : (n : ℕ) (vs : List LocalInScope) → AreKnownLocals n vs → AreOthers ByScope n vs
+known_others n [] known = tt
+known_others n (v ∷ vs) ((of_type, region), known) = ((all_in (IsKnown n) (IsOther n) (known_other n) v.of_type of_type, known_other n (regions.Variable v.region) region), known_others n vs known)
+
+others_locals : (m : Reading) (n : ℕ) (c : RegionContext) (vs : List LocalInScope) (result : Option Ty) → AreKnown m n c vs result → AreOthers m n vs
+others_locals AsHeap n c vs result known = no_others n vs
+others_locals ByScope n c vs result known = known_others n vs known.locals
+
+homed_kept : (m : Reading) (j k : Lives) (region : ℕ) (l : Life) → j (regions.Variable region) ≡ k (regions.Variable region) → IsHomed m j region l → IsHomed m k region l
+homed_kept AsHeap j k region l same is = tt
+homed_kept ByScope j k region l same is = is ∙ same
+
+-- a scope stays where all that it names stands for the same
+pub scope_kept : (m : Reading) (n : ℕ) (j k : Lives) (vs : List LocalInScope) (bs : List InScope) → ((r : Region) → IsOtherBy m n r → j r ≡ k r) → AreOthers m n vs → IsScope m j vs bs → IsScope m k vs bs
+scope_kept m n j k vs [] same others is = is
+scope_kept m n j k vs (Variable b ∷ bs) same others (rest, (v, vs_are, number, of_type, hidden, homed), is) =
+    let ((in_type, home), more) = subst (λ us. AreOthers m n us) vs_are others in
+    let kept : at k v.of_type ≡ b.of_type = sym (read_alike j k v.of_type (all_in (IsOtherBy m n) (λ r. j r ≡ k r) same v.of_type in_type)) ∙ of_type in
+    (rest, (v, vs_are, number, kept, hidden, homed_kept m j k v.region b.life (same (regions.Variable v.region) home) homed), scope_kept m n j k rest bs same more is)
+scope_kept m n j k vs (b ∷ bs) same others (rest, vs_are, is) = (rest, vs_are, scope_kept m n j k rest bs same (subst (λ us. AreOthers m n us) vs_are others) is)
+
+-- ---- more is known
+
+locals_more : (n m : ℕ) (vs : List LocalInScope) → n ≤ m → AreKnownLocals n vs → AreKnownLocals m vs
+locals_more n m [] most known = tt
+locals_more n m (v ∷ vs) most ((of_type, region), known) =
+    ((all_in (IsKnown n) (IsKnown m) (λ r k. known_more n m r most k) v.of_type of_type, (let e : v.region < m = omega (arith, region, most) in e)), locals_more n m vs most known)
+
+pub known_behind : (m : Reading) (n k : ℕ) (c : RegionContext) (vs : List LocalInScope) (result : Option Ty) → n ≤ k → AreKnown m n c vs result → AreKnown m k c vs result
+known_behind AsHeap n k c vs result most known = tt
+known_behind ByScope n k c vs result most known = record {
+  live = λ r has. known_more n k r most (known.live r has);
+  pairs = λ a b has. (known_more n k a most (known.pairs a b has).0, known_more n k b most (known.pairs a b has).1);
+  locals = locals_more n k vs most known.locals;
+  gives = in_value (IsKnown n) (IsKnown k) (λ r is. known_more n k r most is) (result_type result) known.gives;
+}
+
+known_opened : (m : Reading) (n : ℕ) (kind : ScopeKind) (c : RegionContext) (vs : List LocalInScope) (result : Option Ty) → AreKnown m n c vs result
+    → AreKnown m (suc n) (with_scope kind (regions.Variable n) c) vs result
+known_opened AsHeap n kind c vs result known = tt
+known_opened ByScope n kind c vs result known = record {
+  live = live;
+  pairs = λ a b has. (known_more n (suc n) a most (known.pairs a b has).0, known_more n (suc n) b most (known.pairs a b has).1);
+  locals = locals_more n (suc n) vs most known.locals;
+  gives = in_value (IsKnown n) (IsKnown (suc n)) (λ r is. known_more n (suc n) r most is) (result_type result) known.gives;
+}
+  where
+    most : n ≤ suc n
+    most = omega arith
+
+    live : (r : Region) → Contains (regions.Variable n ∷ live_regions c.live c.opened) r → IsKnown (suc n) r
+    live r has = elim (contains_later (regions.Variable n) r (live_regions c.live c.opened) has) [
+      | inl new ↦ subst (λ z. IsKnown (suc n) z) new (let e : n < suc n = omega arith in e)
+      | inr old ↦ known_more n (suc n) r most (known.live r old)
+    ]
+
+pub known_local : (m : Reading) (c : Context) (b : Bool) (t : Ty) → AreKnown m c.next_region c.regions c.locals c.result → IsNew m c t
+    → AreKnown m c.next_region c.regions (with_local b t c).locals c.result
+known_local AsHeap c b t known new = tt
+known_local ByScope c b t known (declared, live) = record {
+  live = known.live;
+  pairs = known.pairs;
+  locals = ((declared, known.live (regions.Variable c.region) live), known.locals);
+  gives = known.gives;
+}
+
+-- ---- a region is opened in a context
+
+pub stand_opened : (m : Reading) (kind : ScopeKind) (number region : ℕ) (ns : List ℕ) (c : RegionContext) (bs : List InScope) → is_outlived_by_live kind ≡ true → AreLiveIn ns bs
+    → ((r : Region) → Contains (live_regions c.live c.opened) r → IsOtherBy m number r) → ((a b : Region) → Contains c.written (a, b) → IsOtherBy m number a × IsOtherBy m number b)
+    → Stand m c bs → Stand m (with_scope kind (regions.Variable number) c) (Names number (opened_life m region ns) true ∷ bs)
+stand_opened AsHeap kind number region ns c bs outlived live others pairs stand = named_heap number (λ n. life_named bs n) (λ n. is_live_named bs n) stand
+stand_opened ByScope kind number region ns c bs outlived live others pairs stand = opened_named kind number region ns c bs outlived live others pairs stand
+
+known_live : (m : Reading) (n : ℕ) (c : RegionContext) (vs : List LocalInScope) (result : Option Ty) → AreKnown m n c vs result → (r : Region) → Contains (live_regions c.live c.opened) r → IsOtherBy m n r
+known_live AsHeap n c vs result known r has = tt
+known_live ByScope n c vs result known r has = known_other n r (known.live r has)
+
+known_pairs : (m : Reading) (n : ℕ) (c : RegionContext) (vs : List LocalInScope) (result : Option Ty) → AreKnown m n c vs result → (a b : Region) → Contains c.written (a, b) → IsOtherBy m n a × IsOtherBy m n b
+known_pairs AsHeap n c vs result known a b has = (tt, tt)
+known_pairs ByScope n c vs result known a b has = (known_other n a (known.pairs a b has).0, known_other n b (known.pairs a b has).1)
+
+pub opened_lasting : (m : Reading) (region : ℕ) (ns : List ℕ) → IsLasting (region ∷ ns) (opened_life m region ns)
+opened_lasting AsHeap region ns = inl refl
+opened_lasting ByScope region ns = inr whole
+
+pub new_home : (m : Reading) (number region : ℕ) (ns : List ℕ) (bs : List InScope) → IsHome m number (Home region ∷ Names number (opened_life m region ns) true ∷ bs)
+new_home AsHeap number region ns bs = tt
+new_home ByScope number region ns bs =
+    (subst (λ l. IsNumber l region) (sym (same_name number (OfRegion region ns) (life_named bs number))) refl, same_name number true (is_live_named bs number))
+
+same_home : (m : Reading) (number region home : ℕ) (ns : List ℕ) (c : Context) (bs : List InScope) → (AreKnown m c.next_region c.regions c.locals c.result) → number ≡ c.next_region → IsLive c (regions.Variable c.region)
+    → IsHome m c.region bs → IsHome m c.region (Names number (opened_life m region ns) true ∷ bs)
+same_home AsHeap number region home ns c bs known same live is = tt
+same_home ByScope number region home ns c bs known same live (at_home, there) =
+    let less : c.region < c.next_region = known.live (regions.Variable c.region) live in
+    let apart : c.region ≢ number = (λ e. (let k : c.region ≡ number = e in absurd (omega (arith, less, k, same)))) in
+    (subst (λ l. IsNumber l (home_of bs)) (sym (other_name number c.region (OfRegion region ns) (life_named bs c.region) apart)) at_home,
+    other_name number c.region true (is_live_named bs c.region) apart ∙ there)
+
+module _ (p : Source) (x : Exits) (bs : List InScope) (c : Context) (stands : IsContext p x bs c) where
+  -- a live region has not ended
+  pub there_of : (r : Region) → IsLive c r → IsThere bs r
+  there_of r live = there_by p.reading c.regions (λ n. life_named bs n) (λ n. is_live_named bs n) stands.regions r live
+
+  pub agrees_of : AgreesWith c.regions (lives_in bs)
+  agrees_of = agrees_by p.reading c.regions (λ n. life_named bs n) (λ n. is_live_named bs n) stands.regions
+
+  module _ (region : ℕ) (ns : List ℕ) (live : AreLiveIn ns bs) where
+    abbrev here : List InScope
+    here = Names c.next_region (opened_life p.reading region ns) true ∷ bs
+
+    same_here : (r : Region) → IsOtherBy p.reading c.next_region r → lives_in bs r ≡ lives_in here r
+    same_here r other = opened_same p.reading c.next_region region ns c.regions bs stands.regions r other
+
+    gives_here : read_value here (result_type c.result) ≡ x.gives
+    gives_here = sym (value_alike (lives_in bs) (lives_in here) (result_type c.result)
+        (in_value (IsOtherBy p.reading c.next_region) (λ r. lives_in bs r ≡ lives_in here r) same_here (result_type c.result)
+        (others_value p.reading c.next_region c.regions c.locals c.result stands.known))) ∙ stands.gives
+
+    scope_here : IsScope p.reading (lives_in here) c.locals bs
+    scope_here = scope_kept p.reading c.next_region (lives_in bs) (lives_in here) c.locals bs same_here (others_locals p.reading c.next_region c.regions c.locals c.result stands.known) stands.scope
+
+    stand_here : (kind : ScopeKind) → is_outlived_by_live kind ≡ true → Stand p.reading (with_scope kind (regions.Variable c.next_region) c.regions) here
+    stand_here kind outlived = stand_opened p.reading kind c.next_region region ns c.regions bs outlived live
+        (known_live p.reading c.next_region c.regions c.locals c.result stands.known) (known_pairs p.reading c.next_region c.regions c.locals c.result stands.known) stands.regions
+
+    -- inside a block
+    pub context_inside : IsContext p x (Home region ∷ here) (in_block c)
+    context_inside = record {
+      globals = stands.globals;
+      functions = stands.functions;
+      structs = stands.structs;
+      result = stands.result;
+      gives = gives_here;
+      loop = stands.loop;
+      scope = (c.locals, refl, (c.locals, refl, scope_here));
+      below = (tt, (tt, stands.below));
+      counters = λ l less. later (Home region) here (later (Names c.next_region (opened_life p.reading region ns) true) bs (stands.counters l less));
+      known = known_opened p.reading c.next_region scopes.Block c.regions c.locals c.result stands.known;
+      regions = stand_here scopes.Block refl;
+      home = new_home p.reading c.next_region region ns bs;
+    }
+
+    -- behind a lexical region
+    pub context_lexical : IsLive c (regions.Variable c.region) → IsContext p x here (with_opened scopes.Lexical c)
+    context_lexical alive = record {
+      globals = stands.globals;
+      functions = stands.functions;
+      structs = stands.structs;
+      result = stands.result;
+      gives = gives_here;
+      loop = stands.loop;
+      scope = (c.locals, refl, scope_here);
+      below = (tt, stands.below);
+      counters = λ l less. later (Names c.next_region (opened_life p.reading region ns) true) bs (stands.counters l less);
+      known = known_opened p.reading c.next_region scopes.Lexical c.regions c.locals c.result stands.known;
+      regions = stand_here scopes.Lexical refl;
+      home = same_home p.reading c.next_region region region ns c bs stands.known refl alive stands.home;
+    }
+
+
+-- ---- a function begins
+
+-- before its own region is open
+pub other_same : (m : Reading) (region : ℕ) (ns : List ℕ) (c : RegionContext) (bs : List InScope) → Stand m c bs → (r : Region) → IsOtherBy m 0 r → lives_in bs r ≡ lives_in (Names 0 (opened_life m region ns) true ∷ bs) r
+other_same m region ns c bs stand r other = opened_same m 0 region ns c bs stand r other
+
+named_other : (m : Reading) (k : ℕ) (r : Region) → IsNamed k r → IsOtherBy m 0 r
+named_other AsHeap k r named = tt
+named_other ByScope k regions.Heap named = tt
+named_other ByScope k regions.Unique named = tt
+named_other ByScope k (regions.Variable n) (some, most) = λ e. (let z : n ≡ 0 = e in absurd (omega (arith, some, z)))
+
+named_known : (k : ℕ) (r : Region) → IsNamed k r → IsKnown (suc k) r
+named_known k regions.Heap named = tt
+named_known k regions.Unique named = tt
+named_known k (regions.Variable n) (some, most) = omega (arith, most)
+
+named_of : (k : ℕ) (rs : List Region) → AreNamedRegions k rs → AllOf (IsNamed k) rs
+named_of k [] named = tt
+named_of k (r ∷ rs) (one, named) = (one, named_of k rs named)
+
+named_in : (k : ℕ) (t : Ty) → IsNamedIn k t → AllIn (IsNamed k) t
+named_in k types.Int named = tt
+named_in k (types.Pointer m t r) (named, one) = (named_in k t named, one)
+named_in k (types.Handle r) named = named
+named_in k (types.Key r) named = named
+named_in k (types.Struct n rs) named = named_of k rs named
+
+named_result : (k : ℕ) (o : Option Ty) → IsNamedResult k o → AllInValue (IsNamed k) (result_type o)
+named_result k None named = tt
+named_result k (Some t) named = named_in k t named
+
+named_among : (k : ℕ) (rs : List Region) (r : Region) → AreNamedRegions k rs → Contains rs r → IsNamed k r
+named_among k [] r named has = contains_none r has
+named_among k (a ∷ rs) r (one, named) has = elim (contains_later a r rs has) [ inl same ↦ subst (λ z. IsNamed k z) same one | inr old ↦ named_among k rs r named old ]
+
+named_pairs : (k : ℕ) (ps : List (Region × Region)) (a b : Region) → AreConstraints k ps → Contains ps (a, b) → IsNamed k a × IsNamed k b
+named_pairs k [] a b named has = contains_none (a, b) has
+named_pairs k (q ∷ ps) a b ((first, plain, second, also), named) has = elim (contains_later q (a, b) ps has) [
+  | inl same ↦ subst (λ (z : Region × Region). IsNamed k z.0 × IsNamed k z.1) same (first, second)
+  | inr old ↦ named_pairs k ps a b named old
+]
+
+named_live : (k : ℕ) (effect : List Region) (r : Region) → AreNamedRegions k effect → Contains (regions.Heap ∷ regions.Unique ∷ effect) r → IsNamed k r
+named_live k effect r named has = elim (contains_later regions.Heap r (regions.Unique ∷ effect) has) [
+  | inl heap ↦ subst (λ z. IsNamed k z) heap tt
+  | inr later' ↦ elim (contains_later regions.Unique r effect later') [ inl unique ↦ subst (λ z. IsNamed k z) unique tt | inr old ↦ named_among k effect r named old ]
+]
+
+alike_parameters : (k : ℕ) (m : Reading) (i j : Lives) (ts : List Ty) → AreNamedIn k ts → ((r : Region) → IsOtherBy m 0 r → i r ≡ j r) → map (at i) ts ≡ map (at j) ts
+alike_parameters k m i j [] named same = refl
+alike_parameters k m i j (t ∷ ts) (one, named) same =
+    let here : at i t ≡ at j t = read_alike i j t (all_in (IsNamed k) (λ r. i r ≡ j r) (λ r is. same r (named_other m k r is)) t (named_in k t one)) in
+    ap (λ u. u ∷ map (at i) ts) here ∙ ap (λ us. at j t ∷ us) (alike_parameters k m i j ts named same)
+
+-- a function's types, effect and constraints name other regions than its own
+pub record NamesOthers (m : Reading) (h : Function) : Type 0 where
+  pub result : (i j : Lives) → ((r : Region) → IsOtherBy m 0 r → i r ≡ j r) → value_at i (result_type h.result) ≡ value_at j (result_type h.result)
+  pub parameters : (i j : Lives) → ((r : Region) → IsOtherBy m 0 r → i r ≡ j r) → map (at i) h.parameters ≡ map (at j) h.parameters
+  pub live : (r : Region) → Contains (regions.Heap ∷ regions.Unique ∷ h.effect) r → IsOtherBy m 0 r
+  pub pairs : (a b : Region) → Contains h.constraints (a, b) → IsOtherBy m 0 a × IsOtherBy m 0 b
+
+pub named_function : (m : Reading) (p : Program) (h : Function) → IsWellTypedFunction p h → NamesOthers m h
+named_function m p h well = record {
+  result = λ i j same. value_alike i j (result_type h.result)
+      (in_value (IsNamed h.variables) (λ r. i r ≡ j r) (λ r is. same r (named_other m h.variables r is)) (result_type h.result) (named_result h.variables h.result well.result));
+  parameters = λ i j same. alike_parameters h.variables m i j h.parameters well.parameters same;
+  live = λ r has. named_other m h.variables r (named_live h.variables h.effect r well.effect has);
+  pairs = λ a b has. (let (one, two) = named_pairs h.variables h.constraints a b well.constraints has in (named_other m h.variables a one, named_other m h.variables b two));
+}
+
+known_parameters : (k number : ℕ) (ts : List Ty) (vs : List LocalInScope) → AreNamedIn k ts → AreKnownLocals (suc k) vs → AreKnownLocals (suc k) (parameters_in_scope ts number vs)
+known_parameters k number [] vs named known = known
+known_parameters k number (t ∷ ts) vs (one, named) known =
+    known_parameters k (suc number) ts (record { number = number; of_type = t; region = 0; is_place = true } ∷ vs) named
+    ((all_in (IsNamed k) (IsKnown (suc k)) (λ r is. named_known k r is) t (named_in k t one), (let e : 0 < suc k = omega arith in e)), known)
+
+-- and what its body knows was declared
+pub known_body : (m : Reading) (p : Program) (h : Function) → IsWellTypedFunction p h → AreKnown m (suc h.variables) (body_context p h).regions (parameters_in_scope h.parameters 0 []) h.result
+known_body AsHeap p h well = tt
+known_body ByScope p h well = record {
+  live = live;
+  pairs = λ a b has. (let (one, two) = named_pairs h.variables h.constraints a b well.constraints has in (named_known h.variables a one, named_known h.variables b two));
+  locals = known_parameters h.variables 0 h.parameters [] well.parameters tt;
+  gives = in_value (IsNamed h.variables) (IsKnown (suc h.variables)) (λ r is. named_known h.variables r is) (result_type h.result) (named_result h.variables h.result well.result);
+}
+  where
+    live : (r : Region) → Contains (regions.Variable 0 ∷ regions.Heap ∷ regions.Unique ∷ h.effect) r → IsKnown (suc h.variables) r
+    live r has = elim (contains_later (regions.Variable 0) r (regions.Heap ∷ regions.Unique ∷ h.effect) has) [
+      | inl own ↦ subst (λ z. IsKnown (suc h.variables) z) own (let e : 0 < suc h.variables = omega arith in e)
+      | inr old ↦ named_known h.variables r (named_live h.variables h.effect r well.effect old)
+    ]
+
+-- ---- the fields of a struct
+
+pub mapped_count : {A B : Type 0} (f : A → B) (xs : List A) → length (map f xs) ≡ length xs
+mapped_count f [] = refl
+mapped_count f (x ∷ xs) = ap suc (mapped_count f xs)
+
+heap_among : (m : Lives) → ((r : Region) → m r ≡ heap_life) → (rs : List Region) (k : ℕ) → slice_index_or (map m rs) k heap_life ≡ heap_life
+heap_among m heap [] k = refl
+heap_among m heap (r ∷ rs) zero = heap r
+heap_among m heap (r ∷ rs) (suc k) = heap_among m heap rs k
+
+life_among : (m : Lives) (rs : List Region) (k : ℕ) (r : Region) → k < length rs → slice_index_or (map m rs) k heap_life ≡ m (slice_index_or rs k r)
+life_among m [] k r less = absurd (omega (arith, less))
+life_among m (a ∷ rs) zero r less = refl
+life_among m (a ∷ rs) (suc k) r less = life_among m rs k r (let e : k < length rs = omega (arith, less) in e)
+
+field_lives : (m : Lives) (rs : List Region) (r : Region) → m regions.Heap ≡ heap_life → m regions.Unique ≡ heap_life → IsKnown (length rs) r → lives_among (map m rs) r ≡ lives_by m rs r
+field_lives m rs regions.Heap heap unique known = sym heap
+field_lives m rs regions.Unique heap unique known = sym unique
+field_lives m rs (regions.Variable n) heap unique known = life_among m rs n (regions.Variable n) known
+
+field_heap : (m : Lives) (rs : List Region) → ((r : Region) → m r ≡ heap_life) → (r : Region) → lives_among (map m rs) r ≡ lives_by m rs r
+field_heap m rs heap regions.Heap = sym (heap regions.Heap)
+field_heap m rs heap regions.Unique = sym (heap regions.Unique)
+field_heap m rs heap (regions.Variable n) = heap_among m heap rs n ∙ sym (heap (substituted_region rs (regions.Variable n)))
+
+field_by : (m : Reading) (c : RegionContext) (bs : List InScope) (rs : List Region) (s : StructType) (t : Ty) → Stand m c bs → length rs ≡ s.parameters → IsDeclarable m s.parameters t
+    → at (lives_among (map (lives_in bs) rs)) t ≡ at (lives_by (lives_in bs) rs) t
+field_by AsHeap c bs rs s t stand count known = read_alike (lives_among (map (lives_in bs) rs)) (lives_by (lives_in bs) rs) t
+    (every_in (λ r. lives_among (map (lives_in bs) rs) r ≡ lives_by (lives_in bs) rs r) (field_heap (lives_in bs) rs (heap_lives (λ n. life_named bs n) (λ n. is_live_named bs n) stand)) t)
+field_by ByScope c bs rs s t stand count known = read_alike (lives_among (map (lives_in bs) rs)) (lives_by (lives_in bs) rs) t
+    (all_in (IsKnown s.parameters) (λ r. lives_among (map (lives_in bs) rs) r ≡ lives_by (lives_in bs) rs r)
+    (λ r is. field_lives (lives_in bs) rs r refl refl (subst (λ n. IsKnown n r) (sym count) is)) t known)
+
+-- a field's type, where the struct's parameters stand for what is put in their place
+pub field_means : (p : Source) (x : Exits) (bs : List InScope) (c : Context) → IsContext p x bs c → (rs : List Region) (s : StructType) (t : Ty) → length rs ≡ s.parameters → IsDeclarable p.reading s.parameters t
+    → at (lives_among (map (lives_in bs) rs)) t ≡ read bs (substituted_ty rs t)
+field_means p x bs c stands rs s t count known = field_by p.reading c.regions bs rs s t stands.regions count known ∙ sym (instance_by (lives_in bs) rs t)
+
+all_mean : (p : Source) (x : Exits) (bs : List InScope) (c : Context) → IsContext p x bs c → (rs : List Region) (s : StructType) (ts : List Ty) → length rs ≡ s.parameters
+    → ((field : ℕ) (t : Ty) → slice_get ts field ≡ Some t → IsDeclarable p.reading s.parameters t) → map (read bs) (map (substituted_ty rs) ts) ≡ map (at (lives_among (map (lives_in bs) rs))) ts
+all_mean p x bs c stands rs s [] count known = refl
+all_mean p x bs c stands rs s (t ∷ ts) count known =
+    ap (λ u. u ∷ map (read bs) (map (substituted_ty rs) ts)) (sym (field_means p x bs c stands rs s t count (known 0 t refl)))
+    ∙ ap (λ us. at (lives_among (map (lives_in bs) rs)) t ∷ us) (all_mean p x bs c stands rs s ts count (λ field u found. known (suc field) u found))
+
+pub fields_mean : (p : Source) (x : Exits) (bs : List InScope) (c : Context) → IsContext p x bs c → (rs : List Region) (s : StructType) → length rs ≡ s.parameters
+    → ((field : ℕ) (t : Ty) → slice_get s.fields field ≡ Some t → IsDeclarable p.reading s.parameters t) → map (read bs) (map (substituted_ty rs) s.fields) ≡ map (at (lives_among (map (lives_in bs) rs))) s.fields
+fields_mean p x bs c stands rs s count known = all_mean p x bs c stands rs s s.fields count known
+
+-- ---- globals
+
+-- the type of a global names no region variable, and so is read alike everywhere
+pub global_means : (m : Reading) (c : RegionContext) (bs : List InScope) (t : Ty) → Stand m c bs → IsDeclarable m 0 t → read bs t ≡ at as_heap t
+global_means AsHeap c bs t stand known =
+    read_alike (lives_in bs) as_heap t (every_in (λ r. lives_in bs r ≡ heap_life) (heap_lives (λ n. life_named bs n) (λ n. is_live_named bs n) stand) t)
+global_means ByScope c bs t stand known = read_alike (lives_in bs) as_heap t (all_in (IsKnown 0) (λ r. lives_in bs r ≡ heap_life) none t known)
+  where
+    none : (r : Region) → IsKnown 0 r → lives_in bs r ≡ heap_life
+    none regions.Heap is = refl
+    none regions.Unique is = refl
+    none (regions.Variable n) less = absurd (omega (arith, less))
+
+-- a place is in a live region
+pub cell_live : (c : Context) (d : Dereference) (t : Ty) (r : Region) → IsCell c d t r → IsLive c r
+cell_live c (Target k a u) t r (m, well, alive, kind, same) = alive
+cell_live c (Member k a n field u) t r (m, rs, s, v, well, thin, alive, kind, at, there, of, same) = alive
+cell_live c (Element a i u) t r (well, index, alive, same) = alive
+
+-- ---- calls
+
+-- what the region variables of a callee stand for
+abbrev pub these_by : Lives → List Region → ℕ → Life
+these_by n m k = n (substituted_region m (regions.Variable k))
+
+abbrev is_among : ℕ → List Region → Bool
+is_among n [] = false
+is_among n (regions.Variable k ∷ rs) = if n == k then true else is_among n rs
+is_among n (r ∷ rs) = is_among n rs
+
+-- and which of that is live there
+abbrev pub live_by : Reading → List Region → ℕ → Bool
+live_by AsHeap effect k = true
+live_by ByScope effect k = is_among k effect
+
+-- where region variables are put in their place
+abbrev IsBase : Lives → Type 0
+IsBase n = (n regions.Heap ≡ heap_life) × (n regions.Unique ≡ heap_life)
+
+these_are : (n : Lives) (m : List Region) → IsBase n → (r : Region) → lives_by n m r ≡ lives_of (these_by n m) r
+these_are n m (heap, unique) regions.Heap = heap
+these_are n m (heap, unique) regions.Unique = unique
+these_are n m base (regions.Variable k) = refl
+
+pub parameters_mean : (n : Lives) → n regions.Heap ≡ heap_life → n regions.Unique ≡ heap_life → (m : List Region) (ts : List Ty) → map (at n) (map (substituted_ty m) ts) ≡ map (at (lives_of (these_by n m))) ts
+parameters_mean n heap unique m [] = refl
+parameters_mean n heap unique m (t ∷ ts) =
+    let same : at n (substituted_ty m t) ≡ at (lives_of (these_by n m)) t =
+    instance_by n m t ∙ read_alike (lives_by n m) (lives_of (these_by n m)) t (every_in (λ r. lives_by n m r ≡ lives_of (these_by n m) r) (these_are n m (heap, unique)) t) in
+    ap (λ u. u ∷ map (at n) (map (substituted_ty m) ts)) same ∙ ap (λ us. at (lives_of (these_by n m)) t ∷ us) (parameters_mean n heap unique m ts)
+
+pub result_means : (n : Lives) → n regions.Heap ≡ heap_life → n regions.Unique ≡ heap_life → (m : List Region) (t : Option Ty)
+    → value_at n (result_type (option_map (substituted_ty m) t)) ≡ value_at (lives_of (these_by n m)) (result_type t)
+result_means n heap unique m t =
+    result_by n m t ∙ value_alike (lives_by n m) (lives_of (these_by n m)) (result_type t) (every_value (λ r. lives_by n m r ≡ lives_of (these_by n m) r) (these_are n m (heap, unique)) (result_type t))
+
+contained : (rs : List Region) (n : ℕ) → Contains rs (regions.Variable n) → is_among n rs ≡ true
+contained [] n has = contains_none (regions.Variable n) has
+contained (regions.Heap ∷ rs) n has = elim (contains_later regions.Heap (regions.Variable n) rs has) [ inl e ↦ (let z : regions.Heap ≡ regions.Variable n = e in absurd (cc)) | inr old ↦ contained rs n old ]
+contained (regions.Unique ∷ rs) n has = elim (contains_later regions.Unique (regions.Variable n) rs has) [ inl e ↦ (let z : regions.Unique ≡ regions.Variable n = e in absurd (cc)) | inr old ↦ contained rs n old ]
+contained (regions.Variable k ∷ rs) n has = elim (contains_later (regions.Variable k) (regions.Variable n) rs has) [
+  | inl e ↦ (let z : regions.Variable k ≡ regions.Variable n = e in let same : n ≡ k = cc in ap (λ (b : Bool). if b then true else is_among n rs) (eq-eqb n k same))
+  | inr old ↦ either (n == k) (is_among n rs) (contained rs n old)
+]
+  where
+    either : (b c : Bool) → c ≡ true → (if b then true else c) ≡ true
+    either true c e = refl
+    either false c e = e
+
+among_live : (c : Context) (m rs : List Region) (n : ℕ) → AreLive c (map (substituted_region m) rs) → is_among n rs ≡ true → IsLive c (substituted_region m (regions.Variable n))
+among_live c m [] n are e = absurd (let k : false ≡ true = e in cc)
+among_live c m (regions.Heap ∷ rs) n (is, are) e = among_live c m rs n are e
+among_live c m (regions.Unique ∷ rs) n (is, are) e = among_live c m rs n are e
+among_live c m (regions.Variable k ∷ rs) n (is, are) e = among_either (n == k) refl e (among_live c m rs n are)
+  where
+    among_either : (b : Bool) → (n == k) ≡ b → (if b then true else is_among n rs) ≡ true → (is_among n rs ≡ true → IsLive c (substituted_region m (regions.Variable n)))
+        → IsLive c (substituted_region m (regions.Variable n))
+    among_either true same e later' = subst (λ i. IsLive c (substituted_region m (regions.Variable i))) (sym (eqb-true n k same)) is
+    among_either false other e later' = later' e
+
+outliving : (c : Context) (m : List Region) (ps : List (Region × Region)) (a b : Region)
+    → AreOutliving c (map (λ (p : Region × Region). (substituted_region m p.0, substituted_region m p.1)) ps) → Contains ps (a, b) → OutlivesIn c.regions (substituted_region m a) (substituted_region m b)
+outliving c m [] a b are has = contains_none (a, b) has
+outliving c m (q ∷ ps) a b (is, are) has = elim (contains_later q (a, b) ps has) [
+  | inl same ↦ subst (λ (z : Region × Region). OutlivesIn c.regions (substituted_region m z.0) (substituted_region m z.1)) same is
+  | inr old ↦ outliving c m ps a b are old
+]
+
+module _ (p : Source) (x : Exits) (bs : List InScope) (c : Context) (stands : IsContext p x bs c) (h : Function) (m : List Region) (alive : AreLive c (map (substituted_region m) h.effect))
+    (outlive : AreOutliving c (map (λ (p : Region × Region). (substituted_region m p.0, substituted_region m p.1)) h.constraints)) where
+  instance_by_scope : AreNamed (regions_at_call h) (these_by (lives_in bs) m) (λ k. is_among k h.effect)
+  instance_by_scope = record { there = there; agrees = agrees }
+    where
+      there : (r : Region) → Contains (regions.Heap ∷ regions.Unique ∷ h.effect) r → IsThereBy (λ k. is_among k h.effect) r
+      there regions.Heap has = tt
+      there regions.Unique has = tt
+      there (regions.Variable n) has = contained (regions.Heap ∷ regions.Unique ∷ h.effect) n has
+
+      agrees : (a b : Region) → IsGiven (regions_at_call h) a b → Outlasts (lives_of (these_by (lives_in bs) m) a) (lives_of (these_by (lives_in bs) m) b)
+      agrees a b (inl (heap, plain)) =
+          subst (λ z. Outlasts (lives_of (these_by (lives_in bs) m) z) (lives_of (these_by (lives_in bs) m) b)) (sym heap) (for_ever (lives_of (these_by (lives_in bs) m) b))
+      agrees a b (inr (inl written)) =
+          subst (λ l. Outlasts l (lives_of (these_by (lives_in bs) m) b)) (these_are (lives_in bs) m (refl, refl) a)
+          (subst (λ l. Outlasts (lives_by (lives_in bs) m a) l) (these_are (lives_in bs) m (refl, refl) b)
+          (agrees_of p x bs c stands (substituted_region m a) (substituted_region m b) (outliving c m h.constraints a b outlive written)))
+      agrees a b (inr (inr old)) = absurd old
+
+  stand_by : (r : Reading) → Stand r c.regions bs → StandBy r (regions_at_call h) (these_by (lives_in bs) m) (live_by r h.effect)
+  stand_by AsHeap stand = λ n. (heap_lives (λ n. life_named bs n) (λ n. is_live_named bs n) stand (substituted_region m (regions.Variable n)), refl)
+  stand_by ByScope stand = instance_by_scope
+
+  lasting_by : (r : Reading) → Stand r c.regions bs → (n : ℕ) → live_by r h.effect n ≡ true → (s : Region) × IsThere bs s × (lives_in bs s ≡ these_by (lives_in bs) m n)
+  lasting_by AsHeap stand n live = (substituted_region m (regions.Variable n), heap_there (λ n. life_named bs n) (λ n. is_live_named bs n) stand (substituted_region m (regions.Variable n)), refl)
+  lasting_by ByScope stand n live = (substituted_region m (regions.Variable n), there_of p x bs c stands (substituted_region m (regions.Variable n)) (among_live c m h.effect n alive live), refl)
+
+  pub instance_is : IsInstance p bs h (these_by (lives_in bs) m) (live_by p.reading h.effect)
+  instance_is = record { stand = stand_by p.reading stands.regions; lasting = lasting_by p.reading stands.regions }
