@@ -1,5 +1,5 @@
 -- Code that is made piece by piece: lists of nodes, nodes with lists, and jumps whose targets are written back.
-use Rattle.std.proofs.Common.{◌≡◌, ℕ, zero, suc, ◌+◌, ◌<◌, ◌≤◌, Bool, true, false, List, [], ◌∷◌, ◌++◌, length, get_or, drop, set, Option, Some, None, refl, sym, ap, ◌∙◌, arith, append_assoc, append-nil}
+use Rattle.std.proofs.Common.{◌≡◌, ℕ, zero, suc, ◌+◌, ◌*◌, ◌<◌, ◌≤◌, Bool, true, false, List, [], ◌∷◌, ◌++◌, length, get_or, drop, set, Option, Some, None, refl, sym, ap, ◌∙◌, arith, append_assoc, append-nil}
 use Rattle.std.specs.Prelude.{◌==◌, is_some, if◌then◌else◌}
 use Rattle.std.proofs.lemmas.Bool.{eqb-true, eq-eqb}
 use Rattle.std.proofs.lemmas.List.{drop_all, drop_more, length-append, length-drop}
@@ -19,23 +19,27 @@ use Rattle.cyc_types.specs.declared.typed.PointerOperator.TheVariants as pointer
 use Rattle.cyc_types.specs.declared.typed.LogicalOperator.{LogicalOperator}
 use Rattle.cyc_types.specs.declared.typed.Expr.{Expr}
 use Rattle.cyc_types.specs.declared.typed.Expr.TheVariants as expr
+use Rattle.cyc_types.specs.declared.typed.Initial.{Initial as InitialCode}
+use Rattle.cyc_types.specs.declared.typed.Initial.TheVariants as initial
 use Rattle.cyc_types.specs.declared.typed.Converted.{Converted as ConvertedCode}
 use Rattle.cyc_types.specs.declared.typed.Operation.{Operation}
 use Rattle.cyc_types.specs.declared.typed.Operation.TheVariants as operation
+use Rattle.cyc_types.specs.Numbered.{argument_count}
+use Rattle.cyc_store.specs.declared.range.TheConstants.{HEAP}
 use Rattle.cyc_types.specs.Types.{ValueType, Void, words_of}
 use Rattle.cyc_types.specs.TypeView.{view_ty, view_value_type}
-use Rattle.cyc_types.specs.TypedTrees.{Load, Dereference, Target, Lvalue, Local, Global, Expression, Number, Copy, Move, Peek, Call, Unary, Binary, Assign, Converted, Convert, Arguments, Operations, NoOperations, ThenCompute, ThenTest}
-use Rattle.cyc_types.specs.TypedTreeView.{view_lvalue, view_expression, view_converted, arguments_of, operations_of}
+use Rattle.cyc_types.specs.TypedTrees.{Load, New, OnHeap, AsUnique, ByHandle, Initial, Plain, Fields, Array, Dereference, Target, Lvalue, Local, Global, Expression, Number, Copy, Call, Unary, Binary, Assign, Converted, Convert, Arguments, Operations, NoOperations, ThenCompute, ThenTest, Move, Peek}
+use Rattle.cyc_types.specs.TypedTreeView.{view_lvalue, view_initial, view_expression, view_converted, arguments_of, operations_of}
 use Rattle.cyc_types.specs.declared.typed.Kind.{Kind}
 use Rattle.cyc_types.specs.declared.typed.Kind.TheVariants as kinds
 use Rattle.cyc_meaning.specs.Values.{words_of_kind}
-use Rattle.cyc_types.proofs.TypedTreeViewLemmas.{view_call, view_binary}
+use Rattle.cyc_types.proofs.TypedTreeViewLemmas.{view_call, view_binary, view_fields}
 use Rattle.cyc_plain.specs.declared.instruction.Operand.{Operand}
 use Rattle.cyc_plain.specs.declared.instruction.Operand.TheVariants as operands
 use Rattle.cyc_plain.specs.declared.instruction.Instruction.{Instruction}
 use Rattle.cyc_plain.specs.declared.instruction.Instruction.TheVariants as instructions
 use Rattle.cyc_lower.specs.Slots.{slot_of, Starts}
-use Rattle.cyc_lower.specs.Lowering.{passed_words, all_passed, converts_there, source_of, source_slot, converted_by, moved_by, move_of, operand_of, operand_or, code_unless, left_with, left_of, slot_with, left_slot, low_byte, value_operand, next_slot, converted_operand, printed_operand, operator_code, load_code, compute_code, test_jump, truth_code, test_code, copy_code, expression_code, dereference_code, value_slot, arguments_code, converted_code, converted_operand_code, printed_code, initial_code, assignment_code, assigned_operand, operations_code, discarded_code, binary_operator, behind_left, pointer_instructions}
+use Rattle.cyc_lower.specs.Lowering.{passed_words, all_passed, converts_there, source_of, source_slot, converted_by, moved_by, move_of, operand_of, operand_or, code_unless, left_with, left_of, slot_with, left_slot, low_byte, value_operand, next_slot, converted_operand, printed_operand, operator_code, load_code, compute_code, test_jump, truth_code, test_code, copy_code, expression_code, dereference_code, value_slot, arguments_code, converted_code, converted_operand_code, printed_code, initial_code, assignment_code, assigned_operand, operations_code, discarded_code, binary_operator, behind_left, pointer_instructions, stores_code, object_code, made_code}
 use Rattle.cyc_lower.specs.Emission.{most_locals, value_code, print_code, left_code, takes_operand, HasRoom, operation_code}
 
 behind : (xs ys : List Instruction) → 0 < length ys → 0 < length (xs ++ ys)
@@ -170,6 +174,41 @@ pub slot_by_count : (xs : List Operation) (i many to d t : ℕ) → many + (i + 
 slot_by_count xs i zero to d t counted none some = none refl ∙ sym (slot_at_end (drop (i + 1) xs) d t (omega (arith, length-drop (i + 1) xs, counted)))
 slot_by_count xs i (suc many) to d t counted none some = some (omega arith) ∙ sym (slot_behind (drop (i + 1) xs) d t (omega (arith, length-drop (i + 1) xs, counted)))
 
+-- ---- new objects
+
+-- words that come to memory one after the other: from the word of this number on they are left
+abbrev pub StoresLeft : (old code : List Instruction) → (many address first i : ℕ) → Type 0
+StoresLeft old code many address first i =
+    (left : ℕ) × (i + left ≡ many) × (code ++ stores_code left address (4 * i) (first + i) ≡ old ++ stores_code many address 0 first)
+
+pub stores_begin : (old : List Instruction) (many address first : ℕ) → StoresLeft old old many address first 0
+stores_begin old many address first = (many, omega arith, ap (λ (n : ℕ). old ++ stores_code many address 0 n) (let e : first + 0 ≡ first = omega arith in e))
+
+pub stores_next : (old code new : List Instruction) (many address first i : ℕ) → i < many → new ≡ code ++ instructions.Store (operands.Slot address) (4 * i) (operands.Slot (first + i)) ∷ []
+    → StoresLeft old code many address first i → StoresLeft old new many address first (i + 1)
+stores_next old code new many address first i below added (zero, count, made) = absurd (omega (arith, count, below))
+stores_next old code new many address first i below added (suc left, count, made) =
+    let store = instructions.Store (operands.Slot address) (4 * i) (operands.Slot (first + i)) in
+    let offset : 4 * (i + 1) ≡ 4 * i + 4 = omega arith in
+    let slot : first + (i + 1) ≡ suc (first + i) = omega arith in (
+      left,
+      omega (arith, count),
+      ap (λ (n : ℕ). new ++ stores_code left address n (first + (i + 1))) offset
+          ∙ ap (λ (n : ℕ). new ++ stores_code left address (4 * i + 4) n) slot
+          ∙ ap (λ (l : List Instruction). l ++ stores_code left address (4 * i + 4) (suc (first + i))) added
+          ∙ append_assoc code (store ∷ []) (stores_code left address (4 * i + 4) (suc (first + i)))
+          ∙ made,
+    )
+
+pub stores_end : (old code : List Instruction) (many address first i : ℕ) → many ≤ i → StoresLeft old code many address first i → code ≡ old ++ stores_code many address 0 first
+stores_end old code many address first i done (zero, count, made) = sym (append-nil code) ∙ made
+stores_end old code many address first i done (suc left, count, made) = absurd (omega (arith, count, done))
+
+-- a list of fields has as many as it is long
+fields_counted : (cs : List ConvertedCode) → argument_count (arguments_of cs) ≡ length cs
+fields_counted [] = refl
+fields_counted (c ∷ cs) = ap suc (fields_counted cs)
+
 -- ---- locals that have these first slots
 
 module _ (starts : Starts) where
@@ -214,7 +253,15 @@ module _ (starts : Starts) where
     expression_some (Assign (Global n) c ty) p d t =
         before (converted_operand_code starts c p t ++ _) (copy_code (passed_words c) (converted_operand starts c t) d) (behind (converted_operand_code starts c p t) _ (omega arith))
     expression_some (Load x) p d t = dereference_some x p d t
+    expression_some (New OnHeap i ty) p d t = made_some i HEAP p d t
+    expression_some (New AsUnique i ty) p d t = omega arith
+    expression_some (New (ByHandle h) i ty) p d t = omega arith
     expression_some a p d t = omega arith
+
+    made_some : (i : Initial) (handle p d t : ℕ) → 0 < length (made_code starts i handle p d t)
+    made_some (Plain kind a) handle p d t = behind (expression_code starts a p t t) (object_code handle 1 d t) (omega arith)
+    made_some (Fields cs) handle p d t = behind (arguments_code starts cs p t) (object_code handle (argument_count cs) d t) (omega arith)
+    made_some (Array w level n kind a) handle p d t = omega arith
 
     dereference_some : (x : Dereference) (p d t : ℕ) → 0 < length (dereference_code starts x p d t)
     dereference_some (Target k a ty) p d t = behind (converted_by (operand_of starts a) (expression_code starts a p (value_slot starts a t) t) kinds.NonNull (value_operand starts a t) p) (instructions.Load d (value_operand starts a t) 0 ∷ []) (omega arith)
@@ -320,6 +367,18 @@ module _ (starts : Starts) where
   made_called value f v ty items old new d t is same made =
       made ∙ ap (λ (l : List Instruction). old ++ l) (call_alike f (arguments_of items) Void (view_value_type ty) (length old) d t)
       ∙ ap (λ (a : Expression). old ++ expression_code starts a (length old) d t) (sym (call_viewed value f v ty is items same))
+
+  -- a new struct, of its fields
+  pub made_fields : (value : InitialCode) (v : Vec ConvertedCode Heap) (items : List ConvertedCode) (old m1 m2 : List Instruction) (handle many d t : ℕ) → value ≡ initial.Fields v → items ≡ v.items → many ≡ length v.items
+      → m1 ≡ old ++ arguments_code starts (arguments_of items) (length old) t → m2 ≡ m1 ++ object_code handle many d t → m2 ≡ old ++ made_code starts (view_initial value) handle (length old) d t
+  made_fields value v items old m1 m2 handle many d t is same count first second =
+      let cs = arguments_of v.items in
+      let counted : many ≡ argument_count cs = count ∙ sym (fields_counted v.items) in
+      second
+      ∙ ap (λ (l : List Instruction). l ++ object_code handle many d t) (first ∙ ap (λ (l : List ConvertedCode). old ++ arguments_code starts (arguments_of l) (length old) t) same)
+      ∙ append_assoc old (arguments_code starts cs (length old) t) (object_code handle many d t)
+      ∙ ap (λ (n : ℕ). old ++ (arguments_code starts cs (length old) t ++ object_code handle n d t)) counted
+      ∙ ap (λ (i : Initial). old ++ made_code starts i handle (length old) d t) (sym (ap view_initial is ∙ view_fields v))
 
   -- ---- chains
 

@@ -23,16 +23,17 @@ use Rattle.cyc_plain.specs.Straight.{At as CodeAt}
 use Rattle.cyc_plain.specs.Step.{Choice, with_slots, advanced, performed}
 use Rattle.cyc_plain.proofs.SlotLaws.{put-same}
 use Rattle.cyc_meaning.specs.Values.{Int, Null, Thin, Operand as Kinded, kind_of, words_of_kind}
+use Rattle.cyc_store.specs.declared.range.TheConstants.{HEAP}
 use Rattle.cyc_meaning.specs.SourceMachine.{status_in}
-use Rattle.cyc_meaning.specs.State.{status_of, World, Environment, ConvertTo, Operate, Chain, Apply, Store, Pass, Choose, Test, Follow, LoadFrom, Entry, Needs, NeedsPlace, Discard, Focus, Evaluating, Locating, Given, Running}
-use Rattle.cyc_meaning.specs.Step.{target_of, target_by, object_of, loaded_from, assigned, passes, step}
+use Rattle.cyc_meaning.specs.State.{status_of, InRegion, World, heap_number, Environment, ConvertTo, Operate, Chain, Apply, Store, Pass, MakePlain, MakeFields, Choose, Test, Follow, LoadFrom, Entry, Needs, NeedsPlace, Discard, Focus, Evaluating, Locating, Given, Running}
+use Rattle.cyc_meaning.specs.Step.{target_of, target_by, object_of, assigned, passes, step, loaded_from}
 use Rattle.cyc_lower.specs.Slots.{slot_of}
 use Rattle.cyc_lower.proofs.Slots.{slot-room}
 use Rattle.cyc_lower.proofs.Widths.{kind_positive, type_words, HasRoom, Outside}
 use Rattle.cyc_lower.proofs.Moves.{moved_slots, moves, put_elsewhere, moved_elsewhere, moved_is}
 use Rattle.cyc_lower.specs.Lowering.{failing_comparison, operand_of, value_slot, source_of, source_slot, are_as_wide, converts_there, all_passed, move_of, left_with, slot_with, compared_or, compared_of, lower_program}
 use Rattle.cyc_lower.proofs.Weights.{weight, stack_weight, expression_weight, arguments_weight}
-use Rattle.cyc_lower.proofs.Stands.{CopyBy, CopyAt, OperandBy, InitialBy, ExpressionAt, ArgumentsAt, ValueAt, PairAt, ConditionAt, AssignmentAt, PrintedAt, DiscardedAt}
+use Rattle.cyc_lower.proofs.Stands.{CopyBy, CopyAt, OperandBy, InitialBy, ExpressionAt, ArgumentsAt, ObjectAt, ValueAt, PairAt, ConditionAt, AssignmentAt, PrintedAt, DiscardedAt}
 use Rattle.cyc_objects.specs.Tables.{Tables}
 use Rattle.cyc_objects.specs.Words.{Is}
 use Rattle.cyc_lower.proofs.Relation.{IsIn, types_at, starts_at, given_at, called_at, words_held, height, Holds, held, contents, callers, in_temporary, in_local, drops, leaves, copies, prints_only, gives_byte, DataIn, SharedAt, CallAt, to_slot, to_jump, ValueStack, PlaceStack, ConditionStack, DroppedStack, AheadStack, LandsStack, HandsOnStack, PrintsStack, RightAt, EvaluatingAt, as_operand, into_slot, for_effect, as_right, as_condition, in_operand, ahead, with_left, Related, Matches, code_of, bounds_in, bounds_at, base_of, top}
@@ -374,6 +375,28 @@ module _ (source : Program) (pages calls : ℕ) where
       silently source pages calls (Running (Evaluating (typed.Load x)) k e w) (Running (Locating x) (NeedsPlace (LoadFrom kind) ∷ k) e w) (plain.Running c) refl
       (shared, facts, (o, offset, r, at, holds, (d, load, type_words (type_of_place x) ∙ single, lands_at c.active.function e.locals kind d (r + 1) q c.frames k end lands)))
       (omega arith)
+  comes (typed.New typed.OnHeap (typed.Plain kind a) t) k e w c d q (well, shared, facts, holds) (m, at_a, wide, object) lands =
+      let g = c.active.function in
+      silently source pages calls (Running (Evaluating (typed.New typed.OnHeap (typed.Plain kind a) t)) k e w) (Running (Evaluating a) (Needs (MakePlain (InRegion heap_number) kind) ∷ k) e w) (plain.Running c) refl (
+        shared,
+        facts,
+        into_slot (top source g k) m at_a holds
+            (in_temporary (omega arith) (HEAP, d, q, (refl, refl), refl, subst (λ n. ObjectAt (code_of source g) (bounds_at source g) (types_at source g) HEAP 1 n (top source g k) d m q) (sym wide) object, lands)),
+      )
+      (omega arith)
+  comes (typed.New typed.OnHeap (typed.Fields NoArguments) t) k e w c d q known (p, at_cs, (m, single, some, few, ask, stores, move, there)) lands = absurd (omega (arith, some))
+  comes (typed.New typed.OnHeap (typed.Fields (MoreArguments (Convert from to a) cs)) t) k e w c d q (well, shared, facts, holds) (p, (r, (s, at_a, at_to), at_cs), (m, single, some, few, ask, stores, move, there)) lands =
+      silently source pages calls (Running (Evaluating (typed.New typed.OnHeap (typed.Fields (MoreArguments (Convert from to a) cs)) t)) k e w)
+      (Running (Evaluating a) (Needs (ConvertTo from to (target_by a)) ∷ Needs (MakeFields (InRegion heap_number) [] cs) ∷ k) e w) (plain.Running c) refl (
+        shared,
+        facts,
+        into_slot (top source c.active.function k) s at_a holds
+            (in_temporary (omega arith) (r, at_to, (HEAP, d, p, q, words_of_kind to + all_passed cs, (refl, refl), refl, at_cs, (m, omega (arith, single), some, few, ask, stores, move, there), omega arith, lands))),
+      )
+      (omega arith)
+  comes (typed.New typed.OnHeap (typed.Array p level n kind a) t) k e w c d q known at lands = absurd at
+  comes (typed.New typed.AsUnique i t) k e w c d q known at lands = absurd at
+  comes (typed.New (typed.ByHandle h) i t) k e w c d q known at lands = absurd at
   comes a k e w c d q known at lands = absurd at
 
   -- a value that is in its slot is not copied
@@ -407,6 +430,7 @@ module _ (source : Program) (pages calls : ℕ) where
       (leaves (subst (λ x. ValueStack source g e.locals to x m c.frames k) (is ∙ sym is_there) (subst (λ r. ValueStack source g e.locals to o r c.frames k) (sym end) stack)))
   operand (Assign (Global n) c' t) k e w c o q known at stack = in_top (Assign (Global n) c' t) k e w c o q known at stack
   operand (typed.Load x) k e w c o q known at stack = in_top (typed.Load x) k e w c o q known at stack
+  operand (typed.New x i t) k e w c o q known at stack = in_top (typed.New x i t) k e w c o q known at stack
   operand a k e w c o q known (is, at) stack = absurd at
 
   for_its_effect : (a : Expression) (k : List Entry) (e : Environment) (w : World) (c : Configuration) (q : ℕ) → At_step a k e w c
@@ -434,7 +458,7 @@ module _ (source : Program) (pages calls : ℕ) where
   for_its_effect (typed.FreeUnique a) k e w c q known (o, (is, at)) stack = absurd at
   for_its_effect (typed.FreeKey a) k e w c q known (o, (is, at)) stack = absurd at
   for_its_effect (typed.Store x v t) k e w c q known (o, (is, at)) stack = absurd at
-  for_its_effect (typed.New x v t) k e w c q known (o, (is, at)) stack = absurd at
+  for_its_effect (typed.New x i t) k e w c q known (o, at) stack = in_top (typed.New x i t) k e w c o q known at (dropped_value c.active.function e.locals (given_at source c.active.function (typed.New x i t)) o q c.frames k stack)
 
   -- a right operand without code, with the left one beside it
   beside_left : (a : Expression) (k : List Entry) (e : Environment) (w : World) (c : Configuration) → IsWell (step source (Running (Evaluating a) k e w)) → (shared : SharedAt source pages calls k e w c) → DataIn source shared.tables c.active.slots k e w c

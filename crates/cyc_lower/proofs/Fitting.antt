@@ -15,7 +15,7 @@ use Rattle.cyc_types.specs.declared.typed.PointerOperator.{PointerOperator}
 use Rattle.cyc_types.specs.declared.typed.PointerOperator.TheVariants as pointers
 use Rattle.cyc_types.specs.Types.{Ty, words_of, words_of_mark, substituted_ty, ValueType, Void, Value, result_type}
 use Rattle.cyc_types.specs.Types as type_forms
-use Rattle.cyc_types.specs.TypedTrees.{Load, Dereference, Target, Lvalue, Local, Global, Expression, Number, NullPointer, Copy, Peek, Call, Unary, Binary, Assign, Converted, Convert, Arguments, NoArguments, MoreArguments, Operations, NoOperations, ThenCompute, ThenTest, ThenPointer, Statement, Block, Empty, Evaluate, If, While, Return, Break, Continue, Items, NoItems, MoreItems, Execute, Declare, Signature, StructType, Function, Program, Store, New, Member, Element, type_of_place, type_of, HeapRegion, Counter, Move, AddressOf, AddressOfCell, NumberOfElements, FreeUnique, FreeKey, ThenPointerPeek}
+use Rattle.cyc_types.specs.TypedTrees.{Load, New, OnHeap, AsUnique, ByHandle, Initial, Plain, Fields, Array, Dereference, Target, Lvalue, Local, Global, Expression, Number, NullPointer, Copy, Peek, Call, Unary, Binary, Assign, Converted, Convert, Arguments, NoArguments, MoreArguments, Operations, NoOperations, ThenCompute, ThenTest, ThenPointer, Statement, Block, Empty, Evaluate, If, While, Return, Break, Continue, Items, NoItems, MoreItems, Execute, Declare, Signature, StructType, Function, Program, Store, Member, Element, type_of_place, type_of, HeapRegion, Counter, Move, AddressOf, AddressOfCell, NumberOfElements, FreeUnique, FreeKey, ThenPointerPeek}
 use Rattle.cyc_types.specs.typing.Scopes.{signature_of_ints}
 use Rattle.cyc_types.specs.typing.Tests as tests
 use Rattle.cyc_types.specs.typing.Expressions.{instantiated}
@@ -23,6 +23,7 @@ use Rattle.cyc_types.specs.typing.WellTyped.{Context, PointerOperation, adds, su
 use Rattle.cyc_types.specs.Numbered.{Numbering, signatures_of, IsSignature, argument_count, numbering_of}
 use Rattle.cyc_meaning.specs.Pointers.{result_kind as operator_kind}
 use Rattle.cyc_lower.specs.Lowerable.{IsLowerable, IsLowerableConverted, AreLowerableArguments, AreLowerableOperations, IsLowerableReturn, IsLowerableInitial, IsLowerableStatement, AreLowerableItems, AreLowerableFunctions, IsLowerableProgram, is_comparison, are_sums, stands_alone}
+use Rattle.cyc_store.specs.declared.range.TheConstants.{MOST_BLOCK_WORDS}
 use Rattle.cyc_meaning.specs.Values.{kind_of, is_thin, words_of_kind}
 use Rattle.cyc_meaning.specs.FrameCount.{result_words, words_of_all, operand_words}
 use Rattle.cyc_lower.specs.Slots.{Types}
@@ -56,11 +57,18 @@ module _ (b : Numbering) (types : Types) where
     Fits (Binary a os t) = Fits a × FitOperations (operand_words (type_of a)) t os
     Fits (Assign l c t) = FitsStored l (passed_kind c) × FitsConverted c
     Fits (Load x) = FitsCell x
+    Fits (New OnHeap i t) = FitsObject i
     Fits a = ⊥
 
     pub FitsCell : Dereference → Type 0
     FitsCell (Target k a t) = (is_thin k ≡ true) × (words_of t ≡ 1) × Fits a
     FitsCell x = ⊥
+
+    -- what a new object holds
+    pub FitsObject : Initial → Type 0
+    FitsObject (Plain kind a) = (words_of_kind kind ≡ 1) × (kind ≡ given b.functions a) × Fits a
+    FitsObject (Fields cs) = (argument_count cs ≡ all_passed cs) × (1 ≤ argument_count cs) × (argument_count cs ≤ MOST_BLOCK_WORDS) × FitArguments cs
+    FitsObject i = ⊥
 
     pub FitsConverted : Converted → Type 0
     FitsConverted (Convert from to a) = (from ≡ given b.functions a) × (are_as_wide from to ≡ true) × Fits a
@@ -300,6 +308,10 @@ module _ (b : Numbering) (types : Types) where
       by true = tt
       by false = kind
 
+  -- the pointer to a new object is never null
+  pointer_given : (mark : PointerKind) (u : Ty) (r : Region) (t : Ty) (v : ValueType) → mark ≡ marks.NonNull → t ≡ type_forms.Pointer mark u r → v ≡ Value t → IsGiven kinds.NonNull v
+  pointer_given mark u r t v mark_is t_is is = subst (IsGiven kinds.NonNull) (sym is) (sym (ap kind_of (t_is ∙ ap (λ m. type_forms.Pointer m u r) mark_is)))
+
   passed_is : (d : Converted) → passed_words d ≡ words_of_kind (passed_kind d)
   passed_is (Convert from to a) = refl
 
@@ -352,6 +364,14 @@ module _ (b : Numbering) (types : Types) where
       (thin, single, (looked_fits a c (Value (type_forms.Pointer m t r)) suits numbered (λ h. fits a c (Value (type_forms.Pointer m t r)) suits numbered h) well).1),
     )
     fits (Load x) c v suits numbered well = absurd numbered
+    fits (New OnHeap (Plain kind a) t) c v suits (single, numbered) (mark, u, r, place, (well, unlocked, kind_is, mark_is), t_is, is) =
+        let (given_is, fitting) = fits a c (Value u) suits numbered well in
+        (pointer_given mark u r t v mark_is t_is is, (single, kind_is ∙ sym (kinds_same u) ∙ sym given_is, fitting))
+    fits (New OnHeap (Fields cs) t) c v suits (single, some, few, numbered) (mark, u, r, place, (n, rs, s, there, many, passed, u_is, mark_is), t_is, is) =
+        (pointer_given mark u r t v mark_is t_is is, (single, some, few, (fit_arguments cs c (map (substituted_ty rs) s.fields) suits numbered passed).1))
+    fits (New OnHeap (Array p level n kind a) t) c v suits numbered well = absurd numbered
+    fits (New AsUnique i t) c v suits numbered well = absurd numbered
+    fits (New (ByHandle h) i t) c v suits numbered well = absurd numbered
     fits a c v suits numbered well = absurd numbered
 
     fits_converted : (d : Converted) (c : Context) (t : Ty) → Suits c → IsLowerableConverted b d → IsConverted c d t → (passed_kind d ≡ kind_of t) × FitsConverted b types d

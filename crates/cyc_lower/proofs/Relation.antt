@@ -1,5 +1,5 @@
 -- What a state of the source and one of the plain program have in common while the one is matched by the other.
-use Rattle.std.proofs.Common.{◌≡◌, ℕ, suc, ◌+◌, ◌≤◌, ◌<◌, true, List, [], ◌∷◌, ◌++◌, length, Option, None, Some, slice_get}
+use Rattle.std.proofs.Common.{◌≡◌, ℕ, suc, ◌+◌, ◌*◌, ◌≤◌, ◌<◌, true, List, [], ◌∷◌, ◌++◌, length, Option, None, Some, slice_get}
 use Rattle.cyc_words.specs.Word.{add_of}
 use Rattle.cyc_types.specs.declared.typed.Kind.{Kind}
 use Rattle.cyc_types.specs.declared.typed.Kind.TheVariants as kinds
@@ -8,11 +8,12 @@ use Rattle.cyc_types.specs.declared.typed.UnaryOperator.TheVariants as unary
 use Rattle.cyc_types.specs.declared.typed.Operator.{Operator}
 use Rattle.cyc_types.specs.declared.typed.Callee.TheVariants as callees
 use Rattle.cyc_types.specs.Types.{Ty}
-use Rattle.cyc_types.specs.TypedTrees.{Lvalue, Local, Global, Expression, NoArguments, NoOperations, Statement, Function, Program}
-use Rattle.cyc_types.specs.Numbered.{Numbering, numbering_of, signatures_of}
+use Rattle.cyc_types.specs.TypedTrees.{Target, Lvalue, Local, Global, Expression, NoArguments, NoOperations, Statement, Function, Program}
+use Rattle.cyc_types.specs.Numbered.{Numbering, argument_count, numbering_of, signatures_of}
 use Rattle.cyc_store.specs.State.{StoreState, demand}
-use Rattle.cyc_objects.specs.Tables.{Variable, Tables}
-use Rattle.cyc_objects.specs.Words.{Points, Is}
+use Rattle.cyc_store.specs.declared.range.TheConstants.{HEAP}
+use Rattle.cyc_objects.specs.Tables.{Variable, Placed, Tables}
+use Rattle.cyc_objects.specs.Words.{words_of_kinds, InRange, Is, Points}
 use Rattle.cyc_objects.specs.Related as objects
 use Rattle.cyc_plain.specs.declared.instruction.Comparison.{Comparison}
 use Rattle.cyc_plain.specs.declared.instruction.Comparison.TheVariants as comparisons
@@ -26,9 +27,10 @@ use Rattle.cyc_plain.specs.State.{Words, Frame, Configuration}
 use Rattle.cyc_plain.specs.Step.{operand_word}
 use Rattle.cyc_plain.specs.State as plain
 use Rattle.cyc_plain.specs.Straight.{At}
-use Rattle.cyc_meaning.specs.Values.{Value, Int, Null, Thin, Operand as Kinded, Cell, is_thin, words_of_kind}
-use Rattle.cyc_meaning.specs.State.{Object, World, globals_number, Environment, ConvertTo, Operate, Chain, Apply, ApplyPointer, Follow, LoadFrom, Decide, Store, Pass, Initialise, Choose, Test, Return, Entry, Needs, NeedsPlace, Discard, Rest, Join, Loop, CloseRegion, CloseLexical, EndLoan, Handler, Caller, Main, calls_in, Focus, Evaluating, Locating, Given, GivenPlace, Executing, Proceeding, Calling, Entering, Binding, Breaking, Continuing, Returning, Throwing, State, Running, Ended}
-use Rattle.cyc_meaning.specs.Step.{object_of}
+use Rattle.cyc_meaning.specs.Values.{Value, Int, Null, Thin, Operand as Kinded, Cell, kinds_of, words_of_kind, is_thin}
+use Rattle.cyc_meaning.specs.Allocation.{writes_from, blanks_of}
+use Rattle.cyc_meaning.specs.State.{Owner, InRegion, Unique, Object, World, heap_number, globals_number, Environment, ConvertTo, Operate, Chain, Apply, ApplyPointer, Follow, LoadFrom, Decide, Store, Pass, MakePlain, MakeFields, Initialise, Choose, Test, Return, Entry, Needs, NeedsPlace, Discard, Rest, Join, Loop, CloseRegion, CloseLexical, EndLoan, Handler, Caller, Main, calls_in, Focus, Evaluating, Locating, Given, Executing, Proceeding, Calling, Entering, Binding, Writing, Breaking, Continuing, Returning, Throwing, State, Running, Ended, GivenPlace}
+use Rattle.cyc_meaning.specs.Step.{target_of, object_of}
 use Rattle.cyc_meaning.specs.Operators.{null_exception, is_zero}
 use Rattle.cyc_meaning.specs.FrameCount.{words_of_all}
 use Rattle.cyc_lower.specs.declared.statements.Exits.{Exits}
@@ -36,7 +38,7 @@ use Rattle.cyc_meaning.specs.Pointers.{result_kind as operator_kind}
 use Rattle.cyc_lower.specs.Slots.{Types, Starts, starts_of, slot_of}
 use Rattle.cyc_lower.specs.Lowering.{types_of, unary_operator, failing_comparison, operand_of, move_of, low_byte, converts_there, all_passed, compared_of, break_target, continue_target, results_of, lower_program, outside_loops}
 use Rattle.cyc_lower.proofs.Widths.{kind_of_result, given, called_kind, HasRoom, Outside, chain_kind}
-use Rattle.cyc_lower.proofs.Stands.{CheckAt, ConversionAt, PlaceAt, OperatorAt, TruthAt, CopyAt, ExpressionAt, ArgumentsAt, OperationsAt, ValueAt, ConditionAt, FailingAt, ComparesAt, DiscardedAt, StatementAt, ItemsAt, PointerAt}
+use Rattle.cyc_lower.proofs.Stands.{CheckAt, ConversionAt, PlaceAt, OperatorAt, TruthAt, CopyAt, ExpressionAt, ArgumentsAt, OperationsAt, ValueAt, ConditionAt, FailingAt, ComparesAt, DiscardedAt, StatementAt, ItemsAt, PointerAt, StoresAt, ObjectAt}
 
 -- ---- values in slots
 
@@ -80,6 +82,8 @@ held (Needs (ApplyPointer peek operator left) ∷ k) = left ∷ held k
 held (Needs Decide ∷ k) = held k
 held (Needs (Store place) ∷ k) = held k
 held (Needs (Pass callee before rest) ∷ k) = before ++ held k
+held (Needs (MakePlain owner kind) ∷ k) = held k
+held (Needs (MakeFields owner before fields) ∷ k) = before ++ held k
 held (Needs (Initialise number kind items) ∷ k) = []
 held (Needs (Choose first second) ∷ k) = []
 held (Needs (Test condition body) ∷ k) = []
@@ -87,6 +91,19 @@ held (Needs Return ∷ k) = []
 held (Needs (Follow pointer target) ∷ k) = held k
 held (NeedsPlace a ∷ k) = held k
 held (entry ∷ k) = []
+
+-- ---- new objects
+
+-- the handle of the region where an object with this owner is made
+abbrev pub IsHandleOf : Owner → (handle : ℕ) → Type 0
+IsHandleOf (InRegion region) handle = (region ≡ heap_number) × (handle ≡ HEAP)
+IsHandleOf (Unique live) handle = ⊥
+
+-- a new object has cells of these kinds, which stand from this address on
+pub record IsObject (t : Tables) (object address : ℕ) (kinds : List Kind) : Type 0 where
+  pub row : slice_get t.rows object ≡ Some (Placed address kinds)
+  pub range : InRange address kinds
+  pub some : 0 < length kinds
 
 -- ---- objects and the words that stand for them
 
@@ -163,6 +180,7 @@ pub record Shared (pages calls : ℕ) (w : World) (regions : List ℕ) (plain_ou
   pub same_output : plain_output ≡ w.output
   pub same_input : plain_input ≡ w.input
   pub related : objects.Related tables (silent w) store
+  pub same_pages : store.pages ≡ pages
   -- the region of the globals is of variables, and so are these
   pub globals : slice_get tables.handles globals_number ≡ Some None
   pub variables : AreOfVariables tables regions
@@ -355,6 +373,15 @@ module _ (source : Program) where
         × ArgumentsAt (code_of g) (bounds_at g) (types_at g) arguments (height (base_of g) (before ++ held k) + words_of_kind kind) p m
         × CallAt g callee all (top g k) d m q × (words_held before + (words_of_kind kind + all_passed arguments) ≡ all)
         × Lands (base_of g) (top g k) d (words_of_kind (called_at g callee)) (ValueStack g locals (called_at g callee) (operands.Slot d) q frames k) (AheadStack g locals (called_at g callee) d q frames k)
+    ValueStack g locals kind o p frames (Needs (MakePlain owner wanted) ∷ k) =
+        (handle : ℕ) × (d : ℕ) × (q : ℕ) × IsHandleOf owner handle × (o ≡ operands.Slot (top g k)) × ObjectAt (code_of g) (bounds_at g) (types_at g) handle 1 (words_of_kind kind) (top g k) d p q
+        × Lands (base_of g) (top g k) d 1 (ValueStack g locals kinds.NonNull (operands.Slot d) q frames k) (AheadStack g locals kinds.NonNull d q frames k)
+    ValueStack g locals kind o p frames (Needs (MakeFields owner before fields) ∷ k) =
+        (handle : ℕ) × (d : ℕ) × (m : ℕ) × (q : ℕ) × (all : ℕ) × IsHandleOf owner handle × (o ≡ operands.Slot (height (base_of g) (before ++ held k)))
+        × ArgumentsAt (code_of g) (bounds_at g) (types_at g) fields (height (base_of g) (before ++ held k) + words_of_kind kind) p m
+        × ObjectAt (code_of g) (bounds_at g) (types_at g) handle (length before + suc (argument_count fields)) all (top g k) d m q
+        × (words_held before + (words_of_kind kind + all_passed fields) ≡ all)
+        × Lands (base_of g) (top g k) d 1 (ValueStack g locals kinds.NonNull (operands.Slot d) q frames k) (AheadStack g locals kinds.NonNull d q frames k)
     ValueStack g locals kind o p frames (Needs (Initialise number wanted items) ∷ k) =
         (exits : Exits) × (q : ℕ) × At (code_of g) p (move_of (words_of_kind kind) (slot_of (starts_at g) number) o) × HasRoom (types_at g) number kind
         × ItemsAt (code_of g) (bounds_at g) (types_at g) items exits (base_of g) (p + 1) q × StatementStack g exits q frames k
@@ -488,6 +515,13 @@ module _ (source : Program) where
   FocusAt t (Binding number types arguments body) k locals g p slots frames =
       (m : ℕ) × (first : List Ty) × ItemsAt (code_of g) (bounds_at g) (types_at g) body (outside_loops (base_of g)) (base_of g) p m × StatementStack g (outside_loops (base_of g)) m frames k
       × HoldsFrom t slots (words_of_all first) arguments × (parameters_at g ≡ first ++ types) × (length first ≡ number)
+  FocusAt t (Writing writes (Some pointer)) k locals g p slots frames =
+      (object : ℕ) × (done : List Kind) × (values : List Kinded) × (address : ℕ) × (slot : ℕ) × (d : ℕ) × (m : ℕ) × (q : ℕ)
+      × (writes ≡ writes_from object (length done) values) × (pointer ≡ record { kind = kinds.NonNull; value = Thin object 0 })
+      × IsObject t object (slots address) (done ++ kinds_of (blanks_of values)) × (words_held values ≡ length values)
+      × HoldsFrom t slots slot values × StoresAt (code_of g) (bounds_at g) (types_at g) (words_held values) address (4 * words_of_kinds done) slot p m
+      × At (code_of g) m (instructions.Move d (operands.Slot address)) × (m + 1 ≡ q)
+      × Holds t slots (base_of g) (held k) × LandsStack g locals kinds.NonNull d q frames k
   FocusAt t Breaking k locals g p slots frames =
       (exits : Exits) × (q : ℕ) × At (code_of g) p (instructions.Jump (break_target exits.head)) × StatementStack g exits q frames k
   FocusAt t Continuing k locals g p slots frames =

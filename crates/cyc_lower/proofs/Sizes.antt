@@ -1,5 +1,5 @@
 -- The size of a function's code is at most three for each token that its spelling needs.
-use Rattle.std.proofs.Common.{◌≡◌, ℕ, zero, suc, ◌+◌, ◌*◌, ◌≤◌, Bool, true, false, List, [], ◌∷◌, ◌++◌, length, Option, None, Some, arith}
+use Rattle.std.proofs.Common.{◌≡◌, ℕ, zero, suc, ◌+◌, ◌*◌, ◌≤◌, Bool, true, false, List, [], ◌∷◌, ◌++◌, length, Option, None, Some, max, refl, arith}
 use Rattle.std.specs.Prelude.{◌==◌, sum_by, if◌then◌else◌}
 use Rattle.std.proofs.lemmas.List.Sums.{sum_by-append, sum_by-cons}
 use Rattle.cyc_types.specs.declared.typed.Kind.{Kind}
@@ -12,21 +12,24 @@ use Rattle.cyc_types.specs.declared.typed.PointerOperator.{PointerOperator}
 use Rattle.cyc_types.specs.declared.typed.PointerOperator.TheVariants as pointers
 use Rattle.cyc_types.specs.declared.typed.LogicalOperator.{LogicalOperator}
 use Rattle.cyc_types.specs.declared.typed.LogicalOperator.TheVariants as logical
-use Rattle.cyc_types.specs.TypedTrees.{Load, Dereference, Target, Member, Element, Lvalue, Local, Global, Expression, Number, Copy, Move, Peek, Call, Unary, Binary, Assign, Converted, Convert, Arguments, NoArguments, MoreArguments, Operations, NoOperations, ThenCompute, ThenTest, ThenPointer, ThenPointerPeek, Statement, Block, Empty, Evaluate, If, While, Return, Break, Continue, Items, NoItems, MoreItems, Execute, Declare, StructType, Function}
+use Rattle.cyc_types.specs.TypedTrees.{Load, New, OnHeap, AsUnique, ByHandle, Initial, Plain, Fields, Array, Dereference, Target, Member, Element, Lvalue, Local, Global, Expression, Number, Copy, Call, Unary, Binary, Assign, Converted, Convert, Arguments, NoArguments, MoreArguments, Operations, NoOperations, ThenCompute, ThenTest, ThenPointer, ThenPointerPeek, Statement, Block, Empty, Evaluate, If, While, Return, Break, Continue, Items, NoItems, MoreItems, Execute, Declare, StructType, Function, Move, Peek}
 use Rattle.cyc_types.specs.Types.{Ty, words_of}
+use Rattle.cyc_types.specs.Numbered.{argument_count}
 use Rattle.cyc_types.proofs.WeightLemmas.{some_token}
-use Rattle.cyc_types.specs.Weight.{expression_weight, dereference_weight, converted_weight, arguments_weight, more_arguments_weight, operations_weight, else_weight, statement_weight, items_weight, function_weight}
+use Rattle.cyc_types.specs.Weight.{expression_weight, dereference_weight, initial_weight, converted_weight, arguments_weight, more_arguments_weight, operations_weight, else_weight, statement_weight, items_weight, function_weight}
 use Rattle.cyc_plain.specs.declared.instruction.Comparison.{Comparison}
 use Rattle.cyc_plain.specs.declared.instruction.Operand.{Operand}
 use Rattle.cyc_plain.specs.declared.instruction.Operand.TheVariants as operands
+use Rattle.cyc_plain.specs.declared.instruction.Request.TheVariants as requests
 use Rattle.cyc_plain.specs.declared.instruction.Instruction.{Instruction}
 use Rattle.cyc_plain.specs.declared.instruction.Instruction.TheVariants as instructions
 use Rattle.cyc_plain.specs.Program.{instruction_size, size}
 use Rattle.cyc_lower.specs.declared.statements.Exits.{Exits}
 use Rattle.cyc_lower.specs.Slots.{starts_of, slot_of, Starts}
+use Rattle.cyc_store.specs.declared.range.TheConstants.{HEAP}
 use Rattle.cyc_meaning.specs.Values.{kind_of, words_of_kind}
 use Rattle.cyc_lower.proofs.Widths.{kind_few, type_words}
-use Rattle.cyc_lower.specs.Lowering.{types_of, converts_there, passed_words, all_passed, source_of, source_slot, converted_by, moved_by, move_of, unary_operator, binary_operator, operand_of, operand_or, code_unless, slot_or, code_unless_slot, left_of, value_slot, next_slot, left_slot, value_operand, converted_operand, printed_operand, conversion_code, divisor_code, checked_code, operator_code, truth_code, load_code, low_byte, test_code, is_in, copy_code, expression_code, arguments_code, converted_code, converted_operand_code, printed_code, dereference_code, initial_code, assignment_code, operations_code, discarded_code, failing_comparison, compared_or, left_with, slot_with, first_code, second_code, pair_code, condition_code, condition_of, failing_jump, break_target, continue_target, return_code, declaration_code, statement_code, items_code, first_temporary, jump_if_zero, jump_if_nonzero, lower_function, behind_left, pointer_code, outside_loops, inside_loop, pointer_operator, index_of, first_two, pointer_instructions}
+use Rattle.cyc_lower.specs.Lowering.{types_of, converts_there, passed_words, all_passed, source_of, source_slot, converted_by, moved_by, move_of, unary_operator, binary_operator, operand_of, operand_or, code_unless, slot_or, code_unless_slot, left_of, value_slot, next_slot, left_slot, value_operand, converted_operand, printed_operand, conversion_code, divisor_code, checked_code, operator_code, truth_code, load_code, low_byte, test_code, is_in, copy_code, expression_code, arguments_code, converted_code, converted_operand_code, printed_code, dereference_code, initial_code, assignment_code, operations_code, discarded_code, failing_comparison, compared_or, left_with, slot_with, first_code, second_code, pair_code, condition_code, condition_of, failing_jump, break_target, continue_target, return_code, declaration_code, statement_code, items_code, first_temporary, jump_if_zero, jump_if_nonzero, lower_function, behind_left, pointer_code, outside_loops, inside_loop, pointer_operator, index_of, first_two, pointer_instructions, stores_code, object_code, made_code}
 use Rattle.cyc_lower.specs.Lowered.{size_per_weight}
 
 abbrev code_size : List Instruction → ℕ
@@ -124,6 +127,26 @@ test_size : (o : LogicalOperator) (operand : List Instruction) (p d t : ℕ) →
 test_size logical.AndThen operand p d t = omega (arith, both operand (truth_code t d), cons (jump_if_zero (operands.Slot t) (p + 1 + length operand)) (operand ++ truth_code t d))
 test_size logical.OrElse operand p d t = omega (arith, both operand (truth_code t d), cons (jump_if_nonzero (operands.Slot t) (p + 1 + length operand)) (operand ++ truth_code t d))
 
+stores_size : (many address offset slot : ℕ) → code_size (stores_code many address offset slot) ≡ 10 * many
+stores_size zero address offset slot = refl
+stores_size (suc many) address offset slot =
+    omega (arith, cons (instructions.Store (operands.Slot address) offset (operands.Slot slot)) (stores_code many address (offset + 4) (suc slot)), stores_size many address (offset + 4) (suc slot))
+
+object_size : (handle words d t : ℕ) → code_size (object_code handle words d t) ≡ 17 + 10 * words
+object_size handle words d t =
+    let move = instructions.Move d (operands.Slot (t + words)) ∷ [] in
+    omega (
+      arith,
+      cons (instructions.Ask (requests.Allocate (t + words) (operands.Word handle) (operands.Word (max 1 words)))) (stores_code words (t + words) 0 t ++ move),
+      both (stores_code words (t + words) 0 t) move,
+      stores_size words (t + words) 0 t,
+    )
+
+-- a list of arguments with a comma before each has at most one token more
+more_weight : (cs : Arguments) → more_arguments_weight cs ≤ arguments_weight cs + 1
+more_weight NoArguments = omega arith
+more_weight (MoreArguments c cs) = omega arith
+
 -- ---- locals that have these first slots
 
 module _ (starts : Starts) where
@@ -172,7 +195,17 @@ module _ (starts : Starts) where
         let store = instructions.StoreGlobal n o ∷ [] in
         omega (arith, both (front ++ store) (copy_code (passed_words c) o d), both front store, converted_operand_size c p t, copy_size c o d)
     expression_size (Load x) p d t = dereference_size x p d t
+    expression_size (New OnHeap i ty) p d t = made_size i HEAP p d t
+    expression_size (New AsUnique i ty) p d t = omega arith
+    expression_size (New (ByHandle h) i ty) p d t = omega arith
     expression_size a p d t = omega (arith, some_token a)
+
+    made_size : (i : Initial) (handle p d t : ℕ) → code_size (made_code starts i handle p d t) ≤ size_per_weight * (1 + initial_weight i)
+    made_size (Plain kind a) handle p d t =
+        omega (arith, both (expression_code starts a p t t) (object_code handle 1 d t), expression_size a p t t, object_size handle 1 d t)
+    made_size (Fields cs) handle p d t =
+        omega (arith, both (arguments_code starts cs p t) (object_code handle (argument_count cs) d t), fields_size cs p t, more_weight cs, object_size handle (argument_count cs) d t)
+    made_size (Array w level n kind a) handle p d t = omega arith
 
     dereference_size : (x : Dereference) (p d t : ℕ) → code_size (dereference_code starts x p d t) ≤ size_per_weight * dereference_weight x
     dereference_size (Target k a ty) p d t =
@@ -211,6 +244,13 @@ module _ (starts : Starts) where
     more_printed_size (MoreArguments c cs) p t =
         let front = converted_operand_code starts c p t in
         omega (arith, both front (printed_code starts cs (p + length front) t), converted_operand_size c p t, more_printed_size cs (p + length front) t)
+
+    -- with a store for each field
+    fields_size : (cs : Arguments) (p t : ℕ) → code_size (arguments_code starts cs p t) + 18 * argument_count cs ≤ size_per_weight * more_arguments_weight cs
+    fields_size NoArguments p t = omega arith
+    fields_size (MoreArguments c cs) p t =
+        let q = p + length (converted_code starts c p t) in
+        omega (arith, both (converted_code starts c p t) (arguments_code starts cs q (t + passed_words c)), converted_size c p t, fields_size cs q (t + passed_words c))
 
     -- with the words that are passed
     arguments_size : (cs : Arguments) (p t : ℕ) → code_size (arguments_code starts cs p t) + 4 * all_passed cs ≤ size_per_weight * arguments_weight cs + 30

@@ -1,5 +1,5 @@
 -- Where in a function's code the code of a construct stands, with all places between its parts left open.
-use Rattle.std.proofs.Common.{◌≡◌, ℕ, suc, ◌+◌, ◌<◌, Bool, true, false, List, Option, None, Some}
+use Rattle.std.proofs.Common.{◌≡◌, ℕ, suc, ◌+◌, ◌<◌, Bool, true, false, List, Option, None, Some, zero, ◌≤◌, max}
 use Rattle.std.specs.Prelude.{◌==◌}
 use Rattle.cyc_types.specs.declared.typed.Kind.{Kind}
 use Rattle.cyc_types.specs.declared.typed.Kind.TheVariants as kinds
@@ -8,16 +8,18 @@ use Rattle.cyc_types.specs.declared.typed.Operator.{Operator}
 use Rattle.cyc_types.specs.declared.typed.Operator.TheVariants as operators
 use Rattle.cyc_types.specs.declared.typed.PointerOperator.{PointerOperator}
 use Rattle.cyc_types.specs.declared.typed.PointerOperator.TheVariants as pointers
-use Rattle.cyc_types.specs.TypedTrees.{type_of_place, Load, Dereference, Target, Lvalue, Local, Global, Expression, Number, NullPointer, Copy, Call, Unary, Binary, Assign, Converted, Convert, Arguments, NoArguments, MoreArguments, Operations, NoOperations, ThenCompute, ThenTest, ThenPointer, Statement, Block, Empty, Evaluate, If, While, Return, Break, Continue, Items, NoItems, MoreItems, Execute, Declare, Move, Peek, ThenPointerPeek}
+use Rattle.cyc_types.specs.TypedTrees.{type_of_place, Load, Dereference, Target, Lvalue, Local, Global, Expression, Number, NullPointer, Copy, Call, Unary, Binary, Assign, Converted, Convert, Arguments, NoArguments, MoreArguments, Operations, NoOperations, ThenCompute, ThenTest, ThenPointer, Statement, Block, Empty, Evaluate, If, While, Return, Break, Continue, Items, NoItems, MoreItems, Execute, Declare, Move, Peek, ThenPointerPeek, New, OnHeap, Initial, Plain, Fields}
 use Rattle.cyc_types.specs.Types.{Ty, words_of}
-use Rattle.cyc_types.specs.Numbered.{Numbering}
+use Rattle.cyc_types.specs.Numbered.{Numbering, argument_count}
 use Rattle.cyc_plain.specs.declared.instruction.UnaryOperator.TheVariants as plain_unary
 use Rattle.cyc_plain.specs.declared.instruction.Comparison.{Comparison}
 use Rattle.cyc_plain.specs.declared.instruction.Operand.{Operand}
 use Rattle.cyc_plain.specs.declared.instruction.Operand.TheVariants as operands
+use Rattle.cyc_plain.specs.declared.instruction.Request.TheVariants as requests
 use Rattle.cyc_plain.specs.declared.instruction.Instruction.{Instruction}
 use Rattle.cyc_plain.specs.declared.instruction.Instruction.TheVariants as instructions
 use Rattle.cyc_plain.specs.Straight.{At}
+use Rattle.cyc_store.specs.declared.range.TheConstants.{MOST_BLOCK_WORDS, HEAP}
 use Rattle.cyc_meaning.specs.Operators.{null_exception, division_by_zero}
 use Rattle.cyc_meaning.specs.Values.{is_thin, words_of_kind}
 use Rattle.cyc_lower.specs.declared.statements.Exits.{Exits}
@@ -95,6 +97,19 @@ module _ (code : List Instruction) (bounds : Numbering) (types : Types) where
   LoadAt words (Local w n) d p q = At code p (move_of words d (operands.Slot (slot_of (starts_of types) n))) × (p + 1 ≡ q)
   LoadAt words (Global n) d p q = (n < bounds.globals) × At code p (instructions.LoadGlobal d n) × (p + 1 ≡ q)
 
+  -- so many words, which stand in slots, come to memory behind an address
+  abbrev pub StoresAt : (many address offset slot p q : ℕ) → Type 0
+  StoresAt zero address offset slot p q = p ≡ q
+  StoresAt (suc many) address offset slot p q =
+      At code p (instructions.Store (operands.Slot address) offset (operands.Slot slot)) × StoresAt many address (offset + 4) (suc slot) (p + 1) q
+
+  -- An object of so many cells is made, each of one word, of the words that stand in the slots from t on. Its address comes to slot d.
+  abbrev pub ObjectAt : (handle cells words t d p q : ℕ) → Type 0
+  ObjectAt handle cells words t d p q =
+      (m : ℕ) × (cells ≡ words) × (1 ≤ words) × (words ≤ MOST_BLOCK_WORDS)
+      × At code p (instructions.Ask (requests.Allocate (t + words) (operands.Word handle) (operands.Word (max 1 words))))
+      × StoresAt words (t + words) 0 t (p + 1) m × At code m (instructions.Move d (operands.Slot (t + words))) × (m + 1 ≡ q)
+
   abbrev mutual
     -- the value comes to slot d by the last instruction
     pub ExpressionAt : Expression → (d t p q : ℕ) → Type 0
@@ -123,7 +138,15 @@ module _ (code : List Instruction) (bounds : Numbering) (types : Types) where
         × CopyAt code (passed_words c) o d m q
     ExpressionAt (Load x) d t p q =
         (o : Operand) × (c : ℕ) × (r : ℕ) × PlaceAt x o c t p r × (words_of (type_of_place x) ≡ 1) × At code r (instructions.Load d o c) × (r + 1 ≡ q)
+    ExpressionAt (New OnHeap i ty) d t p q = MadeAt i HEAP d t p q
     ExpressionAt a d t p q = ⊥
+
+    -- a new object in the region of this handle
+    pub MadeAt : Initial → (handle d t p q : ℕ) → Type 0
+    MadeAt (Plain kind a) handle d t p q =
+        (m : ℕ) × ExpressionAt a t t p m × (words_of_kind (given bounds.functions a) ≡ words_of_kind kind) × ObjectAt handle 1 (words_of_kind kind) t d m q
+    MadeAt (Fields cs) handle d t p q = (m : ℕ) × ArgumentsAt cs t p m × ObjectAt handle (argument_count cs) (all_passed cs) t d m q
+    MadeAt i handle d t p q = ⊥
 
     -- The address of a place comes to an operand, but for so many bytes that are to be added to it.
     pub PlaceAt : Dereference → Operand → (c t p q : ℕ) → Type 0

@@ -41,7 +41,7 @@ use Rattle.cyc_meaning.specs.Operators.{Result, Gives, Raises, Misfits, has_no_r
 use Rattle.cyc_meaning.specs.Pointers.{takes_kind, followed, result_kind as operator_kind}
 use Rattle.cyc_meaning.specs.Places.{arrives}
 use Rattle.cyc_meaning.specs.Conversion.{conversion}
-use Rattle.cyc_meaning.specs.State.{Region, World, Environment, with_local, made, variable, written, region_at, Awaiting, ConvertTo, Operate, Chain, Apply, ApplyPointer, Follow, Decide, Store, Pass, Initialise, Choose, Test, Return, Entry, Needs, Discard, Rest, Join, Loop, Focus, Evaluating, Given, GivenPlace, Executing, Proceeding, Calling, Returning, Throwing, State, Running}
+use Rattle.cyc_meaning.specs.State.{Region, World, Environment, with_local, made, variable, written, region_at, Awaiting, ConvertTo, Operate, Chain, Apply, ApplyPointer, Follow, Decide, Store, Pass, MakePlain, MakeFields, Initialise, Choose, Test, Return, Entry, Needs, Discard, Rest, Join, Loop, Focus, Evaluating, Given, GivenPlace, Executing, Proceeding, Calling, Returning, Throwing, State, Running}
 use Rattle.cyc_meaning.specs.Step.{leads_to, wrong, object_of, computed, stored_at, declared, passes, tested, awaits_right, chosen, looped, step}
 use Rattle.cyc_meaning.specs.State.{status_of}
 use Rattle.cyc_meaning.specs.SourceMachine.{status_in}
@@ -66,6 +66,7 @@ use Rattle.cyc_lower.proofs.Weights.{weight}
 use Rattle.cyc_lower.proofs.Relation.{StatementStack}
 use Rattle.cyc_lower.proofs.Matched.{IsMatched, silently, by_one, by_two, by_three, shared_way, shared_within, lands_depth, value_depth, place_depth, lands_plain, value_plain, place_plain}
 use Rattle.cyc_lower.proofs.PointerSteps.{applies_pointers, right_follows}
+use Rattle.cyc_lower.proofs.Allocations.{plain_made, fields_made}
 use Rattle.cyc_lower.proofs.Evaluations.{IsStep, landed_word, landed_moved, lands_at, passes_related, passes_weight, object_of_same, global_there}
 
 -- an operand of a kind, and an int
@@ -1014,6 +1015,8 @@ module _ (source : Program) (pages calls : ℕ) where
   stands_given v o (Needs Decide ∷ k) e w c well stands stack = decides_truth v o k e w c well stands stack
   stands_given v o (Needs (Store place) ∷ k) e w c well stands stack = stores_at place v o k e w c well stands stack
   stands_given v o (Needs (Pass f before cs) ∷ k) e w c well stands stack = hands_on f before cs v o k e w c stands stack
+  stands_given v o (Needs (MakePlain owner kind) ∷ k) e w c well (shared, facts, is, holds) stack = plain_made source pages calls owner kind v o k e w c well shared facts is holds stack
+  stands_given v o (Needs (MakeFields owner before cs) ∷ k) e w c well (shared, facts, is, holds) stack = fields_made source pages calls owner before cs v o k e w c well shared facts is holds stack
   stands_given v o (Needs (Initialise n kind js) ∷ k) e w c well stands stack = initialises n kind js v o k e w c well stands stack
   stands_given v o (Needs (Choose s t) ∷ k) e w c well (shared, facts, is, holds) stack =
       chooses s t v (operand_word c.active.slots o == 0) comparisons.Equal o (operands.Word 0) k e w c (zero_is shared.tables v c.active.slots o (λ none. well (ap (λ x. status_in (status_of (chosen x s t k e w))) none)) is) refl shared facts stack

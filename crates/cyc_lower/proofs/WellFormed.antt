@@ -13,9 +13,9 @@ use Rattle.cyc_types.specs.declared.typed.PointerOperator.TheVariants as pointer
 use Rattle.cyc_types.specs.declared.typed.LogicalOperator.{LogicalOperator}
 use Rattle.cyc_types.specs.declared.typed.LogicalOperator.TheVariants as logical
 use Rattle.cyc_types.specs.Types.{Ty, words_of, ValueType, Void, Null, Value}
-use Rattle.cyc_types.specs.TypedTrees.{Load, Dereference, Target, type_of_place, Lvalue, Local, Global, Expression, Number, NullPointer, Copy, Call, Unary, Binary, Assign, Converted, Convert, Arguments, NoArguments, MoreArguments, Operations, NoOperations, ThenCompute, ThenTest, ThenPointer, type_of, Statement, Block, Empty, Evaluate, If, While, Return, Break, Continue, Items, NoItems, MoreItems, Execute, Declare, GlobalVariable, Signature, StructType, Function, Program, Move, Peek, ThenPointerPeek}
+use Rattle.cyc_types.specs.TypedTrees.{Load, New, OnHeap, AsUnique, ByHandle, Initial, Plain, Fields, Array, Dereference, Target, type_of_place, Lvalue, Local, Global, Expression, Number, NullPointer, Copy, Call, Unary, Binary, Assign, Converted, Convert, Arguments, NoArguments, MoreArguments, Operations, NoOperations, ThenCompute, ThenTest, ThenPointer, type_of, Statement, Block, Empty, Evaluate, If, While, Return, Break, Continue, Items, NoItems, MoreItems, Execute, Declare, GlobalVariable, Signature, StructType, Function, Program, Move, Peek, ThenPointerPeek}
 use Rattle.cyc_types.specs.typing.WellTyped.{signature_of}
-use Rattle.cyc_types.specs.Numbered.{Numbering, signatures_of, numbering_of}
+use Rattle.cyc_types.specs.Numbered.{Numbering, argument_count, signatures_of, numbering_of}
 use Rattle.cyc_plain.specs.declared.instruction.Comparison.{Comparison}
 use Rattle.cyc_plain.specs.declared.instruction.BinaryOperator.{BinaryOperator as PlainBinary}
 use Rattle.cyc_plain.specs.declared.instruction.Operand.{Operand}
@@ -28,14 +28,15 @@ use Rattle.cyc_plain.specs.WellFormed.{IsOperand, IsInRange, IsRoutine, IsWellFo
 use Rattle.std.specs.Prelude.{◌==◌, max, if◌then◌else◌}
 use Rattle.std.proofs.lemmas.Bool.{eqb-true}
 use Rattle.cyc_meaning.specs.Operators.{null_exception, division_by_zero}
+use Rattle.cyc_store.specs.declared.range.TheConstants.{HEAP}
 use Rattle.cyc_meaning.specs.Values.{kind_of, words_of_kind}
-use Rattle.cyc_meaning.specs.FrameCount.{result_words, operand_words, converted_words, argument_words, expression_need, dereference_need, converted_need, arguments_need, operations_need, initial_need, statement_need, items_need, words_of_all}
+use Rattle.cyc_meaning.specs.FrameCount.{result_words, operand_words, converted_words, argument_words, expression_need, dereference_need, converted_need, arguments_need, operations_need, initial_need, statement_need, items_need, words_of_all, initial_value_need}
 use Rattle.cyc_lower.specs.declared.statements.Exits.{Exits}
 use Rattle.cyc_meaning.specs.Pointers.{result_kind as operator_kind}
 use Rattle.cyc_lower.specs.Slots.{starts_of, slot_of, Types}
-use Rattle.cyc_lower.specs.Lowering.{types_of, spare_slots, are_as_wide, converts_there, passed_words, all_passed, source_of, source_slot, moved_by, move_of, unary_operator, binary_operator, operand_of, operand_or, code_unless, slot_or, code_unless_slot, left_with, left_of, value_slot, next_slot, slot_with, left_slot, value_operand, converted_operand, printed_operand, check_code, conversion_code, divisor_code, checked_code, operator_code, truth_code, load_code, low_byte, test_code, is_in, copy_code, expression_code, arguments_code, converted_code, converted_operand_code, printed_code, dereference_code, initial_code, assignment_code, operations_code, discarded_code, failing_comparison, compared_or, first_operand, first_code, second_code, pair_code, condition_code, condition_of, failing_jump, break_target, continue_target, return_code, declaration_code, statement_code, items_code, first_temporary, results_of, lower_function, lower_global, lower_program, pointer_operator, left_kind, behind_left, pointer_code, outside_loops, inside_loop, index_code, pointer_instructions}
-use Rattle.cyc_lower.proofs.Widths.{kind_positive, kind_few, type_words, kind_of_result, result_kind, given, passed_kind, words_in, chain_kind}
-use Rattle.cyc_lower.proofs.Fitting.{FitsPlace, FitsStored, FitsCell, Fits, FitsConverted, FitArguments, FitOperations, FitsReturn, FitsInitial, FitsStatement, FitItems, AreFitting, IsFitting}
+use Rattle.cyc_lower.specs.Lowering.{types_of, spare_slots, are_as_wide, converts_there, passed_words, all_passed, source_of, source_slot, moved_by, move_of, unary_operator, binary_operator, operand_of, operand_or, code_unless, slot_or, code_unless_slot, left_with, left_of, value_slot, next_slot, slot_with, left_slot, value_operand, converted_operand, printed_operand, check_code, conversion_code, divisor_code, checked_code, operator_code, truth_code, load_code, low_byte, test_code, is_in, copy_code, expression_code, arguments_code, converted_code, converted_operand_code, printed_code, dereference_code, initial_code, assignment_code, operations_code, discarded_code, failing_comparison, compared_or, first_operand, first_code, second_code, pair_code, condition_code, condition_of, failing_jump, break_target, continue_target, return_code, declaration_code, statement_code, items_code, first_temporary, results_of, lower_function, lower_global, lower_program, pointer_operator, left_kind, behind_left, pointer_code, outside_loops, inside_loop, index_code, pointer_instructions, stores_code, object_code, made_code}
+use Rattle.cyc_lower.proofs.Widths.{kind_positive, kind_few, type_words, kind_of_result, result_kind, given, passed_kind, words_in, chain_kind, made_kind}
+use Rattle.cyc_lower.proofs.Fitting.{FitsPlace, FitsStored, FitsCell, Fits, FitsConverted, FitArguments, FitOperations, FitsReturn, FitsInitial, FitsStatement, FitItems, AreFitting, IsFitting, FitsObject}
 use Rattle.cyc_lower.proofs.Values.{as_wide}
 use Rattle.cyc_lower.proofs.Slots.{words_positive, slot-room, slot_types-many, slots-few}
 
@@ -167,6 +168,11 @@ module _ (program : PlainProgram) (r : Routine) (b : Numbering) (types : Types) 
   given_needs (Assign l (Convert from to a) t) numbered = omega arith
   given_needs (Load (Target k a t)) numbered = omega (arith, type_words t)
   given_needs (Load x) numbered = absurd numbered
+  given_needs (New OnHeap (Plain kind a) t) numbered = omega arith
+  given_needs (New OnHeap (Fields cs) t) numbered = omega arith
+  given_needs (New OnHeap (Array p level n kind a) t) numbered = absurd numbered
+  given_needs (New AsUnique i t) numbered = absurd numbered
+  given_needs (New (ByHandle h) i t) numbered = absurd numbered
   given_needs a numbered = absurd numbered
 
   slot_fits : (a : Expression) (t : ℕ) → Fits b types a → t + words_of_kind (kind_at a) ≤ r.slots → value_slot (starts_of types) a t + words_of_kind (kind_at a) ≤ r.slots
@@ -351,6 +357,16 @@ module _ (program : PlainProgram) (r : Routine) (b : Numbering) (types : Types) 
       let long = length-append operand (truth_code t d) in
       ((room, tt, omega (arith, short, long)), append operand (truth_code t d) inside ((room, room), ((few, room), tt)))
 
+  stores_in : (many address offset slot : ℕ) → address < r.slots → slot + many ≤ r.slots → AreIn (stores_code many address offset slot)
+  stores_in zero address offset slot room few = tt
+  stores_in (suc many) address offset slot room few = ((room, omega (arith, few)), stores_in many address (offset + 4) (suc slot) room (omega (arith, few)))
+
+  object_in : (handle words d t : ℕ) → d < r.slots → t + words + 1 ≤ r.slots → AreIn (object_code handle words d t)
+  object_in handle words d t room few = (
+    record { answer_in_range = few; first_in_range = tt; second_in_range = tt },
+    append (stores_code words (t + words) 0 t) (instructions.Move d (operands.Slot (t + words)) ∷ []) (stores_in words (t + words) 0 t (omega (arith, few)) (omega (arith, few))) ((room, omega (arith, few)), tt),
+  )
+
   -- ---- expressions
 
   -- an operator on pointers with its right operand, which stands behind the left one
@@ -457,7 +473,25 @@ module _ (program : PlainProgram) (r : Routine) (b : Numbering) (types : Types) 
         (append front store (converted_operand_in c p t numbered (omega (arith, few)) (omega (arith, few)) (omega (arith, short, length-append (front ++ store) back, length-append front store))) ((omega (arith, within, globals), converted_value_in c t numbered (omega (arith, few))), tt))
         (copy_in (is_in o d) c o d (converted_room c t numbered (omega (arith, few))) (omega (arith, room, ap words_of_kind (assigned_kind (Global n) c ty))))
     expression_in (Load x) p d t numbered room few short = dereference_in x p d t numbered (omega (arith, room, kind_positive (kind_of (type_of_place x)))) few short
+    expression_in (New OnHeap i ty) p d t numbered room few short = made_in i HEAP ty p d t numbered (omega (arith, room, kind_positive (made_kind i))) (omega (arith, few)) short
+    expression_in (New AsUnique i ty) p d t numbered room few short = absurd numbered
+    expression_in (New (ByHandle h) i ty) p d t numbered room few short = absurd numbered
     expression_in a p d t numbered room few short = absurd numbered
+
+    made_in : (i : Initial) (handle : ℕ) (ty : Ty) (p d t : ℕ) → FitsObject b types i → d < r.slots → t + initial_value_need i 0 (words_of ty) ≤ r.slots → p + length (made_code (starts_of types) i handle p d t) < length r.code → AreIn (made_code (starts_of types) i handle p d t)
+    made_in (Plain kind a) handle ty p d t (single, kind_is, numbered) room few short =
+        let front = expression_code (starts_of types) a p t t in
+        let back = object_code handle 1 d t in
+        append front back
+        (expression_in a p t t numbered (omega (arith, few, single, ap words_of_kind kind_is, words_positive ty)) (omega (arith, few)) (omega (arith, short, length-append front back)))
+        (object_in handle 1 d t room (omega (arith, few, single, words_positive ty)))
+    made_in (Fields cs) handle ty p d t (single, some, many, numbered) room few short =
+        let front = arguments_code (starts_of types) cs p t in
+        let back = object_code handle (argument_count cs) d t in
+        append front back
+        (arguments_in cs p t t 0 numbered (omega arith) (omega (arith, few)) (omega (arith, few)) (omega (arith, short, length-append front back)))
+        (object_in handle (argument_count cs) d t room (omega (arith, few, single, arguments_words cs, words_positive ty)))
+    made_in i handle ty p d t numbered room few short = absurd numbered
 
     dereference_in : (x : Dereference) (p d t : ℕ) → FitsCell b types x → d < r.slots → t + dereference_need x (words_of (type_of_place x)) ≤ r.slots → p + length (dereference_code (starts_of types) x p d t) < length r.code → AreIn (dereference_code (starts_of types) x p d t)
     dereference_in (Target k a ty) p d t (thin, single, numbered) room few short =

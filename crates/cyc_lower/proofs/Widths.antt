@@ -8,7 +8,7 @@ use Rattle.cyc_types.specs.declared.typed.Callee.{Callee}
 use Rattle.cyc_types.specs.declared.typed.Callee.TheVariants as callees
 use Rattle.cyc_types.specs.Types.{Ty, words_of, words_of_mark}
 use Rattle.cyc_types.specs.Types as types
-use Rattle.cyc_types.specs.TypedTrees.{Load, type_of_place, Expression, NullPointer, Copy, Move, Peek, Call, Binary, Assign, Converted, Convert, Operations, NoOperations, ThenCompute, ThenTest, ThenPointer, ThenPointerPeek, Signature}
+use Rattle.cyc_types.specs.TypedTrees.{Load, type_of_place, Expression, NullPointer, Copy, Move, Peek, Call, Binary, Assign, Converted, Convert, Operations, NoOperations, ThenCompute, ThenTest, ThenPointer, ThenPointerPeek, Signature, New, Initial, Array}
 use Rattle.cyc_meaning.specs.Pointers.{result_kind as operator_kind}
 use Rattle.cyc_meaning.specs.Values.{kind_of, number_of_kind, is_kind, words_of_kind}
 use Rattle.cyc_lower.specs.Slots.{Types}
@@ -79,6 +79,11 @@ chain_kind kind (ThenTest o b os) = chain_kind kinds.Int os
 chain_kind kind (ThenPointer o b os) = chain_kind (operator_kind o) os
 chain_kind kind (ThenPointerPeek n o b os) = chain_kind (operator_kind o) os
 
+-- the kind of the pointer to a new object
+abbrev pub made_kind : Initial → Kind
+made_kind (Array p level n kind a) = kinds.Fat
+made_kind i = kinds.NonNull
+
 module _ (signatures : List Signature) where
   abbrev pub called_kind : Callee → Kind
   called_kind callees.Putchar = kinds.Int
@@ -89,6 +94,7 @@ module _ (signatures : List Signature) where
   given NullPointer = kinds.Nullable
   given (Load x) = kind_of (type_of_place x)
   given (Copy l t) = kind_of t
+  given (New w i t) = made_kind i
   given (Move p n t) = kind_of t
   given (Peek p n t) = kind_of t
   given (Call f cs t) = called_kind f

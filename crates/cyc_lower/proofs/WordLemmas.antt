@@ -1,5 +1,5 @@
 -- A lowered program has words wherever its source has.
-use Rattle.std.proofs.Common.{ℕ, zero, suc, ◌+◌, Bool, true, false, List, [], ◌∷◌, ◌++◌, length, map, Option, None, Some, All, arith}
+use Rattle.std.proofs.Common.{ℕ, zero, suc, ◌+◌, ◌*◌, ◌≤◌, max, Bool, true, false, List, [], ◌∷◌, ◌++◌, length, map, Option, None, Some, All, arith}
 use Rattle.cyc_meaning.specs.Operators.{null_exception, division_by_zero}
 use Rattle.std.specs.List.{AllByRecursion}
 use Rattle.cyc_words.specs.Word.{IsWord}
@@ -13,7 +13,7 @@ use Rattle.cyc_types.specs.declared.typed.PointerOperator.{PointerOperator}
 use Rattle.cyc_types.specs.declared.typed.PointerOperator.TheVariants as pointers
 use Rattle.cyc_types.specs.declared.typed.LogicalOperator.{LogicalOperator}
 use Rattle.cyc_types.specs.declared.typed.LogicalOperator.TheVariants as logical
-use Rattle.cyc_types.specs.TypedTrees.{Load, Dereference, Target, Lvalue, Local, Global, Expression, Number, NullPointer, Copy, Call, Unary, Binary, Assign, Converted, Convert, Arguments, NoArguments, MoreArguments, Operations, NoOperations, ThenCompute, ThenTest, ThenPointer, Statement, Block, Empty, Evaluate, If, While, Return, Break, Continue, Items, NoItems, MoreItems, Execute, Declare, Constant, Word, Null, GlobalVariable, StructType, Function, Program, Move, Peek, ThenPointerPeek}
+use Rattle.cyc_types.specs.TypedTrees.{Load, New, OnHeap, AsUnique, ByHandle, Initial, Plain, Fields, Dereference, Target, Lvalue, Local, Global, Expression, Number, NullPointer, Copy, Call, Unary, Binary, Assign, Converted, Convert, Arguments, NoArguments, MoreArguments, Operations, NoOperations, ThenCompute, ThenTest, ThenPointer, Statement, Block, Empty, Evaluate, If, While, Return, Break, Continue, Items, NoItems, MoreItems, Execute, Declare, Constant, Word, Null, GlobalVariable, StructType, Function, Program, Move, Peek, ThenPointerPeek}
 use Rattle.cyc_plain.specs.declared.instruction.Comparison.{Comparison}
 use Rattle.cyc_plain.specs.declared.instruction.BinaryOperator.{BinaryOperator as PlainBinary}
 use Rattle.cyc_plain.specs.declared.instruction.Operand.{Operand}
@@ -21,13 +21,15 @@ use Rattle.cyc_plain.specs.declared.instruction.Operand.TheVariants as operands
 use Rattle.cyc_plain.specs.declared.instruction.Instruction.{Instruction}
 use Rattle.cyc_plain.specs.declared.instruction.Instruction.TheVariants as instructions
 use Rattle.cyc_plain.specs.WellFormed.{IsOfWord, HasWord, HasWords}
+use Rattle.cyc_lower.specs.Words.{IsOfWords, IsOfWordsCell, IsOfWordsObject, IsOfWordsConverted, AreOfWordsArguments, AreOfWordsOperations, IsOfWordsInitial, IsOfWordsStatement, AreOfWordsItems, IsOfWordsConstant, AreOfWordsGlobals, AreOfWordsFunctions, IsOfWordsProgram}
 use Rattle.cyc_lower.specs.declared.statements.Exits.{Exits}
-use Rattle.cyc_lower.specs.Words.{IsOfWords, IsOfWordsCell, IsOfWordsConverted, AreOfWordsArguments, AreOfWordsOperations, IsOfWordsInitial, IsOfWordsStatement, AreOfWordsItems, IsOfWordsConstant, AreOfWordsGlobals, AreOfWordsFunctions, IsOfWordsProgram}
 use Rattle.cyc_lower.specs.Slots.{starts_of, slot_of, Starts}
 use Rattle.std.specs.Prelude.{◌==◌, if◌then◌else◌}
 use Rattle.cyc_types.specs.Types.{words_of}
+use Rattle.cyc_types.specs.Numbered.{argument_count}
+use Rattle.cyc_store.specs.declared.range.TheConstants.{HEAP}
 use Rattle.cyc_meaning.specs.Values.{words_of_kind}
-use Rattle.cyc_lower.specs.Lowering.{types_of, are_as_wide, converts_there, passed_words, source_of, source_slot, converted_by, moved_by, move_of, operand_of, operand_or, code_unless, slot_or, code_unless_slot, left_with, left_of, value_slot, next_slot, left_slot, value_operand, converted_operand, printed_operand, check_code, conversion_code, divisor_code, checked_code, operator_code, truth_code, load_code, test_code, is_in, copy_code, expression_code, arguments_code, converted_code, converted_operand_code, printed_code, dereference_code, initial_code, assignment_code, operations_code, discarded_code, failing_comparison, compared_or, compared_of, slot_with, first_code, second_code, pair_code, condition_code, condition_of, return_code, declaration_code, statement_code, items_code, first_temporary, initial_word, lower_function, lower_global, lower_program, behind_left, pointer_code, outside_loops, inside_loop, index_of, first_two, pointer_instructions}
+use Rattle.cyc_lower.specs.Lowering.{types_of, are_as_wide, converts_there, passed_words, source_of, source_slot, converted_by, moved_by, move_of, operand_of, operand_or, code_unless, slot_or, code_unless_slot, left_with, left_of, value_slot, next_slot, left_slot, value_operand, converted_operand, printed_operand, check_code, conversion_code, divisor_code, checked_code, operator_code, truth_code, load_code, test_code, is_in, copy_code, expression_code, arguments_code, converted_code, converted_operand_code, printed_code, dereference_code, initial_code, assignment_code, operations_code, discarded_code, failing_comparison, compared_or, compared_of, slot_with, first_code, second_code, pair_code, condition_code, condition_of, return_code, declaration_code, statement_code, items_code, first_temporary, initial_word, lower_function, lower_global, lower_program, behind_left, pointer_code, outside_loops, inside_loop, index_of, first_two, pointer_instructions, stores_code, object_code, made_code}
 use Rattle.cyc_lower.proofs.WellFormed.{all_append, all_of}
 
 abbrev HaveWords : List Instruction → Type 0
@@ -112,6 +114,19 @@ test_words : (o : LogicalOperator) (operand : List Instruction) (p d t : ℕ) �
 test_words logical.AndThen operand p d t all = ((tt, omega arith), append operand (truth_code t d) all (tt, (tt, tt)))
 test_words logical.OrElse operand p d t all = ((tt, omega arith), append operand (truth_code t d) all (tt, (tt, tt)))
 
+stores_words : (many address offset slot : ℕ) → offset + 4 * many ≤ 4000 → HaveWords (stores_code many address offset slot)
+stores_words zero address offset slot few = tt
+stores_words (suc many) address offset slot few = ((tt, omega (arith, few), tt), stores_words many address (offset + 4) (suc slot) (omega (arith, few)))
+
+-- a block has at most a word's count of words
+object_words : (handle words d t : ℕ) → IsWord handle → words ≤ 1000 → HaveWords (object_code handle words d t)
+object_words handle words d t word few =
+    ((word, at_least words few), append (stores_code words (t + words) 0 t) _ (stores_words words (t + words) 0 t (omega (arith, few))) (tt, tt))
+  where
+    at_least : (n : ℕ) → n ≤ 1000 → IsWord (max 1 n)
+    at_least zero fits = omega arith
+    at_least (suc n) fits = omega (arith, fits)
+
 -- ---- locals that have these first slots
 
 module _ (starts : Starts) where
@@ -177,7 +192,17 @@ module _ (starts : Starts) where
         let word = converted_word c t words in
         append (front ++ instructions.StoreGlobal n o ∷ []) (copy_code (passed_words c) o d) (append front _ (converted_operand_words c p t words) (word, tt)) (copy_words (is_in o d) (passed_words c) o d word)
     expression_words (Load x) p d t words = dereference_words x p d t words
+    expression_words (New OnHeap i ty) p d t words = made_words i HEAP p d t (omega arith) words
+    expression_words (New AsUnique i ty) p d t words = absurd words
+    expression_words (New (ByHandle h) i ty) p d t words = absurd words
     expression_words a p d t words = absurd words
+
+    made_words : (i : Initial) (handle p d t : ℕ) → IsWord handle → IsOfWordsObject i → HaveWords (made_code starts i handle p d t)
+    made_words (Plain kind a) handle p d t word words =
+        append (expression_code starts a p t t) (object_code handle 1 d t) (expression_words a p t t words) (object_words handle 1 d t word (omega arith))
+    made_words (Fields cs) handle p d t word (few, words) =
+        append (arguments_code starts cs p t) (object_code handle (argument_count cs) d t) (arguments_words cs p t words) (object_words handle (argument_count cs) d t word few)
+    made_words i handle p d t word words = absurd words
 
     dereference_words : (x : Dereference) (p d t : ℕ) → IsOfWordsCell x → HaveWords (dereference_code starts x p d t)
     dereference_words (Target k a ty) p d t words =

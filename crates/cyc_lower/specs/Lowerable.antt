@@ -1,14 +1,15 @@
 -- Which typed trees are lowered: those whose forms have code. Each number that such a tree has names something that is there, each call passes
 -- as many arguments as its function has parameters, and a break or a continue stands in a loop. A tree of the int language is one.
-use Rattle.std.specs.Prelude.{◌≡◌, ℕ, ◌<◌, Bool, true, false, not, ◌&&◌, List, [], ◌∷◌, Option, Some, None, length, slice_get}
+use Rattle.std.specs.Prelude.{◌≡◌, ℕ, ◌<◌, Bool, true, false, not, ◌&&◌, List, [], ◌∷◌, Option, Some, None, length, slice_get, ◌≤◌}
 use Rattle.cyc_types.specs.declared.typed.PointerOperator.{PointerOperator}
 use Rattle.cyc_types.specs.declared.typed.PointerOperator.TheVariants as pointers
 use Rattle.cyc_types.specs.Types.{Ty, words_of}
-use Rattle.cyc_types.specs.TypedTrees.{Load, Dereference, Target, Lvalue, Local, Global, Expression, Number, NullPointer, Copy, Call, Unary, Binary, Assign, Converted, Convert, Arguments, NoArguments, MoreArguments, Operations, NoOperations, ThenCompute, ThenTest, ThenPointer, Statement, Block, Empty, Evaluate, If, While, Return, Break, Continue, Items, NoItems, MoreItems, Execute, Declare, Signature, Function, Program, Move, Peek, ThenPointerPeek}
+use Rattle.cyc_types.specs.TypedTrees.{Load, New, OnHeap, Initial, Plain, Fields, Dereference, Target, Lvalue, Local, Global, Expression, Number, NullPointer, Copy, Call, Unary, Binary, Assign, Converted, Convert, Arguments, NoArguments, MoreArguments, Operations, NoOperations, ThenCompute, ThenTest, ThenPointer, Statement, Block, Empty, Evaluate, If, While, Return, Break, Continue, Items, NoItems, MoreItems, Execute, Declare, Signature, Function, Program, Move, Peek, ThenPointerPeek}
 use Rattle.cyc_types.specs.typing.Scopes.{signature_of_ints}
 use Rattle.cyc_types.specs.Numbered.{Numbering, IsSignature, IsWithin, argument_count, numbering_of, signatures_of}
-use Rattle.cyc_meaning.specs.Values.{is_thin}
-use Rattle.cyc_lower.specs.Lowering.{are_as_wide, passed_words}
+use Rattle.cyc_store.specs.declared.range.TheConstants.{MOST_BLOCK_WORDS}
+use Rattle.cyc_meaning.specs.Values.{is_thin, words_of_kind}
+use Rattle.cyc_lower.specs.Lowering.{are_as_wide, passed_words, all_passed}
 
 -- pointers are compared, with one another or with `NULL`
 abbrev pub is_comparison : PointerOperator → Bool
@@ -46,11 +47,19 @@ abbrev mutual
   IsLowerable b (Binary a os t) = IsLowerable b a × AreLowerableOperations b os
   IsLowerable b (Assign l c t) = HasPlace b l (passed_words c) × IsLowerableConverted b c
   IsLowerable b (Load x) = IsLowerableCell b x
+  IsLowerable b (New OnHeap i t) = IsLowerableObject b i
   IsLowerable b a = ⊥
 
   pub IsLowerableCell : Numbering → Dereference → Type 0
   IsLowerableCell b (Target k a t) = (is_thin k ≡ true) × (words_of t ≡ 1) × IsLowerable b a
   IsLowerableCell b x = ⊥
+
+  -- each cell has one word yet, and a block has room for all
+  pub IsLowerableObject : Numbering → Initial → Type 0
+  IsLowerableObject b (Plain kind a) = (words_of_kind kind ≡ 1) × IsLowerable b a
+  IsLowerableObject b (Fields cs) =
+      (argument_count cs ≡ all_passed cs) × (1 ≤ argument_count cs) × (argument_count cs ≤ MOST_BLOCK_WORDS) × AreLowerableArguments b cs
+  IsLowerableObject b i = ⊥
 
   pub IsLowerableConverted : Numbering → Converted → Type 0
   IsLowerableConverted b (Convert from to a) = (are_as_wide from to ≡ true) × IsLowerable b a

@@ -4,7 +4,7 @@
 --
 -- A value has as many slots as its kind has words, one behind the other. A global has one word yet, the first of its value. There is
 -- code for the int language and more; a form that is not built has a constant in its place, which nothing runs.
-use Rattle.std.specs.Prelude.{ℕ, suc, ◌+◌, ◌==◌, Bool, false, if◌then◌else◌, List, [], ◌∷◌, ◌++◌, length, map, Option, None, Some}
+use Rattle.std.specs.Prelude.{ℕ, zero, suc, ◌+◌, max, ◌==◌, Bool, false, if◌then◌else◌, List, [], ◌∷◌, ◌++◌, length, map, Option, None, Some}
 use Rattle.cyc_words.specs.declared.span.Span.{Span}
 use Rattle.cyc_syntax.specs.Symbols.{Place}
 use Rattle.cyc_types.specs.declared.typed.Kind.{Kind}
@@ -19,7 +19,8 @@ use Rattle.cyc_types.specs.declared.typed.PointerOperator.TheVariants as pointer
 use Rattle.cyc_types.specs.declared.typed.LogicalOperator.{LogicalOperator}
 use Rattle.cyc_types.specs.declared.typed.LogicalOperator.TheVariants as logical
 use Rattle.cyc_types.specs.Types.{Ty, words_of}
-use Rattle.cyc_types.specs.TypedTrees.{Load, Dereference, Target, Lvalue, Local, Global, Expression, Number, NullPointer, Copy, Call, Unary, Binary, Assign, Converted, Convert, Arguments, NoArguments, MoreArguments, Operations, NoOperations, ThenCompute, ThenTest, ThenPointer, ThenPointerPeek, Statement, Block, Empty, Evaluate, If, While, Return, Break, Continue, Items, NoItems, MoreItems, Execute, Declare, Constant, Word, Null, GlobalVariable, StructType, Function, Program, Move, Peek}
+use Rattle.cyc_types.specs.Numbered.{argument_count}
+use Rattle.cyc_types.specs.TypedTrees.{Load, New, OnHeap, Initial, Plain, Fields, Dereference, Target, Lvalue, Local, Global, Expression, Number, NullPointer, Copy, Call, Unary, Binary, Assign, Converted, Convert, Arguments, NoArguments, MoreArguments, Operations, NoOperations, ThenCompute, ThenTest, ThenPointer, ThenPointerPeek, Statement, Block, Empty, Evaluate, If, While, Return, Break, Continue, Items, NoItems, MoreItems, Execute, Declare, Constant, Word, Null, GlobalVariable, StructType, Function, Program, Move, Peek}
 use Rattle.cyc_plain.specs.declared.instruction.UnaryOperator.{UnaryOperator as PlainUnary}
 use Rattle.cyc_plain.specs.declared.instruction.UnaryOperator.TheVariants as plain_unary
 use Rattle.cyc_plain.specs.declared.instruction.BinaryOperator.{BinaryOperator as PlainBinary}
@@ -28,9 +29,11 @@ use Rattle.cyc_plain.specs.declared.instruction.Comparison.{Comparison}
 use Rattle.cyc_plain.specs.declared.instruction.Comparison.TheVariants as comparisons
 use Rattle.cyc_plain.specs.declared.instruction.Operand.{Operand}
 use Rattle.cyc_plain.specs.declared.instruction.Operand.TheVariants as operands
+use Rattle.cyc_plain.specs.declared.instruction.Request.TheVariants as requests
 use Rattle.cyc_plain.specs.declared.instruction.Instruction.{Instruction}
 use Rattle.cyc_plain.specs.declared.instruction.Instruction.TheVariants as instructions
 use Rattle.cyc_plain.specs.Program.{Routine, Program as PlainProgram}
+use Rattle.cyc_store.specs.declared.range.TheConstants.{HEAP}
 use Rattle.cyc_meaning.specs.Values.{words_of_kind}
 use Rattle.cyc_meaning.specs.Operators.{null_exception, division_by_zero}
 use Rattle.cyc_meaning.specs.FrameCount.{frame_count, items_need, words_of_all}
@@ -258,6 +261,23 @@ converted_by known code to o p = code_unless known code ++ conversion_code to o 
 abbrev pub moved_by : Option Operand → (code : List Instruction) → (to : Kind) → Operand → (p d : ℕ) → List Instruction
 moved_by known code to o p d = converted_by known code to o p ++ move_of (words_of_kind to) d o ∷ []
 
+-- ---- new objects
+
+-- so many words, which stand in slots, come to memory behind an address
+abbrev pub stores_code : (many address offset slot : ℕ) → List Instruction
+stores_code zero address offset slot = []
+stores_code (suc many) address offset slot =
+    instructions.Store (operands.Slot address) offset (operands.Slot slot) ∷ stores_code many address (offset + 4) (suc slot)
+
+-- A block is asked for in the region of this handle, and gets so many words, which stand in the slots from t on. Its address comes to the
+-- slot behind them, and then to slot d.
+abbrev pub object_code : (handle words d t : ℕ) → List Instruction
+object_code handle words d t =
+    instructions.Ask (requests.Allocate (t + words) (operands.Word handle) (operands.Word (max 1 words)))
+    ∷ stores_code words (t + words) 0 t
+    ++ instructions.Move d (operands.Slot (t + words))
+    ∷ []
+
 -- ---- conditions, branches and loops
 
 -- A condition compares two expressions, and this comparison of them holds where it fails.
@@ -407,6 +427,7 @@ module _ (starts : Starts) where
     expression_code (Assign (Global n) c ty) p d t =
         (converted_operand_code c p t ++ instructions.StoreGlobal n (converted_operand c t) ∷ []) ++ copy_code (passed_words c) (converted_operand c t) d
     expression_code (Load x) p d t = dereference_code x p d t
+    expression_code (New OnHeap i ty) p d t = made_code i HEAP p d t
     expression_code a p d t = instructions.Move d (operands.Word 0) ∷ []
 
     -- the value in a cell that a pointer leads to, which is tested first
@@ -416,6 +437,12 @@ module _ (starts : Starts) where
         ++ instructions.Load d (value_operand a t) 0
         ∷ []
     dereference_code x p d t = instructions.Move d (operands.Word 0) ∷ []
+
+    -- A new object in the region of this handle. Each of its cells has one word yet.
+    pub made_code : Initial → (handle p d t : ℕ) → List Instruction
+    made_code (Plain kind a) handle p d t = expression_code a p t t ++ object_code handle 1 d t
+    made_code (Fields cs) handle p d t = arguments_code cs p t ++ object_code handle (argument_count cs) d t
+    made_code i handle p d t = instructions.Move d (operands.Word 0) ∷ []
 
     -- each argument comes into the slots behind those of the one before
     pub arguments_code : Arguments → (p t : ℕ) → List Instruction

@@ -1,8 +1,10 @@
 -- All numbers of a typed tree of the int language are words: its constants, and what its globals hold at the start. So it is in every
 -- tree of a text.
-use Rattle.std.specs.Prelude.{List, [], ◌∷◌, Option, None, Some}
+use Rattle.std.specs.Prelude.{◌≤◌, List, [], ◌∷◌, Option, None, Some}
 use Rattle.cyc_words.specs.Word.{IsWord}
-use Rattle.cyc_types.specs.TypedTrees.{Load, Dereference, Target, Expression, Number, NullPointer, Copy, Move, Peek, Call, Unary, Binary, Assign, Converted, Convert, Arguments, NoArguments, MoreArguments, Operations, NoOperations, ThenCompute, ThenTest, ThenPointer, ThenPointerPeek, Statement, Block, Empty, Evaluate, If, While, Return, Break, Continue, Items, NoItems, MoreItems, Execute, Declare, Constant, Word, Null, GlobalVariable, Function, Program}
+use Rattle.cyc_types.specs.Numbered.{argument_count}
+use Rattle.cyc_store.specs.declared.range.TheConstants.{MOST_BLOCK_WORDS}
+use Rattle.cyc_types.specs.TypedTrees.{Load, New, OnHeap, Initial, Plain, Fields, Dereference, Target, Expression, Number, NullPointer, Copy, Call, Unary, Binary, Assign, Converted, Convert, Arguments, NoArguments, MoreArguments, Operations, NoOperations, ThenCompute, ThenTest, ThenPointer, Statement, Block, Empty, Evaluate, If, While, Return, Break, Continue, Items, NoItems, MoreItems, Execute, Declare, Constant, Word, Null, GlobalVariable, Function, Program, Move, Peek, ThenPointerPeek}
 
 abbrev mutual
   pub IsOfWords : Expression → Type 0
@@ -16,11 +18,18 @@ abbrev mutual
   IsOfWords (Binary a os t) = IsOfWords a × AreOfWordsOperations os
   IsOfWords (Assign l c t) = IsOfWordsConverted c
   IsOfWords (Load x) = IsOfWordsCell x
+  IsOfWords (New OnHeap i t) = IsOfWordsObject i
   IsOfWords a = ⊥
 
   pub IsOfWordsCell : Dereference → Type 0
   IsOfWordsCell (Target k a t) = IsOfWords a
   IsOfWordsCell x = ⊥
+
+  -- of its fields too there are as many as a word counts
+  pub IsOfWordsObject : Initial → Type 0
+  IsOfWordsObject (Plain kind a) = IsOfWords a
+  IsOfWordsObject (Fields cs) = (argument_count cs ≤ MOST_BLOCK_WORDS) × AreOfWordsArguments cs
+  IsOfWordsObject i = ⊥
 
   pub IsOfWordsConverted : Converted → Type 0
   IsOfWordsConverted (Convert from to a) = IsOfWords a

@@ -2,12 +2,12 @@
 //! else only the slots from `free` on are written, and those of locals that are assigned.
 ghost use Rattle.std.specs.Prelude.{◌≡◌, ◌+◌, ◌<◌, ◌≤◌, [], ◌∷◌, None, length};
 ghost use Rattle.cyc_types.specs.Types.{Void};
-ghost use Rattle.cyc_types.specs.TypedTreeView.{view_dereference, view_expression, view_converted, view_lvalue, arguments_of, operations_of};
+ghost use Rattle.cyc_types.specs.TypedTreeView.{view_dereference, view_initial, view_expression, view_converted, view_lvalue, arguments_of, operations_of};
 ghost use Rattle.cyc_types.specs.TypedTrees.{Call};
 ghost use Rattle.cyc_meaning.specs.Values.{words_of_kind};
 ghost use Rattle.cyc_plain.specs.declared.instruction.Operand.TheVariants as operands;
 ghost use Rattle.cyc_plain.specs.declared.instruction.Instruction.TheVariants as instructions;
-ghost use Rattle.cyc_lower.specs.Lowering.{operand_of, operand_or, left_of, left_slot, value_operand, converted_operand, printed_operand, check_code, conversion_code, divisor_code, operator_code, truth_code, copy_code, all_passed, expression_code, dereference_code, arguments_code, converted_operand_code, printed_code, initial_code, assignment_code, assigned_operand, operations_code, discarded_code, condition_of, condition_code, first_two, index_code, pointer_instructions};
+ghost use Rattle.cyc_lower.specs.Lowering.{operand_of, operand_or, left_of, left_slot, value_operand, converted_operand, printed_operand, check_code, conversion_code, divisor_code, operator_code, truth_code, copy_code, all_passed, expression_code, dereference_code, arguments_code, converted_operand_code, printed_code, initial_code, assignment_code, assigned_operand, operations_code, discarded_code, condition_of, condition_code, first_two, index_code, pointer_instructions, stores_code, object_code, made_code};
 ghost use Rattle.cyc_lower.specs.Emission.{Appends, Gives, HasRoom, HasRoomFor, most_locals, value_code, source_code, slot_code, print_code, converted_slot, converted_slot_code, left_code, operation_code, IsChain, zero_condition, view_starts, pointer_operation_code};
 
 use crate::emitter::Emitter;
@@ -21,10 +21,12 @@ use crate::operators::{
     binary_operator, failing_comparison, jump_if_nonzero, left_kind, move_of, pointer_operator,
     test_jump, unary_operator,
 };
-use cyc_plain::{BinaryOperator, Comparison, Instruction, Operand, UnaryOperator};
+use cyc_plain::{BinaryOperator, Comparison, Instruction, Operand, Request, UnaryOperator};
+use cyc_store::HEAP;
 use cyc_types::typed;
 use cyc_types::typed::{
-    Callee, Converted, Dereference, Expr, Kind, Lvalue, Operation, Operator, PointerOperator,
+    Callee, Converted, Dereference, Expr, Initial, Kind, Lvalue, Operation, Operator, Placement,
+    PointerOperator,
 };
 use std::alloc::AllocError;
 
@@ -32,6 +34,9 @@ use std::alloc::AllocError;
 const NULL_EXCEPTION: u32 = 1;
 
 const DIVISION_BY_ZERO: u32 = 4;
+
+/// An object has at most as many words as a block.
+const MOST_OBJECT_WORDS: usize = 1000;
 
 impl Emitter {
     /// Where a word is 0, an exception is raised, which tells that 0.
@@ -111,6 +116,55 @@ impl Emitter {
         self.emit(move_of(words_of_kind(kind), slot, source))
     }
 
+    /// So many words, which stand in the slots from one on, come to memory behind an address.
+    fn store_words(&mut self, words: u32, address: usize, first: usize) -> Result<(), AllocError>
+        requires few { words ≤ 1000 }
+        requires low { first + words ≤ address }
+        ensures { Appends result self.old self.new (stores_code words address 0 first) }
+    {
+        for index in 0..words {
+            self.emit(Instruction::Store {
+                address: Operand::Slot { number: address },
+                offset: 4 * index,
+                source: Operand::Slot {
+                    number: first + index as usize,
+                },
+            })?;
+        }
+        Ok(())
+    }
+
+    /// A block is asked for in the region of a handle, and gets so many words, which stand in the slots from `free` on. Its address
+    /// comes to a slot. No object has more words than a block.
+    fn make_object(
+        &mut self,
+        handle: u32,
+        words: usize,
+        slot: usize,
+        free: usize,
+    ) -> Result<(), AllocError>
+        requires { free ≤ most_locals + length self.old.code.items }
+        ensures { Appends result self.old self.new (object_code handle words slot free) }
+    {
+        if words > MOST_OBJECT_WORDS {
+            return Err(AllocError);
+        }
+        let size = words as u32;
+        let address = free + words;
+        self.emit(Instruction::Ask {
+            request: Request::Allocate {
+                destination: address,
+                handle: Operand::Word { word: handle },
+                words: Operand::Word { word: size.max(1) },
+            },
+        })?;
+        self.store_words(size, address, free)?;
+        self.emit(Instruction::Move {
+            destination: slot,
+            source: Operand::Slot { number: address },
+        })
+    }
+
     /// What stands for a form that is not built yet, and is never run.
     fn emit_missing(&mut self, slot: usize) -> Result<(), AllocError>
         ensures { Appends result self.old self.new (instructions.Move slot (operands.Word 0) ∷ []) }
@@ -163,6 +217,14 @@ impl Emitter {
                 self.copy(value.to, assigned, slot)
             }
             Expr::Load { source } => self.load_cell(starts, source, slot, free),
+            Expr::New {
+                placement,
+                initial,
+                ..
+            } => match placement {
+                Placement::OnHeap => self.lower_object(starts, initial, HEAP, slot, free),
+                _ => self.emit_missing(slot),
+            },
             Expr::Move {
                 span,
                 number,
@@ -179,7 +241,16 @@ impl Emitter {
                 };
                 self.load(starts, words_of(of_type), place, slot)
             }
-            _ => self.emit_missing(slot),
+            // `NULL` is 0, and the others are not built yet.
+            Expr::NullPointer
+            | Expr::HeapRegion
+            | Expr::Counter { .. }
+            | Expr::AddressOf { .. }
+            | Expr::AddressOfCell { .. }
+            | Expr::NumberOfElements { .. }
+            | Expr::FreeUnique { .. }
+            | Expr::FreeKey { .. }
+            | Expr::Store { .. } => self.emit_missing(slot),
         }
     }
 
@@ -206,6 +277,33 @@ impl Emitter {
                 })
             }
             _ => self.emit_missing(slot),
+        }
+    }
+
+    /// A new object in the region of a handle: its values come to slots, it is made of them, and its address comes to a
+    /// slot. Each of its cells has one word yet.
+    #[cycle(expression)]
+    fn lower_object(
+        &mut self,
+        starts: &Starts,
+        initial: &Initial,
+        handle: u32,
+        slot: usize,
+        free: usize,
+    ) -> Result<(), AllocError>
+        requires { free ≤ most_locals + length self.old.code.items }
+        ensures { Appends result self.old self.new (made_code (view_starts starts.now) (view_initial initial.now) handle (length self.old.code.items) slot free) }
+    {
+        match initial {
+            Initial::Plain { value, .. } => {
+                self.lower_expression(starts, value, free, free)?;
+                self.make_object(handle, 1, slot, free)
+            }
+            Initial::Fields { values } => {
+                self.lower_arguments(starts, values, free)?;
+                self.make_object(handle, values.len(), slot, free)
+            }
+            Initial::Array { .. } => self.emit_missing(slot),
         }
     }
 

@@ -11,7 +11,7 @@ use Rattle.cyc_plain.specs.declared.instruction.Operand.TheVariants as operands
 use Rattle.cyc_plain.specs.declared.instruction.Instruction.{Instruction}
 use Rattle.cyc_lower.specs.Lowering.{copy_code, expression_code, conversion_code, test_jump, next_slot}
 use Rattle.cyc_lower.specs.Emission.{HasRoom, operation_code, view_starts}
-use Rattle.cyc_lower.proofs.Emitting.{Remains, all_arguments, one_argument, next_argument, arguments_lower, all_operations, one_operation, next_operation, operations_lower, goes_on, joined, passed_on, made_putchar, made_call, made_called, made_binary, room_behind, made_left_alone, made_left_first, made_compute, made_test, room_after, slot_by_count, made_print, made_assigned}
+use Rattle.cyc_lower.proofs.Emitting.{Remains, all_arguments, one_argument, next_argument, arguments_lower, all_operations, one_operation, next_operation, operations_lower, goes_on, joined, passed_on, made_putchar, made_call, made_called, made_fields, made_binary, room_behind, made_left_alone, made_left_first, made_compute, made_test, room_after, slot_by_count, made_print, made_assigned}
 use Rattle.cyc_lower.proofs.emitter.Emitter.+expression.Goals.{lower_left-then-is_empty, lower_left-else-is_empty, lower_operations-then-behind-eq0, lower_operations-else-behind-eq0}
 use Rattle.cyc_lower.proofs.emitter.Emitter.+expression.Goals as goal
 
@@ -135,3 +135,10 @@ lower_expression-returns-in_ok-assigned-in-Assign t c =
     (λ e. made_assigned (view_starts c.args.starts.now) c.args.value.now c.in-Assign.target c.in-Assign.value c.in-Assign.result c.in-Assign.is c.deref-in-Assign.result.now c.deref-in-Assign.ensures c.args.self.now.code.items c.lower_assignment.new.self.code.items c.copy.new.self.code.items c.in_ok-assigned-in-Assign.assigned c.args.slot c.args.free c.in_ok-assigned-in-Assign.ensures.0 c.in_ok-assigned-in-Assign.ensures.1
     (e ∙ ap (λ (z : ConvertedCode). c.lower_assignment.new.self.code.items ++ copy_code (words_of_kind z.to) c.in_ok-assigned-in-Assign.assigned c.args.slot) same))
     c.copy.ensures
+
+pub lower_object-returns-in_ok-lower_arguments-in-Fields : goal.lower_object-returns-in_ok-lower_arguments-in-Fields
+lower_object-returns-in_ok-lower_arguments-in-Fields t c =
+    on_ok_weaker c.make_object-in-Fields.result
+    (made_fields (view_starts c.args.starts.now) c.args.initial.now c.in-Fields.values c.deref.result.now c.args.self.now.code.items c.lower_arguments.new.self.code.items c.make_object-in-Fields.new.self.code.items c.args.handle c.len.result c.args.slot c.args.free
+    c.in-Fields.is c.deref.ensures.value (omega (arith, c.len.ensures, c.in-Fields.values.ok.0)) c.in_ok-lower_arguments-in-Fields.ensures.1)
+    c.make_object-in-Fields.ensures

@@ -1,0 +1,442 @@
+-- The steps that make objects: the store is asked for a block, and then each cell is written.
+use Rattle.std.proofs.Common.{◌≡◌, ℕ, zero, suc, ◌+◌, ◌*◌, ◌≤◌, ◌<◌, max, Bool, true, false, List, [], ◌∷◌, ◌++◌, length, reverse, Option, None, Some, slice_get, refl, sym, ap, subst, ◌∙◌, inl, inr, arith, length-append, append_assoc}
+use Rattle.std.proofs.lemmas.List.{length-reverse}
+use Rattle.std.specs.Prelude.{nat_le, nat_lt, ◌&&◌, if◌then◌else◌}
+use Rattle.std.proofs.lemmas.Bool.{le-leb, and_from, false_from_ne_true, leb-true, ltb-true, cases_Bool}
+use Rattle.std.proofs.Math.Nat.{le-max_left, mod-eq_of_lt}
+use Rattle.cyc_words.specs.Ending.{Full}
+use Rattle.cyc_words.specs.Word.{add_of}
+use Rattle.cyc_words.specs.Word as words
+use Rattle.cyc_words.specs.Demand.{demand_of}
+use Rattle.cyc_types.specs.declared.typed.Kind.{Kind}
+use Rattle.cyc_types.specs.declared.typed.Kind.TheVariants as kinds
+use Rattle.cyc_types.specs.TypedTrees.{Arguments, NoArguments, MoreArguments, Convert, Program}
+use Rattle.cyc_types.specs.Numbered.{argument_count}
+use Rattle.cyc_store.specs.State.{StoreState, demand}
+use Rattle.cyc_store.specs.Services as services
+use Rattle.cyc_store.specs.Services.{Allocate, refusal, full_at, is_size}
+use Rattle.cyc_store.specs.declared.range.TheConstants.{HEAP, MOST_BLOCK_WORDS}
+use Rattle.cyc_store.proofs.ServiceLemmas.{served-sound}
+use Rattle.cyc_plain.specs.declared.instruction.Operand.{Operand}
+use Rattle.cyc_plain.specs.declared.instruction.Operand.TheVariants as operands
+use Rattle.cyc_plain.specs.declared.instruction.Instruction.TheVariants as instructions
+use Rattle.cyc_plain.specs.declared.instruction.Request.{Request}
+use Rattle.cyc_plain.specs.declared.instruction.Request.TheVariants as requests
+use Rattle.cyc_plain.specs.State as plain
+use Rattle.cyc_plain.specs.State.{Words, put, Configuration, with_memory}
+use Rattle.cyc_plain.specs.Step.{Choice, advanced, served_to, performed}
+use Rattle.cyc_plain.specs.Step as plain_step
+use Rattle.cyc_plain.specs.Requests as plain_requests
+use Rattle.cyc_plain.specs.Straight.{At}
+use Rattle.cyc_plain.proofs.Steps.{step_serves, step_full}
+use Rattle.cyc_plain.proofs.SlotLaws.{put-same, put-other}
+use Rattle.cyc_meaning.specs.Values.{Value, Thin, Operand as Kinded, Cell, blank, kinds_of, is_kind, words_of_kind, words_of_cells, block_size}
+use Rattle.cyc_meaning.specs.Allocation.{writes_from, blanks_of, filled, makes_of, makes_plain, makes_fields}
+use Rattle.cyc_meaning.specs.Objects.{made_in, created_in}
+use Rattle.cyc_meaning.specs.Effects.{pages_of}
+use Rattle.cyc_meaning.specs.State.{Region, Owner, InRegion, Unique, Object, World, Access, Found, Closed, Missing, heap_number, region_at, counted, cell_at, written, Environment, MakePlain, MakeFields, ConvertTo, Write, Entry, Needs, Focus, Evaluating, Given, Writing, State, Running, Ended, status_of}
+use Rattle.cyc_meaning.specs.State as meaning
+use Rattle.cyc_meaning.specs.Step.{wrong, stored, stored_at, target_by, step}
+use Rattle.cyc_meaning.specs.SourceMachine.{status_in}
+use Rattle.cyc_meaning.specs.Run.{is_within, limited_step}
+use Rattle.cyc_objects.specs.Tables.{Variable, Placed, Tables, with_row, Grows}
+use Rattle.cyc_objects.specs.Words.{words_of_kinds, before, InRange, Points, Is}
+use Rattle.cyc_objects.specs.Related as objects
+use Rattle.cyc_objects.specs.Related.{has_home}
+use Rattle.cyc_objects.proofs.Values.{Grows-row}
+use Rattle.cyc_objects.proofs.RegionLemmas.{counted-same}
+use Rattle.cyc_objects.proofs.NumberLemmas.{slice_get-below}
+use Rattle.cyc_objects.proofs.Making.{open-home, allocated, refusal-allocate, operands-blank, row-made, placed-range, room-fits}
+use Rattle.cyc_lower.specs.Lowering.{all_passed, passed_words, lower_program}
+use Rattle.cyc_lower.proofs.Widths.{kind_positive, Outside}
+use Rattle.cyc_lower.proofs.Stands.{StoresAt, ObjectAt, ArgumentsAt}
+use Rattle.cyc_lower.proofs.Weights.{weight, stack_weight, arguments_weight}
+use Rattle.cyc_lower.proofs.Relation.{IsWord, IsIn, IsHandleOf, IsObject, words_held, height, Holds, HoldsFrom, held, callers, homes, silent, DataIn, SharedAt, in_temporary, into_slot, LandsStack, ValueStack, Related, Matches, code_of, bounds_at, types_at, base_of, top}
+use Rattle.cyc_lower.proofs.Data.{Is-same, height-least, height-is, one_word, Holds-same, Holds-rest, Holds-grows, HoldsFrom-grows, in_order, words-reverse, data_above, data_grows, variables_grow, contents_made}
+use Rattle.cyc_lower.proofs.Accesses.{IsWell, is_fitting}
+use Rattle.cyc_lower.proofs.CellWrites.{SameVariables, data_beside, cell_is_there, saves_there, shared_saved, data_saved}
+use Rattle.cyc_lower.proofs.Matched.{IsMatched, above, below, silently, by_places, by_one, shared_way, shared_within, place_in, known, Executes, lands_depth}
+use Rattle.cyc_lower.proofs.Evaluations.{IsStep, landed_moved}
+
+-- a sum that does not wrap
+add_is : (a b : ℕ) → a + b < 4294967296 → add_of a b ≡ a + b
+add_is a b below = mod-eq_of_lt below
+
+-- ---- words and cells of values
+
+words_many : (vs : List Kinded) → length vs ≤ words_held vs
+words_many [] = omega arith
+words_many (v ∷ vs) = omega (arith, words_many vs, kind_positive v.kind)
+
+-- values of one word each
+one_each : (v : Kinded) (vs : List Kinded) → words_held (v ∷ vs) ≡ length (v ∷ vs) → (words_of_kind v.kind ≡ 1) × (words_held vs ≡ length vs)
+one_each v vs single = (omega (arith, single, words_many vs, kind_positive v.kind), omega (arith, single, words_many vs, kind_positive v.kind))
+
+words_blank : (vs : List Kinded) → words_of_cells (blanks_of vs) ≡ words_held vs
+words_blank [] = refl
+words_blank (v ∷ vs) = omega (arith, words_blank vs)
+
+-- the words before a cell are those of the kinds before it
+before_is : (done rest : List Kind) → before (length done) (done ++ rest) ≡ words_of_kinds done
+before_is [] rest = refl
+before_is (kind ∷ done) rest = ap (λ n. words_of_kind kind + n) (before_is done rest)
+
+words_joined : (done rest : List Kind) → words_of_kinds (done ++ rest) ≡ words_of_kinds done + words_of_kinds rest
+words_joined [] rest = omega arith
+words_joined (kind ∷ done) rest = omega (arith, words_joined done rest)
+
+HoldsFrom-same : (t : Tables) (slots other : Words) (first : ℕ) (vs : List Kinded) → ((n : ℕ) → n < first + words_held vs → other n ≡ slots n) → HoldsFrom t slots first vs → HoldsFrom t other first vs
+HoldsFrom-same t slots other first [] same holds = tt
+HoldsFrom-same t slots other first (v ∷ vs) same (is, holds) = (
+  Is-same t v.kind v.value slots other first first (λ i short. same (first + i) (omega (arith, short))) is,
+  HoldsFrom-same t slots other (first + words_of_kind v.kind) vs (λ n short. same n (omega (arith, short))) holds,
+)
+
+-- the size of a block that is asked for
+sized : (vs : List Kinded) → 1 ≤ words_held vs → words_held vs ≤ MOST_BLOCK_WORDS → max 1 (words_held vs) ≡ block_size (blanks_of vs)
+sized vs some few = ap (max 1) (sym (words_blank vs))
+
+max_one : (n : ℕ) → 1 ≤ n → max 1 n ≡ n
+max_one zero some = absurd (omega arith)
+max_one (suc n) some = omega (arith, some)
+
+size_fits : (vs : List Kinded) → 1 ≤ words_held vs → words_held vs ≤ MOST_BLOCK_WORDS → block_size (blanks_of vs) ≤ MOST_BLOCK_WORDS
+size_fits vs some few = omega (arith, max_one (words_held vs) some, sized vs some few, few)
+
+is_sized : (vs : List Kinded) → 1 ≤ words_held vs → words_held vs ≤ MOST_BLOCK_WORDS → is_size (block_size (blanks_of vs)) ≡ true
+is_sized vs some few =
+    and_from _ _ (le-leb 1 (block_size (blanks_of vs)) (le-max_left 1 (words_of_cells (blanks_of vs)))) (le-leb (block_size (blanks_of vs)) MOST_BLOCK_WORDS (size_fits vs some few))
+
+-- ---- what is made in a region
+
+-- the region is open
+region_there : (a : Access Region) (region object : ℕ) (vs : List Kinded) (k : List Entry) (e : Environment) (w : World) → IsWell (filled (created_in w region a (blanks_of vs)) object vs k e w)
+    → (r : Region) × (a ≡ Found r)
+region_there (Found r) region object vs k e w well = (r, refl)
+region_there Closed region object vs k e w well = absurd (well refl)
+region_there Missing region object vs k e w well = absurd (well refl)
+
+-- the store asks for as many pages as the source
+demand_is : {t : Tables} {w : World} {s : StoreState} → objects.Related t w s → demand s ≡ pages_of w
+demand_is {t} {w} {s} related = ap (λ l. demand_of l s.classes) (sym (counted-same related.regions)) ∙ ap (demand_of (counted w.regions)) related.classes
+
+module _ (source : Program) (pages calls : ℕ) where
+  -- ---- by a call of the store
+
+  -- one instruction calls the store, which serves it
+  by_asking : (focus : Focus) (k : List Entry) (e : Environment) (w : World) (c : Configuration) (next : State) (request : Request)
+      → step source (Running focus k e w) ≡ next → SharedAt source pages calls k e w c
+      → At (code_of source c.active.function) c.active.next (instructions.Ask request)
+      → refusal c.store (plain_step.call_in c.active.slots request) ≡ None
+      → ((choice : services.Choice) → plain_step.IsServed c.store (plain_step.call_in c.active.slots request) choice
+      → Matches source pages calls next (plain.Running (served_to choice c (plain_requests.destination_of request) (plain_step.call_in c.active.slots request)))
+      × (plain_step.is_within pages calls (plain.Running (served_to choice c (plain_requests.destination_of request) (plain_step.call_in c.active.slots request))) ≡ true))
+      → IsMatched source pages calls (Running focus k e w) (plain.Running c)
+  by_asking focus k e w c next request does shared here free goes =
+      by_places source pages calls (Running focus k e w) next (place_in source pages calls c) [] (plain.Running c) does (tt, tt) (known source pages calls c (instructions.Ask request) here, tt) (
+        refl,
+        shared_way source pages calls focus k e w c shared,
+        λ u stepped.
+            let (choice, served, is) = step_serves (lower_program source) pages calls c request u here stepped free (λ choice served. (goes choice served).1) in
+            subst (Executes source pages calls (Running focus k e w) next []) (sym is) (goes choice served).0,
+      )
+
+  -- there is no room: both runs are full
+  by_full : (focus : Focus) (k : List Entry) (e : Environment) (w : World) (c : Configuration) (next : State) (request : Request)
+      → step source (Running focus k e w) ≡ next → is_within pages calls next ≡ false → SharedAt source pages calls k e w c
+      → At (code_of source c.active.function) c.active.next (instructions.Ask request)
+      → refusal c.store (plain_step.call_in c.active.slots request) ≡ Some services.Full
+      → IsMatched source pages calls (Running focus k e w) (plain.Running c)
+  by_full focus k e w c next request does over shared here full =
+      let source_full : limited_step source pages calls (Running focus k e w) ≡ Ended Full w.output w.input =
+      ap (λ (b : Bool). if b then step source (Running focus k e w) else Ended Full w.output w.input) (ap (is_within pages calls) does ∙ over) in
+      record {
+        places = place_in source pages calls c ∷ [];
+        distinct = (tt, tt);
+        inside = (known source pages calls c (instructions.Ask request) here, tt);
+        comes = (
+          refl,
+          shared_way source pages calls focus k e w c shared,
+          λ u stepped. record {
+            next = Ended Full w.output w.input;
+            step = sym source_full;
+            matches = subst (Matches source pages calls (Ended Full w.output w.input)) (sym (step_full (lower_program source) pages calls c request u here stepped full)) (refl, shared.same_output);
+            lighter = λ none. absurd (omega (arith, none));
+          },
+        );
+      }
+
+  -- ---- an object is made
+
+  module _ (k : List Entry) (e : Environment) (w : World) (c : Configuration) (shared : SharedAt source pages calls k e w c) (facts : DataIn source shared.tables c.active.slots k e w c)
+      (holds : Holds shared.tables c.active.slots (base_of source c.active.function) (held k)) (vs : List Kinded) (r : Region) (there : slice_get w.regions heap_number ≡ Some r) (kept : has_home r ≡ true)
+      (some : 1 ≤ words_held vs) (few : words_held vs ≤ MOST_BLOCK_WORDS) (choice : services.Choice)
+      (free : refusal c.store (Allocate HEAP (block_size (blanks_of vs))) ≡ None)
+      (served : plain_step.IsServed c.store (Allocate HEAP (block_size (blanks_of vs))) choice) where
+    abbrev cells : List Cell
+    cells = blanks_of vs
+
+    abbrev new : World
+    new = made_in w heap_number r cells
+
+    abbrev t : ℕ
+    t = top source c.active.function k
+
+    abbrev grown : Tables
+    grown = with_row shared.tables (Placed choice.address (kinds_of cells))
+
+    abbrev after : Configuration
+    after = served_to choice c (t + words_held vs) (Allocate HEAP (block_size cells))
+
+    grows : Grows shared.tables grown
+    grows = Grows-row shared.tables (Placed choice.address (kinds_of cells))
+
+    related_made : objects.Related grown (silent new) after.store
+    related_made = allocated shared.related heap_number HEAP r cells there kept shared.related.heap choice (operands-blank vs) free served.allowed
+
+    abbrev shared_made : SharedAt source pages calls k e new after
+    shared_made = record {
+      tables = grown;
+      same_output = shared.same_output;
+      same_input = shared.same_input;
+      same_pages = shared.same_pages;
+      related = related_made;
+      globals = shared.globals;
+      variables = variables_grow shared.tables grown grows (e.home ∷ homes k) shared.variables;
+      few_pages = within_pages;
+      fits = shared.fits;
+    }
+      where
+        within_pages : demand after.store ≤ pages
+        within_pages = omega (arith, (served-sound c.store (Allocate HEAP (block_size cells)) choice shared.related.sound free served.allowed).demand, shared.same_pages)
+
+    -- the slots differ behind the values alone
+    same_slots : (m : ℕ) → Outside (t + words_held vs) 1 m → after.active.slots m ≡ c.active.slots m
+    same_slots m (inl short) = put-other c.active.slots (t + words_held vs) m choice.address (λ same. omega (arith, same, short))
+    same_slots m (inr long) = put-other c.active.slots (t + words_held vs) m choice.address (λ same. omega (arith, same, long))
+
+    data_made : DataIn source grown after.active.slots k e new after
+    data_made =
+        let g = c.active.function in
+        let many : length new.objects ≡ length w.objects + 1 = length-append w.objects (record { owner = InRegion heap_number; cells = cells } ∷ []) in
+        data_above grown source g new.objects e.locals (callers k) c.active.slots after.active.slots c.globals c.frames (t + words_held vs) 1 (omega (arith, height-least (base_of source g) (held k))) same_slots
+        (data_grows shared.tables grown grows source g new.objects e.locals (callers k) c.active.slots c.globals c.frames
+        (data_beside shared.tables source g w.objects new.objects e.locals (callers k) c.active.slots c.globals c.frames (omega (arith, many)) beside facts))
+      where
+        beside : SameVariables shared.tables w.objects new.objects
+        beside o row = contents_made w.objects (record { owner = InRegion heap_number; cells = cells }) o (omega (arith, slice_get-below shared.tables.rows o Variable row, shared.related.rows))
+
+    holds_made : Holds grown after.active.slots (base_of source c.active.function) (held k)
+    holds_made =
+        Holds-same grown c.active.slots after.active.slots (base_of source c.active.function) (held k) (λ n short. same_slots n (inl (omega (arith, short))))
+        (Holds-grows shared.tables grown grows c.active.slots (base_of source c.active.function) (held k) holds)
+
+    values_made : HoldsFrom shared.tables c.active.slots t vs → HoldsFrom grown after.active.slots t vs
+    values_made values =
+        HoldsFrom-same grown c.active.slots after.active.slots t vs (λ n short. same_slots n (inl (omega (arith, short))))
+        (HoldsFrom-grows shared.tables grown grows c.active.slots t vs values)
+
+    object_there : IsObject grown (length w.objects) (after.active.slots (t + words_held vs)) (kinds_of cells)
+    object_there =
+        subst (λ a. IsObject grown (length w.objects) a (kinds_of cells)) (sym (put-same c.active.slots (t + words_held vs) choice.address))
+        (record {
+          row = row-made shared.related (Placed choice.address (kinds_of cells));
+          range = placed-range c.store.pages (services.block_of HEAP (block_size cells) choice) (kinds_of cells) served.allowed.may.0 shared.related.few (room-fits HEAP cells (omega (arith, size_fits vs some few)));
+          some = some_cells vs some;
+        })
+      where
+        some_cells : (us : List Kinded) → 1 ≤ words_held us → 0 < length (kinds_of (blanks_of us))
+        some_cells [] none = absurd (omega (arith, none))
+        some_cells (u ∷ us) one = omega arith
+
+  -- an object in the heap, of values that stand in slots
+  pub heap_object : (focus : Focus) (k₀ k : List Entry) (e : Environment) (w : World) (c : Configuration) (vs : List Kinded) (d q : ℕ) → step source (Running focus k₀ e w) ≡ makes_of (InRegion heap_number) vs k e w
+      → IsWell (makes_of (InRegion heap_number) vs k e w) → SharedAt source pages calls k₀ e w c → (shared : SharedAt source pages calls k e w c) → DataIn source shared.tables c.active.slots k e w c
+      → Holds shared.tables c.active.slots (base_of source c.active.function) (held k) → HoldsFrom shared.tables c.active.slots (top source c.active.function k) vs
+      → ObjectAt (code_of source c.active.function) (bounds_at source c.active.function) (types_at source c.active.function) HEAP (length vs) (words_held vs) (top source c.active.function k) d c.active.next q
+      → LandsStack source c.active.function e.locals kinds.NonNull d q c.frames k → IsMatched source pages calls (Running focus k₀ e w) (plain.Running c)
+  heap_object focus k₀ k e w c vs d q does well shared₀ shared facts holds values (m, single, some, few, ask, stores, move, end) lands =
+      let t = top source c.active.function k in
+      let cells = blanks_of vs in
+      let (r, found) = region_there (region_at w heap_number) heap_number (length w.objects) vs k e w well in
+      let (there, kept) = open-home shared.related heap_number HEAP r found shared.related.heap in
+      let pointer : Kinded = record { kind = kinds.NonNull; value = Thin (length w.objects) 0 } in
+      let next = Running (Writing (writes_from (length w.objects) 0 vs) (Some pointer)) k e (made_in w heap_number r cells) in
+      let is_next : step source (Running focus k₀ e w) ≡ next = does ∙ ap (λ a. filled (created_in w heap_number a cells) (length w.objects) vs k e w) found in
+      let request = requests.Allocate (t + words_held vs) (operands.Word HEAP) (operands.Word (block_size cells)) in
+      let here : At (code_of source c.active.function) c.active.next (instructions.Ask request)
+      = subst (λ n. At (code_of source c.active.function) c.active.next (instructions.Ask (requests.Allocate (t + words_held vs) (operands.Word HEAP) (operands.Word n)))) (sized vs some few) ask in
+      let refuses = refusal-allocate shared.related heap_number HEAP r cells there kept shared.related.heap (is_sized vs some few) in
+      elim (cases_Bool (nat_lt c.store.pages (pages_of (made_in w heap_number r cells)))) [
+        | inl over ↦
+            by_full focus k₀ e w c next request is_next
+            (past_pages (pages_of (made_in w heap_number r cells)) _ (subst (λ p. nat_lt p (pages_of (made_in w heap_number r cells)) ≡ true) shared.same_pages over))
+            shared₀ here (refuses ∙ ap full_at over)
+        | inr room ↦
+            let free = refuses ∙ ap full_at room in
+            by_asking focus k₀ e w c next request is_next shared₀ here free
+            (λ choice served.
+            let made = shared_made k e w c shared facts holds vs r there kept some few choice free served in (
+              (
+                made,
+                data_made k e w c shared facts holds vs r there kept some few choice free served,
+                (
+                  length w.objects,
+                  [],
+                  vs,
+                  t + words_held vs,
+                  t,
+                  d,
+                  m,
+                  q,
+                  refl,
+                  refl,
+                  object_there k e w c shared facts holds vs r there kept some few choice free served,
+                  sym single,
+                  values_made k e w c shared facts holds vs r there kept some few choice free served values,
+                  stores,
+                  move,
+                  end,
+                  holds_made k e w c shared facts holds vs r there kept some few choice free served,
+                  lands,
+                ),
+              ),
+              shared_within source pages calls k e (made_in w heap_number r cells) (served_to choice c (t + words_held vs) (Allocate HEAP (block_size cells))) made,
+            ))
+      ]
+    where
+      past_pages : (n : ℕ) (b : Bool) → nat_lt pages n ≡ true → (nat_le n pages && b) ≡ false
+      past_pages n b over = ap (λ x. x && b) (false_from_ne_true (nat_le n pages) (λ h. absurd (omega (arith, leb-true n pages h, ltb-true pages n over))))
+
+  -- ---- what waits for the values of an object
+
+  -- the value of its only cell
+  pub plain_made : (owner : Owner) (kind : Kind) (v : Kinded) (o : Operand) (k : List Entry) (e : Environment) (w : World) (c : Configuration)
+      → IsWell (step source (Running (Given v) (Needs (MakePlain owner kind) ∷ k) e w)) → (shared : SharedAt source pages calls k e w c) → DataIn source shared.tables c.active.slots k e w c
+      → IsIn shared.tables v c.active.slots o → Holds shared.tables c.active.slots (base_of source c.active.function) (held k)
+      → ValueStack source c.active.function e.locals v.kind o c.active.next c.frames (Needs (MakePlain owner kind) ∷ k)
+      → IsMatched source pages calls (Running (Given v) (Needs (MakePlain owner kind) ∷ k) e w) (plain.Running c)
+  plain_made (InRegion region) kind v o k e w c well shared facts is holds (handle, d, q, (region_is, handle_is), there, (m, single, some, few, ask, stores, move, end), lands) =
+      let g = c.active.function in
+      let t = top source g k in
+      let makes = makes_of (InRegion region) (v ∷ []) k e w in
+      let does : step source (Running (Given v) (Needs (MakePlain (InRegion region) kind) ∷ k) e w) ≡ makes = ap (λ (b : Bool). if b then makes else wrong w) (is_fitting (is_kind v.kind kind) makes w well) in
+      let at_heap : makes ≡ makes_of (InRegion heap_number) (v ∷ []) k e w = ap (λ r. makes_of (InRegion r) (v ∷ []) k e w) region_is in
+      let words : words_of_kind v.kind ≡ words_held (v ∷ []) = omega arith in
+      heap_object (Given v) (Needs (MakePlain (InRegion region) kind) ∷ k) k e w c (v ∷ []) d q (does ∙ at_heap) (subst IsWell (does ∙ at_heap) well) shared shared facts holds
+      (subst (IsIn shared.tables v c.active.slots) there is, tt)
+      (subst (λ n. ObjectAt (code_of source g) (bounds_at source g) (types_at source g) HEAP 1 n t d c.active.next q) words
+      (subst (λ h. ObjectAt (code_of source g) (bounds_at source g) (types_at source g) h 1 (words_of_kind v.kind) t d c.active.next q) handle_is (m, single, some, few, ask, stores, move, end)))
+      lands
+  plain_made (Unique live) kind v o k e w c well shared facts is holds (handle, d, q, owned, there, at, lands) = absurd owned
+
+  -- the next of its fields is evaluated, or it is made of all
+  pub fields_made : (owner : Owner) (earlier : List Kinded) (cs : Arguments) (v : Kinded) (o : Operand) (k : List Entry) (e : Environment) (w : World) (c : Configuration)
+      → IsWell (step source (Running (Given v) (Needs (MakeFields owner earlier cs) ∷ k) e w)) → (shared : SharedAt source pages calls k e w c) → DataIn source shared.tables c.active.slots k e w c
+      → IsIn shared.tables v c.active.slots o → Holds shared.tables c.active.slots (base_of source c.active.function) (earlier ++ held k)
+      → ValueStack source c.active.function e.locals v.kind o c.active.next c.frames (Needs (MakeFields owner earlier cs) ∷ k)
+      → IsMatched source pages calls (Running (Given v) (Needs (MakeFields owner earlier cs) ∷ k) e w) (plain.Running c)
+  fields_made (InRegion region) earlier NoArguments v o k e w c well shared facts is holds (handle, d, p, q, all, (region_is, handle_is), there, none, (m, single, some, few, ask, stores, move, end), long, lands) =
+      let g = c.active.function in
+      let base = base_of source g in
+      let t = top source g k in
+      let values = reverse (v ∷ earlier) in
+      let held_all : Holds shared.tables c.active.slots base ((v ∷ earlier) ++ held k) = (subst (IsIn shared.tables v c.active.slots) there is, holds) in
+      let at_heap : step source (Running (Given v) (Needs (MakeFields (InRegion region) earlier NoArguments) ∷ k) e w) ≡ makes_of (InRegion heap_number) values k e w = ap (λ r. makes_of (InRegion r) values k e w) region_is in
+      let words : all ≡ words_held values = omega (arith, long, words-reverse (v ∷ earlier)) in
+      let count : length earlier + suc 0 ≡ length values = omega (arith, length-reverse (v ∷ earlier)) in
+      heap_object (Given v) (Needs (MakeFields (InRegion region) earlier NoArguments) ∷ k) k e w c values d q at_heap (subst IsWell at_heap well) shared shared facts (Holds-rest shared.tables c.active.slots base (v ∷ earlier) (held k) held_all)
+      (in_order shared.tables c.active.slots base (v ∷ earlier) (held k) held_all)
+      (subst (λ n. ObjectAt (code_of source g) (bounds_at source g) (types_at source g) HEAP n (words_held values) t d c.active.next q) count
+      (subst (λ n. ObjectAt (code_of source g) (bounds_at source g) (types_at source g) HEAP (length earlier + suc 0) n t d c.active.next q) words
+      (subst (λ h. ObjectAt (code_of source g) (bounds_at source g) (types_at source g) h (length earlier + suc 0) all t d c.active.next q) handle_is
+      (subst (λ x. ObjectAt (code_of source g) (bounds_at source g) (types_at source g) handle (length earlier + suc 0) all t d x q) (sym none) (m, single, some, few, ask, stores, move, end)))))
+      lands
+  fields_made owner earlier (MoreArguments (Convert from to a) cs) v o k e w c well shared facts is holds (handle, d, p, q, all, owned, there, (r, (s, at_a, at_to), at_cs), (m, single, some, few, ask, stores, move, end), long, lands) =
+      let g = c.active.function in
+      silently source pages calls (Running (Given v) (Needs (MakeFields owner earlier (MoreArguments (Convert from to a) cs)) ∷ k) e w)
+      (Running (Evaluating a) (Needs (ConvertTo from to (target_by a)) ∷ Needs (MakeFields owner (v ∷ earlier) cs) ∷ k) e w) (plain.Running c) refl (
+        shared,
+        facts,
+        into_slot (height (base_of source g) (v ∷ earlier ++ held k)) s at_a (subst (IsIn shared.tables v c.active.slots) there is, holds)
+            (in_temporary (omega arith) (r, at_to, (handle, d, p, q, all, owned, refl, at_cs, (m, omega (arith, single), some, few, ask, stores, move, end), omega (arith, long), lands))),
+      )
+      (omega arith)
+  fields_made (Unique live) earlier NoArguments v o k e w c well shared facts is holds (handle, d, p, q, all, owned, there, none, at, long, lands) = absurd owned
+
+  -- ---- its cells are written
+
+  -- the next cell, which stands behind those that are written already
+  cell_next : (t : Tables) (object address : ℕ) (done rest : List Kind) (kind : Kind) → IsObject t object address (done ++ kind ∷ rest) → Points t object (length done) (add_of address (4 * words_of_kinds done))
+  cell_next t object address done rest kind is = record {
+    address = address;
+    kinds = done ++ kind ∷ rest;
+    row = is.row;
+    range = is.range;
+    inside = omega (arith, length-append done (kind ∷ rest));
+    at =
+        let fits : address + 4 * words_of_kinds (done ++ kind ∷ rest) < 4294967296 = is.range.high in
+        add_is address (4 * words_of_kinds done) (omega (arith, fits, words_joined done (kind ∷ rest), kind_positive kind)) ∙ ap (λ n. address + 4 * n) (sym (before_is done (kind ∷ rest)));
+  }
+
+  -- a cell of a new object is written, and behind the last the pointer to it comes to its slot
+  pub writing : (writes : List Write) (result : Option Kinded) (k : List Entry) (e : Environment) (w : World) (c : Configuration) → plain.HoldsWords (plain.Running c)
+      → IsStep source pages calls (Writing writes result) k e w c
+  writing writes None k e w c words well (shared, facts, at) = absurd at
+  writing [] (Some pointer) k e w c words well (shared, facts, (object, done, [], address, slot, d, m, q, are, is, there, single, held_in, at, move, end, holds, lands)) =
+      let points : Points shared.tables object 0 (c.active.slots address) = first_cell shared.tables object (c.active.slots address) (done ++ []) there in
+      let v : Kinded = record { kind = kinds.NonNull; value = Thin object 0 } in
+      by_one source pages calls (ap (λ (x : Kinded). Running (Given x) k e w) is) shared (subst (λ p. At (code_of source c.active.function) p (instructions.Move d (operands.Slot address))) (sym at) move)
+      (λ choice. landed_moved source pages calls v (operands.Slot address) d k e w c q choice shared points facts holds (omega (arith, at, end)) lands)
+    where
+      first_cell : (t : Tables) (object address : ℕ) (kinds : List Kind) → IsObject t object address kinds → Points t object 0 address
+      first_cell t object address kinds is = record { address = address; kinds = kinds; row = is.row; range = is.range; inside = is.some; at = omega arith }
+  writing [] (Some pointer) k e w c words well (shared, facts, (object, done, u ∷ us, address, slot, d, m, q, are, is, there, single, held_in, at, move, end, holds, lands)) = absurd (let f : [] ≡ writes_from object (length done) (u ∷ us) = are in cc)
+  writing (x ∷ writes) (Some pointer) k e w c words well (shared, facts, (object, done, [], address, slot, d, m, q, are, is, there, single, held_in, at, move, end, holds, lands)) = absurd (let f : x ∷ writes ≡ [] = are in cc)
+  writing (x ∷ writes) (Some pointer) k e w c words well (shared, facts, (object, done, u ∷ us, address, slot, d, m, q, are, is, there, single, (is_u, held_in), at, move, end, holds, lands)) =
+      let g = c.active.function in
+      let tables = shared.tables in
+      let slots = c.active.slots in
+      let rest : List Kind = kinds_of (blanks_of us) in
+      let (one, ones) = one_each u us single in
+      let first : List Write = writes_from object (length done) (u ∷ us) in
+      let next : Focus = Writing (writes_from object (suc (length done)) us) (Some pointer) in
+      let does : step source (Running (Writing (x ∷ writes) (Some pointer)) k e w) ≡ stored (cell_at w object (length done)) object (length done) u next k e w
+      = ap (λ (l : List Write). step source (Running (Writing l (Some pointer)) k e w)) are in
+      let (cell, found, same, gives) = cell_is_there (cell_at w object (length done)) object (length done) u next k e w (subst IsWell does well) in
+      let word = slots slot in
+      let place = add_of (slots address) (4 * words_of_kinds done) in
+      let points : Points tables object (length done) place = cell_next tables object (slots address) done rest u.kind there in
+      let single_cell : words_of_kind cell.cell.kind ≡ 1 = ap words_of_kind same ∙ one in
+      let is_word : IsWord tables cell.cell.kind u.value word = subst (λ i. IsWord tables i u.value word) (sym same) (one_word tables u.kind u.value slots slot one is_u) in
+      let (store, more) = subst (λ n. StoresAt (code_of source g) (bounds_at source g) (types_at source g) n address (4 * words_of_kinds done) slot c.active.next m) (let e : words_held us + words_of_kind u.kind ≡ suc (words_held us) = omega (arith, one) in e) at in
+      let after : Configuration = advanced (with_memory c place word) in
+      let later = shared_saved source pages calls k e w c shared object (length done) place word cell u.value found points single_cell is_word (words.0 slot) in
+      let longer : length (done ++ u.kind ∷ []) ≡ suc (length done) = omega (arith, length-append done (u.kind ∷ [])) in
+      let wider : 4 * words_of_kinds (done ++ u.kind ∷ []) ≡ 4 * words_of_kinds done + 4 = omega (arith, words_joined done (u.kind ∷ []), one) in
+      by_one source pages calls (does ∙ gives) shared store
+      (λ choice. subst (Matches source pages calls (Running next k e (written w object (length done) cell u.value)))
+      (sym (saves_there source pages calls k e w c shared object (length done) place word cell u.value found points single_cell is_word (words.0 slot))) (
+        later,
+        data_saved source pages calls k e w c shared object (length done) place word cell u.value found points single_cell is_word (words.0 slot) facts,
+        (
+          object,
+          done ++ u.kind ∷ [],
+          us,
+          address,
+          suc slot,
+          d,
+          m,
+          q,
+          ap (λ n. writes_from object n us) (sym longer),
+          is,
+          subst (IsObject tables object (slots address)) (sym (append_assoc done (u.kind ∷ []) rest)) there,
+          ones,
+          subst (λ n. HoldsFrom tables slots n us) (let e : slot + words_of_kind u.kind ≡ suc slot = omega (arith, one) in e) held_in,
+          subst (λ n. StoresAt (code_of source g) (bounds_at source g) (types_at source g) (words_held us) address n (suc slot) (c.active.next + 1) m) (sym wider) more,
+          move,
+          end,
+          holds,
+          lands,
+        ),
+      ))
