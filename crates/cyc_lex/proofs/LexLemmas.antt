@@ -1,9 +1,9 @@
 -- Reading on: what is read of a text so far, and one piece more.
-use Rattle.std.proofs.Common.{◌≡◌, ◌≢◌, ℕ, suc, ◌+◌, ◌-◌, ◌<◌, ◌≤◌, inl, ⊎_elim, Option, Some, None, List, [], ◌∷◌, ◌++◌, length, get_or, take, drop, map, refl, sym, ap, subst, ◌∙◌, append-nil, arith}
+use Rattle.std.proofs.Common.{◌≡◌, ◌≢◌, ℕ, ◌+◌, ◌-◌, ◌<◌, ◌≤◌, ⊎_elim, Option, Some, None, List, [], ◌∷◌, ◌++◌, length, take, drop, map, refl, sym, ap, subst, ◌∙◌, append-nil, arith}
 use Rattle.std.specs.Prelude.{All, slice_range}
 use Rattle.std.proofs.lemmas.Bool.{cases_lt}
 use Rattle.std.proofs.lemmas.List.{take-append-drop, length-drop, length_push, length-map, drop-drop, map_push}
-use Rattle.std.proofs.Math.Seq.{take-add, drop-cons}
+use Rattle.std.proofs.Math.Seq.{take-add}
 use Rattle.std.proofs.lemmas.List.Elements.{All-push, All-append, All-cons, All-nil}
 use Rattle.cyc_words.specs.declared.span.Span.{Span}
 use Rattle.cyc_syntax.specs.declared.tokens.Token.{Token as CodeToken}
@@ -12,9 +12,7 @@ use Rattle.cyc_syntax.specs.Spelling.{Piece, Lexeme, Space, Comment, OpenComment
 use Rattle.cyc_syntax.specs.Tokens.{kind_of, token_of}
 use Rattle.cyc_syntax.specs.TokenRule.{IsRead, Part, IsCut, bytes_of, part_tokens, tokens_of, IsSmall, IsWithinLimits, LiesIn, line_behind, column_behind, max_tokens}
 use Rattle.cyc_syntax.proofs.CutLemmas.{piece_nonempty, IsCut-push, bytes_of-push, tokens_of-append}
-use Rattle.cyc_syntax.proofs.PieceLemmas.{AtSpace}
 use Rattle.cyc_lex.specs.Found.{IsReadAs, IsFound}
-use Rattle.cyc_lex.proofs.ShapeLemmas.{read_at}
 use Rattle.cyc_syntax.specs.Place.{IsBehind}
 
 -- a piece that was found has bytes
@@ -146,18 +144,3 @@ module _ (text : List ℕ) (tokens : List CodeToken) (start len : ℕ) (place ne
           behind = next_behind;
           inside = inside;
         }
-
--- one space
-space_found : (rest : List ℕ) → IsFound (32 ∷ rest) None 1
-space_found rest = record {
-  within = omega arith;
-  piece = inl (read_at Space AtSpace (32 ∷ rest) 1 refl (omega arith) (32, refl, refl) (λ front more whole shape. omega (arith, shape)));
-}
-
-pub space_read : (text : List ℕ) (tokens : List CodeToken) (start : ℕ) (place next : Span) → IsReadUpTo text tokens start place → start < length text → get_or text start 0 ≡ 32
-    → IsBehind next (take start text ++ 32 ∷ []) → IsReadUpTo text tokens (start + 1) next
-space_read text tokens start place next done more space behind =
-    let is : drop start text ≡ 32 ∷ drop (suc start) text = drop-cons text start 0 more ∙ ap (λ b. b ∷ drop (suc start) text) space in
-    let found : IsFound (drop start text) None 1 = subst (λ l. IsFound l None 1) (sym is) (space_found (drop (suc start) text)) in
-    let next_behind : IsBehind next (take start text ++ take 1 (drop start text)) = subst (λ l. IsBehind next (take start text ++ take 1 l)) (sym is) behind in
-    blank_read text tokens start 1 place next done found.within next_behind found.piece

@@ -45,12 +45,6 @@ fn read_tokens(alloc: Global, text: &[u8]) -> Result<Vec<Token>, Fault>
     let mut place = Span { line: 1, column: 1 };
     let mut start = 0;
     while start < text.len() {
-        // Most pieces between tokens are one space.
-        if text[start] == b' ' {
-            place = place_behind(place, b" ");
-            start += 1;
-            continue;
-        }
         let found = match read_piece(&text[start..]) {
             Ok(found) => found,
             Err(code) => return Err(Fault::new(code, place.line, place.column)),

@@ -7,7 +7,7 @@ use Rattle.cyc_syntax.specs.Place.{IsBehind}
 use Rattle.cyc_lex.specs.Found.{IsFound, IsReadAs}
 use Rattle.cyc_lex.specs.Refusals.{FailsHere, IsFirstFault}
 use Rattle.cyc_lex.proofs.FaultLemmas.{fails_first, too_many_first}
-use Rattle.cyc_lex.proofs.LexLemmas.{IsReadUpTo, token_at, tokens_within, found_some, blank_read, token_read, space_read}
+use Rattle.cyc_lex.proofs.LexLemmas.{IsReadUpTo, token_at, tokens_within, found_some, blank_read, token_read}
 use Rattle.cyc_lex.proofs.lexer.read_tokens.Goals as goal
 use Rattle.cyc_lex.proofs.lexer.read_tokens.Goals.{in-Some+else-len-eq-MAX_TOKENS+in_ok-push, in_default, In-Ok}
 
@@ -50,8 +50,8 @@ loop-start-preserved c =
     let done = c.loop-start.invariant in
     let here = found (goal.at.loop-start-preserved c).In-Ok in
     let count : start + len - start ≡ len = omega arith in
-    let next : IsBehind c.place_behind-place-in-loop-start.result (take start text ++ take len (drop start text)) =
-    subst (λ n. IsBehind c.place_behind-place-in-loop-start.result (take start text ++ take n (drop start text))) count (c.place_behind-place-in-loop-start.ensures (take start text) done.behind) in
+    let next : IsBehind c.place_behind-place.result (take start text ++ take len (drop start text)) =
+    subst (λ n. IsBehind c.place_behind-place.result (take start text ++ take n (drop start text))) count (c.place_behind-place.ensures (take start text) done.behind) in
     elim c.match-found.branch [
       | in-Some+else-len-eq-MAX_TOKENS+in_ok-push w ↦
           let piece : IsReadAs (Some w.in-Some.kind) (take len (drop start text)) (drop len (drop start text)) =
@@ -60,18 +60,11 @@ loop-start-preserved c =
           ap (λ (v : Vec CodeToken Global). v.items) w.tokens-is ∙ w.in_ok-push.ensures.items in
           let most = tokens_within text tokens start c.loop-start.place done in
           let room : length tokens < max_tokens = omega (arith, c.loop-start.tokens.ok.0) in
-          subst (λ ts. IsReadUpTo text ts (start + len) c.place_behind-place-in-loop-start.result) (sym pushed)
-          (token_read text tokens start len c.loop-start.place c.place_behind-place-in-loop-start.result done here.within next w.in-Some.kind room (found_some _ _ _ here) piece)
+          subst (λ ts. IsReadUpTo text ts (start + len) c.place_behind-place.result) (sym pushed)
+          (token_read text tokens start len c.loop-start.place c.place_behind-place.result done here.within next w.in-Some.kind room (found_some _ _ _ here) piece)
       | in_default w ↦
           let piece : IsReadAs None (take len (drop start text)) (drop len (drop start text)) =
           subst (λ k. IsReadAs k (take len (drop start text)) (drop len (drop start text))) w.in_default.is here.piece in
-          subst (λ (v : Vec CodeToken Global). IsReadUpTo text v.items (start + len) c.place_behind-place-in-loop-start.result) (sym w.tokens-is)
-          (blank_read text tokens start len c.loop-start.place c.place_behind-place-in-loop-start.result done here.within next piece)
+          subst (λ (v : Vec CodeToken Global). IsReadUpTo text v.items (start + len) c.place_behind-place.result) (sym w.tokens-is)
+          (blank_read text tokens start len c.loop-start.place c.place_behind-place.result done here.within next piece)
     ]
-
-pub loop-start-preserved-then-text-start-eq32 : goal.loop-start-preserved-then-text-start-eq32
-loop-start-preserved-then-text-start-eq32 c =
-    let text = c.args.text.now in
-    let start = c.loop-start.start in
-    let done = c.loop-start.invariant in
-    space_read text c.loop-start.tokens.items start c.loop-start.place c.place_behind-place.result done (omega arith) c.if-text-start-eq32.true (c.place_behind-place.ensures (take start text) done.behind)
