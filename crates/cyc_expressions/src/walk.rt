@@ -437,7 +437,7 @@ fn check_operations(
     ensures gives { Gives view_chain result (run (rule_chain scope.old (place_of_span first.entry.span) first.entry.peeked (view_given first.entry.given) (operations_of operations.now))) }
     ensures same { OnOk result (scope.new ≡ scope.old) }
 {
-    let mut rest = Vec::new(scope.alloc());
+    let mut rest = Vec::with_capacity(scope.alloc(), operations.len())?;
     let mut of_type: Option<Ty> = None;
     for operation in operations {
         let left = left_of(first, &of_type);

@@ -9,4 +9,3 @@ pub mod NameReading
 pub mod NumberLemmas
 pub mod NumberReading
 pub mod SlashReading
-pub mod SpellingLemmas

@@ -1,47 +1,28 @@
--- What the first byte of a sign, and the first byte and the length of a name, tell of which one it is.
-use Rattle.std.specs.Prelude.{ℕ, Bool, false, ◌==◌, ◌||◌, if◌then◌else◌, Option, Some, None}
-use Rattle.cyc_syntax.specs.declared.tokens.Sign.{Sign}
-use Rattle.cyc_syntax.specs.declared.tokens.Sign.TheVariants as signs
+-- What the first byte, the middle byte and the length of a name tell of which keyword it is.
+use Rattle.std.specs.Prelude.{ℕ, ◌==◌, nat_lt, if◌then◌else◌, Option, Some, None}
+use Rattle.cyc_syntax.specs.declared.tokens.Keyword.{Keyword}
+use Rattle.cyc_syntax.specs.declared.tokens.Keyword.TheVariants as words
 
--- the sign that is this byte alone, where no longer one begins with it
-abbrev pub lone_sign : ℕ → Option Sign
-lone_sign b =
-    if b == 40 then Some signs.LeftParen
-    else (if b == 41 then Some signs.RightParen
-    else (if b == 59 then Some signs.Semicolon
-    else (if b == 44 then Some signs.Comma
-    else (if b == 123 then Some signs.LeftBrace
-    else (if b == 125 then Some signs.RightBrace
-    else (if b == 91 then Some signs.LeftBracket
-    else (if b == 93 then Some signs.RightBracket
-    else (if b == 43 then Some signs.Plus
-    else (if b == 42 then Some signs.Star
-    else (if b == 37 then Some signs.Percent
-    else (if b == 94 then Some signs.Xor
-    else (if b == 126 then Some signs.Tilde
-    else (if b == 64 then Some signs.At
-    else (if b == 63 then Some signs.Question
-    else None))))))))))))))
-
--- a keyword may begin with this byte and have this length
-abbrev pub is_likely_keyword : (first len : ℕ) → Bool
-is_likely_keyword b n =
-    if b == 97 then n == 5
-    else (if b == 98 then n == 5
-    else (if b == 99 then n == 4 || (n == 5 || n == 8)
-    else (if b == 100 then n == 7 || n == 8
-    else (if b == 101 then n == 3 || n == 4
-    else (if b == 102 then n == 3 || n == 9
-    else (if b == 104 then n == 11
-    else (if b == 105 then n == 2 || n == 3
-    else (if b == 108 then n == 3
-    else (if b == 110 then n == 3 || (n == 7 || n == 8)
-    else (if b == 111 then n == 4
-    else (if b == 114 then n == 4 || (n == 6 || n == 8)
-    else (if b == 115 then n == 6
-    else (if b == 116 then n == 3 || n == 5
-    else (if b == 117 then n == 5 || n == 13
-    else (if b == 118 then n == 4
-    else (if b == 119 then n == 5
-    else (if b == 78 then n == 4 || n == 16
-    else false)))))))))))))))))
+-- the one keyword that may have this first byte, this middle byte and this length
+abbrev pub likely_keyword : (first middle len : ℕ) → Option Keyword
+likely_keyword b m n =
+    if nat_lt n 2 then None
+    else (if b == 97 then Some words.Alias
+    else (if b == 98 then Some words.Break
+    else (if b == 99 then (if n == 4 then Some words.Case else (if n == 5 then Some words.Catch else Some words.Continue))
+    else (if b == 100 then (if n == 7 then Some words.Default else Some words.Datatype)
+    else (if b == 101 then (if n == 3 then Some words.Exn else Some words.Else)
+    else (if b == 102 then (if n == 3 then Some words.For else Some words.FreeKey)
+    else (if b == 104 then Some words.HeapRegion
+    else (if b == 105 then (if n == 2 then Some words.If else Some words.Int)
+    else (if b == 108 then Some words.Let
+    else (if b == 110 then (if n == 3 then Some words.New else (if n == 7 then Some words.NumberOfElements else Some words.NewKey))
+    else (if b == 111 then Some words.Open
+    else (if b == 114 then (if n == 4 then Some words.RegionNew else (if n == 6 then (if m == 105 then Some words.Region else Some words.Return) else Some words.RegionType))
+    else (if b == 115 then Some words.Struct
+    else (if b == 116 then (if n == 3 then Some words.Try else Some words.Throw)
+    else (if b == 117 then (if n == 5 then Some words.FreeUnique else (if m == 110 then Some words.KeyType else Some words.UniqueRegion))
+    else (if b == 118 then Some words.Void
+    else (if b == 119 then Some words.While
+    else (if b == 78 then (if n == 4 then Some words.Null else Some words.NewDynamicRegion)
+    else None))))))))))))))))))

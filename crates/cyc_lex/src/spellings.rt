@@ -1,85 +1,11 @@
 //! The spellings of keywords and signs.
-ghost use Rattle.std.specs.Prelude.{◌≡◌, ◌≢◌, ◌<◌, ◌≤◌, List, ℕ, ◌++◌, length, drop, IfNone, IfSome};
+ghost use Rattle.std.specs.Prelude.{◌≡◌, ◌≢◌, ◌≤◌, List, ℕ, ◌++◌, length, drop, IfNone, IfSome};
 ghost use Rattle.cyc_syntax.specs.declared.tokens.Keyword.{Keyword};
 ghost use Rattle.cyc_syntax.specs.declared.tokens.Sign.{Sign};
 ghost use Rattle.cyc_syntax.specs.Spelling as spec;
 ghost use Rattle.cyc_lex.specs.Beginnings as beginnings;
 
 use cyc_syntax::{Keyword, Sign};
-
-const KEYWORDS: [Keyword; 33] = [
-    Keyword::Int,
-    Keyword::Void,
-    Keyword::Struct,
-    Keyword::Datatype,
-    Keyword::Exn,
-    Keyword::Region,
-    Keyword::RegionType,
-    Keyword::KeyType,
-    Keyword::Open,
-    Keyword::Let,
-    Keyword::Alias,
-    Keyword::NewDynamicRegion,
-    Keyword::NewKey,
-    Keyword::New,
-    Keyword::RegionNew,
-    Keyword::For,
-    Keyword::If,
-    Keyword::Else,
-    Keyword::While,
-    Keyword::Break,
-    Keyword::Continue,
-    Keyword::Return,
-    Keyword::Throw,
-    Keyword::Try,
-    Keyword::Catch,
-    Keyword::Case,
-    Keyword::Default,
-    Keyword::Null,
-    Keyword::NumberOfElements,
-    Keyword::FreeUnique,
-    Keyword::FreeKey,
-    Keyword::UniqueRegion,
-    Keyword::HeapRegion,
-];
-
-// Longest first, so that the first one that a text begins with is the longest.
-const SIGNS: [Sign; 34] = [
-    Sign::Swap,
-    Sign::AndAnd,
-    Sign::OrOr,
-    Sign::Equal,
-    Sign::NotEqual,
-    Sign::LessOrEqual,
-    Sign::GreaterOrEqual,
-    Sign::ShiftLeft,
-    Sign::ShiftRight,
-    Sign::Arrow,
-    Sign::Plus,
-    Sign::Minus,
-    Sign::Star,
-    Sign::Slash,
-    Sign::Percent,
-    Sign::And,
-    Sign::Or,
-    Sign::Xor,
-    Sign::Tilde,
-    Sign::Not,
-    Sign::Less,
-    Sign::Greater,
-    Sign::Assign,
-    Sign::LeftParen,
-    Sign::RightParen,
-    Sign::LeftBracket,
-    Sign::RightBracket,
-    Sign::LeftBrace,
-    Sign::RightBrace,
-    Sign::Comma,
-    Sign::Semicolon,
-    Sign::Colon,
-    Sign::At,
-    Sign::Question,
-];
 
 fn keyword_text(keyword: Keyword) -> &'static [u8]
     ensures { result.now ≡ spec.keyword_text keyword }
@@ -121,91 +47,65 @@ fn keyword_text(keyword: Keyword) -> &'static [u8]
     }
 }
 
-fn sign_text(sign: Sign) -> &'static [u8]
-    ensures { result.now ≡ spec.sign_text sign }
-{
-    match sign {
-        Sign::Swap => b":=:",
-        Sign::AndAnd => b"&&",
-        Sign::OrOr => b"||",
-        Sign::Equal => b"==",
-        Sign::NotEqual => b"!=",
-        Sign::LessOrEqual => b"<=",
-        Sign::GreaterOrEqual => b">=",
-        Sign::ShiftLeft => b"<<",
-        Sign::ShiftRight => b">>",
-        Sign::Arrow => b"->",
-        Sign::Plus => b"+",
-        Sign::Minus => b"-",
-        Sign::Star => b"*",
-        Sign::Slash => b"/",
-        Sign::Percent => b"%",
-        Sign::And => b"&",
-        Sign::Or => b"|",
-        Sign::Xor => b"^",
-        Sign::Tilde => b"~",
-        Sign::Not => b"!",
-        Sign::Less => b"<",
-        Sign::Greater => b">",
-        Sign::Assign => b"=",
-        Sign::LeftParen => b"(",
-        Sign::RightParen => b")",
-        Sign::LeftBracket => b"[",
-        Sign::RightBracket => b"]",
-        Sign::LeftBrace => b"{",
-        Sign::RightBrace => b"}",
-        Sign::Comma => b",",
-        Sign::Semicolon => b";",
-        Sign::Colon => b":",
-        Sign::At => b"@",
-        Sign::Question => b"?",
-    }
-}
-
-/// Whether a keyword may begin with this byte and have this length: most names are told from keywords by that.
-fn is_likely_keyword(first: u8, len: usize) -> bool
-    ensures { result ≡ beginnings.is_likely_keyword first len }
+/// The one keyword that a name with this first byte, this middle byte and this length may be.
+fn likely_keyword(first: u8, middle: u8, len: usize) -> Option<Keyword>
+    ensures { result ≡ beginnings.likely_keyword first middle len }
 {
     match first {
-        b'a' | b'b' | b'w' => len == 5,
-        b'c' => matches!(len, 4 | 5 | 8),
-        b'd' => matches!(len, 7 | 8),
-        b'e' => matches!(len, 3 | 4),
-        b'f' => matches!(len, 3 | 9),
-        b'h' => len == 11,
-        b'i' => matches!(len, 2 | 3),
-        b'l' => len == 3,
-        b'n' => matches!(len, 3 | 7 | 8),
-        b'o' | b'v' => len == 4,
-        b'r' => matches!(len, 4 | 6 | 8),
-        b's' => len == 6,
-        b't' => matches!(len, 3 | 5),
-        b'u' => matches!(len, 5 | 13),
-        b'N' => matches!(len, 4 | 16),
-        _ => false,
-    }
-}
-
-/// The sign that is this byte alone, where no longer one begins with it.
-fn lone_sign(first: u8) -> Option<Sign>
-    ensures { result ≡ beginnings.lone_sign first }
-{
-    match first {
-        b'(' => Some(Sign::LeftParen),
-        b')' => Some(Sign::RightParen),
-        b';' => Some(Sign::Semicolon),
-        b',' => Some(Sign::Comma),
-        b'{' => Some(Sign::LeftBrace),
-        b'}' => Some(Sign::RightBrace),
-        b'[' => Some(Sign::LeftBracket),
-        b']' => Some(Sign::RightBracket),
-        b'+' => Some(Sign::Plus),
-        b'*' => Some(Sign::Star),
-        b'%' => Some(Sign::Percent),
-        b'^' => Some(Sign::Xor),
-        b'~' => Some(Sign::Tilde),
-        b'@' => Some(Sign::At),
-        b'?' => Some(Sign::Question),
+        _ if len < 2 => None,
+        b'a' => Some(Keyword::Alias),
+        b'b' => Some(Keyword::Break),
+        b'c' => match len {
+            4 => Some(Keyword::Case),
+            5 => Some(Keyword::Catch),
+            _ => Some(Keyword::Continue),
+        },
+        b'd' => match len {
+            7 => Some(Keyword::Default),
+            _ => Some(Keyword::Datatype),
+        },
+        b'e' => match len {
+            3 => Some(Keyword::Exn),
+            _ => Some(Keyword::Else),
+        },
+        b'f' => match len {
+            3 => Some(Keyword::For),
+            _ => Some(Keyword::FreeKey),
+        },
+        b'h' => Some(Keyword::HeapRegion),
+        b'i' => match len {
+            2 => Some(Keyword::If),
+            _ => Some(Keyword::Int),
+        },
+        b'l' => Some(Keyword::Let),
+        b'n' => match len {
+            3 => Some(Keyword::New),
+            7 => Some(Keyword::NumberOfElements),
+            _ => Some(Keyword::NewKey),
+        },
+        b'o' => Some(Keyword::Open),
+        b'r' => match (len, middle) {
+            (4, _) => Some(Keyword::RegionNew),
+            (6, b'i') => Some(Keyword::Region),
+            (6, _) => Some(Keyword::Return),
+            _ => Some(Keyword::RegionType),
+        },
+        b's' => Some(Keyword::Struct),
+        b't' => match len {
+            3 => Some(Keyword::Try),
+            _ => Some(Keyword::Throw),
+        },
+        b'u' => match (len, middle) {
+            (5, _) => Some(Keyword::FreeUnique),
+            (_, b'n') => Some(Keyword::KeyType),
+            _ => Some(Keyword::UniqueRegion),
+        },
+        b'v' => Some(Keyword::Void),
+        b'w' => Some(Keyword::While),
+        b'N' => match len {
+            4 => Some(Keyword::Null),
+            _ => Some(Keyword::NewDynamicRegion),
+        },
         _ => None,
     }
 }
@@ -215,35 +115,16 @@ pub fn keyword(bytes: &[u8]) -> Option<Keyword>
     ensures none { IfNone result ((k : Keyword) → bytes.now ≢ spec.keyword_text k) }
     ensures spelled { IfSome result (λ k. bytes.now ≡ spec.keyword_text k) }
 {
-    if bytes.is_empty() || !is_likely_keyword(bytes[0], bytes.len()) {
+    if bytes.is_empty() {
         return None;
     }
-    for keyword in KEYWORDS {
-        if keyword_text(keyword) == bytes {
-            return Some(keyword);
-        }
+    match likely_keyword(bytes[0], bytes[bytes.len() / 2], bytes.len()) {
+        Some(keyword) if keyword_text(keyword) == bytes => Some(keyword),
+        _ => None,
     }
-    None
 }
 
-/// The longest sign of the table that the text begins with, and its length.
-fn listed_sign(text: &[u8]) -> Option<(Sign, usize)>
-    ensures none { IfNone result ((s : Sign) (rest : List ℕ) → text.now ≢ spec.sign_text s ++ rest) }
-    ensures len { IfSome result (λ found. found.1 ≡ length (spec.sign_text found.0)) }
-    ensures begins { IfSome result (λ found. text.now ≡ spec.sign_text found.0 ++ drop found.1 text.now) }
-    ensures longest { IfSome result (λ found. (other : Sign) (rest : List ℕ) → text.now ≡ spec.sign_text other ++ rest
-        → length (spec.sign_text other) ≤ found.1) }
-{
-    for sign in SIGNS {
-        let spelling = sign_text(sign);
-        if text.starts_with(spelling) {
-            return Some((sign, spelling.len()));
-        }
-    }
-    None
-}
-
-/// The longest sign that the text begins with, and its length. Most signs are told by their first byte.
+/// The longest sign that the text begins with, and its length.
 pub fn sign(text: &[u8]) -> Option<(Sign, usize)>
     ensures none { IfNone result ((s : Sign) (rest : List ℕ) → text.now ≢ spec.sign_text s ++ rest) }
     ensures len { IfSome result (λ found. found.1 ≡ length (spec.sign_text found.0)) }
@@ -251,11 +132,41 @@ pub fn sign(text: &[u8]) -> Option<(Sign, usize)>
     ensures longest { IfSome result (λ found. (other : Sign) (rest : List ℕ) → text.now ≡ spec.sign_text other ++ rest
         → length (spec.sign_text other) ≤ found.1) }
 {
-    if text.is_empty() {
-        return None;
-    }
-    match lone_sign(text[0]) {
-        Some(sign) => Some((sign, 1)),
-        None => listed_sign(text),
+    match text {
+        [b':', b'=', b':', ..] => Some((Sign::Swap, 3)),
+        [b'&', b'&', ..] => Some((Sign::AndAnd, 2)),
+        [b'|', b'|', ..] => Some((Sign::OrOr, 2)),
+        [b'=', b'=', ..] => Some((Sign::Equal, 2)),
+        [b'!', b'=', ..] => Some((Sign::NotEqual, 2)),
+        [b'<', b'=', ..] => Some((Sign::LessOrEqual, 2)),
+        [b'>', b'=', ..] => Some((Sign::GreaterOrEqual, 2)),
+        [b'<', b'<', ..] => Some((Sign::ShiftLeft, 2)),
+        [b'>', b'>', ..] => Some((Sign::ShiftRight, 2)),
+        [b'-', b'>', ..] => Some((Sign::Arrow, 2)),
+        [b'+', ..] => Some((Sign::Plus, 1)),
+        [b'-', ..] => Some((Sign::Minus, 1)),
+        [b'*', ..] => Some((Sign::Star, 1)),
+        [b'/', ..] => Some((Sign::Slash, 1)),
+        [b'%', ..] => Some((Sign::Percent, 1)),
+        [b'&', ..] => Some((Sign::And, 1)),
+        [b'|', ..] => Some((Sign::Or, 1)),
+        [b'^', ..] => Some((Sign::Xor, 1)),
+        [b'~', ..] => Some((Sign::Tilde, 1)),
+        [b'!', ..] => Some((Sign::Not, 1)),
+        [b'<', ..] => Some((Sign::Less, 1)),
+        [b'>', ..] => Some((Sign::Greater, 1)),
+        [b'=', ..] => Some((Sign::Assign, 1)),
+        [b'(', ..] => Some((Sign::LeftParen, 1)),
+        [b')', ..] => Some((Sign::RightParen, 1)),
+        [b'[', ..] => Some((Sign::LeftBracket, 1)),
+        [b']', ..] => Some((Sign::RightBracket, 1)),
+        [b'{', ..] => Some((Sign::LeftBrace, 1)),
+        [b'}', ..] => Some((Sign::RightBrace, 1)),
+        [b',', ..] => Some((Sign::Comma, 1)),
+        [b';', ..] => Some((Sign::Semicolon, 1)),
+        [b':', ..] => Some((Sign::Colon, 1)),
+        [b'@', ..] => Some((Sign::At, 1)),
+        [b'?', ..] => Some((Sign::Question, 1)),
+        _ => None,
     }
 }

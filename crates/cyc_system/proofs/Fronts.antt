@@ -15,6 +15,7 @@ use Rattle.cyc_types.specs.TypedTreeView.{view_program}
 use Rattle.cyc_types.specs.typing.Programs.{IsTypedProgram, IsRefusedProgram}
 use Rattle.cyc_types.specs.flow.Programs.{IsAllowedProgram, IsStoppedProgram}
 use Rattle.cyc_flow.specs.declared.check.Flowed.{Flowed}
+use Rattle.cyc_system.specs.declared.front.Phases.{Phases}
 use Rattle.cyc_system.specs.Front.{names_in, IsAcceptedText, IsStoppedText, IsRefusedText, HasFault}
 
 -- A phase let this pass: it is accepted, nothing else is, and there is no fault.
@@ -87,9 +88,34 @@ pub record Stops {A : Type 0} (Accepted : A → Type 0) (Has : Fault → Type 0)
   pub none : (a : A) → Accepted a → f ≡ memory_fault
   pub no_other : (g : Fault) → Has g → (f ≡ memory_fault) ⊎ (f ≡ g)
 
--- what the front end answers of a text
+-- what the front end answers of a text, where an answer gives the typed program in this way
+abbrev pub IsAnsweredBy : {X : Type 0} → (Program → X → Type 0) → List ℕ → Result X Fault → Type 0
+IsAnsweredBy Gives text result = Decides (IsAcceptedText text) Gives (IsRefusedText text) (HasFault text) result
+
+-- by the typed tree, or by all that the phases made
+abbrev pub HasProgram : Program → Flowed → Type 0
+HasProgram p v = view_program v.tree ≡ p
+
+abbrev pub HasPhases : Program → Phases → Type 0
+HasPhases p v = HasProgram p v.program
+
 abbrev pub IsAnswered : List ℕ → Result Flowed Fault → Type 0
-IsAnswered text result = Decides (IsAcceptedText text) (λ p v. view_program v.tree ≡ p) (IsRefusedText text) (HasFault text) result
+IsAnswered = IsAnsweredBy HasProgram
+
+-- a refusal is the same whatever would be answered
+pub refused_alike : {X Y : Type 0} (Gives : Program → X → Type 0) (Other : Program → Y → Type 0) (text : List ℕ) (f : Fault)
+    → IsAnsweredBy Gives text (Err f) → IsAnsweredBy Other text (Err f)
+refused_alike Gives Other text f d = record { accepted = tt; refused = d.refused; accepts = d.accepts; refuses = d.refuses }
+
+-- and an answer is as good as another that gives the same program
+pub accepted_alike : {X Y : Type 0} (Gives : Program → X → Type 0) (Other : Program → Y → Type 0) (text : List ℕ) (x : X) (y : Y)
+    → ((p : Program) → Gives p x → Other p y) → IsAnsweredBy Gives text (Ok x) → IsAnsweredBy Other text (Ok y)
+accepted_alike Gives Other text x y alike d = record {
+  accepted = let (p, is, same) = d.accepted in (p, is, alike p same);
+  refused = tt;
+  accepts = λ p is. alike p (d.accepts p is);
+  refuses = d.refuses;
+}
 
 -- a phase decided to refuse
 pub stopped : {X A : Type 0} (Accepted : A → Type 0) (Gives : A → X → Type 0) (Refused Has : Fault → Type 0) (f : Fault)

@@ -8,8 +8,35 @@ use cyc_check::check;
 use cyc_flow::{Flowed, flow};
 use cyc_lex::lex;
 use cyc_parse::parse;
+use cyc_syntax::{Token, Tree};
 use cyc_words::Fault;
 use std::alloc::Global;
+
+/// What the phases of the front end make of a text that they accept.
+#[derive(Drop)]
+pub struct Phases {
+    pub tokens: Vec<Token>,
+    pub tree: Tree,
+    pub program: Flowed,
+}
+
+/// All that the front end makes of a text: its tokens, their tree, and the typed tree that keeps the flow rules.
+///
+/// The first phase that refuses the text names the fault. Any growth may be refused for want of memory.
+pub fn run_phases(alloc: Global, text: &[u8]) -> Result<Phases, Fault>
+    // What is accepted is answered with its typed program. What is refused is so for what its code says at its place.
+    ensures decides { Decides (IsAcceptedText text.now) (λ p v. view_program v.program.tree ≡ p) (IsRefusedText text.now) (HasFault text.now) result }
+{
+    let tokens = lex(alloc, text)?;
+    let tree = parse(alloc, &tokens, text)?;
+    let typed = check(alloc, &tree)?;
+    let program = flow(alloc, typed)?;
+    Ok(Phases {
+        tokens,
+        tree,
+        program,
+    })
+}
 
 /// The typed tree of a text: its tokens, their tree, its types, and its flow.
 ///
@@ -18,8 +45,6 @@ pub fn accept(alloc: Global, text: &[u8]) -> Result<Flowed, Fault>
     // What is accepted is answered as its typed program. What is refused is so for what its code says at its place.
     ensures decides { Decides (IsAcceptedText text.now) (λ p v. view_program v.tree ≡ p) (IsRefusedText text.now) (HasFault text.now) result }
 {
-    let tokens = lex(alloc, text)?;
-    let tree = parse(alloc, &tokens, text)?;
-    let typed = check(alloc, &tree)?;
-    flow(alloc, typed)
+    let phases = run_phases(alloc, text)?;
+    Ok(phases.program)
 }

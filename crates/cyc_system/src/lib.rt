@@ -11,6 +11,6 @@ mod report;
 
 pub use compiler::compile;
 pub use engine::{run, run_with};
-pub use front::accept;
+pub use front::{Phases, accept, run_phases};
 pub use listing::disassemble;
 pub use report::{Report, RunFault, Stop};

@@ -7,11 +7,12 @@ ghost use Rattle.cyclone.specs.Work.{AnswersCheck, AnswersListing, AnswersRun};
 
 use crate::answer::Answer;
 use cyc_machine::Limits;
-use cyc_system::{accept, disassemble, run};
+use cyc_system::{disassemble, run, run_phases};
 use cyc_words::{ByteIn, ByteOut, Fault, Reader, Writer};
 use std::alloc::Global;
 use std::io;
 use std::io::{Read, Write};
+use std::mem::ManuallyDrop;
 
 /// The first bytes of a reader, at most so many.
 pub fn read_up_to<R: Read + Drop>(alloc: Global, reader: R, most: u64) -> io::Result<Vec<u8>>
@@ -29,7 +30,8 @@ pub fn check(alloc: Global, text: &[u8]) -> Result<(), Fault>
     ensures refuses { (fault : Fault) → HasFault text.now fault
         → MatchResult result (λ _. ⊥) (λ f. (f ≡ memory_fault) ⊎ (f ≡ fault)) }
 {
-    accept(alloc, text)?;
+    // The program ends behind this. To give back what the phases made, node by node, would take a sixth of the check's time.
+    ManuallyDrop::new(run_phases(alloc, text)?);
     Ok(())
 }
 

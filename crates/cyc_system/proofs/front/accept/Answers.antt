@@ -1,54 +1,13 @@
-use Rattle.std.proofs.Common.{map}
 use Rattle.std.proofs.lemmas.Result.{err_from_is_err_and}
-use Rattle.cyc_syntax.specs.Tokens.{token_of}
-use Rattle.cyc_lex.specs.Refusals as lexer
-use Rattle.cyc_parse.specs.Acceptance as parser
-use Rattle.cyc_parse.specs.Acceptance.{declarations_of}
-use Rattle.cyc_types.specs.TypedTreeView.{view_program}
-use Rattle.cyc_types.specs.typing.Programs.{IsTypedProgram, IsRefusedProgram}
-use Rattle.cyc_system.proofs.Fronts.{passed, stopped, lexed, checked, lexer_answers, parser_answers, checker_answers, flow_answers}
+use Rattle.cyc_system.proofs.Fronts.{HasProgram, HasPhases, refused_alike, accepted_alike}
 use Rattle.cyc_system.proofs.front.accept.Goals as goal
 
-pub returns-in_err-tokens : goal.returns-in_err-tokens
-returns-in_err-tokens c =
-    let text = c.args.text.now in
-    let f = c.in_err-tokens.field-0.0 in
-    let d = c.in_err-tokens.ensures.decides in
-    let p = err_from_is_err_and c.from_residual.result c.from_residual.ensures.1 in
-    record { decides = rw (p.1, p.2) (lexer_answers text f d.refused (stopped _ _ _ _ f d)) }
-
-pub returns-in_err-tree : goal.returns-in_err-tree
-returns-in_err-tree c =
-    let text = c.args.text.now in
-    let tokens = map (token_of text) c.deref.result.now in
-    let l = lexed text c.in_ok-tokens.tokens.items c.deref.result.now c.deref.ensures.value
-    (passed (λ v. map (token_of text) v.items) (lexer.IsAccepted text) (lexer.IsRefused text) (lexer.IsRefused text) c.in_ok-tokens.tokens c.in_ok-tokens.ensures.decides) in
-    let f = c.in_err-tree.field-0.0 in
-    let d = c.in_err-tree.ensures.decides in
-    let p = err_from_is_err_and c.from_residual-in_err-tree.result c.from_residual-in_err-tree.ensures.1 in
-    record { decides = rw (p.1, p.2) (parser_answers text tokens f l d.refused (stopped _ _ _ _ f d)) }
-
-pub returns-in_err-typed : goal.returns-in_err-typed
-returns-in_err-typed c =
-    let text = c.args.text.now in
-    let tokens = map (token_of text) c.deref.result.now in
-    let l = lexed text c.in_ok-tokens.tokens.items c.deref.result.now c.deref.ensures.value
-    (passed (λ v. map (token_of text) v.items) (lexer.IsAccepted text) (lexer.IsRefused text) (lexer.IsRefused text) c.in_ok-tokens.tokens c.in_ok-tokens.ensures.decides) in
-    let r = passed declarations_of (parser.IsAccepted tokens) (parser.IsRefused text tokens) (parser.IsFaulty text tokens) c.in_ok-tree.tree c.in_ok-tree.ensures.decides in
-    let f = c.in_err-typed.field-0.0 in
-    let d = c.in_err-typed.ensures.decides in
-    let p = err_from_is_err_and c.from_residual-in_err-typed.result c.from_residual-in_err-typed.ensures.1 in
-    record { decides = rw (p.1, p.2) (checker_answers text tokens (declarations_of c.in_ok-tree.tree) c.in_ok-tree.tree.names f l r c.in_ok-tree.ensures.names d.refused (stopped _ _ _ _ f d)) }
+pub returns-in_err-phases : goal.returns-in_err-phases
+returns-in_err-phases c =
+    let e = err_from_is_err_and c.from_residual.result c.from_residual.ensures.1 in
+    record { decides = rw (e.1, e.2) (refused_alike HasPhases HasProgram c.args.text.now c.in_err-phases.field-0.0 c.in_err-phases.ensures.decides) }
 
 pub returns : goal.returns
 returns c =
-    let text = c.args.text.now in
-    let tokens = map (token_of text) c.deref.result.now in
-    let tree = declarations_of c.in_ok-tree.tree in
-    let texts = c.in_ok-tree.tree.names in
-    let l = lexed text c.in_ok-tokens.tokens.items c.deref.result.now c.deref.ensures.value
-    (passed (λ v. map (token_of text) v.items) (lexer.IsAccepted text) (lexer.IsRefused text) (lexer.IsRefused text) c.in_ok-tokens.tokens c.in_ok-tokens.ensures.decides) in
-    let r = passed declarations_of (parser.IsAccepted tokens) (parser.IsRefused text tokens) (parser.IsFaulty text tokens) c.in_ok-tree.tree c.in_ok-tree.ensures.decides in
-    let k = checked tokens tree (view_program c.in_ok-typed.typed) texts c.in_ok-tree.ensures.names
-    (passed view_program (IsTypedProgram texts tree) (IsRefusedProgram texts tree) (IsRefusedProgram texts tree) c.in_ok-typed.typed c.in_ok-typed.ensures.decides) in
-    record { decides = flow_answers text tokens tree c.in_ok-typed.typed c.flow.result l r k c.flow.ensures.decides }
+    let phases = c.in_ok-phases.phases in
+    record { decides = accepted_alike HasPhases HasProgram c.args.text.now phases phases.program (λ p same. same) c.in_ok-phases.ensures.decides }
