@@ -8,7 +8,7 @@ use Rattle.cyc_types.specs.declared.typed.Kind.{Kind}
 use Rattle.cyc_types.specs.declared.typed.Kind.TheVariants as kinds
 use Rattle.cyc_types.specs.declared.typed.Callee.TheVariants as callees
 use Rattle.cyc_types.specs.declared.typed.Operator.{Operator}
-use Rattle.cyc_types.specs.TypedTrees.{Expression, NoOperations, Program}
+use Rattle.cyc_types.specs.TypedTrees.{Expression, Convert, NoOperations, Program}
 use Rattle.cyc_meaning.specs.Values.{Thin, Operand as Kinded}
 use Rattle.cyc_plain.specs.declared.instruction.Comparison.{Comparison}
 use Rattle.cyc_plain.specs.declared.instruction.Comparison.TheVariants as comparisons
@@ -27,7 +27,7 @@ use Rattle.cyc_words.proofs.Matching.{by_none, way_before}
 use Rattle.cyc_plain.proofs.Steps.{step_performs, place_known}
 use Rattle.cyc_plain.specs.Straight.{At}
 use Rattle.cyc_words.specs.Demand.{demand_of}
-use Rattle.cyc_meaning.specs.State.{World, Environment, ConvertTo, Operate, Chain, Apply, ApplyPointer, Follow, LoadFrom, Decide, Store, Pass, Initialise, Choose, Test, Return, Entry, Needs, NeedsPlace, Discard, Rest, Join, Loop, CloseRegion, Caller, Main, counted, calls_in, Focus, Evaluating, Locating, Given, GivenPlace, Executing, Proceeding, Calling, Entering, Binding, Breaking, Continuing, Returning, Throwing, State, Running, Ended, Dead, Wrong, output_of, input_of, status_of}
+use Rattle.cyc_meaning.specs.State.{World, Environment, ConvertTo, Operate, Chain, Apply, ApplyPointer, Follow, FollowMember, LoadFrom, TakeAddress, StoreTo, Decide, Store, StoreCell, Pass, Initialise, Choose, Test, Return, Entry, Needs, NeedsPlace, Discard, Rest, Join, Loop, CloseRegion, Caller, Main, counted, calls_in, Focus, Evaluating, Locating, Given, GivenPlace, Executing, Proceeding, Calling, Entering, Binding, Breaking, Continuing, Returning, Throwing, State, Running, Ended, Dead, Wrong, output_of, input_of, status_of}
 use Rattle.cyc_meaning.specs.Step.{step}
 use Rattle.cyc_meaning.specs.Run.{is_within, limited_step}
 use Rattle.cyc_objects.specs.Tables.{Tables}
@@ -82,6 +82,9 @@ module _ (source : Program) where
     value_depth g locals kind o p frames (Needs (Store place) ∷ k) (l, to, q, at, is, hands) =
         by_hands hands (λ stack. dropped_depth g q frames k stack) (λ stack. value_depth g locals kind to q frames k stack)
         (λ d r lands. by_lands lands (λ stack. value_depth g locals kind (operands.Slot d) r frames k stack) (λ stack. ahead_depth g locals kind d r frames k stack))
+    value_depth g locals kind o p frames (Needs (StoreCell peek place) ∷ k) (at, single, hands) =
+        by_hands hands (λ stack. dropped_depth g (p + 1) frames k stack) (λ stack. value_depth g locals kind o (p + 1) frames k stack)
+        (λ d r lands. by_lands lands (λ stack. value_depth g locals kind (operands.Slot d) r frames k stack) (λ stack. ahead_depth g locals kind d r frames k stack))
     value_depth g locals kind o p frames (Needs (Pass callees.Putchar before cs) ∷ k) (none, single, at, prints) =
         by_prints prints (λ stack. dropped_depth g (p + 1) frames k stack)
         (λ d lands. by_lands lands (λ stack. value_depth g locals kinds.Int (operands.Slot d) (p + 1 + 1) frames k stack) (λ stack. ahead_depth g locals kinds.Int d (p + 1 + 1) frames k stack))
@@ -94,12 +97,18 @@ module _ (source : Program) where
     value_depth g locals kind o p frames (Needs (Test a s) ∷ k) (loop, outer, q, at, r, jump, body, back, stack) = statement_depth g outer q frames k stack
     value_depth g locals kind o p frames (Needs Return ∷ k) (loop, q, s, is, at, one, stack) = statement_depth g loop q frames k stack
     value_depth g locals kind o p frames (Needs (Follow pointer target) ∷ k) (q, thin, check, place) = place_depth g locals o 0 q frames k place
+    value_depth g locals kind o p frames (Needs (FollowMember pointer fields field) ∷ k) (c, q, thin, check, inside, is, place) = place_depth g locals o c q frames k place
     value_depth g locals kind o p frames (Discard ∷ k) (loop, stack) = statement_depth g loop p frames k stack
     value_depth g locals kind o p frames (entry ∷ k) stack = absurd stack
 
     pub place_depth : (g : ℕ) (locals : ℕ → Option ℕ) (o : Operand) (c p : ℕ) (frames : List Frame) (k : List Entry) → PlaceStack source g locals o c p frames k → HasDepth frames k
     place_depth g locals o c p frames (NeedsPlace (LoadFrom cell) ∷ k) (d, at, single, lands) =
         by_lands lands (λ stack. value_depth g locals cell (operands.Slot d) (p + 1) frames k stack) (λ stack. ahead_depth g locals cell d (p + 1) frames k stack)
+    place_depth g locals o c p frames (NeedsPlace TakeAddress ∷ k) (d, q, at, lands) =
+        by_lands lands (λ stack. value_depth g locals kinds.NonNull (operands.Slot d) q frames k stack) (λ stack. ahead_depth g locals kinds.NonNull d q frames k stack)
+    place_depth g locals o c p frames (NeedsPlace (StoreTo peek (Convert from to a)) ∷ k) (x, s, u, at, at_a, store, single, hands) =
+        by_hands hands (λ stack. dropped_depth g (u + 1) frames k stack) (λ stack. value_depth g locals to x (u + 1) frames k stack)
+        (λ d r lands. by_lands lands (λ stack. value_depth g locals to (operands.Slot d) r frames k stack) (λ stack. ahead_depth g locals to d r frames k stack))
     place_depth g locals o c p frames k place = absurd place
 
     pub condition_depth : (g : ℕ) (failing : Comparison) (l r : Operand) (p : ℕ) (frames : List Frame) (k : List Entry) → ConditionStack source g failing l r p frames k → HasDepth frames k
@@ -156,6 +165,9 @@ module _ (source : Program) where
     value_plain g locals kind o p frames (Needs (Store place) ∷ k) (l, to, q, at, is, hands) =
         by_hands hands (λ stack. dropped_plain g q frames k stack) (λ stack. value_plain g locals kind to q frames k stack)
         (λ d r lands. by_lands lands (λ stack. value_plain g locals kind (operands.Slot d) r frames k stack) (λ stack. ahead_plain g locals kind d r frames k stack))
+    value_plain g locals kind o p frames (Needs (StoreCell peek place) ∷ k) (at, single, hands) =
+        by_hands hands (λ stack. dropped_plain g (p + 1) frames k stack) (λ stack. value_plain g locals kind o (p + 1) frames k stack)
+        (λ d r lands. by_lands lands (λ stack. value_plain g locals kind (operands.Slot d) r frames k stack) (λ stack. ahead_plain g locals kind d r frames k stack))
     value_plain g locals kind o p frames (Needs (Pass callees.Putchar before cs) ∷ k) (none, single, at, prints) =
         by_prints prints (λ stack. dropped_plain g (p + 1) frames k stack)
         (λ d lands. by_lands lands (λ stack. value_plain g locals kinds.Int (operands.Slot d) (p + 1 + 1) frames k stack) (λ stack. ahead_plain g locals kinds.Int d (p + 1 + 1) frames k stack))
@@ -168,12 +180,18 @@ module _ (source : Program) where
     value_plain g locals kind o p frames (Needs (Test a s) ∷ k) (loop, outer, q, at, r, jump, body, back, stack) = statement_plain g outer q frames k stack
     value_plain g locals kind o p frames (Needs Return ∷ k) (loop, q, s, is, at, one, stack) = statement_plain g loop q frames k stack
     value_plain g locals kind o p frames (Needs (Follow pointer target) ∷ k) (q, thin, check, place) = place_plain g locals o 0 q frames k place
+    value_plain g locals kind o p frames (Needs (FollowMember pointer fields field) ∷ k) (c, q, thin, check, inside, is, place) = place_plain g locals o c q frames k place
     value_plain g locals kind o p frames (Discard ∷ k) (loop, stack) = statement_plain g loop p frames k stack
     value_plain g locals kind o p frames (entry ∷ k) stack = absurd stack
 
     pub place_plain : (g : ℕ) (locals : ℕ → Option ℕ) (o : Operand) (c p : ℕ) (frames : List Frame) (k : List Entry) → PlaceStack source g locals o c p frames k → IsPlainStack k
     place_plain g locals o c p frames (NeedsPlace (LoadFrom cell) ∷ k) (d, at, single, lands) =
         by_lands lands (λ stack. value_plain g locals cell (operands.Slot d) (p + 1) frames k stack) (λ stack. ahead_plain g locals cell d (p + 1) frames k stack)
+    place_plain g locals o c p frames (NeedsPlace TakeAddress ∷ k) (d, q, at, lands) =
+        by_lands lands (λ stack. value_plain g locals kinds.NonNull (operands.Slot d) q frames k stack) (λ stack. ahead_plain g locals kinds.NonNull d q frames k stack)
+    place_plain g locals o c p frames (NeedsPlace (StoreTo peek (Convert from to a)) ∷ k) (x, s, u, at, at_a, store, single, hands) =
+        by_hands hands (λ stack. dropped_plain g (u + 1) frames k stack) (λ stack. value_plain g locals to x (u + 1) frames k stack)
+        (λ d r lands. by_lands lands (λ stack. value_plain g locals to (operands.Slot d) r frames k stack) (λ stack. ahead_plain g locals to d r frames k stack))
     place_plain g locals o c p frames k place = absurd place
 
     pub condition_plain : (g : ℕ) (failing : Comparison) (l r : Operand) (p : ℕ) (frames : List Frame) (k : List Entry) → ConditionStack source g failing l r p frames k → IsPlainStack k

@@ -36,6 +36,29 @@ shifted_is i below = below_wrap (i * 4) (omega (arith, below)) ∙ omega arith
 pub multiplied_is : (i : ℕ) → 12 * i < 4294967296 → mul_of i 12 ≡ 4 * (i * 3)
 multiplied_is i below = below_wrap (i * 12) (omega (arith, below)) ∙ omega arith
 
+-- the bytes before a field are those of the cells before it, where they are a word
+bytes_before : (ts : List Ty) (field bytes : ℕ) → bytes + 4 * before field (map kind_of ts) < 4294967296 → bytes_from bytes ts field ≡ bytes + 4 * before field (map kind_of ts)
+bytes_before [] zero bytes below = omega arith
+bytes_before [] (suc field) bytes below = omega arith
+bytes_before (t ∷ ts) zero bytes below = omega arith
+bytes_before (t ∷ ts) (suc field) bytes below =
+    let words = type_words t in
+    let next : add_of bytes (4 * words_of t) ≡ bytes + 4 * words_of t = add_is bytes (4 * words_of t) (omega (arith, below, words)) in
+    let rest : bytes_from (bytes + 4 * words_of t) ts field ≡ bytes + 4 * words_of t + 4 * before field (map kind_of ts) = bytes_before ts field (bytes + 4 * words_of t) (omega (arith, below, words)) in
+    ap (λ (n : ℕ). bytes_from n ts field) next ∙ rest ∙ omega (arith, words)
+
+pub field_bytes : (ts : List Ty) (field : ℕ) → 4 * before field (map kind_of ts) < 4294967296 → bytes_from 0 ts field ≡ 4 * before field (map kind_of ts)
+field_bytes ts field below = bytes_before ts field 0 below
+
+-- the cells of an object are as a test of their kinds says
+pub same_kinds : (as bs : List Kind) → are_kinds as bs ≡ true → as ≡ bs
+same_kinds [] [] are = refl
+same_kinds [] (b ∷ bs) are = absurd (let f : false ≡ true = are in cc)
+same_kinds (a ∷ as) [] are = absurd (let f : false ≡ true = are in cc)
+same_kinds (a ∷ as) (b ∷ bs) are =
+    let (first, rest) = and_parts (is_kind a b) (are_kinds as bs) are in
+    ap (λ (k : Kind). k ∷ as) (same_kind a b first) ∙ ap (λ (ks : List Kind). b ∷ ks) (same_kinds as bs rest)
+
 module _ {t : Tables} where
   -- the address of a cell with nothing added
   pub stays : {o k w : ℕ} → Points t o k w → Points t o k (add_of w 0)

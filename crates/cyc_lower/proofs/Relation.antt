@@ -1,5 +1,5 @@
 -- What a state of the source and one of the plain program have in common while the one is matched by the other.
-use Rattle.std.proofs.Common.{◌≡◌, ℕ, suc, ◌+◌, ◌≤◌, ◌<◌, true, List, [], ◌∷◌, ◌++◌, length, Option, None, Some, slice_get}
+use Rattle.std.proofs.Common.{◌≡◌, ℕ, suc, ◌+◌, ◌*◌, ◌^◌, ◌≤◌, ◌<◌, true, List, [], ◌∷◌, ◌++◌, length, Option, None, Some, slice_get}
 use Rattle.cyc_words.specs.Word.{add_of}
 use Rattle.cyc_types.specs.declared.typed.Kind.{Kind}
 use Rattle.cyc_types.specs.declared.typed.Kind.TheVariants as kinds
@@ -8,11 +8,11 @@ use Rattle.cyc_types.specs.declared.typed.UnaryOperator.TheVariants as unary
 use Rattle.cyc_types.specs.declared.typed.Operator.{Operator}
 use Rattle.cyc_types.specs.declared.typed.Callee.TheVariants as callees
 use Rattle.cyc_types.specs.Types.{Ty}
-use Rattle.cyc_types.specs.TypedTrees.{Lvalue, Local, Global, Expression, NoArguments, NoOperations, Statement, Function, Program}
+use Rattle.cyc_types.specs.TypedTrees.{Lvalue, Local, Global, Expression, Convert, NoArguments, NoOperations, Statement, Function, Program}
 use Rattle.cyc_types.specs.Numbered.{Numbering, numbering_of, signatures_of}
 use Rattle.cyc_store.specs.State.{StoreState, demand}
 use Rattle.cyc_objects.specs.Tables.{Variable, Tables}
-use Rattle.cyc_objects.specs.Words.{Points, Is}
+use Rattle.cyc_objects.specs.Words.{before, Points, Is}
 use Rattle.cyc_objects.specs.Related as objects
 use Rattle.cyc_plain.specs.declared.instruction.Comparison.{Comparison}
 use Rattle.cyc_plain.specs.declared.instruction.Comparison.TheVariants as comparisons
@@ -27,7 +27,7 @@ use Rattle.cyc_plain.specs.Step.{operand_word}
 use Rattle.cyc_plain.specs.State as plain
 use Rattle.cyc_plain.specs.Straight.{At}
 use Rattle.cyc_meaning.specs.Values.{Value, Int, Null, Thin, Operand as Kinded, Cell, is_thin, words_of_kind}
-use Rattle.cyc_meaning.specs.State.{Object, World, globals_number, Environment, ConvertTo, Operate, Chain, Apply, ApplyPointer, Follow, LoadFrom, Decide, Store, Pass, Initialise, Choose, Test, Return, Entry, Needs, NeedsPlace, Discard, Rest, Join, Loop, CloseRegion, CloseLexical, EndLoan, Handler, Caller, Main, calls_in, Focus, Evaluating, Locating, Given, GivenPlace, Executing, Proceeding, Calling, Entering, Binding, Breaking, Continuing, Returning, Throwing, State, Running, Ended}
+use Rattle.cyc_meaning.specs.State.{Object, World, globals_number, Environment, ConvertTo, Operate, Chain, Apply, ApplyPointer, Follow, FollowMember, LoadFrom, TakeAddress, StoreTo, Decide, Store, StoreCell, Pass, Initialise, Choose, Test, Return, Entry, Needs, NeedsPlace, Discard, Rest, Join, Loop, CloseRegion, CloseLexical, EndLoan, Handler, Caller, Main, calls_in, Focus, Evaluating, Locating, Given, GivenPlace, Executing, Proceeding, Calling, Entering, Binding, Breaking, Continuing, Returning, Throwing, State, Running, Ended}
 use Rattle.cyc_meaning.specs.Step.{object_of}
 use Rattle.cyc_meaning.specs.Operators.{null_exception, is_zero}
 use Rattle.cyc_meaning.specs.FrameCount.{words_of_all}
@@ -35,7 +35,7 @@ use Rattle.cyc_lower.specs.Slots.{Types, Starts, starts_of, slot_of}
 use Rattle.cyc_lower.specs.Lowerable.{is_null_test}
 use Rattle.cyc_lower.specs.Lowering.{types_of, unary_operator, failing_comparison, operand_of, move_of, pointer_instruction, low_byte, converts_there, all_passed, compared_of, break_target, continue_target, results_of, lower_program}
 use Rattle.cyc_lower.proofs.Widths.{kind_of_result, given, called_kind, HasRoom, Outside}
-use Rattle.cyc_lower.proofs.Stands.{CheckAt, ConversionAt, PlaceAt, OperatorAt, TruthAt, CopyAt, ExpressionAt, ArgumentsAt, OperationsAt, ValueAt, ConditionAt, FailingAt, ComparesAt, DiscardedAt, StatementAt, ItemsAt}
+use Rattle.cyc_lower.proofs.Stands.{CheckAt, AddressAt, ConversionAt, ConvertedOperandAt, PlaceAt, OperatorAt, TruthAt, CopyAt, ExpressionAt, ArgumentsAt, OperationsAt, ValueAt, ConditionAt, FailingAt, ComparesAt, DiscardedAt, StatementAt, ItemsAt}
 
 -- ---- values in slots
 
@@ -78,12 +78,15 @@ held (Needs (Apply operator left) ∷ k) = left ∷ held k
 held (Needs (ApplyPointer peek operator left) ∷ k) = left ∷ held k
 held (Needs Decide ∷ k) = held k
 held (Needs (Store place) ∷ k) = held k
+-- the address of the cell waits for what is stored in it
+held (Needs (StoreCell peek place) ∷ k) = record { kind = kinds.NonNull; value = place } ∷ held k
 held (Needs (Pass callee before rest) ∷ k) = before ++ held k
 held (Needs (Initialise number kind items) ∷ k) = []
 held (Needs (Choose first second) ∷ k) = []
 held (Needs (Test condition body) ∷ k) = []
 held (Needs Return ∷ k) = []
 held (Needs (Follow pointer target) ∷ k) = held k
+held (Needs (FollowMember pointer fields field) ∷ k) = held k
 held (NeedsPlace a ∷ k) = held k
 held (entry ∷ k) = []
 
@@ -344,6 +347,10 @@ module _ (source : Program) where
         (l : Lvalue) × (to : Operand) × (q : ℕ) × StoreAt g kind l o to p q × IsPlaceOf locals l place
         × HandsOn (code_of g) (words_of_kind kind) to q (DroppedStack g q frames k) (ValueStack g locals kind to q frames k)
         (λ d r. Lands (base_of g) (top g k) d (words_of_kind kind) (ValueStack g locals kind (operands.Slot d) r frames k) (AheadStack g locals kind d r frames k))
+    ValueStack g locals kind o p frames (Needs (StoreCell peek place) ∷ k) =
+        At (code_of g) p (instructions.Store (operands.Slot (top g k)) 0 o) × (words_of_kind kind ≡ 1)
+        × HandsOn (code_of g) (words_of_kind kind) o (p + 1) (DroppedStack g (p + 1) frames k) (ValueStack g locals kind o (p + 1) frames k)
+        (λ d r. Lands (base_of g) (top g k) d (words_of_kind kind) (ValueStack g locals kind (operands.Slot d) r frames k) (AheadStack g locals kind d r frames k))
     ValueStack g locals kind o p frames (Needs (Pass callees.Putchar before arguments) ∷ k) =
         (before ≡ []) × (arguments ≡ NoArguments) × At (code_of g) p (instructions.WriteByte o)
         × Prints (code_of g) o (p + 1) (DroppedStack g (p + 1) frames k)
@@ -365,6 +372,9 @@ module _ (source : Program) where
         × StatementStack g loop q frames k
     ValueStack g locals kind o p frames (Needs (Follow pointer target) ∷ k) =
         (q : ℕ) × (is_thin pointer ≡ true) × CheckAt (code_of g) (bounds_at g) (types_at g) null_exception o p q × PlaceStack g locals o 0 q frames k
+    ValueStack g locals kind o p frames (Needs (FollowMember pointer fields field) ∷ k) =
+        (c : ℕ) × (q : ℕ) × (is_thin pointer ≡ true) × CheckAt (code_of g) (bounds_at g) (types_at g) null_exception o p q × (field < length fields)
+        × (4 * before field fields < 2 ^ 32 → c ≡ 4 * before field fields) × PlaceStack g locals o c q frames k
     ValueStack g locals kind o p frames (Discard ∷ k) = (loop : ℕ) × StatementStack g loop p frames k
     ValueStack g locals kind o p frames (entry ∷ k) = ⊥
 
@@ -373,6 +383,15 @@ module _ (source : Program) where
     PlaceStack g locals o c p frames (NeedsPlace (LoadFrom cell) ∷ k) =
         (d : ℕ) × At (code_of g) p (instructions.Load d o c) × (words_of_kind cell ≡ 1)
         × Lands (base_of g) (top g k) d (words_of_kind cell) (ValueStack g locals cell (operands.Slot d) (p + 1) frames k) (AheadStack g locals cell d (p + 1) frames k)
+    PlaceStack g locals o c p frames (NeedsPlace TakeAddress ∷ k) =
+        (d : ℕ) × (q : ℕ) × AddressAt (code_of g) o c d p q
+        × Lands (base_of g) (top g k) d 1 (ValueStack g locals kinds.NonNull (operands.Slot d) q frames k) (AheadStack g locals kinds.NonNull d q frames k)
+    PlaceStack g locals o c p frames (NeedsPlace (StoreTo peek (Convert from to a)) ∷ k) =
+        (x : Operand) × (s : ℕ) × (u : ℕ) × AddressAt (code_of g) o c (top g k) p s
+        × ConvertedOperandAt (code_of g) (bounds_at g) (types_at g) (Convert from to a) (top g k + 1) x s u
+        × At (code_of g) u (instructions.Store (operands.Slot (top g k)) 0 x) × (words_of_kind to ≡ 1)
+        × HandsOn (code_of g) (words_of_kind to) x (u + 1) (DroppedStack g (u + 1) frames k) (ValueStack g locals to x (u + 1) frames k)
+        (λ d r. Lands (base_of g) (top g k) d (words_of_kind to) (ValueStack g locals to (operands.Slot d) r frames k) (AheadStack g locals to d r frames k))
     PlaceStack g locals o c p frames k = ⊥
 
     -- the same for a condition, which fails where this comparison holds

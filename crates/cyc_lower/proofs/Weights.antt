@@ -1,8 +1,8 @@
 -- The weight of a source state, which falls with each step that the plain program makes no step for.
 use Rattle.std.proofs.Common.{ℕ, suc, ◌+◌, List, [], ◌∷◌, Option, None, Some, length}
-use Rattle.cyc_types.specs.TypedTrees.{Load, Dereference, Target, Expression, Number, NullPointer, Copy, Call, Unary, Binary, Assign, Converted, Convert, Arguments, NoArguments, MoreArguments, Operations, NoOperations, ThenCompute, ThenTest, ThenPointer, Statement, Block, Empty, Evaluate, If, While, Break, Continue, Items, NoItems, MoreItems, Execute, Declare}
+use Rattle.cyc_types.specs.TypedTrees.{Load, AddressOfCell, Dereference, Target, Member, Expression, Number, NullPointer, Copy, Call, Unary, Binary, Assign, Converted, Convert, Arguments, NoArguments, MoreArguments, Operations, NoOperations, ThenCompute, ThenTest, ThenPointer, Statement, Block, Empty, Evaluate, If, While, Break, Continue, Items, NoItems, MoreItems, Execute, Declare}
 use Rattle.cyc_types.specs.TypedTrees as typed
-use Rattle.cyc_meaning.specs.State.{Awaiting, Chain, Pass, Initialise, Entry, Needs, Rest, Focus, Evaluating, Locating, Executing, Entering, Binding, State, Running}
+use Rattle.cyc_meaning.specs.State.{Awaiting, Chain, Pass, Initialise, StoreTo, Entry, Needs, NeedsPlace, Rest, Focus, Evaluating, Locating, Executing, Entering, Binding, State, Running}
 
 -- An expression that is an operand may have no code. One that begins with another weighs more than that and what waits for it.
 abbrev mutual
@@ -15,10 +15,13 @@ abbrev mutual
   expression_weight (Binary a os t) = suc (suc (expression_weight a + operations_weight os))
   expression_weight (Assign l c t) = suc (suc (converted_weight c))
   expression_weight (Load x) = suc (suc (dereference_weight x))
+  expression_weight (AddressOfCell x t) = suc (suc (dereference_weight x))
+  expression_weight (typed.Store x c t) = suc (suc (suc (dereference_weight x + converted_weight c)))
   expression_weight a = 0
 
   pub dereference_weight : Dereference → ℕ
   dereference_weight (Target k a t) = suc (suc (expression_weight a))
+  dereference_weight (Member k a s f t) = suc (suc (expression_weight a))
   dereference_weight x = 0
 
   -- with what converts it
@@ -66,6 +69,7 @@ awaiting_weight a = 0
 
 abbrev pub entry_weight : Entry → ℕ
 entry_weight (Needs a) = suc (awaiting_weight a)
+entry_weight (NeedsPlace (StoreTo peek c)) = suc (suc (converted_weight c))
 entry_weight (Rest js) = suc (items_weight js)
 entry_weight entry = 1
 

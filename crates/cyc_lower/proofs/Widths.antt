@@ -1,5 +1,5 @@
 -- The kinds of what expressions give, and the words of locals.
-use Rattle.std.proofs.Common.{◌≡◌, ◌⊎◌, ℕ, zero, suc, ◌+◌, ◌≤◌, ◌<◌, true, List, [], ◌∷◌, Option, None, Some, slice_get, refl, sym, ap, ◌∙◌, arith}
+use Rattle.std.proofs.Common.{◌≡◌, ◌⊎◌, ℕ, zero, suc, ◌+◌, ◌≤◌, ◌<◌, true, List, [], ◌∷◌, length, Option, None, Some, slice_get, refl, sym, ap, ◌∙◌, arith}
 use Rattle.std.proofs.lemmas.Bool.{eqb-true}
 use Rattle.cyc_syntax.specs.declared.tree.PointerKind.TheVariants as marks
 use Rattle.cyc_types.specs.declared.typed.Kind.{Kind}
@@ -8,7 +8,7 @@ use Rattle.cyc_types.specs.declared.typed.Callee.{Callee}
 use Rattle.cyc_types.specs.declared.typed.Callee.TheVariants as callees
 use Rattle.cyc_types.specs.Types.{Ty, words_of, words_of_mark}
 use Rattle.cyc_types.specs.Types as types
-use Rattle.cyc_types.specs.TypedTrees.{Load, type_of_place, Expression, NullPointer, Copy, Call, Binary, Assign, Converted, Convert, NoOperations, Signature}
+use Rattle.cyc_types.specs.TypedTrees.{Load, AddressOfCell, Store, type_of_place, Expression, NullPointer, Copy, Call, Binary, Assign, Converted, Convert, NoOperations, StructType, Signature}
 use Rattle.cyc_meaning.specs.Values.{kind_of, number_of_kind, is_kind, words_of_kind}
 use Rattle.cyc_lower.specs.Slots.{Types}
 
@@ -82,7 +82,9 @@ module _ (signatures : List Signature) where
   given (Copy l t) = kind_of t
   given (Call f cs t) = called_kind f
   given (Binary a NoOperations t) = given a
+  given (AddressOfCell x t) = kinds.NonNull
   given (Assign l (Convert from to a) t) = to
+  given (Store x (Convert from to a) t) = to
   given a = kinds.Int
 
 abbrev pub passed_kind : Converted → Kind
@@ -99,6 +101,10 @@ words_in (t ∷ ts) (suc n) = words_in ts n
 -- a value of a kind has room in the local of this number
 abbrev pub HasRoom : Types → ℕ → Kind → Type 0
 HasRoom types n kind = words_of_kind kind ≤ words_in types.locals n
+
+-- the struct of this number has a field of that number
+abbrev pub HasField : Types → (number field : ℕ) → Type 0
+HasField types number field = (s : StructType) × (slice_get types.structs number ≡ Some s) × (field < length s.fields)
 
 -- so many places from one on are not concerned
 abbrev pub Outside : (first many n : ℕ) → Type 0
