@@ -14,6 +14,7 @@ pub mod Fitting
 pub mod Bridge
 pub mod Data
 pub mod Sharing
+pub mod CellWrites
 pub mod PlaceWords
 pub mod PlaceSteps
 pub mod Values
@@ -23,6 +24,7 @@ pub mod Branching
 pub mod Conditions
 pub mod Calls
 pub mod StatementSteps
+pub mod Keeping
 pub mod Whole
 -- the rest of the promise: it is well formed, of words, and small
 pub mod WellFormed

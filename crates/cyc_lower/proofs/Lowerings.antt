@@ -34,7 +34,8 @@ is_lowered source well fit = record {
   words = has_words source fit.of_words;
   functions = functions_lowered source.structs source.functions;
   globals = sym (globals_counted source.globals);
-  follows = λ pages calls store input new some_page few_pages some_call. follows source (is_fitting_program source fit.lowerable well) pages calls store input new some_page few_pages some_call;
+  follows = λ pages calls store input new some_page few_pages some_call bytes.
+      follows source (is_fitting_program source fit.lowerable well) (has_words source fit.of_words) pages calls store input new some_page few_pages some_call bytes;
 }
 
 functions_small : (structs : List StructType) (hs : List Function) → sum_by size (map (lower_function structs) hs) ≤ size_per_weight * sum_of function_weight hs

@@ -264,7 +264,7 @@ module _ (source : Program) where
   depth_going : (t : Tables) (focus : Focus) (k : List Entry) (locals : ℕ → Option ℕ) (g p : ℕ) (slots : ℕ → ℕ) (frames : List Frame) → FocusAt source t focus k locals g p slots frames → HasDepth frames k
   depth_going t (Evaluating a) k locals g p slots frames at = evaluating_depth t a locals g p slots frames k at
   depth_going t (Locating x) k locals g p slots frames (o, c, q, at, holds, place) = place_depth g locals o c q frames k place
-  depth_going t (GivenPlace (Thin object offset)) k locals g p slots frames (o, c, points, holds, place) = place_depth g locals o c p frames k place
+  depth_going t (GivenPlace (Thin object offset)) k locals g p slots frames (o, c, small, points, holds, place) = place_depth g locals o c p frames k place
   depth_going t (Executing s) k locals g p slots frames (loop, q, at, stack) = statement_depth g loop q frames k stack
   depth_going t (Calling callees.Putchar before) k locals g p slots frames (v, o, single, is, holds, prints) = prints_depth g locals o p frames k prints
   depth_going t (Calling callees.Getchar before) k locals g p slots frames (d, q, at, holds, lands) = lands_depth g locals kinds.Int d q frames k lands
@@ -424,6 +424,10 @@ module _ (source : Program) (pages calls : ℕ) where
   -- on the way, as long as what is shared is as before
   pub shared_way : (focus : Focus) (k : List Entry) (e : Environment) (w : World) (c : Configuration) → SharedAt source pages calls k e w c → IsOnTheWay above below (Running focus k e w) (plain.Running c)
   shared_way focus k e w c shared = way_before above below matching (Running focus k e w) (plain.Running c) refl shared.same_output
+
+  -- the same where memory is another than it was
+  pub output_way : (focus : Focus) (k : List Entry) (e : Environment) (w : World) (c : Configuration) → c.output ≡ w.output → IsOnTheWay above below (Running focus k e w) (plain.Running c)
+  output_way focus k e w c same = way_before above below matching (Running focus k e w) (plain.Running c) refl same
 
   abbrev pub place_in : Configuration → CodePlace
   place_in c = record { function = c.active.function; index = c.active.next }

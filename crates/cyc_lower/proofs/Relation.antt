@@ -33,7 +33,7 @@ use Rattle.cyc_meaning.specs.Operators.{null_exception, is_zero}
 use Rattle.cyc_meaning.specs.FrameCount.{words_of_all}
 use Rattle.cyc_lower.specs.Slots.{Types, Starts, starts_of, slot_of}
 use Rattle.cyc_lower.specs.Lowerable.{is_null_test}
-use Rattle.cyc_lower.specs.Lowering.{types_of, unary_operator, failing_comparison, operand_of, move_of, pointer_instruction, low_byte, converts_there, all_passed, compared_of, break_target, continue_target, results_of, lower_program}
+use Rattle.cyc_lower.specs.Lowering.{slot_types, unary_operator, failing_comparison, operand_of, move_of, pointer_instruction, low_byte, converts_there, all_passed, compared_of, break_target, continue_target, results_of, lower_program}
 use Rattle.cyc_lower.proofs.Widths.{kind_of_result, given, called_kind, HasRoom, Outside}
 use Rattle.cyc_lower.proofs.Stands.{CheckAt, AddressAt, ConversionAt, ConvertedOperandAt, PlaceAt, OperatorAt, TruthAt, CopyAt, ExpressionAt, ArgumentsAt, OperationsAt, ValueAt, ConditionAt, FailingAt, ComparesAt, DiscardedAt, StatementAt, ItemsAt}
 
@@ -165,6 +165,7 @@ pub record Shared (pages calls : ℕ) (w : World) (regions : List ℕ) (plain_ou
   pub same_output : plain_output ≡ w.output
   pub same_input : plain_input ≡ w.input
   pub related : objects.Related tables (silent w) store
+  pub same_pages : store.pages ≡ pages
   -- the region of the globals is of variables, and so are these
   pub globals : slice_get tables.handles globals_number ≡ Some None
   pub variables : AreOfVariables tables regions
@@ -185,9 +186,12 @@ module _ (source : Program) where
   bounds_at g = bounds_in (slice_get source.functions g)
 
   -- the types of its locals with the structs, and their first slots
+  abbrev pub local_types : Option Function → List Ty
+  local_types None = []
+  local_types (Some h) = slot_types h
+
   abbrev pub types_in : Option Function → Types
-  types_in None = record { locals = []; structs = source.structs }
-  types_in (Some h) = types_of source.structs h
+  types_in h = record { locals = local_types h; structs = source.structs }
 
   abbrev pub types_at : ℕ → Types
   types_at g = types_in (slice_get source.functions g)
@@ -490,7 +494,7 @@ module _ (source : Program) where
       (o : Operand) × (c : ℕ) × (q : ℕ) × PlaceAt (code_of g) (bounds_at g) (types_at g) x o c (top g k) p q × Holds t slots (base_of g) (held k)
       × PlaceStack g locals o c q frames k
   FocusAt t (GivenPlace (Thin object offset)) k locals g p slots frames =
-      (o : Operand) × (c : ℕ) × Points t object offset (add_of (operand_word slots o) c) × Holds t slots (base_of g) (held k)
+      (o : Operand) × (c : ℕ) × (operand_word slots o < 2 ^ 32) × Points t object offset (add_of (operand_word slots o) c) × Holds t slots (base_of g) (held k)
       × PlaceStack g locals o c p frames k
   FocusAt t (Executing s) k locals g p slots frames =
       (loop : ℕ) × (q : ℕ) × StatementAt (code_of g) (bounds_at g) (types_at g) s loop (base_of g) p q × StatementStack g loop q frames k

@@ -11,7 +11,7 @@ use Rattle.cyc_types.specs.Types.{Ty}
 use Rattle.cyc_types.specs.Types as types
 use Rattle.cyc_types.specs.typing.WellTyped.{IsWellTypedGlobal, AreWellTypedGlobals}
 use Rattle.cyc_words.specs.Simulation as simulation
-use Rattle.cyc_words.specs.Simulation.{Failed, NeverFails, Follows, Steps}
+use Rattle.cyc_words.specs.Simulation.{Failed, Matching, NeverFails, Follows, Steps}
 use Rattle.cyc_store.specs.State.{StoreState, sizes_in}
 use Rattle.cyc_store.specs.New.{IsNew}
 use Rattle.cyc_store.specs.declared.range.TheConstants.{MOST_PAGES}
@@ -20,6 +20,10 @@ use Rattle.cyc_plain.specs.State as plain
 use Rattle.cyc_plain.specs.State.{Configuration}
 use Rattle.cyc_plain.specs.Step as plain_step
 use Rattle.cyc_plain.proofs.RunLaws.{lawful}
+use Rattle.cyc_plain.proofs.WordLaws.{words_stay, words_at_start}
+use Rattle.cyc_plain.specs.WellFormed.{HasWords}
+use Rattle.cyc_store.specs.State as stores
+use Rattle.std.specs.List.{AllByRecursion}
 use Rattle.cyc_words.proofs.Simulation.{simulates}
 use Rattle.cyc_meaning.specs.Values.{Int, Null, Operand as Kinded, kind_of}
 use Rattle.cyc_meaning.specs.State.{World, Environment, no_locals, constant_value, global_object, first_world, Entry, Main, Focus, Evaluating, Locating, Given, GivenPlace, Executing, Proceeding, Calling, Entering, Binding, Breaking, Continuing, Returning, Throwing, State, Running, Ended, Dead, Wrong, output_of, input_of, status_of}
@@ -37,6 +41,7 @@ use Rattle.cyc_lower.proofs.Data.{no_locals_hold}
 use Rattle.cyc_lower.proofs.Accesses.{IsWell}
 use Rattle.cyc_lower.proofs.Matched.{IsMatched, above, below, matching}
 use Rattle.cyc_lower.proofs.Evaluations.{evaluating, locating}
+use Rattle.cyc_lower.proofs.Keeping.{keeping, stepped_keeping}
 use Rattle.cyc_lower.proofs.Values.{given}
 use Rattle.cyc_lower.proofs.PlaceSteps.{given_place}
 use Rattle.cyc_lower.proofs.StatementSteps.{executing, proceeding, breaking, continuing, returning, throwing}
@@ -81,25 +86,25 @@ globals_many : (gs : List GlobalVariable) → length gs ≤ length (map global_o
 globals_many [] = omega arith
 globals_many (g ∷ gs) = omega (arith, globals_many gs)
 
-module _ (source : Program) (pages calls : ℕ) (well_typed : AreWellTypedGlobals source.globals) (stand : FunctionsStand source pages calls) where
+module _ (source : Program) (pages calls : ℕ) (well_typed : AreWellTypedGlobals source.globals) (stand : FunctionsStand source pages calls) (of_words : HasWords (lower_program source)) where
   -- ---- all steps
 
-  stepping : (focus : Focus) (k : List Entry) (e : Environment) (w : World) (c : Configuration) → IsWell (step source (Running focus k e w)) → Related source pages calls focus k e w c
+  stepping : (focus : Focus) (k : List Entry) (e : Environment) (w : World) (c : Configuration) → IsWell (step source (Running focus k e w)) → plain.HoldsWords (plain.Running c) → Related source pages calls focus k e w c
       → IsMatched source pages calls (Running focus k e w) (plain.Running c)
-  stepping (Evaluating a) k e w c well related = evaluating source pages calls a k e w c well related
-  stepping (Locating x) k e w c well related = locating source pages calls x k e w c well related
-  stepping (Given v) k e w c well related = given source pages calls v k e w c well related
-  stepping (Executing s) k e w c well related = executing source pages calls s k e w c well related
-  stepping Proceeding k e w c well related = proceeding source pages calls k e w c well related
-  stepping (Calling f before) k e w c well related = calling source pages calls stand f before k e w c well related
-  stepping (Entering h arguments) k e w c well related = entering source pages calls h arguments k e w c well related
-  stepping (Binding n types arguments body) k e w c well related = binding source pages calls n types arguments body k e w c well related
-  stepping Breaking k e w c well related = breaking source pages calls k e w c well related
-  stepping Continuing k e w c well related = continuing source pages calls k e w c well related
-  stepping (Returning v) k e w c well related = returning source pages calls v k e w c well related
-  stepping (Throwing tag value) k e w c well related = throwing source pages calls tag value k e w c well related
-  stepping (GivenPlace place) k e w c well related = given_place source pages calls place k e w c well related
-  stepping focus k e w c well (shared, facts, at) = absurd at
+  stepping (Evaluating a) k e w c well words related = evaluating source pages calls a k e w c well related
+  stepping (Locating x) k e w c well words related = locating source pages calls x k e w c well related
+  stepping (Given v) k e w c well words related = given source pages calls v k e w c of_words words well related
+  stepping (Executing s) k e w c well words related = executing source pages calls s k e w c well related
+  stepping Proceeding k e w c well words related = proceeding source pages calls k e w c well related
+  stepping (Calling f before) k e w c well words related = calling source pages calls stand f before k e w c well related
+  stepping (Entering h arguments) k e w c well words related = entering source pages calls h arguments k e w c well related
+  stepping (Binding n types arguments body) k e w c well words related = binding source pages calls n types arguments body k e w c well related
+  stepping Breaking k e w c well words related = breaking source pages calls k e w c well related
+  stepping Continuing k e w c well words related = continuing source pages calls k e w c well related
+  stepping (Returning v) k e w c well words related = returning source pages calls v k e w c well related
+  stepping (Throwing tag value) k e w c well words related = throwing source pages calls tag value k e w c well related
+  stepping (GivenPlace place) k e w c well words related = given_place source pages calls place k e w c well related
+  stepping focus k e w c well words (shared, facts, at) = absurd at
 
   -- what fails is within all limits
   failed_within : (s : State) → status_in (status_of s) ≡ Failed → is_within pages calls s ≡ true
@@ -112,13 +117,23 @@ module _ (source : Program) (pages calls : ℕ) (well_typed : AreWellTypedGlobal
   goes_well s never failed =
       never (step source s) (sym (ap (λ (b : Bool). if b then step source s else Ended Full (output_of s) (input_of s)) (failed_within (step source s) failed))) failed
 
-  steps : Steps (above source pages calls) (below source pages calls) (matching source pages calls)
-  steps (Running focus k e w) (plain.Running c) related running never = stepping focus k e w c (goes_well (Running focus k e w) never) related
-  steps (Running focus k e w) (plain.Ended ending output input) related running never = absurd related
-  steps (Running focus k e w) (plain.Stuck output input) related running never = absurd related
+  -- values stay words
+  words_kept : (old new : plain.State) → plain.HoldsWords old → plain_step.Step (lower_program source) pages calls old new → plain.HoldsWords new
+  words_kept old new words stepped = words_stay (lower_program source) pages calls 1 old new of_words words (new, stepped, refl)
+
+  -- a state of the plain program that matches one, and whose values are words
+  abbrev matching_words : Matching (above source pages calls) (below source pages calls)
+  matching_words = keeping (above source pages calls) (below source pages calls) (matching source pages calls) plain.HoldsWords words_kept
+
+  steps : Steps (above source pages calls) (below source pages calls) matching_words
+  steps (Running focus k e w) (plain.Running c) (related, words) running never =
+      stepped_keeping (above source pages calls) (below source pages calls) (matching source pages calls) plain.HoldsWords words_kept (Running focus k e w) (plain.Running c) words
+      (stepping focus k e w c (goes_well (Running focus k e w) never) words related)
+  steps (Running focus k e w) (plain.Ended ending output input) (related, words) running never = absurd related
+  steps (Running focus k e w) (plain.Stuck output input) (related, words) running never = absurd related
   steps (Ended ending output input) t related running never = absurd (let f : simulation.Ended ending ≡ simulation.Running = running in cc)
-  steps (Dead output input) t related running never = absurd related
-  steps (Wrong output input) t related running never = absurd related
+  steps (Dead output input) t (related, words) running never = absurd related
+  steps (Wrong output input) t (related, words) running never = absurd related
 
   -- ---- the start
 
@@ -134,6 +149,7 @@ module _ (source : Program) (pages calls : ℕ) (well_typed : AreWellTypedGlobal
         tables = t;
         same_output = refl;
         same_input = refl;
+        same_pages = ap (λ (s : StoreState). s.pages) new.2;
         related = subst (objects.Related t (silent w)) (sym new.2) (start-related source [] pages new.0 new.1 some_page few_pages);
         globals = refl;
         variables = (refl, tt);
@@ -163,16 +179,19 @@ module _ (source : Program) (pages calls : ℕ) (well_typed : AreWellTypedGlobal
         is,
       )
 
-  follows_source : (store : StoreState) (input : List ℕ) → IsNew pages store → 1 ≤ pages → pages ≤ MOST_PAGES → 1 ≤ calls → FollowsSource source (lower_program source) pages calls store input
-  follows_source store input new some_page few_pages some_call never =
+  follows_source : (store : StoreState) (input : List ℕ) → IsNew pages store → 1 ≤ pages → pages ≤ MOST_PAGES → 1 ≤ calls → AllByRecursion (λ b. b < 256) input → FollowsSource source (lower_program source) pages calls store input
+  follows_source store input new some_page few_pages some_call bytes never =
       let (h, starts, there) = from_start (slice_get source.functions source.main) input refl some_call (never 0 (start source input) refl) in
-      simulates (above source pages calls) (below source pages calls) (matching source pages calls) steps (lawful (lower_program source) pages calls) [] (start source input) never
+      simulates (above source pages calls) (below source pages calls) matching_words steps (lawful (lower_program source) pages calls) [] (start source input) never
       (plain_step.start (lower_program source) store input)
       (ap (λ s. status_in (status_of s)) starts)
-      (subst (λ s. Matches source pages calls s (plain_step.start (lower_program source) store input)) (sym starts) (start_related h store input there new some_page few_pages some_call))
+      (
+        subst (λ s. Matches source pages calls s (plain_step.start (lower_program source) store input)) (sym starts) (start_related h store input there new some_page few_pages some_call),
+        words_at_start (lower_program source) store input of_words (subst (λ (s : StoreState). stores.AreWords s.memory) (sym new.2) new.1) bytes,
+      )
 
 -- The lowered program of one that fits does what that does.
-pub follows : (source : Program) → IsFitting source → (pages calls : ℕ) (store : StoreState) (input : List ℕ) → IsNew pages store → 1 ≤ pages → pages ≤ MOST_PAGES → 1 ≤ calls
+pub follows : (source : Program) → IsFitting source → HasWords (lower_program source) → (pages calls : ℕ) (store : StoreState) (input : List ℕ) → IsNew pages store → 1 ≤ pages → pages ≤ MOST_PAGES → 1 ≤ calls → AllByRecursion (λ b. b < 256) input
     → FollowsSource source (lower_program source) pages calls store input
-follows source fitting pages calls store input new some_page few_pages some_call =
-    follows_source source pages calls fitting.globals (functions_stand source pages calls fitting) store input new some_page few_pages some_call
+follows source fitting of_words pages calls store input new some_page few_pages some_call bytes =
+    follows_source source pages calls fitting.globals (functions_stand source pages calls fitting) of_words store input new some_page few_pages some_call bytes

@@ -1,6 +1,6 @@
 -- The kinds of what expressions give, and the words of locals.
-use Rattle.std.proofs.Common.{◌≡◌, ◌⊎◌, ℕ, zero, suc, ◌+◌, ◌≤◌, ◌<◌, true, List, [], ◌∷◌, length, Option, None, Some, slice_get, refl, sym, ap, ◌∙◌, arith}
-use Rattle.std.proofs.lemmas.Bool.{eqb-true}
+use Rattle.std.proofs.Common.{◌≡◌, ◌⊎◌, ℕ, zero, suc, ◌+◌, ◌≤◌, ◌<◌, true, false, List, [], ◌∷◌, length, Option, None, Some, slice_get, refl, sym, ap, ◌∙◌, arith}
+use Rattle.std.proofs.lemmas.Bool.{eqb-true, and_parts}
 use Rattle.cyc_syntax.specs.declared.tree.PointerKind.TheVariants as marks
 use Rattle.cyc_types.specs.declared.typed.Kind.{Kind}
 use Rattle.cyc_types.specs.declared.typed.Kind.TheVariants as kinds
@@ -9,7 +9,7 @@ use Rattle.cyc_types.specs.declared.typed.Callee.TheVariants as callees
 use Rattle.cyc_types.specs.Types.{Ty, words_of, words_of_mark}
 use Rattle.cyc_types.specs.Types as types
 use Rattle.cyc_types.specs.TypedTrees.{Load, AddressOfCell, Store, type_of_place, Expression, NullPointer, Copy, Call, Binary, Assign, Converted, Convert, NoOperations, StructType, Signature}
-use Rattle.cyc_meaning.specs.Values.{kind_of, number_of_kind, is_kind, words_of_kind}
+use Rattle.cyc_meaning.specs.Values.{kind_of, number_of_kind, is_kind, are_kinds, words_of_kind}
 use Rattle.cyc_lower.specs.Slots.{Types}
 
 -- ---- kinds and their words
@@ -58,6 +58,14 @@ number_tells kinds.Key = refl
 
 pub same_kind : (a b : Kind) → is_kind a b ≡ true → a ≡ b
 same_kind a b is = sym (number_tells a) ∙ ap kind_numbered (eqb-true (number_of_kind a) (number_of_kind b) is) ∙ number_tells b
+
+pub same_kinds : (these those : List Kind) → are_kinds these those ≡ true → these ≡ those
+same_kinds [] [] are = refl
+same_kinds [] (b ∷ bs) are = absurd (let f : false ≡ true = are in cc)
+same_kinds (a ∷ these) [] are = absurd (let f : false ≡ true = are in cc)
+same_kinds (a ∷ these) (b ∷ those) are =
+    let (first, rest) = and_parts (is_kind a b) (are_kinds these those) are in
+    ap (λ (k : Kind). k ∷ these) (same_kind a b first) ∙ ap (λ (ks : List Kind). b ∷ ks) (same_kinds these those rest)
 
 -- ---- what expressions give
 

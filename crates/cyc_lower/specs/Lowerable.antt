@@ -4,7 +4,7 @@ use Rattle.std.specs.Prelude.{◌≡◌, ℕ, ◌<◌, Bool, true, false, List, 
 use Rattle.cyc_types.specs.declared.typed.PointerOperator.{PointerOperator}
 use Rattle.cyc_types.specs.declared.typed.PointerOperator.TheVariants as pointers
 use Rattle.cyc_types.specs.Types.{Ty, words_of}
-use Rattle.cyc_types.specs.TypedTrees.{Load, Dereference, Target, Lvalue, Local, Global, Expression, Number, NullPointer, Copy, Call, Unary, Binary, Assign, Converted, Convert, Arguments, NoArguments, MoreArguments, Operations, NoOperations, ThenCompute, ThenTest, ThenPointer, Statement, Block, Empty, Evaluate, If, While, Return, Break, Continue, Items, NoItems, MoreItems, Execute, Declare, Signature, Function, Program}
+use Rattle.cyc_types.specs.TypedTrees.{Load, AddressOfCell, Store, Dereference, Target, Member, Lvalue, Local, Global, Expression, Number, NullPointer, Copy, Call, Unary, Binary, Assign, Converted, Convert, Arguments, NoArguments, MoreArguments, Operations, NoOperations, ThenCompute, ThenTest, ThenPointer, Statement, Block, Empty, Evaluate, If, While, Return, Break, Continue, Items, NoItems, MoreItems, Execute, Declare, Signature, Function, Program}
 use Rattle.cyc_types.specs.typing.Scopes.{signature_of_ints}
 use Rattle.cyc_types.specs.Numbered.{Numbering, IsSignature, IsWithin, argument_count, numbering_of, signatures_of}
 use Rattle.cyc_meaning.specs.Values.{is_thin}
@@ -34,10 +34,13 @@ abbrev mutual
   IsLowerable b (Binary a os t) = IsLowerable b a × AreLowerableOperations b os
   IsLowerable b (Assign l c t) = HasPlace b l (passed_words c) × IsLowerableConverted b c
   IsLowerable b (Load x) = IsLowerableCell b x
+  IsLowerable b (AddressOfCell x t) = IsLowerableCell b x
+  IsLowerable b (Store x c t) = IsLowerableCell b x × IsLowerableConverted b c
   IsLowerable b a = ⊥
 
   pub IsLowerableCell : Numbering → Dereference → Type 0
   IsLowerableCell b (Target k a t) = (is_thin k ≡ true) × (words_of t ≡ 1) × IsLowerable b a
+  IsLowerableCell b (Member k a s f t) = (is_thin k ≡ true) × (words_of t ≡ 1) × IsLowerable b a
   IsLowerableCell b x = ⊥
 
   pub IsLowerableConverted : Numbering → Converted → Type 0

@@ -1,5 +1,6 @@
 -- What the lowering promises of the plain program that it makes, and which texts it refuses.
-use Rattle.std.specs.Prelude.{◌≡◌, ℕ, ◌*◌, ◌≤◌, List, [], ◌∷◌, Some, length, slice_get}
+use Rattle.std.specs.Prelude.{◌≡◌, ℕ, ◌*◌, ◌≤◌, ◌<◌, List, [], ◌∷◌, Some, length, slice_get}
+use Rattle.std.specs.List.{AllByRecursion}
 use Rattle.cyc_words.specs.declared.fault.Code.TheVariants.{TooManyFunctions}
 use Rattle.cyc_words.specs.declared.fault.Fault.{Fault}
 use Rattle.cyc_types.specs.TypedTrees.{Function, Program}
@@ -62,7 +63,8 @@ pub record IsLowered (source : Program) (lowered : PlainProgram) : Type 0 where
   pub words : HasWords lowered
   pub functions : AreLoweredFunctions source.functions lowered.functions
   pub globals : length lowered.globals ≡ length source.globals
-  pub follows : (pages calls : ℕ) (store : StoreState) (input : List ℕ) → IsNew pages store → 1 ≤ pages → pages ≤ MOST_PAGES → 1 ≤ calls → FollowsSource source lowered pages calls store input
+  pub follows : (pages calls : ℕ) (store : StoreState) (input : List ℕ) → IsNew pages store → 1 ≤ pages → pages ≤ MOST_PAGES → 1 ≤ calls → AllByRecursion (λ b. b < 256) input
+      → FollowsSource source lowered pages calls store input
 
 -- What is asked of the typed tree. That of a text that is built has it all: its forms are lowered and its numbers name what is there, its
 -- constants are words, and it has fewer globals than tokens.

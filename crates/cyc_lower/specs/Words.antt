@@ -2,7 +2,7 @@
 -- tree of a text.
 use Rattle.std.specs.Prelude.{List, [], ◌∷◌, Option, None, Some}
 use Rattle.cyc_words.specs.Word.{IsWord}
-use Rattle.cyc_types.specs.TypedTrees.{Load, Dereference, Target, Expression, Number, NullPointer, Copy, Call, Unary, Binary, Assign, Converted, Convert, Arguments, NoArguments, MoreArguments, Operations, NoOperations, ThenCompute, ThenTest, ThenPointer, Statement, Block, Empty, Evaluate, If, While, Return, Break, Continue, Items, NoItems, MoreItems, Execute, Declare, Constant, Word, Null, GlobalVariable, Function, Program}
+use Rattle.cyc_types.specs.TypedTrees.{Load, AddressOfCell, Store, Dereference, Target, Member, Expression, Number, NullPointer, Copy, Call, Unary, Binary, Assign, Converted, Convert, Arguments, NoArguments, MoreArguments, Operations, NoOperations, ThenCompute, ThenTest, ThenPointer, Statement, Block, Empty, Evaluate, If, While, Return, Break, Continue, Items, NoItems, MoreItems, Execute, Declare, Constant, Word, Null, GlobalVariable, Function, Program}
 
 abbrev mutual
   pub IsOfWords : Expression → Type 0
@@ -14,10 +14,13 @@ abbrev mutual
   IsOfWords (Binary a os t) = IsOfWords a × AreOfWordsOperations os
   IsOfWords (Assign l c t) = IsOfWordsConverted c
   IsOfWords (Load x) = IsOfWordsCell x
+  IsOfWords (AddressOfCell x t) = IsOfWordsCell x
+  IsOfWords (Store x c t) = IsOfWordsCell x × IsOfWordsConverted c
   IsOfWords a = ⊥
 
   pub IsOfWordsCell : Dereference → Type 0
   IsOfWordsCell (Target k a t) = IsOfWords a
+  IsOfWordsCell (Member k a s f t) = IsOfWords a
   IsOfWordsCell x = ⊥
 
   pub IsOfWordsConverted : Converted → Type 0

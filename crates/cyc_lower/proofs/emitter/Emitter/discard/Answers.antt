@@ -12,9 +12,9 @@ returns-in-Call c =
 
 pub store-requires : goal.store-requires
 store-requires c =
-    room_for_right (view_starts c.args.starts.now) (view_dereference c.deref-in-Store.result.now) c.args.self.now.code.items c.take_address.new.self.code.items c.args.free c.requires c.in_ok-take_address.ensures
+    room_for_right (view_starts c.args.starts.now) (view_dereference c.deref-in-Store.result.now) c.args.self.now.code.items c.take_address.new.self.code.items c.args.free c.requires c.in_ok-take_address-in-Store.ensures
 
 pub returns-in_ok-store-in-Store : goal.returns-in_ok-store-in-Store
 returns-in_ok-store-in-Store c =
     made_stored_only (view_starts c.args.starts.now) c.args.value.now c.in-Store.target c.in-Store.value c.in-Store.result c.in-Store.is c.deref-in-Store.result.now c.deref-in-Store.ensures c.deref-in-Store-2.result.now c.deref-in-Store-2.ensures c.args.self.now.code.items c.take_address.new.self.code.items c.store.new.self.code.items c.args.free
-    c.in_ok-take_address.ensures c.in_ok-store-in-Store.ensures.1
+    c.in_ok-take_address-in-Store.ensures c.in_ok-store-in-Store.ensures.1
