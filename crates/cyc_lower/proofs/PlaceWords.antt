@@ -51,7 +51,7 @@ bytes_before (t ∷ ts) (suc field) bytes below =
     ap (λ (n : ℕ). bytes_from n ts field) next ∙ rest ∙ omega (arith, words)
 
 pub field_bytes : (ts : List Ty) (field : ℕ) → 4 * before field (map kind_of ts) < 4294967296 → bytes_from 0 ts field ≡ 4 * before field (map kind_of ts)
-field_bytes ts field below = bytes_before ts field 0 below
+field_bytes ts field below = bytes_before ts field 0 (omega (arith, below)) ∙ omega arith
 
 module _ {t : Tables} where
   -- the address of a cell with nothing added

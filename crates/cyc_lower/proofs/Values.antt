@@ -34,7 +34,7 @@ use Rattle.cyc_plain.specs.State as plain
 use Rattle.cyc_plain.specs.State.{Words, put, Frame, Configuration, with_memory}
 use Rattle.cyc_plain.specs.Step.{Choice, operand_word, with_slots, at, advanced, gives, performed}
 use Rattle.cyc_plain.specs.Step as plain_step
-use Rattle.cyc_plain.specs.Program.{no_routine}
+use Rattle.cyc_plain.specs.Program.{CodePlace, no_routine}
 use Rattle.cyc_plain.specs.WellFormed.{HasWord, HasWords}
 use Rattle.cyc_plain.proofs.Placed.{holds_at}
 use Rattle.cyc_plain.proofs.Steps.{function_known}
@@ -890,7 +890,7 @@ module _ (source : Program) (pages calls : ℕ) where
   stored_word c of_words words p address bytes (operands.Slot n) here = words.0 n
   stored_word c of_words words p address bytes (operands.Word n) here =
       let g = c.active.function in
-      let place = record { function = g; index = p } in
+      let place : CodePlace = record { function = g; index = p } in
       (holds_at HasWord (code_of source g) p (instructions.Store address bytes (operands.Word n))
       (of_words.functions g no_routine (function_known (lower_program source) place (instructions.Store address bytes (operands.Word n)) here)) here).2
 
@@ -1118,7 +1118,7 @@ module _ (source : Program) (pages calls : ℕ) where
       ))
   follows_member pointer fields field i (Thin object start) o k e w c well (shared, facts, is, holds) (offset, q, thin, (jump, uncaught, end), inside, same, place) =
       let there = Running (GivenPlace (Thin object field)) k e w in
-      let arrived = arrives (member_of w (At object start) fields field) k e w in
+      let arrived = arrives (member_of w (followed (Thin object start)) fields field) k e w in
       let fits = is_fitting (is_kind i pointer) arrived w well in
       let found = is_member object start fields field k e w (subst (λ (b : Bool). IsWell (if b then arrived else wrong w)) fits well) in
       let does : step source (Running (Given (of_kind i (Thin object start))) (Needs (FollowMember pointer fields field) ∷ k) e w) ≡ there = ap (λ (b : Bool). if b then arrived else wrong w) fits ∙ found.gives in

@@ -2,7 +2,7 @@
 use Rattle.std.proofs.Common.{ℕ, suc, ◌+◌, List, [], ◌∷◌, Option, None, Some, length}
 use Rattle.cyc_types.specs.TypedTrees.{Load, AddressOfCell, Dereference, Target, Member, Expression, Number, NullPointer, Copy, Call, Unary, Binary, Assign, Converted, Convert, Arguments, NoArguments, MoreArguments, Operations, NoOperations, ThenCompute, ThenTest, ThenPointer, Statement, Block, Empty, Evaluate, If, While, Break, Continue, Items, NoItems, MoreItems, Execute, Declare}
 use Rattle.cyc_types.specs.TypedTrees as typed
-use Rattle.cyc_meaning.specs.State.{Awaiting, Chain, Pass, Initialise, StoreTo, Entry, Needs, NeedsPlace, Rest, Focus, Evaluating, Locating, Executing, Entering, Binding, State, Running}
+use Rattle.cyc_meaning.specs.State.{Awaiting, AwaitingPlace, Chain, Pass, Initialise, StoreTo, Entry, Needs, NeedsPlace, Rest, Focus, Evaluating, Locating, Executing, Entering, Binding, State, Running}
 
 -- An expression that is an operand may have no code. One that begins with another weighs more than that and what waits for it.
 abbrev mutual
@@ -67,9 +67,13 @@ awaiting_weight (Pass f before cs) = arguments_weight cs
 awaiting_weight (Initialise number kind js) = suc (items_weight js)
 awaiting_weight a = 0
 
+abbrev pub place_weight : AwaitingPlace → ℕ
+place_weight (StoreTo peek c) = suc (converted_weight c)
+place_weight a = 0
+
 abbrev pub entry_weight : Entry → ℕ
 entry_weight (Needs a) = suc (awaiting_weight a)
-entry_weight (NeedsPlace (StoreTo peek c)) = suc (suc (converted_weight c))
+entry_weight (NeedsPlace a) = suc (place_weight a)
 entry_weight (Rest js) = suc (items_weight js)
 entry_weight entry = 1
 
