@@ -184,8 +184,7 @@ module _ (source : Program) (pages calls : ℕ) (well_typed : AreWellTypedGlobal
       let (h, starts, there) = from_start (slice_get source.functions source.main) input refl some_call (never 0 (start source input) refl) in
       simulates (above source pages calls) (below source pages calls) matching_words steps (lawful (lower_program source) pages calls) [] (start source input) never
       (plain_step.start (lower_program source) store input)
-      (ap (λ s. status_in (status_of s)) starts)
-      (
+      (ap (λ s. status_in (status_of s)) starts) (
         subst (λ s. Matches source pages calls s (plain_step.start (lower_program source) store input)) (sym starts) (start_related h store input there new some_page few_pages some_call),
         words_at_start (lower_program source) store input of_words (subst (λ (s : StoreState). stores.AreWords s.memory) (sym new.2) new.1) bytes,
       )
