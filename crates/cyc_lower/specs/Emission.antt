@@ -1,19 +1,19 @@
 -- What the code that emits says of itself: what it adds to the code made so far.
-use Rattle.std.specs.Prelude.{◌≡◌, ℕ, suc, ◌+◌, ◌^◌, ◌≤◌, ◌<◌, Bool, false, is_some, None, IfOk, List, [], ◌∷◌, ◌++◌, length, map, max, Some, option_map, Result, OnOk, slice_get}
+use Rattle.std.specs.Prelude.{◌≡◌, ℕ, suc, ◌+◌, ◌^◌, ◌≤◌, ◌<◌, Bool, false, is_some, Option, None, IfOk, List, [], ◌∷◌, ◌++◌, length, map, max, Some, option_map, Result, OnOk, slice_get}
 use Rattle.std.specs.declared.alloc.AllocError.{AllocError}
 use Rattle.cyc_types.specs.declared.typed.Operation.{Operation}
 use Rattle.cyc_types.specs.declared.typed.Operation.TheVariants as operation
 use Rattle.cyc_types.specs.declared.typed.Item.{Item}
 use Rattle.cyc_types.specs.declared.typed.Item.TheVariants as item
 use Rattle.cyc_types.specs.Types.{Ty, words_of}
-use Rattle.cyc_types.specs.TypedTrees.{Expression, Converted, Convert, Arguments, Operations, ThenCompute, Statement, Function, type_of, Binary}
+use Rattle.cyc_types.specs.TypedTrees.{Expression, Converted, Convert, Arguments, Operations, ThenCompute, Statement, Try, Clauses, Items, Function, type_of, Binary}
 use Rattle.cyc_types.specs.TypedTreeView.{view_struct, view_expression, view_converted, view_statement}
 use Rattle.cyc_plain.specs.declared.instruction.Operand.{Operand}
 use Rattle.cyc_plain.specs.declared.instruction.Operand.TheVariants.{Slot, Word}
 use Rattle.cyc_plain.specs.declared.instruction.Instruction.{Instruction}
-use Rattle.cyc_plain.specs.declared.instruction.Instruction.TheVariants.{Move, WriteByte}
+use Rattle.cyc_plain.specs.declared.instruction.Instruction.TheVariants.{Move, Throw, WriteByte}
 use Rattle.cyc_lower.specs.Slots.{Starts}
-use Rattle.cyc_lower.specs.Lowering.{operand_of, source_of, source_slot, code_unless, slot_or, code_unless_slot, printed_operand, conversion_code, printed_code, left_of, value_slot, left_slot, value_operand, expression_code, compute_code, test_code, pointer_instruction, condition_code, failing_jump, while_code, inside_loop, statement_code, declaration_code, condition_of}
+use Rattle.cyc_lower.specs.Lowering.{operand_of, source_of, source_slot, code_unless, slot_or, code_unless_slot, printed_operand, conversion_code, printed_code, left_of, value_slot, left_slot, value_operand, expression_code, compute_code, test_code, pointer_instruction, condition_code, failing_jump, while_code, inside_loop, tag_operand, clause_code, thrown_operand, thrown_code, caught_code, items_code, statement_code, declaration_code, condition_of}
 use Rattle.cyc_meaning.specs.FrameCount.{operand_words, argument_words, arguments_need, expression_need, initial_need, statement_need, kept_by, frame_count}
 use Rattle.cyc_plain.specs.declared.instruction.Comparison.{Comparison}
 use Rattle.cyc_lower.specs.declared.emitter.Emitter.{Emitter}
@@ -100,11 +100,26 @@ module _ (starts : Starts) where
   operation_code (operation.Pointer o e) p l d t = pointer_instruction o l d ∷ []
   operation_code (operation.PointerPeek n o e) p l d t = Move d (Word 0) ∷ []
 
+  -- an exception is thrown
+  abbrev pub throw_code : (tag : ℕ) → Option Expression → (p t : ℕ) → List Instruction
+  throw_code tag v p t = thrown_code starts v p t ++ Throw (tag_operand tag) (thrown_operand starts v t) ∷ []
+
+  -- what comes behind the jump over a clause
+  abbrev pub caught_items_code : (number : Option ℕ) → Items → (p : ℕ) → Exits → (t : ℕ) → List Instruction
+  caught_items_code x js p exits t = caught_code starts x t ++ items_code starts js (p + length (caught_code starts x t)) exits t
+
   -- one item of a block
   abbrev pub item_code : Item → (p : ℕ) → Exits → (t : ℕ) → List Instruction
   item_code (item.Execute s) p exits t = statement_code starts (view_statement s) p exits t
   item_code (item.Local n ty v) p exits t = declaration_code starts n (option_map view_converted v) p t
   item_code i p exits t = []
+
+  -- a `try`, and one of its clauses
+  abbrev pub handler_code : Statement → Clauses → (p : ℕ) → Exits → (t : ℕ) → List Instruction
+  handler_code s cs p exits t = statement_code starts (Try s cs) p exits t
+
+  abbrev pub case_code : (tag : ℕ) → (number : Option ℕ) → Items → (p out : ℕ) → Exits → (t : ℕ) → List Instruction
+  case_code tag x js p out exits t = clause_code tag t (caught_items_code x js (p + 1) exits t) p out
 
   -- a loop
   abbrev pub loop_code : Expression → Statement → (p : ℕ) → Exits → (t : ℕ) → List Instruction
