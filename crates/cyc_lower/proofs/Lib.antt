@@ -20,6 +20,7 @@ pub mod Values
 pub mod Evaluations
 pub mod Accesses
 pub mod Branching
+pub mod Handlers
 pub mod Conditions
 pub mod Calls
 pub mod StatementSteps

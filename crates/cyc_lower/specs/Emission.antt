@@ -4,16 +4,17 @@ use Rattle.std.specs.declared.alloc.AllocError.{AllocError}
 use Rattle.cyc_types.specs.declared.typed.Operation.{Operation}
 use Rattle.cyc_types.specs.declared.typed.Operation.TheVariants as operation
 use Rattle.cyc_types.specs.declared.typed.Item.{Item}
+use Rattle.cyc_types.specs.declared.typed.Clause.{Clause}
 use Rattle.cyc_types.specs.declared.typed.Item.TheVariants as item
 use Rattle.cyc_types.specs.Types.{Ty, words_of}
-use Rattle.cyc_types.specs.TypedTrees.{Expression, Converted, Convert, Arguments, Operations, ThenCompute, Statement, Try, Clauses, Items, Function, type_of, Binary}
-use Rattle.cyc_types.specs.TypedTreeView.{view_struct, view_expression, view_converted, view_statement}
+use Rattle.cyc_types.specs.TypedTrees.{Expression, Converted, Convert, Arguments, Operations, ThenCompute, Statement, Clauses, Items, Function, type_of, Binary}
+use Rattle.cyc_types.specs.TypedTreeView.{view_struct, view_expression, view_converted, view_statement, clauses_of}
 use Rattle.cyc_plain.specs.declared.instruction.Operand.{Operand}
 use Rattle.cyc_plain.specs.declared.instruction.Operand.TheVariants.{Slot, Word}
 use Rattle.cyc_plain.specs.declared.instruction.Instruction.{Instruction}
 use Rattle.cyc_plain.specs.declared.instruction.Instruction.TheVariants.{Move, Throw, WriteByte}
 use Rattle.cyc_lower.specs.Slots.{Starts}
-use Rattle.cyc_lower.specs.Lowering.{operand_of, source_of, source_slot, code_unless, slot_or, code_unless_slot, printed_operand, conversion_code, printed_code, left_of, value_slot, left_slot, value_operand, expression_code, compute_code, test_code, pointer_instruction, condition_code, failing_jump, while_code, inside_loop, tag_operand, clause_code, thrown_operand, thrown_code, caught_code, items_code, statement_code, declaration_code, condition_of}
+use Rattle.cyc_lower.specs.Lowering.{operand_of, source_of, source_slot, code_unless, slot_or, code_unless_slot, printed_operand, conversion_code, printed_code, left_of, value_slot, left_slot, value_operand, expression_code, compute_code, test_code, pointer_instruction, condition_code, failing_jump, while_code, inside_loop, tag_operand, clause_code, thrown_operand, thrown_code, caught_code, items_code, clauses_code, statement_code, declaration_code, condition_of}
 use Rattle.cyc_meaning.specs.FrameCount.{operand_words, argument_words, arguments_need, expression_need, initial_need, statement_need, kept_by, frame_count}
 use Rattle.cyc_plain.specs.declared.instruction.Comparison.{Comparison}
 use Rattle.cyc_lower.specs.declared.emitter.Emitter.{Emitter}
@@ -114,12 +115,15 @@ module _ (starts : Starts) where
   item_code (item.Local n ty v) p exits t = declaration_code starts n (option_map view_converted v) p t
   item_code i p exits t = []
 
-  -- a `try`, and one of its clauses
-  abbrev pub handler_code : Statement → Clauses → (p : ℕ) → Exits → (t : ℕ) → List Instruction
-  handler_code s cs p exits t = statement_code starts (Try s cs) p exits t
-
+  -- a clause of a `try`
   abbrev pub case_code : (tag : ℕ) → (number : Option ℕ) → Items → (p out : ℕ) → Exits → (t : ℕ) → List Instruction
   case_code tag x js p out exits t = clause_code tag t (caught_items_code x js (p + 1) exits t) p out
+
+  -- clauses were added behind what there was, before the default, whichever that is
+  abbrev pub BeginClauses : List Clause → (out : ℕ) → Exits → (t : ℕ) → (old new : List Instruction) → Type 0
+  BeginClauses cs out exits t old new =
+      (default : Clauses)
+      → new ++ clauses_code starts default (length new) out exits t ≡ old ++ clauses_code starts (clauses_of cs default) (length old) out exits t
 
   -- a loop
   abbrev pub loop_code : Expression → Statement → (p : ℕ) → Exits → (t : ℕ) → List Instruction

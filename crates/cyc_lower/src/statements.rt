@@ -1,10 +1,10 @@
 //! The code of statements. Each method adds its code behind what there is.
-ghost use Rattle.std.specs.Prelude.{◌≡◌, ◌+◌, ◌≤◌, [], ◌∷◌, length, option_map};
+ghost use Rattle.std.specs.Prelude.{◌≡◌, ◌+◌, ◌≤◌, ◌<◌, [], ◌∷◌, ◌++◌, length, set, option_map, IfOk, OnOk};
 ghost use Rattle.cyc_types.specs.TypedTrees.{NoClauses};
 ghost use Rattle.cyc_types.specs.TypedTreeView.{view_converted, view_expression, view_statement, items_of, clauses_of, default_of};
 ghost use Rattle.cyc_meaning.specs.FrameCount.{kept_by, kept_by_items, kept_by_clauses};
 ghost use Rattle.cyc_lower.specs.Lowering.{leave_code, other_jump, goes_on, clauses_code, caught_code, break_target, continue_target, inside_loop, return_code, declaration_code, statement_code, items_code};
-ghost use Rattle.cyc_lower.specs.Emission.{Appends, most_locals, throw_code, handler_code, case_code, item_code, kept_by_item, loop_code, view_starts};
+ghost use Rattle.cyc_lower.specs.Emission.{Appends, most_locals, throw_code, case_code, BeginClauses, item_code, kept_by_item, loop_code, view_starts};
 
 use crate::emitter::Emitter;
 use crate::locals::{Starts, slot_of};
@@ -134,47 +134,50 @@ impl Emitter {
         Ok(())
     }
 
-    /// The clauses of a `try`. An exception that none of them catches goes on.
+    /// The clauses of a `try` but its default, whichever that is.
     #[cycle(statement)]
     fn lower_clauses(
         &mut self,
         starts: &Starts,
         clauses: &[Clause],
-        default: &Option<Body>,
         out: usize,
         exits: Exits,
         free: usize,
     ) -> Result<(), AllocError>
-        requires slots { free + (kept_by_clauses (clauses_of clauses.now NoClauses) + kept_by_clauses (default_of default.now)) ≤ most_locals }
+        requires slots { free + kept_by_clauses (clauses_of clauses.now NoClauses) ≤ most_locals }
         requires begun { exits.head ≤ length self.old.code.items }
-        ensures { Appends result self.old self.new (clauses_code (view_starts starts.now) (clauses_of clauses.now (default_of default.now)) (length self.old.code.items) out exits free) }
+        ensures { OnOk result (BeginClauses (view_starts starts.now) clauses.now out exits free self.old.code.items self.new.code.items) }
     {
         for clause in clauses {
             self.lower_clause(starts, clause, out, exits, free)?;
         }
+        Ok(())
+    }
+
+    /// The default of a `try`. Where there is none, an exception that no clause catches goes on.
+    #[cycle(statement)]
+    fn lower_default(
+        &mut self,
+        starts: &Starts,
+        default: &Option<Body>,
+        exits: Exits,
+        free: usize,
+    ) -> Result<(), AllocError>
+        requires slots { free + kept_by_clauses (default_of default.now) ≤ most_locals }
+        requires begun { exits.head ≤ length self.old.code.items }
+        ensures { Appends result self.old self.new (clauses_code (view_starts starts.now) (default_of default.now) (length self.old.code.items) 0 exits free) }
+    {
         match default {
             Some(body) => self.lower_items(starts, &body.items, exits, free),
             None => self.emit(goes_on(free)),
         }
     }
 
-    /// A `try`. Its handler's record has the next slots, so temporaries of its body begin behind it.
-    #[cycle(statement)]
-    fn lower_try(
-        &mut self,
-        starts: &Starts,
-        body: &Stmt,
-        clauses: &[Clause],
-        default: &Option<Body>,
-        exits: Exits,
-        free: usize,
-    ) -> Result<(), AllocError>
-        requires slots { free + (6 + kept_by (view_statement body.now) + (kept_by_clauses (clauses_of clauses.now NoClauses) + kept_by_clauses (default_of default.now))) ≤ most_locals }
-        requires begun { exits.head ≤ length self.old.code.items }
-        ensures { Appends result self.old self.new (handler_code (view_starts starts.now) (view_statement body.now) (clauses_of clauses.now (default_of default.now)) (length self.old.code.items) exits free) }
+    /// The body of a `try` is done: its handler is closed, and its clauses are jumped over. At the place that was kept comes the opening.
+    fn end_body(&mut self, opening: usize, free: usize) -> Result<usize, AllocError>
+        requires { opening < length self.old.code.items }
+        ensures { IfOk result (λ out. (out ≡ length self.old.code.items + 1) × (self.new.code.items ≡ set (self.old.code.items ++ Instruction.Leave free ∷ Instruction.Jump 0 ∷ []) opening (Instruction.Try free (length self.old.code.items + 2)))) }
     {
-        let opening = self.reserve()?;
-        self.lower_statement(starts, body, exits, free + RECORD_WORDS)?;
         self.emit(Instruction::Leave { first: free })?;
         let out = self.reserve()?;
         let handler = self.place();
@@ -182,9 +185,7 @@ impl Emitter {
             first: free,
             handler,
         });
-        self.lower_clauses(starts, clauses, default, out, exits, free)?;
-        self.jump_here(out);
-        Ok(())
+        Ok(out)
     }
 
     /// A jump to the end of the loop that begins at this place, by the second of its two jumps.
@@ -283,7 +284,15 @@ impl Emitter {
                 body,
                 clauses,
                 default,
-            } => self.lower_try(starts, body, clauses, default, exits, free),
+            } => {
+                let opening = self.reserve()?;
+                self.lower_statement(starts, body, exits, free + RECORD_WORDS)?;
+                let out = self.end_body(opening, free)?;
+                self.lower_clauses(starts, clauses, out, exits, free)?;
+                self.lower_default(starts, default, exits, free)?;
+                self.jump_here(out);
+                Ok(())
+            }
             // A swap is not built yet, and never runs.
             Stmt::Swap { .. } => Ok(()),
         }
