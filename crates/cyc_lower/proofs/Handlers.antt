@@ -1,5 +1,5 @@
 -- Code of handlers that is made piece by piece: clauses, whose jumps are written back, and what they keep beside the variables.
-use Rattle.std.proofs.Common.{◌≡◌, ℕ, zero, suc, ◌+◌, ◌≤◌, ◌<◌, List, [], ◌∷◌, ◌++◌, length, get_or, drop, set, Option, None, Some, refl, sym, ap, ◌∙◌, arith, append_assoc, append-nil}
+use Rattle.std.proofs.Common.{◌≡◌, ℕ, zero, suc, ◌+◌, ◌≤◌, ◌<◌, List, [], ◌∷◌, ◌++◌, length, get_or, drop, set, Option, None, Some, refl, sym, ap, ◌∙◌, arith, append_assoc, append-nil, length-set}
 use Rattle.std.proofs.lemmas.List.{drop_all, length-append}
 use Rattle.std.specs.declared.vec.Vec.{Vec}
 use Rattle.std.specs.declared.boxed.Box.{Box}
@@ -10,7 +10,7 @@ use Rattle.cyc_types.specs.declared.typed.Item.{Item as ItemCode}
 use Rattle.cyc_types.specs.declared.typed.Item.TheVariants as item
 use Rattle.cyc_types.specs.declared.typed.Clause.{Clause}
 use Rattle.cyc_types.specs.declared.typed.Body.{Body}
-use Rattle.cyc_types.specs.TypedTrees.{Statement, Try, Items, Clauses, NoClauses, Default, Case}
+use Rattle.cyc_types.specs.TypedTrees.{Statement, Try, Items, NoItems, Clauses, NoClauses, Default, Case}
 use Rattle.cyc_types.specs.TypedTreeView.{view_statement, items_of, clauses_of, default_of}
 use Rattle.cyc_types.proofs.TypedTreeViewLemmas.{view_try}
 use Rattle.cyc_plain.specs.declared.limits.TheConstants.{RECORD_WORDS}
@@ -130,3 +130,14 @@ module _ (starts : Starts) (value : Stmt) (b : Box Stmt Heap) (v : Vec Clause He
       ∙ ap (λ (n : ℕ). set jumped opening (instructions.Try t n)) all)
       (e5 ∙ ap (λ (l : List Instruction). m4 ++ l) (default_alike starts d (length m4) out exits t) ∙ begin (default_of d)) e6
       ∙ ap (λ (s : Statement). old ++ statement_code starts s (length old) exits t) (sym e)
+
+-- ---- lengths
+
+pub clauses_longer : (starts : Starts) (cs : List Clause) (out : ℕ) (exits : Exits) (t : ℕ) (old new : List Instruction) → BeginClauses starts cs out exits t old new → length old ≤ length new
+clauses_longer starts cs out exits t old new begin =
+    let more = clauses_code starts (clauses_of cs (Default 0 NoItems)) (length old) out exits t in
+    let e : length (new ++ []) ≡ length (old ++ more) = ap length (begin (Default 0 NoItems)) in
+    omega (arith, e, length-append new [], length-append old more)
+
+pub body_longer : (old new : List Instruction) (x y z : Instruction) (n : ℕ) → new ≡ set (old ++ x ∷ y ∷ []) n z → length new ≡ length old + 2
+body_longer old new x y z n is = ap length is ∙ length-set (old ++ x ∷ y ∷ []) n z ∙ length-append old (x ∷ y ∷ [])
