@@ -6,12 +6,10 @@ use Rattle.std.proofs.lemmas.Bool.{le-leb, and_from, false_from_ne_true, leb-tru
 use Rattle.std.proofs.Math.Nat.{le-max_left, mod-eq_of_lt}
 use Rattle.cyc_words.specs.Ending.{Full}
 use Rattle.cyc_words.specs.Word.{add_of}
-use Rattle.cyc_words.specs.Word as words
 use Rattle.cyc_words.specs.Demand.{demand_of}
 use Rattle.cyc_types.specs.declared.typed.Kind.{Kind}
 use Rattle.cyc_types.specs.declared.typed.Kind.TheVariants as kinds
 use Rattle.cyc_types.specs.TypedTrees.{Arguments, NoArguments, MoreArguments, Convert, Program}
-use Rattle.cyc_types.specs.Numbered.{argument_count}
 use Rattle.cyc_store.specs.State.{StoreState, demand}
 use Rattle.cyc_store.specs.Services as services
 use Rattle.cyc_store.specs.Services.{Allocate, refusal, full_at, is_size}
@@ -30,32 +28,29 @@ use Rattle.cyc_plain.specs.Requests as plain_requests
 use Rattle.cyc_plain.specs.Straight.{At}
 use Rattle.cyc_plain.proofs.Steps.{step_serves, step_full}
 use Rattle.cyc_plain.proofs.SlotLaws.{put-same, put-other}
-use Rattle.cyc_meaning.specs.Values.{Value, Thin, Operand as Kinded, Cell, blank, kinds_of, is_kind, words_of_kind, words_of_cells, block_size}
-use Rattle.cyc_meaning.specs.Allocation.{writes_from, blanks_of, filled, makes_of, makes_plain, makes_fields}
+use Rattle.cyc_meaning.specs.Values.{Thin, Operand as Kinded, Cell, kinds_of, is_kind, words_of_kind, words_of_cells, block_size}
+use Rattle.cyc_meaning.specs.Allocation.{writes_from, blanks_of, filled, makes_of}
 use Rattle.cyc_meaning.specs.Objects.{made_in, created_in}
 use Rattle.cyc_meaning.specs.Effects.{pages_of}
-use Rattle.cyc_meaning.specs.State.{Region, Owner, InRegion, Unique, Object, World, Access, Found, Closed, Missing, heap_number, region_at, counted, cell_at, written, Environment, MakePlain, MakeFields, ConvertTo, Write, Entry, Needs, Focus, Evaluating, Given, Writing, State, Running, Ended, status_of}
-use Rattle.cyc_meaning.specs.State as meaning
-use Rattle.cyc_meaning.specs.Step.{wrong, stored, stored_at, target_by, step}
-use Rattle.cyc_meaning.specs.SourceMachine.{status_in}
+use Rattle.cyc_meaning.specs.State.{Region, Owner, InRegion, Unique, World, Access, Found, Closed, Missing, heap_number, region_at, counted, cell_at, written, Environment, MakePlain, MakeFields, ConvertTo, Write, Entry, Needs, Focus, Evaluating, Given, Writing, State, Running, Ended}
+use Rattle.cyc_meaning.specs.Step.{wrong, stored, target_by, step}
 use Rattle.cyc_meaning.specs.Run.{is_within, limited_step}
 use Rattle.cyc_objects.specs.Tables.{Variable, Placed, Tables, with_row, Grows}
-use Rattle.cyc_objects.specs.Words.{words_of_kinds, before, InRange, Points, Is}
+use Rattle.cyc_objects.specs.Words.{words_of_kinds, before, Points}
 use Rattle.cyc_objects.specs.Related as objects
 use Rattle.cyc_objects.specs.Related.{has_home}
 use Rattle.cyc_objects.proofs.Values.{Grows-row}
 use Rattle.cyc_objects.proofs.RegionLemmas.{counted-same}
 use Rattle.cyc_objects.proofs.NumberLemmas.{slice_get-below}
 use Rattle.cyc_objects.proofs.Making.{open-home, allocated, refusal-allocate, operands-blank, row-made, placed-range, room-fits}
-use Rattle.cyc_lower.specs.Lowering.{all_passed, passed_words, lower_program}
+use Rattle.cyc_lower.specs.Lowering.{lower_program}
 use Rattle.cyc_lower.proofs.Widths.{kind_positive, Outside}
-use Rattle.cyc_lower.proofs.Stands.{StoresAt, ObjectAt, ArgumentsAt}
-use Rattle.cyc_lower.proofs.Weights.{weight, stack_weight, arguments_weight}
-use Rattle.cyc_lower.proofs.Relation.{IsWord, IsIn, IsHandleOf, IsObject, words_held, height, Holds, HoldsFrom, held, callers, homes, silent, DataIn, SharedAt, in_temporary, into_slot, LandsStack, ValueStack, Related, Matches, code_of, bounds_at, types_at, base_of, top}
-use Rattle.cyc_lower.proofs.Data.{Is-same, height-least, height-is, one_word, Holds-same, Holds-rest, Holds-grows, HoldsFrom-grows, in_order, words-reverse, data_above, data_grows, variables_grow, contents_made}
+use Rattle.cyc_lower.proofs.Stands.{StoresAt, ObjectAt}
+use Rattle.cyc_lower.proofs.Relation.{IsWord, IsIn, IsObject, words_held, height, Holds, HoldsFrom, held, callers, homes, silent, DataIn, SharedAt, in_temporary, into_slot, LandsStack, ValueStack, Matches, code_of, bounds_at, types_at, base_of, top}
+use Rattle.cyc_lower.proofs.Data.{Is-same, height-least, one_word, Holds-same, Holds-rest, Holds-grows, HoldsFrom-grows, in_order, words-reverse, data_above, data_grows, variables_grow, contents_made}
 use Rattle.cyc_lower.proofs.Accesses.{IsWell, is_fitting}
 use Rattle.cyc_lower.proofs.CellWrites.{SameVariables, data_beside, cell_is_there, saves_there, shared_saved, data_saved}
-use Rattle.cyc_lower.proofs.Matched.{IsMatched, above, below, silently, by_places, by_one, shared_way, shared_within, place_in, known, Executes, lands_depth}
+use Rattle.cyc_lower.proofs.Matched.{IsMatched, below, silently, by_places, by_one, shared_way, shared_within, place_in, known, Executes}
 use Rattle.cyc_lower.proofs.Evaluations.{IsStep, landed_moved}
 
 -- a sum that does not wrap

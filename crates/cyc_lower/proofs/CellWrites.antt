@@ -1,5 +1,5 @@
 -- Objects that are no variables are made, and their cells are written: what is said of variables stays, and what is shared does.
-use Rattle.std.proofs.Common.{◌≡◌, ◌≢◌, ℕ, suc, ◌+◌, ◌*◌, ◌≤◌, ◌<◌, true, List, [], ◌∷◌, ◌++◌, length, set, Option, None, Some, slice_get, refl, sym, ap, subst, ◌∙◌, arith, length-set}
+use Rattle.std.proofs.Common.{◌≡◌, ℕ, ◌+◌, ◌*◌, ◌≤◌, List, [], ◌∷◌, length, set, Option, Some, slice_get, refl, sym, ap, subst, ◌∙◌, arith, length-set}
 use Rattle.std.specs.Prelude.{if◌then◌else◌}
 use Rattle.cyc_words.specs.Word as words
 use Rattle.cyc_lower.specs.Slots.{Types}
@@ -13,9 +13,8 @@ use Rattle.cyc_plain.specs.Step.{advanced, saves}
 use Rattle.cyc_meaning.specs.Values.{Value, Operand as Kinded, is_kind, words_of_kind}
 use Rattle.cyc_meaning.specs.State.{Object, World, Access, Found, Closed, Missing, Located, cell_at, written, Environment, Entry, Focus, Running}
 use Rattle.cyc_meaning.specs.Step.{wrong, stored}
-use Rattle.cyc_meaning.proofs.WorldLaws.{cell_found}
 use Rattle.cyc_objects.specs.Tables.{Variable, Tables}
-use Rattle.cyc_objects.specs.Words.{words_from, Points, Is}
+use Rattle.cyc_objects.specs.Words.{words_from, Points}
 use Rattle.cyc_objects.specs.Related as objects
 use Rattle.cyc_objects.proofs.Cells.{not-placed, found-alive, cell-live, related-written, saved-is}
 use Rattle.cyc_lower.proofs.Widths.{same_kind}

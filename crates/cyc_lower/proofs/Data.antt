@@ -12,10 +12,9 @@ use Rattle.cyc_types.specs.declared.typed.Kind.{Kind}
 use Rattle.cyc_types.specs.declared.typed.Kind.TheVariants as kinds
 use Rattle.cyc_meaning.specs.Values.{Value, Int, Null, Thin, Handle, Key, Operand, words_of_kind}
 use Rattle.cyc_meaning.specs.State.{Object, Environment, with_local}
-use Rattle.cyc_types.specs.Types.{Ty}
 use Rattle.cyc_meaning.specs.FrameCount.{words_of_all}
 use Rattle.cyc_lower.specs.Slots.{starts_of, slot_of, Types}
-use Rattle.cyc_lower.proofs.Widths.{kind_positive, words_in, HasRoom, Outside}
+use Rattle.cyc_lower.proofs.Widths.{words_in, HasRoom, Outside}
 use Rattle.cyc_lower.proofs.Slots.{slot-room, slot-apart}
 use Rattle.cyc_plain.specs.declared.instruction.Operand.{Operand as Place}
 use Rattle.cyc_plain.specs.declared.instruction.Operand.TheVariants as operands

@@ -18,7 +18,7 @@ use Rattle.cyc_plain.specs.State.{Words, put, copied, Frame, Configuration}
 use Rattle.cyc_plain.specs.Step.{Choice, operand_word, with_slots, at, advanced, performed}
 use Rattle.cyc_plain.proofs.SlotLaws.{put-same, put-other, copied-inside, copied-above}
 use Rattle.cyc_plain.specs.Straight.{At}
-use Rattle.cyc_meaning.specs.Values.{Value, Int, Null, Thin, Fat, Handle, Key, Operand as Kinded, is_thin, is_kind, words_of_kind}
+use Rattle.cyc_meaning.specs.Values.{Value, Int, Null, Thin, Fat, Handle, Key, Operand as Kinded, is_thin, words_of_kind}
 use Rattle.cyc_meaning.specs.Operators.{Result, Gives}
 use Rattle.cyc_meaning.specs.Pointers.{moved, null_test, takes_kind, result_kind as operator_kind}
 use Rattle.cyc_meaning.specs.Objects.{found_object, object_at, both_found, compared}

@@ -8,7 +8,7 @@ use Rattle.cyc_types.specs.declared.typed.UnaryOperator.TheVariants as unary
 use Rattle.cyc_types.specs.declared.typed.Operator.{Operator}
 use Rattle.cyc_types.specs.declared.typed.Callee.TheVariants as callees
 use Rattle.cyc_types.specs.Types.{Ty}
-use Rattle.cyc_types.specs.TypedTrees.{Target, Lvalue, Local, Global, Expression, NoArguments, NoOperations, Statement, Function, Program}
+use Rattle.cyc_types.specs.TypedTrees.{Lvalue, Local, Global, Expression, NoArguments, NoOperations, Statement, Function, Program}
 use Rattle.cyc_types.specs.Numbered.{Numbering, argument_count, numbering_of, signatures_of}
 use Rattle.cyc_store.specs.State.{StoreState, demand}
 use Rattle.cyc_store.specs.declared.range.TheConstants.{HEAP}
@@ -27,10 +27,10 @@ use Rattle.cyc_plain.specs.State.{Words, Frame, Configuration}
 use Rattle.cyc_plain.specs.Step.{operand_word}
 use Rattle.cyc_plain.specs.State as plain
 use Rattle.cyc_plain.specs.Straight.{At}
-use Rattle.cyc_meaning.specs.Values.{Value, Int, Null, Thin, Operand as Kinded, Cell, kinds_of, words_of_kind, is_thin}
+use Rattle.cyc_meaning.specs.Values.{Value, Null, Thin, Operand as Kinded, Cell, kinds_of, words_of_kind, is_thin}
 use Rattle.cyc_meaning.specs.Allocation.{writes_from, blanks_of}
 use Rattle.cyc_meaning.specs.State.{Owner, InRegion, Unique, Object, World, heap_number, globals_number, Environment, ConvertTo, Operate, Chain, Apply, ApplyPointer, Follow, LoadFrom, Decide, Store, Pass, MakePlain, MakeFields, Initialise, Choose, Test, Return, Entry, Needs, NeedsPlace, Discard, Rest, Join, Loop, CloseRegion, CloseLexical, EndLoan, Handler, Caller, Main, calls_in, Focus, Evaluating, Locating, Given, Executing, Proceeding, Calling, Entering, Binding, Writing, Breaking, Continuing, Returning, Throwing, State, Running, Ended, GivenPlace}
-use Rattle.cyc_meaning.specs.Step.{target_of, object_of}
+use Rattle.cyc_meaning.specs.Step.{object_of}
 use Rattle.cyc_meaning.specs.Operators.{null_exception, is_zero}
 use Rattle.cyc_meaning.specs.FrameCount.{words_of_all}
 use Rattle.cyc_lower.specs.declared.statements.Exits.{Exits}
