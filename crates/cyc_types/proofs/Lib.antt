@@ -1,7 +1,6 @@
 -- what the crates above cite
 pub mod RuleLaws
 pub mod TypedTreeViewLemmas
-pub mod BuiltLemmas
 pub mod WeightLemmas
 pub mod typing
 -- what the proofs of this crate cite

@@ -9,8 +9,8 @@ pub mod IntPart
 pub mod Rules
 pub mod typing
 pub mod flow
-pub mod Built
 pub mod Numbered
+pub mod Built
 pub mod Weight
 pub mod Outlives
 -- what the functions inside these crates promise each other: the rules as functions, and the table of constraints

@@ -1,29 +1,31 @@
 //! Which programs are built: those that what stands behind the flow check handles so far.
-ghost use Rattle.std.specs.Prelude.{◌≡◌, map, option_map, false};
+ghost use Rattle.std.specs.Prelude.{◌≡◌, map, option_map, false, length};
 ghost use Rattle.std.specs.Result.{is_ok};
 ghost use Rattle.std.specs.List.{list_all};
-ghost use Rattle.cyc_types.specs.TypeView.{view_ty};
-ghost use Rattle.cyc_types.specs.TypedTreeView.{view_expression, view_converted, arguments_of, operations_of, view_statement, items_of, view_global, view_function, view_program};
-ghost use Rattle.cyc_types.specs.Built.{is_built_type, is_built_result, is_built_kind, is_built_expression, is_built_converted, are_built_arguments, are_built_operations, is_built_value, is_built_statement, are_built_items, is_built_global, is_built_function, is_built};
+ghost use Rattle.cyc_types.specs.TypeView.{view_ty, view_value_type};
+ghost use Rattle.cyc_types.specs.TypedTreeView.{view_expression, view_dereference, view_placement, view_initial, view_converted, arguments_of, operations_of, view_statement, items_of, view_struct, view_global, view_function, view_program};
+ghost use Rattle.cyc_types.specs.Built.{is_built_type, is_built_result, is_built_value_type, is_built_kind, is_built_operator, is_built_placement, is_built_size, is_built_expression, is_built_place, is_built_initial, is_built_converted, are_built_arguments, are_built_operations, is_built_value, is_built_statement, are_built_items, is_built_struct, is_built_global, is_built_function, is_built};
 
-use crate::Ty;
-use crate::typed::{Converted, Expr, Function, Global, Item, Kind, Operation, Stmt, TypedTree};
+use crate::typed::{
+    Converted, Dereference, Expr, Function, Global, Initial, Item, Kind, Operation, Placement,
+    PointerOperator, Stmt, StructType, TypedTree, ValueType,
+};
+use crate::{Region, Ty};
+use cyc_syntax::PointerKind;
 use cyc_words::{Code, Fault, Span};
 
 /// What a program may have that is not built yet.
 #[derive(Clone, Copy, Debug, PartialEq, Eq)]
 pub enum Construct {
+    /// Without fields, or with more than a thousand.
     Struct,
     Exception,
-    /// A type other than `int`.
-    Type,
-    /// `NULL`
-    Null,
-    /// `heap_region`
-    HeapRegion,
-    /// A pointer that is followed: `*e`, `e->f` or `e[i]`.
-    Dereference,
-    /// `&`
+    FatPointer,
+    UniquePointer,
+    /// The handle of a region.
+    Handle,
+    Key,
+    /// `&` of a variable.
     AddressOf,
     /// `numelts`
     NumberOfElements,
@@ -31,10 +33,10 @@ pub enum Construct {
     FreeUnique,
     /// `free_ukey`
     FreeKey,
-    /// `new` or `rnew`
-    New,
-    /// A value other than an int.
-    Value,
+    /// `rnew`
+    RegionNew,
+    /// `new {for ..}`
+    Array,
     /// `:=:`
     Swap,
     /// `throw`
@@ -77,20 +79,27 @@ fn stop(construct: Construct, name: Span) -> Result<(), Unbuilt>
 fn check_type(of_type: &Ty, span: Option<Span>) -> Result<(), Unbuilt>
     ensures { is_ok result ≡ is_built_type (view_ty of_type.now) }
 {
-    match of_type {
-        Ty::Int => Ok(()),
-        _ => Err(Unbuilt {
-            construct: Construct::Type,
-            span,
-        }),
-    }
+    let construct = match of_type {
+        Ty::Pointer {
+            kind: PointerKind::Fat,
+            ..
+        } => Construct::FatPointer,
+        Ty::Pointer {
+            region: Region::Unique,
+            ..
+        } => Construct::UniquePointer,
+        Ty::Handle { .. } => Construct::Handle,
+        Ty::Key { .. } => Construct::Key,
+        Ty::Int | Ty::Pointer { .. } | Ty::Struct { .. } => return Ok(()),
+    };
+    Err(Unbuilt { construct, span })
 }
 
-fn check_types(types: &[Ty], name: Span) -> Result<(), Unbuilt>
+fn check_types(types: &[Ty], span: Option<Span>) -> Result<(), Unbuilt>
     ensures { is_ok result ≡ list_all is_built_type (map view_ty types.now) }
 {
     for of_type in types {
-        check_type(of_type, Some(name))?;
+        check_type(of_type, span)?;
     }
     Ok(())
 }
@@ -104,12 +113,74 @@ fn check_result(given: &Option<Ty>, name: Span) -> Result<(), Unbuilt>
     }
 }
 
+fn check_value_type(of_type: &ValueType, name: Span) -> Result<(), Unbuilt>
+    ensures { is_ok result ≡ is_built_value_type (view_value_type of_type.now) }
+{
+    match of_type {
+        ValueType::Void => Ok(()),
+        ValueType::Null => stop(Construct::UniquePointer, name),
+        ValueType::Value { of_type } => check_type(of_type, Some(name)),
+    }
+}
+
 fn check_kind(kind: Kind, name: Span) -> Result<(), Unbuilt>
     ensures { is_ok result ≡ is_built_kind kind }
 {
     match kind {
         Kind::Int | Kind::Nullable | Kind::NonNull => Ok(()),
-        Kind::Fat | Kind::Handle | Kind::Key => stop(Construct::Value, name),
+        Kind::Fat => stop(Construct::FatPointer, name),
+        Kind::Handle => stop(Construct::Handle, name),
+        Kind::Key => stop(Construct::Key, name),
+    }
+}
+
+fn check_operator(operator: PointerOperator, name: Span) -> Result<(), Unbuilt>
+    ensures { is_ok result ≡ is_built_operator operator }
+{
+    match operator {
+        PointerOperator::EqualThin
+        | PointerOperator::NotEqualThin
+        | PointerOperator::ThinIsNull
+        | PointerOperator::ThinIsNotNull
+        | PointerOperator::NullIs
+        | PointerOperator::NullIsNot => Ok(()),
+        PointerOperator::AddFat
+        | PointerOperator::SubtractFat
+        | PointerOperator::FatIsNull
+        | PointerOperator::FatIsNotNull => stop(Construct::FatPointer, name),
+    }
+}
+
+fn check_placement(placement: &Placement, name: Span) -> Result<(), Unbuilt>
+    ensures { is_ok result ≡ is_built_placement (view_placement placement.now) }
+{
+    match placement {
+        Placement::OnHeap => Ok(()),
+        Placement::AsUnique | Placement::ByHandle { .. } => stop(Construct::RegionNew, name),
+    }
+}
+
+/// A new struct has so many fields.
+fn check_size(values: &[Converted], name: Span) -> Result<(), Unbuilt>
+    ensures { is_ok result ≡ is_built_size (length values.now) }
+{
+    if 1 <= values.len() && values.len() <= 1000 {
+        Ok(())
+    } else {
+        stop(Construct::Struct, name)
+    }
+}
+
+/// What an expression is, of a form that is not built.
+fn form_of(expression: &Expr) -> Construct {
+    match expression {
+        Expr::HeapRegion => Construct::Handle,
+        Expr::Counter { .. } => Construct::Array,
+        Expr::AddressOf { .. } => Construct::AddressOf,
+        Expr::NumberOfElements { .. } => Construct::NumberOfElements,
+        Expr::FreeUnique { .. } => Construct::FreeUnique,
+        Expr::FreeKey { .. } => Construct::FreeKey,
+        _ => Construct::UniquePointer,
     }
 }
 
@@ -118,26 +189,102 @@ fn check_expression(expression: &Expr, name: Span) -> Result<(), Unbuilt>
     ensures { is_ok result ≡ is_built_expression (view_expression expression.now) }
 {
     match expression {
-        Expr::Number { .. } | Expr::Copy { .. } => Ok(()),
-        Expr::Call { arguments, .. } => check_arguments(arguments, name),
-        Expr::Unary { operand, .. } => check_expression(operand, name),
-        Expr::Binary { first, rest, .. } => {
-            check_expression(first, name)?;
-            check_operations(rest, name)
+        Expr::Number { .. } | Expr::NullPointer => Ok(()),
+        Expr::Copy { of_type, .. } => check_type(of_type, Some(name)),
+        Expr::Load { source } => check_place(source, name),
+        Expr::AddressOfCell { place, of_type } => {
+            check_place(place, name)?;
+            check_type(of_type, Some(name))
         }
-        Expr::Assign { value, .. } => check_converted(value, name),
-        Expr::NullPointer => stop(Construct::Null, name),
-        Expr::HeapRegion => stop(Construct::HeapRegion, name),
-        Expr::Load { .. } | Expr::Store { .. } => stop(Construct::Dereference, name),
-        Expr::AddressOf { .. } | Expr::AddressOfCell { .. } => stop(Construct::AddressOf, name),
-        Expr::NumberOfElements { .. } => stop(Construct::NumberOfElements, name),
-        Expr::FreeUnique { .. } => stop(Construct::FreeUnique, name),
-        Expr::FreeKey { .. } => stop(Construct::FreeKey, name),
-        Expr::New { .. } => stop(Construct::New, name),
-        Expr::Counter { .. } | Expr::Move { .. } | Expr::Peek { .. } => stop(
-            Construct::Value,
-            name,
-        ),
+        Expr::Call {
+            arguments,
+            result,
+            ..
+        } => {
+            check_arguments(arguments, name)?;
+            check_value_type(result, name)
+        }
+        Expr::Unary { operand, .. } => check_expression(operand, name),
+        Expr::Binary {
+            first,
+            rest,
+            of_type,
+        } => {
+            check_expression(first, name)?;
+            check_operations(rest, name)?;
+            check_type(of_type, Some(name))
+        }
+        Expr::Assign { value, result, .. } => {
+            check_converted(value, name)?;
+            check_value_type(result, name)
+        }
+        Expr::Store {
+            target,
+            value,
+            result,
+        } => {
+            check_place(target, name)?;
+            check_converted(value, name)?;
+            check_value_type(result, name)
+        }
+        Expr::New {
+            placement,
+            initial,
+            of_type,
+        } => {
+            check_placement(placement, name)?;
+            check_initial(initial, name)?;
+            check_type(of_type, Some(name))
+        }
+        Expr::HeapRegion
+        | Expr::Counter { .. }
+        | Expr::Move { .. }
+        | Expr::Peek { .. }
+        | Expr::AddressOf { .. }
+        | Expr::NumberOfElements { .. }
+        | Expr::FreeUnique { .. }
+        | Expr::FreeKey { .. } => stop(form_of(expression), name),
+    }
+}
+
+#[cycle(expression)]
+fn check_place(place: &Dereference, name: Span) -> Result<(), Unbuilt>
+    ensures { is_ok result ≡ is_built_place (view_dereference place.now) }
+{
+    match place {
+        Dereference::Target {
+            kind,
+            pointer,
+            of_type,
+        }
+        | Dereference::Member {
+            kind,
+            pointer,
+            of_type,
+            ..
+        } => {
+            check_expression(pointer, name)?;
+            check_kind(*kind, name)?;
+            check_type(of_type, Some(name))
+        }
+        Dereference::Element { .. } => stop(Construct::FatPointer, name),
+    }
+}
+
+#[cycle(expression)]
+fn check_initial(initial: &Initial, name: Span) -> Result<(), Unbuilt>
+    ensures { is_ok result ≡ is_built_initial (view_initial initial.now) }
+{
+    match initial {
+        Initial::Plain { kind, value } => {
+            check_expression(value, name)?;
+            check_kind(*kind, name)
+        }
+        Initial::Fields { values } => {
+            check_size(values, name)?;
+            check_arguments(values, name)
+        }
+        Initial::Array { .. } => stop(Construct::Array, name),
     }
 }
 
@@ -169,9 +316,11 @@ fn check_operations(operations: &[Operation], name: Span) -> Result<(), Unbuilt>
             Operation::Compute { operand, .. } | Operation::Test { operand, .. } => {
                 check_expression(operand, name)?;
             }
-            Operation::Pointer { .. } | Operation::PointerPeek { .. } => {
-                return stop(Construct::Value, name);
+            Operation::Pointer { operator, operand } => {
+                check_operator(*operator, name)?;
+                check_expression(operand, name)?;
             }
+            Operation::PointerPeek { .. } => return stop(Construct::UniquePointer, name),
         }
     }
     Ok(())
@@ -235,6 +384,15 @@ fn check_items(items: &[Item], name: Span) -> Result<(), Unbuilt>
     Ok(())
 }
 
+fn check_structs(structs: &[StructType]) -> Result<(), Unbuilt>
+    ensures { is_ok result ≡ list_all is_built_struct (map view_struct structs.now) }
+{
+    for given in structs {
+        check_types(&given.fields, None)?;
+    }
+    Ok(())
+}
+
 fn check_globals(globals: &[Global]) -> Result<(), Unbuilt>
     ensures { is_ok result ≡ list_all is_built_global (map view_global globals.now) }
 {
@@ -247,7 +405,7 @@ fn check_globals(globals: &[Global]) -> Result<(), Unbuilt>
 fn check_function(function: &Function) -> Result<(), Unbuilt>
     ensures { is_ok result ≡ is_built_function (view_function function.now) }
 {
-    check_types(&function.parameters, function.span)?;
+    check_types(&function.parameters, Some(function.span))?;
     check_result(&function.result, function.span)?;
     check_items(&function.body, function.span)
 }
@@ -265,12 +423,7 @@ fn check_functions(functions: &[Function]) -> Result<(), Unbuilt>
 pub fn check_built(tree: &TypedTree) -> Result<(), Unbuilt>
     ensures { is_ok result ≡ is_built (view_program tree.now) }
 {
-    if !tree.structs.is_empty() {
-        return Err(Unbuilt {
-            construct: Construct::Struct,
-            span: None,
-        });
-    }
+    check_structs(&tree.structs)?;
     if !tree.exceptions.is_empty() {
         return Err(Unbuilt {
             construct: Construct::Exception,

@@ -9,7 +9,6 @@ ghost use Rattle.cyc_types.specs.typing.WellTyped.{IsWellTypedProgram};
 ghost use Rattle.cyc_types.specs.flow.Programs.{IsAllowedProgram, IsStoppedProgram, flow_of};
 ghost use Rattle.cyc_types.specs.IntPart.{is_int_program};
 ghost use Rattle.cyc_types.specs.Built.{is_built};
-ghost use Rattle.cyc_types.specs.Numbered.{IsNumberedProgram};
 ghost use Rattle.cyc_types.specs.Weight.{else_weight, statement_weight, function_weight, program_weight};
 
 /// The typing rules leave no choice: a tree has at most one typed tree.
@@ -52,11 +51,6 @@ pub fn flow_checking_is_flow()
 /// What the typing rules derive is well typed.
 pub fn typed_trees_are_well_typed()
     ensures { (texts : List (List ℕ)) (tree : List Declaration) (p : Program) → IsTypedProgram texts tree p → IsWellTypedProgram p }
-{}
-
-/// A well typed program that is built keeps its numbers in range, its calls in step with its functions, and its breaks in loops.
-pub fn built_programs_are_numbered()
-    ensures { (p : Program) → IsWellTypedProgram p → is_built p ≡ true → IsNumberedProgram p }
 {}
 
 /// A program over ints is built.

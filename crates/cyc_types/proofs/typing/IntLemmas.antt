@@ -21,13 +21,13 @@ use Rattle.cyc_types.specs.Types as types
 use Rattle.cyc_types.specs.TypedTrees.{Lvalue, Side, VariableSide, CellSide, Converted, Signature, type_of}
 use Rattle.cyc_types.specs.TypedTrees as typed
 use Rattle.cyc_types.specs.IntPart.{is_empty, is_left_out, is_int_base, is_int_type, is_int_expression, are_int_expressions, are_int_operations, is_int_option, is_int_statement, is_int_body, are_int_items, are_int_members, is_int_list, are_int_parameters, is_int_value, is_int_result, is_int_declaration, is_int_program}
-use Rattle.cyc_types.specs.Built.{is_built_type, is_built_result, is_built_kind, is_built_expression, is_built_converted, are_built_arguments, are_built_operations, is_built_value, is_built_statement, are_built_items, is_built_global, is_built_function, is_built}
+use Rattle.cyc_types.specs.Built.{is_built_type, is_built_result, is_built_value_type, is_built_kind, is_built_expression, is_built_converted, are_built_arguments, are_built_operations, is_built_value, is_built_statement, are_built_items, is_built_struct, is_built_global, is_built_function, is_built}
 use Rattle.cyc_types.specs.Rules.{Rule, Derives}
 use Rattle.cyc_types.specs.typing.Scopes.{signature_of_ints, RegionName, StructName, Exception, Meaning, Unknown, Fixed, Counter, Routine, Declared, Ordinary, LocalVariable, Scope, meaning_in, meaning_among, meaning_of, behind, in_block, in_body, with_local}
 use Rattle.cyc_types.specs.typing.Scopes as scopes
 use Rattle.cyc_types.specs.typing.Formation.{Naming, base_written, pointers_written, type_written, after_base, base_for, pointers_for, type_for, after_type, types_for}
 use Rattle.cyc_types.specs.typing.Tests.{kind_of, kind_of_value}
-use Rattle.cyc_types.specs.typing.Expressions.{converted, passed, variable_read, variable_looked, read, looked, rule_looked, Found, place_meant, assignment, is_looking, is_looking_first, operand, Joined, peeked_local, then_added, ints_joined, tests_joined, sums_joined, int_test, then_compared, equality_joined, joined, instance_of, called, rule, rule_all, rule_chain, rule_place}
+use Rattle.cyc_types.specs.typing.Expressions.{converted, instantiated, passed, variable_read, variable_looked, read, looked, rule_looked, Found, place_meant, assigned_type, assignment, is_looking, is_looking_first, operand, Joined, peeked_local, then_added, ints_joined, tests_joined, sums_joined, int_test, then_compared, equality_joined, joined, instance_of, called, rule, rule_all, rule_chain, rule_place}
 use Rattle.cyc_types.specs.typing.Statements.{rule_condition, returned, rule_returned, rule_initial, declared_type, behind_item, rule_statement, rule_body, rule_items}
 use Rattle.cyc_types.specs.typing.Heads.{Known, members_of, structs_of, exceptions_of, parameter_naming, result_written, signature_of, declared_from}
 use Rattle.cyc_types.specs.typing.Programs.{declared_before, Program, program_known, parameter_locals, body_scope, rule_functions, globals_of, struct_types, IsTypedProgram}
@@ -197,6 +197,11 @@ operand_ints : (g : Scope) → AreInts g → (seen : Bool) (e : Expression) → 
 operand_ints g k true e w a d = seen_ints g k e (rule g e) w a d
 operand_ints g k false e w a d = w a d
 
+value_type_built : (v : ValueType) → IsIntValue v → is_built_value_type v ≡ true
+value_type_built types.Void i = refl
+value_type_built types.Null i = absurd i
+value_type_built (Value t) i = ap is_built_type i
+
 kind_built : (v : ValueType) → IsIntValue v → is_built_kind (kind_of_value v) ≡ true
 kind_built types.Void i = refl
 kind_built types.Null i = absurd i
@@ -225,7 +230,12 @@ called_ints g (scopes.Variable l t home) p es as' k i a d = absurd d
 called_ints g (Fixed l t) p es as' k i a d = absurd d
 called_ints g (Counter n) p es as' k i a d = absurd d
 called_ints g (Routine f s) p es as' (parameters, result) i a (kept, eq) =
-    subst IsInt (sym eq) (passed_built (instance_of s as') as' s.parameters i parameters, go (instance_of s as') s.result result)
+    let value : IsIntValue (result_type (instantiated (instance_of s as') s).result) = go (instance_of s as') s.result result in
+    subst IsInt (sym eq) (
+      both (are_built_arguments (passed as' (instantiated (instance_of s as') s).parameters)) (is_built_value_type (result_type (instantiated (instance_of s as') s).result))
+          (passed_built (instance_of s as') as' s.parameters i parameters) (value_type_built _ value),
+      value,
+    )
   where
     go : (m : List Region) (r : Option Ty) → IsIntResult r → IsIntValue (result_type (option_map (substituted_ty m) r))
     go m None k = tt
@@ -302,7 +312,9 @@ found_int g k p (Chained e ps) x i d = absurd (cc)
 found_int g k p e x i (b, kb, d) = absurd d
 
 assignment_int : (s : Side) (b : typed.Expression) → IsIntSide s → IsInt b → IsInt (assignment s b)
-assignment_int (VariableSide l t) b k i = (converted_built b t i k, subst (λ u. IsIntValue (type_of (assignment (VariableSide l u) b))) (sym k) refl)
+assignment_int (VariableSide l t) b k i =
+    let value : IsIntValue (assigned_type t) = subst (λ u. IsIntValue (assigned_type u)) (sym k) refl in
+    (both (is_built_converted (converted b t)) (is_built_value_type (assigned_type t)) (converted_built b t i k) (value_type_built (assigned_type t) value), value)
 assignment_int (CellSide c) b k i = absurd k
 
 -- ---- all forms of expressions
@@ -321,7 +333,8 @@ mutual
       let (one, rest) = and_parts (is_int_expression e) (are_int_operations os) i in
       let (first, value) = operand_ints g k (is_looking_first os) e (λ c d. expression_int g k e one c d) b kb in
       let (chain, type_int) = chain_int g k (place_of e) (peeked_local b) (type_of b) os bs rest value ks in
-      subst IsInt (sym eq) (both (is_built_expression b) (are_built_operations bs.0) first chain, type_int)
+      subst IsInt (sym eq)
+      (both (is_built_expression b) (are_built_operations bs.0 && is_built_type bs.1) first (both (are_built_operations bs.0) (is_built_type bs.1) chain (ap is_built_type type_int)), type_int)
   expression_int g k (Assign e v) i a (x, kx, (b, kb, (kept, eq))) =
       let (place, value) = and_parts (is_int_expression e) (is_int_expression v) i in
       subst IsInt (sym eq) (assignment_int x.side b (found_int g k (place_of e) e x place kx) (expression_int g k v value b kb))
@@ -452,10 +465,11 @@ pub program_int : (texts : List (List ℕ)) (tree : List Declaration) (p : typed
 program_int texts tree p i (u, heads, (v, main, (fs, functions, (w, eq)))) =
     let q : Program = program_known texts tree in
     let declared : AreIntsIn q.declared = before_ints texts (declared_from q.known 0 0 tree) (declared_ints q.known 0 0 tree i) in
-    let no_struct : is_empty p.structs ≡ true = ap (λ (z : typed.Program). is_empty z.structs) eq ∙ ap (λ ss. is_empty (struct_types ss q.fields)) (no_structs tree i) in
+    let no_struct : list_all is_built_struct p.structs ≡ true =
+    ap (λ (z : typed.Program). list_all is_built_struct z.structs) eq ∙ ap (λ ss. list_all is_built_struct (struct_types ss q.fields)) (no_structs tree i) in
     let no_exception : is_empty p.exceptions ≡ true = ap (λ (z : typed.Program). is_empty z.exceptions) eq ∙ ap (λ es. is_empty (map (λ (e : Exception). e.has_int) es)) (no_exceptions tree i) in
     let globals : list_all is_built_global p.globals ≡ true = ap (λ (z : typed.Program). list_all is_built_global z.globals) eq ∙ globals_int q.known tree i in
     let all : list_all is_built_function p.functions ≡ true = ap (λ (z : typed.Program). list_all is_built_function z.functions) eq ∙ functions_int q declared tree fs i functions in
-    both (is_empty p.structs) (is_empty p.exceptions && (list_all is_built_global p.globals && list_all is_built_function p.functions)) no_struct
+    both (list_all is_built_struct p.structs) (is_empty p.exceptions && (list_all is_built_global p.globals && list_all is_built_function p.functions)) no_struct
     (both (is_empty p.exceptions) (list_all is_built_global p.globals && list_all is_built_function p.functions) no_exception
     (both (list_all is_built_global p.globals) (list_all is_built_function p.functions) globals all))
