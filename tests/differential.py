@@ -3,7 +3,7 @@
 
     python3 tests/differential.py [--program PATH] [--count N] [--profile NAME] [--seed N] [--check] [--texts FOLDER]
 
-The profiles are ints, heap, exceptions, unique and regions; each has what those before it have. Each program is made so
+The profiles are ints, pointers, heap, exceptions, unique and regions; each has what those before it have. Each program is made so
 that it is mostly accepted and ends soon. One that is accepted is run on two inputs, with just as many calls and pages as
 it needs and fewer, and with a small budget of steps, which has to give a prefix of the whole output. One of its functions
 is filled up with locals until its frame has 256 words, which changes nothing, and 257, which is refused. Beside it stand
@@ -152,8 +152,8 @@ def try_program(tried, wanted, only_check):
     if only_check:
         return tried.check(wanted.text)
     tried.compile(wanted.text)
-    if not tried.is_built and wanted.profile == "ints":
-        tried.fault = f"a program of ints is not built: {suite.NOT_BUILT}"
+    if not tried.is_built and wanted.profile in ("ints", "pointers"):
+        tried.fault = f"a program of {wanted.profile} is not built: {suite.NOT_BUILT}"
     if not tried.is_built:
         return tried.check(wanted.text)
     for given, options, expected in wanted.runs:

@@ -1,4 +1,4 @@
-"""Makes the texts of random programs, by profile: ints, and beside them heap objects, exceptions, unique pointers, regions and keys.
+"""Makes the texts of random programs, by profile: ints, and beside them thin pointers, heap objects, exceptions, unique pointers, regions and keys.
 
 A program is made so that it is mostly accepted and ends soon. Whether it is, the reference says (`tests/reference.py`). `broken`
 changes one token of a text.
@@ -282,7 +282,7 @@ INT_STAR, INT_AT, INT_FAT = (pointer(mark, INT, HEAP) for mark in "*@?")
 NODE = ("struct", "T", ())
 NODE_STAR, NODE_AT = (pointer(mark, NODE, HEAP) for mark in "*@")
 FATS, STARS = pointer("?", INT_FAT, HEAP), pointer("?", INT_STAR, HEAP)
-FIELDS = {"a": INT, "n": INT_STAR, "f": INT_FAT, "next": NODE_STAR}
+WAY_STAR, WAY_AT = (pointer(mark, INT_STAR, HEAP) for mark in "*@")
 ROUTINES = [
     "int ?make(int n) { return new {for i < (n & 3) + 1 : i * n + 1}; }",
     "int @cell(int n) { return new n; }",
@@ -292,6 +292,12 @@ ROUTINES = [
     "int sum(int ?p) { int n = 0; int i = 0; while (i < numelts(p)) { n = n + p[i]; i = i + 1; } return n; }",
     "int last(struct T *t) { while (t) { if (!t->next) return t->a; t = t->next; } return -2; }",
 ]
+THIN_ROUTINES = [
+    "int @cell(int n) { return new n; }",
+    "struct T @node(int n, struct T *`H next) { return new T{n, new (n + 1), next}; }",
+    "int *choice(int *`H one, int *`H other, int n) { if (n & 1) return one; return other; }",
+    "struct T *chain(int n) { struct T *t = NULL; while (n & 255) { t = node(n, t); n = n - 1; } return t; }",
+] + [line for line in ROUTINES if line.startswith(("int get(", "int last("))]
 
 
 def spelled(type, keeps_heap=False):
@@ -308,6 +314,7 @@ class HeapMaker(Maker):
     """Objects in the heap, and the three kinds of pointers to them."""
 
     TYPES = [INT_STAR, INT_AT, INT_AT, INT_FAT, INT_FAT, NODE_STAR, NODE_AT, FATS, STARS]
+    FIELDS = {"a": INT, "n": INT_STAR, "f": INT_FAT, "next": NODE_STAR}
 
     def prepare(self):
         self.count = 0
@@ -412,7 +419,7 @@ class HeapMaker(Maker):
         ways = [f"{name} + {self.bracketed(0)}" if self.chance(30) else f"{name} + {self.index(0)}" for name in fats if mark == "?"]
         ways += [f"&{name}[{self.index(depth)}]" for name in fats]
         ways += [f"&{name}->a" for name, _ in self.to(NODE, "@") if target == INT]
-        ways += [f"{name}->{field}" for name, _ in self.to(NODE, "@") for field, found in FIELDS.items() if found == type]
+        ways += [f"{name}->{field}" for name, _ in self.to(NODE, "@") for field, found in self.FIELDS.items() if found == type]
         ways += [f"({name} = {self.pointer(found, 0)})" for name, found in self.to(target) if found[1] == mark]
         return self.pick(ways) if ways else self.made_pointer(type, depth)
 
@@ -430,7 +437,7 @@ class HeapMaker(Maker):
     def store(self, depth):
         ways = [(f"*{name}", INT) for name, _ in self.to(INT, "@")]
         ways += [(f"{name}[{self.index(1)}]", INT) for name, _ in self.to(INT, "?")]
-        ways += [(f"{name}->{field}", type) for name, _ in self.to(NODE, "@") for field, type in FIELDS.items()]
+        ways += [(f"{name}->{field}", type) for name, _ in self.to(NODE, "@") for field, type in self.FIELDS.items()]
         ways += [(f"{name}[{self.index(0)}]", type[2]) for name, type in self.to(INT_FAT) + self.to(INT_STAR)]
         place, type = self.pick(ways + [("gp", INT_STAR)])
         self.put(f"{place} = {self.expression(2) if type == INT else self.pointer(type, 1)};")
@@ -474,6 +481,59 @@ class HeapMaker(Maker):
     def routine(self, depth):
         call = self.pick(["get", "sum", "last"])
         return f"{call}({self.pointer({'get': INT_STAR, 'sum': INT_FAT, 'last': NODE_STAR}[call], depth)})"
+
+
+class PointerMaker(HeapMaker):
+    """Objects in the heap, and thin pointers to them alone."""
+
+    TYPES = [INT_STAR, INT_STAR, INT_AT, INT_AT, NODE_STAR, NODE_AT, WAY_STAR, WAY_AT]
+    FIELDS = {"a": INT, "n": INT_STAR, "next": NODE_STAR}
+
+    def prepare(self):
+        super().prepare()
+        self.routines = list(THIN_ROUTINES)
+        self.known = [{"gp": INT_STAR, "gw": WAY_STAR, "gt": NODE_STAR}]
+
+    def declarations(self):
+        given = self.pick(["", " = NULL"])
+        parts = [["struct T { int a; int *n; struct T *next; };"], [f"int *gp{given};", "int **gw;", "struct T *gt = NULL;"]]
+        return parts + [[routine] for routine in self.routines]
+
+    def expressions(self):
+        return Maker.expressions(self) + [self.through, self.member, self.member, self.comparison, self.routine] * 2
+
+    def begin(self):
+        for line in ("gp = cell(7);", "gw = new gp;", "gt = node(5, node(4, NULL));", f"gt = chain({self.random.randrange(256)});"):
+            if self.chance(85):
+                self.put(line)
+
+    def made_pointer(self, type, depth):
+        if type[2] == NODE:
+            return f"node({self.simple(depth)}, {self.pointer(NODE_STAR, 0)})"
+        return f"new {self.held(type[2], depth)}"
+
+    def derived(self, type, depth):
+        ways = [f"*{name}" for name, _ in self.to(INT_STAR, "@") if type == INT_STAR]
+        ways += [f"&*{name}" for name, _ in self.to(type[2], "*@")]
+        return self.pick(ways) if ways and self.chance(40) else super().derived(type, depth)
+
+    def store(self, depth):
+        ways = [(f"*{name}", target) for target in (INT, INT_STAR) for name, _ in self.to(target, "@")]
+        ways += [(f"{name}->{field}", type) for name, _ in self.to(NODE, "@") for field, type in self.FIELDS.items()]
+        place, type = self.pick(ways + [("gp", INT_STAR)])
+        self.put(f"{place} = {self.expression(2) if type == INT else self.pointer(type, 1)};")
+
+    def member(self, depth):
+        found = self.to(NODE, "*@")
+        if not found:
+            return self.literal()
+        name, type = self.pick(found)
+        value = self.pick([f"{name}->a", f"get({name}->n)", f"last({name}->next)"])
+        return value if type[1] == "@" or self.chance(8) else f"({name} != NULL && {value})"
+
+    def routine(self, depth):
+        call = self.pick(["get", "last"])
+        return f"{call}({self.pointer({'get': INT_STAR, 'last': NODE_STAR}[call], depth)})"
 
 
 # --- Exceptions ---
@@ -804,7 +864,7 @@ class RegionMaker(UniqueMaker):
         self.close()
 
 
-PROFILES = {"ints": Maker, "heap": HeapMaker, "exceptions": ExceptionMaker, "unique": UniqueMaker, "regions": RegionMaker}
+PROFILES = {"ints": Maker, "pointers": PointerMaker, "heap": HeapMaker, "exceptions": ExceptionMaker, "unique": UniqueMaker, "regions": RegionMaker}
 
 
 # --- Broken texts ---

@@ -54,16 +54,14 @@ standard error says which.";
 const CHECK_HELP: &str = "Example:
   cyclone check hello.cyc
 
-A message says what is wrong first in the source file, and where. So far programs over ints
-are checked to their end; one that uses more of the language ends with fault 60, not supported
-yet, once its tokens and its grammar are in order.";
+A message says what is wrong first in the source file, and where.";
 
 const COMPILE_HELP: &str = "Example:
   cyclone compile hello.cyc -o hello.elf
 
 Where the program is refused, no file is written: a message says what is wrong, and where. So
-far programs over ints are compiled; one that uses more of the language is refused with fault
-60, not supported yet.";
+far programs over ints, thin pointers and structs are compiled; one that uses more of the
+language is refused with fault 60, not supported yet.";
 
 const RUN_HELP: &str = "Example:
   echo hello | cyclone run echo.elf --calls 64 --steps 5000000
