@@ -21,7 +21,6 @@ use Rattle.cyc_types.specs.typing.Programs.{IsTypedProgram}
 use Rattle.cyc_types.specs.Built.{is_built}
 use Rattle.cyc_types.specs.Weight.{program_weight}
 use Rattle.cyc_types.proofs.WeightLemmas.{declarations_counted}
-use Rattle.cyc_types.proofs.BuiltLemmas.{built_numbered}
 use Rattle.cyc_types.proofs.typing.ProgramLemmas.{program_well}
 use Rattle.cyc_types.proofs.typing.WeightLemmas.{program_lighter}
 use Rattle.cyc_lower.proofs.LowerableLemmas.{lowerable_program}
@@ -35,7 +34,7 @@ can_be_lowered texts symbols tree p has words light typed built =
     let fewer : program_weight p ≤ tree_weight tree = program_lighter texts tree p typed in
     let counted : 3 * length p.globals + 6 * length p.functions ≤ program_weight p = declarations_counted p in
     record {
-      lowerable = lowerable_program p (built_numbered p (program_well texts tree p typed) built);
+      lowerable = lowerable_program p (program_well texts tree p typed) built;
       of_words = typed_constants texts tree p typed built (tree_constants symbols tree has words);
       few_globals = omega arith;
     }

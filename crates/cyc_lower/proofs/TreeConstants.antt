@@ -4,12 +4,12 @@ use Rattle.cyc_words.specs.Word.{IsWord}
 use Rattle.cyc_syntax.specs.declared.tokens.Keyword.TheVariants as words
 use Rattle.cyc_syntax.specs.Symbols.{Terminal, Symbol}
 use Rattle.cyc_syntax.specs.Symbols as terminals
-use Rattle.cyc_syntax.specs.Trees.{Expression, Number, Character, Call, Bracketed, Prefixed, Binary, Assign, Expressions, NoExpressions, MoreExpressions, Operations, NoOperations, ThenOperation, Statement, Block, Labelled, Evaluate, If, IfElse, While, Return, Body, Braces, Items, NoItems, MoreItems, Item, Execute, Local, Region, Alias, DynamicRegion, GlobalValue, Positive, Negative, Byte, NullPointer, Declaration, StructType, Exceptions, Global, Function}
+use Rattle.cyc_syntax.specs.Trees.{Expression, Number, Character, Call, Bracketed, Chained, Prefixed, New, RegionNew, Binary, Assign, Initial, Plain, Fields, Array, Expressions, NoExpressions, MoreExpressions, Postfixes, NoPostfixes, ThenIndex, ThenField, Operations, NoOperations, ThenOperation, Statement, Block, Labelled, Evaluate, If, IfElse, While, Return, Body, Braces, Items, NoItems, MoreItems, Item, Execute, Local, Region, Alias, DynamicRegion, GlobalValue, Positive, Negative, Byte, NullPointer, Declaration, StructType, Exceptions, Global, Function}
 use Rattle.cyc_syntax.specs.Yields.{Leaf, Yield, item_number}
 use Rattle.cyc_syntax.specs.Yields as yields
 use Rattle.cyc_syntax.specs.Grammar.{IsSpelled, HasTree}
 
--- ---- the constants of a tree, as far as the forms of typed trees that are built have any
+-- ---- the constants of a tree, but those in forms that are not built
 
 abbrev mutual
   pub IsOfWordsWritten : Expression → Type 0
@@ -19,12 +19,25 @@ abbrev mutual
   IsOfWordsWritten (Bracketed p e) = IsOfWordsWritten e
   IsOfWordsWritten (Prefixed p o e) = IsOfWordsWritten e
   IsOfWordsWritten (Binary e os) = IsOfWordsWritten e × AreOfWordsChain os
-  IsOfWordsWritten (Assign a b) = IsOfWordsWritten b
+  IsOfWordsWritten (Chained e ps) = IsOfWordsWritten e × AreOfWordsPostfixes ps
+  IsOfWordsWritten (New p i) = IsOfWordsMadeOf i
+  IsOfWordsWritten (RegionNew p h i) = IsOfWordsMadeOf i
+  IsOfWordsWritten (Assign a b) = IsOfWordsWritten a × IsOfWordsWritten b
   IsOfWordsWritten e = Unit {0}
+
+  pub IsOfWordsMadeOf : Initial → Type 0
+  IsOfWordsMadeOf (Plain e) = IsOfWordsWritten e
+  IsOfWordsMadeOf (Fields s rs es) = AreOfWordsWritten es
+  IsOfWordsMadeOf (Array p x n e) = Unit {0}
 
   pub AreOfWordsWritten : Expressions → Type 0
   AreOfWordsWritten NoExpressions = Unit {0}
   AreOfWordsWritten (MoreExpressions e es) = IsOfWordsWritten e × AreOfWordsWritten es
+
+  pub AreOfWordsPostfixes : Postfixes → Type 0
+  AreOfWordsPostfixes NoPostfixes = Unit {0}
+  AreOfWordsPostfixes (ThenIndex e ps) = IsOfWordsWritten e × AreOfWordsPostfixes ps
+  AreOfWordsPostfixes (ThenField x ps) = AreOfWordsPostfixes ps
 
   pub AreOfWordsChain : Operations → Type 0
   AreOfWordsChain NoOperations = Unit {0}
@@ -122,8 +135,24 @@ mutual
   expression_constants d (Bracketed p e) (l, h) = expression_constants (suc d) e (front_part (yields.expression (suc d) e) _ h)
   expression_constants d (Prefixed p o e) (l, h) = expression_constants (suc d) e h
   expression_constants d (Binary e os) h = (expression_constants d e (front_part (yields.expression d e) _ h), chain_constants d 1 os (rest_part (yields.expression d e) _ h))
-  expression_constants d (Assign a b) h = expression_constants (suc d) b ((rest_part (yields.expression d a) _ h).1)
+  expression_constants d (Chained e ps) h = (expression_constants d e (front_part (yields.expression d e) _ h), postfixes_constants d 1 ps (rest_part (yields.expression d e) _ h))
+  expression_constants d (New p i) (l, h) = initial_constants (suc d) i h
+  expression_constants d (RegionNew p e i) (l, (m, h)) = initial_constants (suc d) i ((rest_part (yields.expression (suc (suc d)) e) _ h).1)
+  expression_constants d (Assign a b) h = (expression_constants d a (front_part (yields.expression d a) _ h), expression_constants (suc d) b ((rest_part (yields.expression d a) _ h).1))
   expression_constants d e h = tt
+
+  initial_constants : (d : ℕ) (i : Initial) → AreOfWordsLeaves (yields.initial d i) → IsOfWordsMadeOf i
+  initial_constants d (Plain e) h = expression_constants d e h
+  initial_constants d (Fields s rs es) (l, h) = values_constants (suc d) es (front_part (yields.values (suc d) es) _ ((rest_part (yields.region_list d rs) _ h).1))
+  initial_constants d (Array p x n e) h = tt
+
+  values_constants : (d : ℕ) (es : Expressions) → AreOfWordsLeaves (yields.values d es) → AreOfWordsWritten es
+  values_constants d NoExpressions h = tt
+  values_constants d (MoreExpressions e es) h = (expression_constants d e (front_part (yields.expression d e) _ h), more_values_constants d es (rest_part (yields.expression d e) _ h))
+
+  more_values_constants : (d : ℕ) (es : Expressions) → AreOfWordsLeaves (yields.more_values d es) → AreOfWordsWritten es
+  more_values_constants d NoExpressions h = tt
+  more_values_constants d (MoreExpressions e es) (c, h) = (expression_constants d e (front_part (yields.expression d e) _ h), more_values_constants d es (rest_part (yields.expression d e) _ h))
 
   arguments_constants : (d : ℕ) (es : Expressions) → AreOfWordsLeaves (yields.arguments d es) → AreOfWordsWritten es
   arguments_constants d NoExpressions h = tt
@@ -138,6 +167,12 @@ mutual
     expression_constants d e (unnumbered i (yields.expression d e) (front_part (item_number i (yields.expression d e)) _ h)),
     more_constants d (suc i) es (rest_part (item_number i (yields.expression d e)) _ h),
   )
+
+  postfixes_constants : (d i : ℕ) (ps : Postfixes) → AreOfWordsLeaves (yields.postfixes d i ps) → AreOfWordsPostfixes ps
+  postfixes_constants d i NoPostfixes h = tt
+  postfixes_constants d i (ThenIndex e ps) (l, h) =
+      (expression_constants (suc d) e (front_part (yields.expression (suc d) e) _ h), postfixes_constants d (suc i) ps ((rest_part (yields.expression (suc d) e) _ h).1))
+  postfixes_constants d i (ThenField x ps) (l, (n, h)) = postfixes_constants d (suc i) ps h
 
   chain_constants : (d i : ℕ) (os : Operations) → AreOfWordsLeaves (yields.operations d i os) → AreOfWordsChain os
   chain_constants d i NoOperations h = tt

@@ -1,12 +1,14 @@
--- The constants of a typed tree that is built are words, where those of the tree that it is of are.
-use Rattle.std.proofs.Common.{◌≡◌, ℕ, Bool, true, false, cond, ◌&&◌, List, [], ◌∷◌, Option, Some, None, refl, sym, ap, subst, ◌∙◌, arith}
+-- The constants of a typed tree are words, where those of the tree that it is of are; and so a tree that is built has all its numbers
+-- in words.
+use Rattle.std.proofs.Common.{◌≡◌, ℕ, Bool, true, false, cond, ◌&&◌, List, [], ◌∷◌, Option, Some, None, sym, ap, subst, ◌∙◌, arith}
+use Rattle.std.specs.Prelude.{nat_le}
 use Rattle.std.specs.List.{list_all}
-use Rattle.std.proofs.lemmas.Bool.{and_parts, true≢false}
+use Rattle.std.proofs.lemmas.Bool.{and_parts, leb-true}
 use Rattle.cyc_syntax.specs.declared.tree.PrefixOperator.TheVariants as prefixes
 use Rattle.cyc_syntax.specs.declared.tree.BinaryOperator.{BinaryOperator}
 use Rattle.cyc_syntax.specs.declared.tree.BinaryOperator.TheVariants as operators
 use Rattle.cyc_syntax.specs.Symbols.{Place}
-use Rattle.cyc_syntax.specs.Trees.{Named, WrittenType, Expression, Number, Character, Null, HeapRegion, UniqueRegion, Variable, Call, Bracketed, NumberOfElements, FreeUnique, FreeKey, Chained, Prefixed, New, RegionNew, Binary, Assign, Expressions, NoExpressions, MoreExpressions, Operations, NoOperations, ThenOperation, Statement, Block, Labelled, Empty, Evaluate, Swap, If, IfElse, While, Return, Break, Continue, Throw, Try, Body, Braces, Items, NoItems, MoreItems, Execute, Local, Region, Alias, DynamicRegion, GlobalValue, Positive, Negative, Byte, NullPointer, Declaration, StructType, Exceptions, Global, Function, place_of}
+use Rattle.cyc_syntax.specs.Trees.{Named, WrittenType, Expression, Number, Character, Null, HeapRegion, UniqueRegion, Variable, Call, Bracketed, NumberOfElements, FreeUnique, FreeKey, Chained, Prefixed, New, RegionNew, Binary, Assign, Initial, Plain, Fields, Array, Expressions, NoExpressions, MoreExpressions, Postfixes, NoPostfixes, ThenIndex, ThenField, Operations, NoOperations, ThenOperation, Statement, Block, Labelled, Empty, Evaluate, Swap, If, IfElse, While, Return, Break, Continue, Throw, Try, Body, Braces, Items, NoItems, MoreItems, Execute, Local, Region, Alias, DynamicRegion, GlobalValue, Positive, Negative, Byte, NullPointer, Declaration, StructType, Exceptions, Global, Function, place_of}
 use Rattle.cyc_types.specs.declared.typed.Operator.{Operator}
 use Rattle.cyc_types.specs.declared.typed.LogicalOperator.{LogicalOperator}
 use Rattle.cyc_types.specs.declared.typed.PointerOperator.{PointerOperator}
@@ -16,150 +18,208 @@ use Rattle.cyc_types.specs.TypedTrees.{Lvalue, Side, VariableSide, CellSide, Con
 use Rattle.cyc_types.specs.TypedTrees as typed
 use Rattle.cyc_types.specs.Rules.{Rule, Derives}
 use Rattle.cyc_types.specs.IntPart.{is_empty}
-use Rattle.cyc_types.specs.Built.{is_built_type, is_built_result, is_built_kind, is_built_expression, is_built_converted, are_built_arguments, are_built_operations, is_built_value, is_built_statement, are_built_items, is_built_global, is_built_function, is_built}
+use Rattle.cyc_types.specs.Numbered.{argument_count}
+use Rattle.cyc_types.specs.Built.{is_built_type, is_built_result, is_built_value_type, is_built_kind, is_built_operator, is_built_size, is_built_expression, is_built_place, is_built_initial, is_built_converted, are_built_arguments, are_built_operations, is_built_value, is_built_statement, are_built_items, is_built_struct, is_built_global, is_built_function, is_built}
 use Rattle.cyc_types.specs.typing.Scopes.{Meaning, Unknown, Fixed, Counter, Routine, Scope, meaning_of, behind, in_block, in_labelled, in_body}
 use Rattle.cyc_types.specs.typing.Scopes as scopes
-use Rattle.cyc_types.specs.typing.Tests.{is_unique, is_moved, is_pointer, kind_of, kind_of_value}
-use Rattle.cyc_types.specs.typing.Expressions.{converted, passed, variable_read, variable_looked, read, looked, rule_looked, pointed, pointer_to, address_of, assignment, is_looking, is_looking_first, operand, Joined, peeked_local, then_pointer, then_added, ints_joined, tests_joined, sums_joined, int_test, then_compared, equality_joined, joined, instance_of, instantiated, called, key_freed, rule, rule_all, rule_chain}
+use Rattle.cyc_types.specs.typing.Tests.{is_unique, is_moved, is_pointer}
+use Rattle.cyc_types.specs.typing.Expressions.{passed, variable_read, variable_looked, read, looked, rule_looked, Found, place_meant, Reached, pointed, indexed, selected, loaded, pointer_to, address_of, assignment, is_looking, is_looking_first, operand, Joined, peeked_local, then_pointer, then_added, ints_joined, tests_joined, sums_joined, then_compared, equality_joined, joined, instance_of, instantiated, called, key_freed, Made, field_types, arguments_written, fields_known, rule, rule_all, rule_chain, rule_place, rule_postfixed, rule_further, rule_made}
 use Rattle.cyc_types.specs.typing.Statements.{rule_condition, returned, rule_returned, exception_among, rule_initial, behind_item, rule_statement, rule_body, rule_items}
 use Rattle.cyc_types.specs.typing.Heads.{signature_of}
 use Rattle.cyc_types.specs.typing.Programs.{Program, program_known, body_scope, rule_functions, constant_of, globals_of, IsTypedProgram}
 use Rattle.cyc_types.specs.typing.Heads as heads
 use Rattle.cyc_types.proofs.typing.CountLemmas.{thrown_shape, opened_shape, aliased_shape}
-use Rattle.cyc_lower.specs.Words.{IsOfWords, AreOfWordsArguments, AreOfWordsOperations, IsOfWordsInitial, IsOfWordsStatement, AreOfWordsItems, IsOfWordsConstant, AreOfWordsGlobals, AreOfWordsFunctions, IsOfWordsProgram}
-use Rattle.cyc_lower.proofs.TreeConstants.{IsOfWordsWritten, AreOfWordsWritten, AreOfWordsChain, IsOfWordsValue, IsOfWordsWrittenStatement, IsOfWordsBody, AreOfWordsWrittenItems, IsOfWordsGlobalValue, IsOfWordsTree}
+use Rattle.cyc_words.specs.Word.{IsWord}
+use Rattle.cyc_lower.specs.Words.{IsOfWords, IsOfWordsCell, IsOfWordsObject, IsOfWordsConverted, AreOfWordsArguments, AreOfWordsOperations, IsOfWordsInitial, IsOfWordsStatement, AreOfWordsItems, IsOfWordsConstant, AreOfWordsGlobals, AreOfWordsFunctions, IsOfWordsProgram}
+use Rattle.cyc_lower.proofs.TreeConstants.{IsOfWordsWritten, IsOfWordsMadeOf, AreOfWordsWritten, AreOfWordsPostfixes, AreOfWordsChain, IsOfWordsValue, IsOfWordsWrittenStatement, IsOfWordsBody, AreOfWordsWrittenItems, IsOfWordsGlobalValue, IsOfWordsTree}
 
--- ---- expressions
+-- ---- the constants of a typed tree, but those in forms that are not built
 
--- all that a rule derives and that is built has words for its constants
-abbrev HasWords : Rule typed.Expression → Type 0
-HasWords r = (a : typed.Expression) → is_built_expression a ≡ true → Derives r a → IsOfWords a
+abbrev mutual
+  HasWords : typed.Expression → Type 0
+  HasWords (typed.Number n) = IsWord n
+  HasWords (typed.Load d) = CellHasWords d
+  HasWords (typed.AddressOfCell d t) = CellHasWords d
+  HasWords (typed.Call f cs t) = ArgumentsHaveWords cs
+  HasWords (typed.Unary o a) = HasWords a
+  HasWords (typed.Binary a os t) = HasWords a × OperationsHaveWords os
+  HasWords (typed.Assign l c t) = ConvertedHasWords c
+  HasWords (typed.Store d c t) = CellHasWords d × ConvertedHasWords c
+  HasWords (typed.New w i t) = InitialHasWords i
+  HasWords a = Unit {0}
 
--- a node that is not built
-unbuilt : (a b : typed.Expression) → a ≡ b → is_built_expression b ≡ false → is_built_expression a ≡ true → IsOfWords a
-unbuilt a b eq never i = absurd (true≢false (sym i ∙ (ap is_built_expression eq ∙ never)))
+  CellHasWords : typed.Dereference → Type 0
+  CellHasWords (typed.Target k a t) = HasWords a
+  CellHasWords (typed.Member k a s f t) = HasWords a
+  CellHasWords (typed.Element a i t) = HasWords a × HasWords i
 
-unbuilt_statement : (s t : typed.Statement) → s ≡ t → is_built_statement t ≡ false → is_built_statement s ≡ true → IsOfWordsStatement s
-unbuilt_statement s t eq never i = absurd (true≢false (sym i ∙ (ap is_built_statement eq ∙ never)))
+  InitialHasWords : typed.Initial → Type 0
+  InitialHasWords (typed.Plain k a) = HasWords a
+  InitialHasWords (typed.Fields cs) = ArgumentsHaveWords cs
+  InitialHasWords (typed.Array p l n k a) = Unit {0}
 
-unbuilt_items : (is js : typed.Items) → is ≡ js → are_built_items js ≡ false → are_built_items is ≡ true → AreOfWordsItems is
-unbuilt_items is js eq never i = absurd (true≢false (sym i ∙ (ap are_built_items eq ∙ never)))
+  ConvertedHasWords : Converted → Type 0
+  ConvertedHasWords (typed.Convert from to a) = HasWords a
 
--- what is said of each node that is built holds of an equal one
-along : (a b : typed.Expression) → a ≡ b → (is_built_expression b ≡ true → IsOfWords b) → is_built_expression a ≡ true → IsOfWords a
-along a b eq h = subst (λ z. is_built_expression z ≡ true → IsOfWords z) (sym eq) h
+  ArgumentsHaveWords : typed.Arguments → Type 0
+  ArgumentsHaveWords typed.NoArguments = Unit {0}
+  ArgumentsHaveWords (typed.MoreArguments c cs) = ConvertedHasWords c × ArgumentsHaveWords cs
 
-either_words : (b : Bool) (a c : typed.Expression) → (is_built_expression a ≡ true → IsOfWords a) → (is_built_expression c ≡ true → IsOfWords c) → is_built_expression (cond b a c) ≡ true → IsOfWords (cond b a c)
-either_words true a c h k i = h i
-either_words false a c h k i = k i
+  OperationsHaveWords : typed.Operations → Type 0
+  OperationsHaveWords typed.NoOperations = Unit {0}
+  OperationsHaveWords (typed.ThenCompute o a os) = HasWords a × OperationsHaveWords os
+  OperationsHaveWords (typed.ThenTest o a os) = HasWords a × OperationsHaveWords os
+  OperationsHaveWords (typed.ThenPointer o a os) = HasWords a × OperationsHaveWords os
+  OperationsHaveWords (typed.ThenPointerPeek n o a os) = HasWords a × OperationsHaveWords os
 
-variable_words : (l : Lvalue) (t : Ty) → is_built_expression (variable_read l t) ≡ true → IsOfWords (variable_read l t)
-variable_words (typed.Local p n) t i = either_words (is_moved t) (typed.Move p n t) (typed.Copy (typed.Local p n) t) (λ j. absurd (cc)) (λ j. tt) i
-variable_words (typed.Global n) t i = tt
+abbrev ValueHasWords : Option Converted → Type 0
+ValueHasWords None = Unit {0}
+ValueHasWords (Some c) = ConvertedHasWords c
 
-looked_words : (l : Lvalue) (t : Ty) → is_built_expression (variable_looked l t) ≡ true → IsOfWords (variable_looked l t)
-looked_words (typed.Local p n) t i = either_words (is_unique t) (typed.Peek p n t) (variable_read (typed.Local p n) t) (λ j. absurd (cc)) (variable_words (typed.Local p n) t) i
-looked_words (typed.Global n) t i = tt
+abbrev mutual
+  StatementHasWords : typed.Statement → Type 0
+  StatementHasWords (typed.Block r js) = ItemsHaveWords js
+  StatementHasWords (typed.Evaluate a) = HasWords a
+  StatementHasWords (typed.If a s t) = HasWords a × StatementHasWords s × StatementHasWords t
+  StatementHasWords (typed.While p a s) = HasWords a × StatementHasWords s
+  StatementHasWords (typed.Return v) = ValueHasWords v
+  StatementHasWords s = Unit {0}
 
-read_constants : (m : Meaning) (p : Place) → HasWords (read m p)
-read_constants Unknown p a i d = absurd d
-read_constants (scopes.Variable l t home) p a i (k, eq) = along a (variable_read l t) eq (variable_words l t) i
-read_constants (Fixed l t) p a i (k, eq) = along a (typed.Copy l t) eq (λ j. tt) i
-read_constants (Counter n) p a i (k, eq) = unbuilt a (typed.Counter n) eq refl i
-read_constants (Routine f s) p a i d = absurd d
+  ItemsHaveWords : typed.Items → Type 0
+  ItemsHaveWords typed.NoItems = Unit {0}
+  ItemsHaveWords (typed.MoreItems (typed.Execute s) js) = StatementHasWords s × ItemsHaveWords js
+  ItemsHaveWords (typed.MoreItems (typed.Declare n t v) js) = ValueHasWords v × ItemsHaveWords js
+  ItemsHaveWords js = Unit {0}
 
-looked_constants : (m : Meaning) (p : Place) → HasWords (looked m p)
-looked_constants (scopes.Variable l t home) p a i (k, eq) = along a (variable_looked l t) eq (looked_words l t) i
-looked_constants Unknown p a i d = read_constants Unknown p a i d
-looked_constants (Fixed l t) p a i d = read_constants (Fixed l t) p a i d
-looked_constants (Counter n) p a i d = read_constants (Counter n) p a i d
-looked_constants (Routine f s) p a i d = read_constants (Routine f s) p a i d
+abbrev FunctionsHaveWords : List typed.Function → Type 0
+FunctionsHaveWords [] = Unit {0}
+FunctionsHaveWords (h ∷ hs) = ItemsHaveWords h.body × FunctionsHaveWords hs
 
-seen_constants : (g : Scope) (e : Expression) (walked : Rule typed.Expression) → HasWords walked → HasWords (rule_looked g e walked)
-seen_constants g (Variable x) walked w a i d = looked_constants (meaning_of g x) x.place a i d
-seen_constants g (Bracketed p e) walked w a i d = seen_constants g e walked w a i d
-seen_constants g e walked w a i d = w a i d
+-- ---- from the rules: names and places
 
-operand_constants : (g : Scope) (seen : Bool) (e : Expression) → HasWords (rule g e) → HasWords (operand seen (rule g e) (rule_looked g e (rule g e)))
-operand_constants g true e w a i d = seen_constants g e (rule g e) w a i d
-operand_constants g false e w a i d = w a i d
+-- all that a rule derives has words for its constants
+abbrev GivesWords : Rule typed.Expression → Type 0
+GivesWords r = (a : typed.Expression) → Derives r a → HasWords a
 
--- so are those of a value that is converted
-converted_words : (a : typed.Expression) (t : Ty) → (is_built_expression a ≡ true → IsOfWords a) → is_built_converted (converted a t) ≡ true → IsOfWords a
-converted_words a t w i = w (and_parts (is_built_expression a) (is_built_kind (kind_of_value (type_of a)) && is_built_kind (kind_of t)) i).0
+abbrev GivesCells : Rule Reached → Type 0
+GivesCells r = (w : Reached) → Derives r w → CellHasWords w.cell
 
--- and of values that are passed
-abbrev ArePassedWords : List typed.Expression → Type 0
-ArePassedWords as' = (ts : List Ty) → are_built_arguments (passed as' ts) ≡ true → AreOfWordsArguments (passed as' ts)
+abbrev SideHasWords : Side → Type 0
+SideHasWords (VariableSide l t) = Unit {0}
+SideHasWords (CellSide d) = CellHasWords d
 
-called_constants : (g : Scope) (m : Meaning) (p : Place) (es : Expressions) (as' : List typed.Expression) → ArePassedWords as' → HasWords (called g m p es as')
-called_constants g Unknown p es as' w a i d = absurd d
-called_constants g (scopes.Variable l t home) p es as' w a i d = absurd d
-called_constants g (Fixed l t) p es as' w a i d = absurd d
-called_constants g (Counter n) p es as' w a i d = absurd d
-called_constants g (Routine f s) p es as' w a i (k, eq) = along a _ eq (w (instantiated (instance_of s as') s).parameters) i
+either_words : (b : Bool) (a c : typed.Expression) → HasWords a → HasWords c → HasWords (cond b a c)
+either_words true a c h k = h
+either_words false a c h k = k
 
-key_unbuilt : (m : Meaning) (p : Place) → HasWords (key_freed m p)
-key_unbuilt Unknown p a i d = absurd d
-key_unbuilt (scopes.Variable (typed.Local q n) t home) p a i (k, eq) = unbuilt a (typed.FreeKey (typed.Move q n t)) eq refl i
-key_unbuilt (scopes.Variable (typed.Global n) t home) p a i d = absurd d
-key_unbuilt (Fixed l t) p a i d = absurd d
-key_unbuilt (Counter n) p a i d = absurd d
-key_unbuilt (Routine f s) p a i d = absurd d
+variable_words : (l : Lvalue) (t : Ty) → HasWords (variable_read l t)
+variable_words (typed.Local p n) t = either_words (is_moved t) (typed.Move p n t) (typed.Copy (typed.Local p n) t) tt tt
+variable_words (typed.Global n) t = tt
 
-address_unbuilt : (s : Side) (t : Ty) → is_built_expression (address_of s t) ≡ false
-address_unbuilt (VariableSide l u) t = refl
-address_unbuilt (CellSide c) t = refl
+looked_words : (l : Lvalue) (t : Ty) → HasWords (variable_looked l t)
+looked_words (typed.Local p n) t = either_words (is_unique t) (typed.Peek p n t) (variable_read (typed.Local p n) t) tt (variable_words (typed.Local p n) t)
+looked_words (typed.Global n) t = tt
 
-assignment_constants : (s : Side) (b : typed.Expression) → (is_built_expression b ≡ true → IsOfWords b) → is_built_expression (assignment s b) ≡ true → IsOfWords (assignment s b)
-assignment_constants (VariableSide l t) b w i = converted_words b t w i
-assignment_constants (CellSide c) b w i = absurd (cc)
+read_constants : (m : Meaning) (p : Place) → GivesWords (read m p)
+read_constants Unknown p a d = absurd d
+read_constants (scopes.Variable l t home) p a (k, eq) = subst HasWords (sym eq) (variable_words l t)
+read_constants (Fixed l t) p a (k, eq) = subst HasWords (sym eq) tt
+read_constants (Counter n) p a (k, eq) = subst HasWords (sym eq) tt
+read_constants (Routine f s) p a d = absurd d
 
--- ---- operators
+looked_constants : (m : Meaning) (p : Place) → GivesWords (looked m p)
+looked_constants (scopes.Variable l t home) p a (k, eq) = subst HasWords (sym eq) (looked_words l t)
+looked_constants Unknown p a d = read_constants Unknown p a d
+looked_constants (Fixed l t) p a d = read_constants (Fixed l t) p a d
+looked_constants (Counter n) p a d = read_constants (Counter n) p a d
+looked_constants (Routine f s) p a d = read_constants (Routine f s) p a d
+
+seen_constants : (g : Scope) (e : Expression) (walked : Rule typed.Expression) → GivesWords walked → GivesWords (rule_looked g e walked)
+seen_constants g (Variable x) walked w a d = looked_constants (meaning_of g x) x.place a d
+seen_constants g (Bracketed p e) walked w a d = seen_constants g e walked w a d
+seen_constants g e walked w a d = w a d
+
+operand_constants : (g : Scope) (seen : Bool) (e : Expression) → GivesWords (rule g e) → GivesWords (operand seen (rule g e) (rule_looked g e (rule g e)))
+operand_constants g true e w a d = seen_constants g e (rule g e) w a d
+operand_constants g false e w a d = w a d
+
+loaded_constants : (p : Place) (w : Reached) → CellHasWords w.cell → GivesWords (loaded p w)
+loaded_constants p w h a (k, eq) = subst HasWords (sym eq) h
+
+place_constants : (m : Meaning) (p q : Place) (x : Found) → Derives (place_meant m p q) x → SideHasWords x.side
+place_constants Unknown p q x d = absurd d
+place_constants (scopes.Variable l t home) p q x (k, eq) = subst (λ (z : Found). SideHasWords z.side) (sym eq) tt
+place_constants (Fixed l t) p q x d = absurd d
+place_constants (Counter n) p q x d = absurd d
+place_constants (Routine f s) p q x d = absurd d
+
+address_words : (s : Side) (t : Ty) → SideHasWords s → HasWords (address_of s t)
+address_words (VariableSide l u) t h = tt
+address_words (CellSide d) t h = h
+
+assignment_words : (s : Side) (b : typed.Expression) → SideHasWords s → HasWords b → HasWords (assignment s b)
+assignment_words (VariableSide l t) b h k = k
+assignment_words (CellSide d) b h k = (h, k)
+
+-- ---- from the rules: calls and operators
+
+abbrev AllHaveWords : List typed.Expression → Type 0
+AllHaveWords [] = Unit {0}
+AllHaveWords (a ∷ as') = HasWords a × AllHaveWords as'
+
+passed_words : (as' : List typed.Expression) (ts : List Ty) → AllHaveWords as' → ArgumentsHaveWords (passed as' ts)
+passed_words [] ts w = tt
+passed_words (a ∷ as') [] w = tt
+passed_words (a ∷ as') (t ∷ ts) (w, ws) = (w, passed_words as' ts ws)
+
+called_constants : (g : Scope) (m : Meaning) (p : Place) (es : Expressions) (as' : List typed.Expression) → AllHaveWords as' → GivesWords (called g m p es as')
+called_constants g Unknown p es as' w a d = absurd d
+called_constants g (scopes.Variable l t home) p es as' w a d = absurd d
+called_constants g (Fixed l t) p es as' w a d = absurd d
+called_constants g (Counter n) p es as' w a d = absurd d
+called_constants g (Routine f s) p es as' w a (k, eq) = subst HasWords (sym eq) (passed_words as' (instantiated (instance_of s as') s).parameters w)
+
+key_constants : (m : Meaning) (p : Place) → GivesWords (key_freed m p)
+key_constants Unknown p a d = absurd d
+key_constants (scopes.Variable (typed.Local q n) t home) p a (k, eq) = subst HasWords (sym eq) tt
+key_constants (scopes.Variable (typed.Global n) t home) p a d = absurd d
+key_constants (Fixed l t) p a d = absurd d
+key_constants (Counter n) p a d = absurd d
+key_constants (Routine f s) p a d = absurd d
 
 -- what an operation puts in front of its chain has words for its constants where its operand and the chain have
-abbrev IsOfWordsBefore : typed.Expression → Joined → Type 0
-IsOfWordsBefore a j = (os : typed.Operations) → (is_built_expression a ≡ true → IsOfWords a) → (are_built_operations os ≡ true → AreOfWordsOperations os)
-    → are_built_operations (j.0 os) ≡ true → AreOfWordsOperations (j.0 os)
+abbrev HasWordsBefore : typed.Expression → Joined → Type 0
+HasWordsBefore a j = (os : typed.Operations) → HasWords a → OperationsHaveWords os → OperationsHaveWords (j.0 os)
 
-computed_words : (o : Operator) (a : typed.Expression) (os : typed.Operations) → (is_built_expression a ≡ true → IsOfWords a) → (are_built_operations os ≡ true → AreOfWordsOperations os)
-    → are_built_operations (typed.ThenCompute o a os) ≡ true → AreOfWordsOperations (typed.ThenCompute o a os)
-computed_words o a os w ws i = let (first, rest) = and_parts (is_built_expression a) (are_built_operations os) i in (w first, ws rest)
+pointer_words : (k : Option ℕ) (o : PointerOperator) (a : typed.Expression) (os : typed.Operations) → HasWords a → OperationsHaveWords os → OperationsHaveWords (then_pointer k o a os)
+pointer_words None o a os w ws = (w, ws)
+pointer_words (Some n) o a os w ws = (w, ws)
 
-tested_words : (o : LogicalOperator) (a : typed.Expression) (os : typed.Operations) → (is_built_expression a ≡ true → IsOfWords a) → (are_built_operations os ≡ true → AreOfWordsOperations os)
-    → are_built_operations (typed.ThenTest o a os) ≡ true → AreOfWordsOperations (typed.ThenTest o a os)
-tested_words o a os w ws i = let (first, rest) = and_parts (is_built_expression a) (are_built_operations os) i in (w first, ws rest)
+sum_words : (left : ValueType) (o : Operator) (fat : PointerOperator) (a : typed.Expression) (os : typed.Operations) → HasWords a → OperationsHaveWords os → OperationsHaveWords (then_added left o fat a os)
+sum_words (Value Int) o fat a os w ws = (w, ws)
+sum_words left o fat a os w ws = (w, ws)
 
-pointer_unbuilt : (k : Option ℕ) (o : PointerOperator) (a : typed.Expression) (os : typed.Operations) → are_built_operations (then_pointer k o a os) ≡ true → AreOfWordsOperations (then_pointer k o a os)
-pointer_unbuilt None o a os i = absurd (cc)
-pointer_unbuilt (Some n) o a os i = absurd (cc)
-
-sum_words : (left : ValueType) (o : Operator) (fat : PointerOperator) (a : typed.Expression) (os : typed.Operations) → (is_built_expression a ≡ true → IsOfWords a)
-    → (are_built_operations os ≡ true → AreOfWordsOperations os) → are_built_operations (then_added left o fat a os) ≡ true → AreOfWordsOperations (then_added left o fat a os)
-sum_words (Value Int) o fat a os w ws i = computed_words o a os w ws i
-sum_words left o fat a os w ws i = absurd (cc)
-
-compared_words : (k : Option ℕ) (negated : Bool) (left right : ValueType) (a : typed.Expression) (os : typed.Operations) → (is_built_expression a ≡ true → IsOfWords a)
-    → (are_built_operations os ≡ true → AreOfWordsOperations os) → are_built_operations (then_compared k negated left right a os) ≡ true → AreOfWordsOperations (then_compared k negated left right a os)
-compared_words k negated (Value (Pointer m t r)) types.Null a os w ws i = pointer_unbuilt k _ a os i
-compared_words k negated (Value (Pointer m t r)) (Value u) a os w ws i = pointer_unbuilt k _ a os i
-compared_words k negated types.Null right a os w ws i = absurd (cc)
-compared_words k negated left right a os w ws i = computed_words (int_test negated) a os w ws i
+compared_words : (k : Option ℕ) (negated : Bool) (left right : ValueType) (a : typed.Expression) (os : typed.Operations) → HasWords a → OperationsHaveWords os
+    → OperationsHaveWords (then_compared k negated left right a os)
+compared_words k negated (Value (Pointer m t r)) types.Null a os w ws = pointer_words k _ a os w ws
+compared_words k negated (Value (Pointer m t r)) (Value u) a os w ws = pointer_words k _ a os w ws
+compared_words k negated types.Null right a os w ws = (w, ws)
+compared_words k negated left right a os w ws = (w, ws)
 
 module _ (g : Scope) (p : Place) (k : Option ℕ) (left : ValueType) (q : Place) (a : typed.Expression) where
-  ints_words : (o : Operator) (j : Joined) → Derives (ints_joined p left o q a) j → IsOfWordsBefore a j
-  ints_words o j (kept, eq) = subst (IsOfWordsBefore a) (sym eq) (computed_words o a)
+  ints_words : (o : Operator) (j : Joined) → Derives (ints_joined p left o q a) j → HasWordsBefore a j
+  ints_words o j (kept, eq) = subst (HasWordsBefore a) (sym eq) (λ os w ws. (w, ws))
 
-  tests_words : (o : LogicalOperator) (j : Joined) → Derives (tests_joined p left o q a) j → IsOfWordsBefore a j
-  tests_words o j (kept, eq) = subst (IsOfWordsBefore a) (sym eq) (tested_words o a)
+  tests_words : (o : LogicalOperator) (j : Joined) → Derives (tests_joined p left o q a) j → HasWordsBefore a j
+  tests_words o j (kept, eq) = subst (HasWordsBefore a) (sym eq) (λ os w ws. (w, ws))
 
-  sums_words : (o : Operator) (fat : PointerOperator) (j : Joined) → Derives (sums_joined p left o fat q a) j → IsOfWordsBefore a j
-  sums_words o fat j (kept, eq) = subst (IsOfWordsBefore a) (sym eq) (sum_words left o fat a)
+  sums_words : (o : Operator) (fat : PointerOperator) (j : Joined) → Derives (sums_joined p left o fat q a) j → HasWordsBefore a j
+  sums_words o fat j (kept, eq) = subst (HasWordsBefore a) (sym eq) (sum_words left o fat a)
 
-  equality_words : (negated : Bool) (j : Joined) → Derives (equality_joined g p k left negated q a) j → IsOfWordsBefore a j
-  equality_words negated j (kept, eq) = subst (IsOfWordsBefore a) (sym eq) (compared_words k negated left (type_of a) a)
+  equality_words : (negated : Bool) (j : Joined) → Derives (equality_joined g p k left negated q a) j → HasWordsBefore a j
+  equality_words negated j (kept, eq) = subst (HasWordsBefore a) (sym eq) (compared_words k negated left (type_of a) a)
 
-  joined_words : (o : BinaryOperator) (j : Joined) → Derives (joined g p k left o q a) j → IsOfWordsBefore a j
+  joined_words : (o : BinaryOperator) (j : Joined) → Derives (joined g p k left o q a) j → HasWordsBefore a j
   joined_words operators.OrElse j d = tests_words _ j d
   joined_words operators.AndThen j d = tests_words _ j d
   joined_words operators.Equal j d = equality_words false j d
@@ -179,155 +239,139 @@ module _ (g : Scope) (p : Place) (k : Option ℕ) (left : ValueType) (q : Place)
   joined_words operators.Divide j d = ints_words _ j d
   joined_words operators.Remainder j d = ints_words _ j d
 
--- ---- all forms of expressions
+-- ---- from the rules: all forms of expressions
 
 mutual
-  expression_constants : (g : Scope) (e : Expression) → IsOfWordsWritten e → HasWords (rule g e)
-  expression_constants g (Number p n) w a i (u, eq) = subst IsOfWords (sym eq) w
-  expression_constants g (Character p c) w a i (u, eq) = subst IsOfWords (sym eq) w
-  expression_constants g (Null p) w a i (u, eq) = unbuilt a typed.NullPointer eq refl i
-  expression_constants g (HeapRegion p) w a i (u, eq) = unbuilt a typed.HeapRegion eq refl i
-  expression_constants g (UniqueRegion p) w a i d = absurd d
-  expression_constants g (Variable x) w a i d = read_constants (meaning_of g x) x.place a i d
-  expression_constants g (Call x es) w a i (bs, hs, d) = called_constants g (meaning_of g x) x.place es bs (λ ts j. expressions_constants g es w bs hs ts j) a i d
-  expression_constants g (Bracketed p e) w a i d = expression_constants g e w a i d
-  expression_constants g (NumberOfElements p e) w a i (b, kb, (k, eq)) = unbuilt a (typed.NumberOfElements b) eq refl i
-  expression_constants g (FreeUnique p e) w a i (b, kb, (k, eq)) = unbuilt a (typed.FreeUnique b) eq refl i
-  expression_constants g (FreeKey p x) w a i d = key_unbuilt (meaning_of g x) x.place a i d
-  expression_constants g (Chained e ps) w a i (v, kv, (k, eq)) = unbuilt a (typed.Load v.cell) eq refl i
-  expression_constants g (Prefixed p prefixes.Negate e) w a i (b, kb, (k, eq)) = along a _ eq (λ j. expression_constants g e w b j kb) i
-  expression_constants g (Prefixed p prefixes.Not e) w a i (b, kb, (k, eq)) = along a _ eq (λ j. seen_constants g e (rule g e) (λ c l h. expression_constants g e w c l h) b j kb) i
-  expression_constants g (Prefixed p prefixes.Complement e) w a i (b, kb, (k, eq)) = along a _ eq (λ j. expression_constants g e w b j kb) i
-  expression_constants g (Prefixed p prefixes.Dereference e) w a i (b, kb, (k, eq)) = unbuilt a (typed.Load (pointed g (place_of e) b).cell) eq refl i
-  expression_constants g (Prefixed p prefixes.AddressOf e) w a i (x, kx, (k, eq)) = unbuilt a _ eq (address_unbuilt x.side (pointer_to x)) i
-  expression_constants g (New p v) w a i (m, km, (k, eq)) = unbuilt a _ eq refl i
-  expression_constants g (RegionNew p e v) w a i (v', kv, (m, km, (k, eq))) = unbuilt a _ eq refl i
-  expression_constants g (Binary e os) (w, ws) a i (b, kb, (bs, ks, (u, eq))) =
-      along a (typed.Binary b bs.0 bs.1) eq
-      (λ (j : is_built_expression (typed.Binary b bs.0 bs.1) ≡ true).
-      let (first, rest) = and_parts (is_built_expression b) (are_built_operations bs.0) j in
-      (operand_constants g (is_looking_first os) e (λ c l h. expression_constants g e w c l h) b first kb, chain_constants g (place_of e) (peeked_local b) (type_of b) os ws bs ks rest))
-      i
-  expression_constants g (Assign e v) w a i (x, kx, (b, kb, (k, eq))) = along a (assignment x.side b) eq (assignment_constants x.side b (λ j. expression_constants g v w b j kb)) i
+  expression_constants : (g : Scope) (e : Expression) → IsOfWordsWritten e → GivesWords (rule g e)
+  expression_constants g (Number p n) w a (u, eq) = subst HasWords (sym eq) w
+  expression_constants g (Character p c) w a (u, eq) = subst HasWords (sym eq) w
+  expression_constants g (Null p) w a (u, eq) = subst HasWords (sym eq) tt
+  expression_constants g (HeapRegion p) w a (u, eq) = subst HasWords (sym eq) tt
+  expression_constants g (UniqueRegion p) w a d = absurd d
+  expression_constants g (Variable x) w a d = read_constants (meaning_of g x) x.place a d
+  expression_constants g (Call x es) w a (bs, hs, d) = called_constants g (meaning_of g x) x.place es bs (expressions_constants g es w bs hs) a d
+  expression_constants g (Bracketed p e) w a d = expression_constants g e w a d
+  expression_constants g (NumberOfElements p e) w a (b, kb, (k, eq)) = subst HasWords (sym eq) tt
+  expression_constants g (FreeUnique p e) w a (b, kb, (k, eq)) = subst HasWords (sym eq) tt
+  expression_constants g (FreeKey p x) w a d = key_constants (meaning_of g x) x.place a d
+  expression_constants g (Chained e ps) (w, ws) a (v, kv, d) =
+      loaded_constants (place_of e) v (postfixed_constants g (place_of e) e ps (seen_constants g e (rule g e) (λ c h. expression_constants g e w c h)) ws v kv) a d
+  expression_constants g (Prefixed p prefixes.Negate e) w a (b, kb, (k, eq)) = subst HasWords (sym eq) (expression_constants g e w b kb)
+  expression_constants g (Prefixed p prefixes.Not e) w a (b, kb, (k, eq)) = subst HasWords (sym eq) (seen_constants g e (rule g e) (λ c h. expression_constants g e w c h) b kb)
+  expression_constants g (Prefixed p prefixes.Complement e) w a (b, kb, (k, eq)) = subst HasWords (sym eq) (expression_constants g e w b kb)
+  expression_constants g (Prefixed p prefixes.Dereference e) w a (b, kb, d) =
+      loaded_constants p (pointed g (place_of e) b) (seen_constants g e (rule g e) (λ c h. expression_constants g e w c h) b kb) a d
+  expression_constants g (Prefixed p prefixes.AddressOf e) w a (x, kx, (k, eq)) = subst HasWords (sym eq) (address_words x.side (pointer_to x) (found_constants g (place_of e) e w x kx))
+  expression_constants g (New p v) w a (m, km, (k, eq)) = subst HasWords (sym eq) (made_constants g v w m km)
+  expression_constants g (RegionNew p e v) w a (v', kv, (m, km, (k, eq))) = subst HasWords (sym eq) (made_constants g v w m km)
+  expression_constants g (Binary e os) (w, ws) a (b, kb, (bs, ks, (u, eq))) =
+      subst HasWords (sym eq)
+      (operand_constants g (is_looking_first os) e (λ c h. expression_constants g e w c h) b kb, chain_constants g (place_of e) (peeked_local b) (type_of b) os ws bs ks)
+  expression_constants g (Assign e v) (w, ws) a (x, kx, (b, kb, (k, eq))) =
+      subst HasWords (sym eq) (assignment_words x.side b (found_constants g (place_of e) e w x kx) (expression_constants g v ws b kb))
 
-  expressions_constants : (g : Scope) (es : Expressions) → AreOfWordsWritten es → (as' : List typed.Expression) → Derives (rule_all g es) as' → ArePassedWords as'
-  expressions_constants g NoExpressions w as' (u, eq) ts i = subst (λ bs. AreOfWordsArguments (passed bs ts)) (sym eq) tt
-  expressions_constants g (MoreExpressions e es) (w, ws) as' (a, h, (bs, hs, (u, eq))) [] i = subst (λ cs. AreOfWordsArguments (passed cs [])) (sym eq) tt
-  expressions_constants g (MoreExpressions e es) (w, ws) as' (a, h, (bs, hs, (u, eq))) (t ∷ ts) i =
-      subst (λ cs. are_built_arguments (passed cs (t ∷ ts)) ≡ true → AreOfWordsArguments (passed cs (t ∷ ts))) (sym eq)
-      (λ (j : are_built_arguments (passed (a ∷ bs) (t ∷ ts)) ≡ true).
-      let (first, rest) = and_parts (is_built_converted (converted a t)) (are_built_arguments (passed bs ts)) j in
-      (converted_words a t (λ l. expression_constants g e w a l h) first, expressions_constants g es ws bs hs ts rest))
-      i
+  expressions_constants : (g : Scope) (es : Expressions) → AreOfWordsWritten es → (as' : List typed.Expression) → Derives (rule_all g es) as' → AllHaveWords as'
+  expressions_constants g NoExpressions w as' (u, eq) = subst AllHaveWords (sym eq) tt
+  expressions_constants g (MoreExpressions e es) (w, ws) as' (a, h, (bs, hs, (u, eq))) = subst AllHaveWords (sym eq) (expression_constants g e w a h, expressions_constants g es ws bs hs)
 
   chain_constants : (g : Scope) (p : Place) (k : Option ℕ) (left : ValueType) (os : Operations) → AreOfWordsChain os → (bs : typed.Operations × Ty) → Derives (rule_chain g p k left os) bs
-      → are_built_operations bs.0 ≡ true → AreOfWordsOperations bs.0
-  chain_constants g p k left NoOperations w bs (kept, eq) i = subst (λ (z : typed.Operations × Ty). AreOfWordsOperations z.0) (sym eq) tt
-  chain_constants g p k left (ThenOperation o q e os) (w, ws) bs (put, (b, kb, d), (cs, ks, (u, eq))) i =
-      subst (λ (z : typed.Operations × Ty). are_built_operations z.0 ≡ true → AreOfWordsOperations z.0) (sym eq)
-      (joined_words g p k left (place_of e) b o put d cs.0
-      (λ j. operand_constants g (is_looking o) e (λ c l h. expression_constants g e w c l h) b j kb)
-      (λ j. chain_constants g p None (Value put.1) os ws cs ks j))
-      i
+      → OperationsHaveWords bs.0
+  chain_constants g p k left NoOperations w bs (kept, eq) = subst (λ (z : typed.Operations × Ty). OperationsHaveWords z.0) (sym eq) tt
+  chain_constants g p k left (ThenOperation o q e os) (w, ws) bs (put, (b, kb, d), (cs, ks, (u, eq))) =
+      subst (λ (z : typed.Operations × Ty). OperationsHaveWords z.0) (sym eq)
+      (joined_words g p k left (place_of e) b o put d cs.0 (operand_constants g (is_looking o) e (λ c h. expression_constants g e w c h) b kb) (chain_constants g p None (Value put.1) os ws cs ks))
 
--- ---- statements
+  found_constants : (g : Scope) (p : Place) (e : Expression) → IsOfWordsWritten e → (x : Found) → Derives (rule_place g p e (rule g e)) x → SideHasWords x.side
+  found_constants g p (Variable y) w x d = place_constants (meaning_of g y) y.place p x d
+  found_constants g p (Bracketed q e) w x d = found_constants g p e w x d
+  found_constants g p (Prefixed q prefixes.Negate e) w x (b, kb, d) = absurd d
+  found_constants g p (Prefixed q prefixes.Not e) w x (b, kb, d) = absurd d
+  found_constants g p (Prefixed q prefixes.Complement e) w x (b, kb, d) = absurd d
+  found_constants g p (Prefixed q prefixes.AddressOf e) w x (b, kb, d) = absurd d
+  found_constants g p (Prefixed q prefixes.Dereference e) w x (b, kb, (k, eq)) =
+      subst (λ (z : Found). SideHasWords z.side) (sym eq) (seen_constants g e (rule g e) (λ c h. expression_constants g e w c h) b kb)
+  found_constants g p (Chained e ps) (w, ws) x (v, kv, (k, eq)) =
+      subst (λ (z : Found). SideHasWords z.side) (sym eq) (postfixed_constants g (place_of e) e ps (seen_constants g e (rule g e) (λ c h. expression_constants g e w c h)) ws v kv)
+  found_constants g p e w x (b, kb, d) = absurd d
 
-initial_constants : (g : Scope) (w : WrittenType) (x : Named) (v : Option Expression) (c : Ty × Option Converted) → IsOfWordsValue v → Derives (rule_initial g w x v) c
-    → is_built_value c.1 ≡ true → IsOfWordsInitial c.1
-initial_constants g t x None c w (k, eq) i = subst (λ (z : Ty × Option Converted). IsOfWordsInitial z.1) (sym eq) tt
-initial_constants g t x (Some e) c w (a, h, (k, eq)) i =
-    subst (λ (z : Ty × Option Converted). is_built_value z.1 ≡ true → IsOfWordsInitial z.1) (sym eq) (converted_words a _ (λ j. expression_constants g e w a j h)) i
+  postfixed_constants : (g : Scope) (p : Place) (e : Expression) (ps : Postfixes) → GivesWords (rule_looked g e (rule g e)) → AreOfWordsPostfixes ps
+      → GivesCells (rule_postfixed g p (rule_looked g e (rule g e)) ps)
+  postfixed_constants g p e NoPostfixes h w v d = absurd d
+  postfixed_constants g p e (ThenIndex i ps) h (w, ws) v (a, ka, (b, kb, d)) =
+      further_constants g p (indexed g p a (place_of i) b) ps (h a ka, expression_constants g i w b kb) ws v d
+  postfixed_constants g p e (ThenField f ps) h w v (a, ka, d) = further_constants g p (selected g p a f) ps (h a ka) w v d
 
-value_constants : (g : Scope) (r : Option Ty) (p q : Place) (a : typed.Expression) (c : Option Converted) → (is_built_expression a ≡ true → IsOfWords a) → Derives (returned g r p q a) c
-    → is_built_value c ≡ true → IsOfWordsInitial c
-value_constants g None p q a c w d i = absurd d
-value_constants g (Some t) p q a c w (k, eq) i = subst (λ z. is_built_value z ≡ true → IsOfWordsInitial z) (sym eq) (converted_words a t w) i
+  further_constants : (g : Scope) (p : Place) (r : Reached) (ps : Postfixes) → CellHasWords r.cell → AreOfWordsPostfixes ps → GivesCells (rule_further g p r ps)
+  further_constants g p r NoPostfixes h w v (k, eq) = subst (λ (z : Reached). CellHasWords z.cell) (sym eq) h
+  further_constants g p r (ThenIndex i ps) h (w, ws) v (a, ka, (b, kb, d)) =
+      further_constants g p (indexed g p a (place_of i) b) ps (loaded_constants p r h a ka, expression_constants g i w b kb) ws v d
+  further_constants g p r (ThenField f ps) h w v (a, ka, d) = further_constants g p (selected g p a f) ps (loaded_constants p r h a ka) w v d
 
-returned_constants : (g : Scope) (p : Place) (v : Option Expression) (c : Option Converted) → IsOfWordsValue v → Derives (rule_returned g p v) c → is_built_value c ≡ true → IsOfWordsInitial c
-returned_constants g p None c w (k, eq) i = subst IsOfWordsInitial (sym eq) tt
-returned_constants g p (Some e) c w (a, h, k) i = value_constants g g.result p (place_of e) a c (λ j. expression_constants g e w a j h) k i
+  made_constants : (g : Scope) (i : Initial) → IsOfWordsMadeOf i → (m : Made) → Derives (rule_made g i) m → InitialHasWords m.initial
+  made_constants g (Plain e) w m (a, ka, (k, eq)) = subst (λ (z : Made). InitialHasWords z.initial) (sym eq) (expression_constants g e w a ka)
+  made_constants g (Fields s rs es) w m (as', ks, (k, eq)) =
+      subst (λ (z : Made). InitialHasWords z.initial) (sym eq) (passed_words as' (field_types (arguments_written g s rs) (fields_known g s)) (expressions_constants g es w as' ks))
+  made_constants g (Array p x n e) w m (a, ka, (b, kb, (k, eq))) = subst (λ (z : Made). InitialHasWords z.initial) (sym eq) tt
 
-condition_constants : (g : Scope) (e : Expression) → IsOfWordsWritten e → HasWords (rule_condition g e)
-condition_constants g e w a i (b, h, (k, eq)) = along a b eq (λ j. seen_constants g e (rule g e) (λ c l d. expression_constants g e w c l d) b j h) i
+-- ---- from the rules: statements
+
+initial_constants : (g : Scope) (w : WrittenType) (x : Named) (v : Option Expression) (c : Ty × Option Converted) → IsOfWordsValue v → Derives (rule_initial g w x v) c → ValueHasWords c.1
+initial_constants g t x None c w (k, eq) = subst (λ (z : Ty × Option Converted). ValueHasWords z.1) (sym eq) tt
+initial_constants g t x (Some e) c w (a, h, (k, eq)) = subst (λ (z : Ty × Option Converted). ValueHasWords z.1) (sym eq) (expression_constants g e w a h)
+
+value_constants : (g : Scope) (r : Option Ty) (p q : Place) (a : typed.Expression) (c : Option Converted) → HasWords a → Derives (returned g r p q a) c → ValueHasWords c
+value_constants g None p q a c w d = absurd d
+value_constants g (Some t) p q a c w (k, eq) = subst ValueHasWords (sym eq) w
+
+returned_constants : (g : Scope) (p : Place) (v : Option Expression) (c : Option Converted) → IsOfWordsValue v → Derives (rule_returned g p v) c → ValueHasWords c
+returned_constants g p None c w (k, eq) = subst ValueHasWords (sym eq) tt
+returned_constants g p (Some e) c w (a, h, k) = value_constants g g.result p (place_of e) a c (expression_constants g e w a h) k
+
+condition_constants : (g : Scope) (e : Expression) → IsOfWordsWritten e → GivesWords (rule_condition g e)
+condition_constants g e w a (b, h, (k, eq)) = subst HasWords (sym eq) (seen_constants g e (rule g e) (λ c d. expression_constants g e w c d) b h)
 
 mutual
-  statement_constants : (g : Scope) (s : Statement) → IsOfWordsWrittenStatement s → (t : typed.Statement) → Derives (rule_statement g s) t → is_built_statement t ≡ true → IsOfWordsStatement t
-  statement_constants g (Block c) w t (js, h, (u, eq)) i =
-      subst (λ z. is_built_statement z ≡ true → IsOfWordsStatement z) (sym eq) (λ j. body_constants (in_block g) c w js h j) i
-  statement_constants g (Labelled l c) w t (u, hu, (js, h, (v, eq))) i =
-      subst (λ z. is_built_statement z ≡ true → IsOfWordsStatement z) (sym eq) (λ j. body_constants (in_labelled l g) c w js h j) i
-  statement_constants g (Empty p) w t (u, eq) i = subst IsOfWordsStatement (sym eq) tt
-  statement_constants g (Evaluate e) w t (a, h, (u, eq)) i = subst (λ z. is_built_statement z ≡ true → IsOfWordsStatement z) (sym eq) (λ j. expression_constants g e w a j h) i
-  statement_constants g (Swap a b) w t (x, kx, (y, ky, (k, eq))) i = unbuilt_statement t (typed.Swap x.side y.side) eq refl i
-  statement_constants g (If p e u) (w, ws) t (a, h, (c, k, (v, eq))) i =
-      subst (λ z. is_built_statement z ≡ true → IsOfWordsStatement z) (sym eq)
-      (λ (j : is_built_statement (typed.If a c typed.Empty) ≡ true).
-      let (first, more) = and_parts (is_built_expression a) (is_built_statement c && true) j in
-      (condition_constants g e w a first h, statement_constants g u ws c k (and_parts (is_built_statement c) true more).0, tt))
-      i
-  statement_constants g (IfElse p e u v) (w, x, y) t (a, h, (c, k, (d, m, (z, eq)))) i =
-      subst (λ z. is_built_statement z ≡ true → IsOfWordsStatement z) (sym eq)
-      (λ (j : is_built_statement (typed.If a c d) ≡ true).
-      let (first, more) = and_parts (is_built_expression a) (is_built_statement c && is_built_statement d) j in
-      let (second, third) = and_parts (is_built_statement c) (is_built_statement d) more in
-      (condition_constants g e w a first h, statement_constants g u x c k second, statement_constants (behind g u) v y d m third))
-      i
-  statement_constants g (While p e u) (w, ws) t (a, h, (c, k, (v, eq))) i =
-      subst (λ z. is_built_statement z ≡ true → IsOfWordsStatement z) (sym eq)
-      (λ (j : is_built_statement (typed.While p a c) ≡ true).
-      let (first, second) = and_parts (is_built_expression a) (is_built_statement c) j in
-      (condition_constants g e w a first h, statement_constants (in_body g) u ws c k second))
-      i
-  statement_constants g (Return p v) w t (c, h, (u, eq)) i = subst (λ z. is_built_statement z ≡ true → IsOfWordsStatement z) (sym eq) (λ j. returned_constants g p v c w h j) i
-  statement_constants g (Break p) w t (k, eq) i = subst IsOfWordsStatement (sym eq) tt
-  statement_constants g (Continue p) w t (k, eq) i = subst IsOfWordsStatement (sym eq) tt
-  statement_constants g (Throw p x v) w t (a, ka, d) i = let (n, eq) = thrown_shape g (exception_among g.exceptions x.name) x v a t d in unbuilt_statement t (typed.Throw n a) eq refl i
-  statement_constants g (Try p s cs) w t (b, kb, (ds, ks, (u, eq))) i = unbuilt_statement t (typed.Try b ds) eq refl i
+  statement_constants : (g : Scope) (s : Statement) → IsOfWordsWrittenStatement s → (t : typed.Statement) → Derives (rule_statement g s) t → StatementHasWords t
+  statement_constants g (Block c) w t (js, h, (u, eq)) = subst StatementHasWords (sym eq) (body_constants (in_block g) c w js h)
+  statement_constants g (Labelled l c) w t (u, hu, (js, h, (v, eq))) = subst StatementHasWords (sym eq) (body_constants (in_labelled l g) c w js h)
+  statement_constants g (Empty p) w t (u, eq) = subst StatementHasWords (sym eq) tt
+  statement_constants g (Evaluate e) w t (a, h, (u, eq)) = subst StatementHasWords (sym eq) (expression_constants g e w a h)
+  statement_constants g (Swap a b) w t (x, kx, (y, ky, (k, eq))) = subst StatementHasWords (sym eq) tt
+  statement_constants g (If p e u) (w, ws) t (a, h, (c, k, (v, eq))) = subst StatementHasWords (sym eq) (condition_constants g e w a h, statement_constants g u ws c k, tt)
+  statement_constants g (IfElse p e u v) (w, x, y) t (a, h, (c, k, (d, m, (z, eq)))) =
+      subst StatementHasWords (sym eq) (condition_constants g e w a h, statement_constants g u x c k, statement_constants (behind g u) v y d m)
+  statement_constants g (While p e u) (w, ws) t (a, h, (c, k, (v, eq))) = subst StatementHasWords (sym eq) (condition_constants g e w a h, statement_constants (in_body g) u ws c k)
+  statement_constants g (Return p v) w t (c, h, (u, eq)) = subst StatementHasWords (sym eq) (returned_constants g p v c w h)
+  statement_constants g (Break p) w t (k, eq) = subst StatementHasWords (sym eq) tt
+  statement_constants g (Continue p) w t (k, eq) = subst StatementHasWords (sym eq) tt
+  statement_constants g (Throw p x v) w t (a, ka, d) = let (n, eq) = thrown_shape g (exception_among g.exceptions x.name) x v a t d in subst StatementHasWords (sym eq) tt
+  statement_constants g (Try p s cs) w t (b, kb, (ds, ks, (u, eq))) = subst StatementHasWords (sym eq) tt
 
-  body_constants : (g : Scope) (b : Body) → IsOfWordsBody b → (js : typed.Items) → Derives (rule_body g b) js → are_built_items js ≡ true → AreOfWordsItems js
-  body_constants g (Braces p is q) w js h i = items_constants g is w js h i
+  body_constants : (g : Scope) (b : Body) → IsOfWordsBody b → (js : typed.Items) → Derives (rule_body g b) js → ItemsHaveWords js
+  body_constants g (Braces p is q) w js h = items_constants g is w js h
 
-  items_constants : (g : Scope) (is : Items) → AreOfWordsWrittenItems is → (js : typed.Items) → Derives (rule_items g is) js → are_built_items js ≡ true → AreOfWordsItems js
-  items_constants g NoItems w js (u, eq) i = subst AreOfWordsItems (sym eq) tt
-  items_constants g (MoreItems (Execute s) is) (w, ws) js (j, (t, h, (u, is_j)), (ks, hs, (v, eq))) i =
-      subst (λ z. are_built_items z ≡ true → AreOfWordsItems z) (sym (eq ∙ ap (λ k. typed.MoreItems k ks) is_j))
-      (λ (b : are_built_items (typed.MoreItems (typed.Execute t) ks) ≡ true).
-      let (first, rest) = and_parts (is_built_statement t) (are_built_items ks) b in
-      (statement_constants g s w t h first, items_constants (behind g s) is ws ks hs rest))
-      i
-  items_constants g (MoreItems (Local t x v) is) (w, ws) js (j, (u, ku, (c, kc, (y, is_j))), (ks, hs, (z, eq))) i =
-      subst (λ z. are_built_items z ≡ true → AreOfWordsItems z) (sym (eq ∙ ap (λ k. typed.MoreItems k ks) is_j))
-      (λ (b : are_built_items (typed.MoreItems (typed.Declare g.next_local c.0 c.1) ks) ≡ true).
-      let (of_type, more) = and_parts (is_built_type c.0) (is_built_value c.1 && are_built_items ks) b in
-      let (first, rest) = and_parts (is_built_value c.1) (are_built_items ks) more in
-      (initial_constants g t x v c w kc first, items_constants (behind_item g (Local t x v) j) is ws ks hs rest))
-      i
-  items_constants g (MoreItems (Region r h None) is) w js (j, (k, is_j), (ks, hs, (z, eq))) i =
-      unbuilt_items js (typed.MoreItems (typed.DeclareRegion g.next_region g.next_local) ks) (eq ∙ ap (λ k. typed.MoreItems k ks) is_j) refl i
-  items_constants g (MoreItems (Region r h (Some k)) is) w js (j, (u, ku, d), (ks, hs, (z, eq))) i =
-      let (o, l, is_j) = opened_shape g r h (meaning_of g k) k.place j d in
-      unbuilt_items js (typed.MoreItems (typed.OpenRegion o g.next_local k.place l) ks) (eq ∙ ap (λ k. typed.MoreItems k ks) is_j) refl i
-  items_constants g (MoreItems (Alias r t x y) is) w js (j, (u, ku, (v, kv, d)), (ks, hs, (z, eq))) i =
-      let (of_type, l, is_j) = aliased_shape g r x t (meaning_of g y) y.place j d in
-      unbuilt_items js (typed.MoreItems (typed.DeclareAlias g.next_region g.next_local of_type y.place l) ks) (eq ∙ ap (λ k. typed.MoreItems k ks) is_j) refl i
-  items_constants g (MoreItems (DynamicRegion r k) is) w js (j, (kept, is_j), (ks, hs, (z, eq))) i =
-      unbuilt_items js (typed.MoreItems (typed.DeclareKey g.next_region g.next_local) ks) (eq ∙ ap (λ k. typed.MoreItems k ks) is_j) refl i
+  items_constants : (g : Scope) (is : Items) → AreOfWordsWrittenItems is → (js : typed.Items) → Derives (rule_items g is) js → ItemsHaveWords js
+  items_constants g NoItems w js (u, eq) = subst ItemsHaveWords (sym eq) tt
+  items_constants g (MoreItems (Execute s) is) (w, ws) js (j, (t, h, (u, is_j)), (ks, hs, (v, eq))) =
+      subst ItemsHaveWords (sym (eq ∙ ap (λ k. typed.MoreItems k ks) is_j)) (statement_constants g s w t h, items_constants (behind g s) is ws ks hs)
+  items_constants g (MoreItems (Local t x v) is) (w, ws) js (j, (u, ku, (c, kc, (y, is_j))), (ks, hs, (z, eq))) =
+      subst ItemsHaveWords (sym (eq ∙ ap (λ k. typed.MoreItems k ks) is_j)) (initial_constants g t x v c w kc, items_constants (behind_item g (Local t x v) j) is ws ks hs)
+  items_constants g (MoreItems (Region r h None) is) w js (j, (k, is_j), (ks, hs, (z, eq))) = subst ItemsHaveWords (sym (eq ∙ ap (λ k. typed.MoreItems k ks) is_j)) tt
+  items_constants g (MoreItems (Region r h (Some k)) is) w js (j, (u, ku, d), (ks, hs, (z, eq))) =
+      let (o, l, is_j) = opened_shape g r h (meaning_of g k) k.place j d in subst ItemsHaveWords (sym (eq ∙ ap (λ k. typed.MoreItems k ks) is_j)) tt
+  items_constants g (MoreItems (Alias r t x y) is) w js (j, (u, ku, (v, kv, d)), (ks, hs, (z, eq))) =
+      let (of_type, l, is_j) = aliased_shape g r x t (meaning_of g y) y.place j d in subst ItemsHaveWords (sym (eq ∙ ap (λ k. typed.MoreItems k ks) is_j)) tt
+  items_constants g (MoreItems (DynamicRegion r k) is) w js (j, (kept, is_j), (ks, hs, (z, eq))) = subst ItemsHaveWords (sym (eq ∙ ap (λ k. typed.MoreItems k ks) is_j)) tt
 
--- ---- programs
+-- ---- from the rules: programs
 
-functions_constants : (p : Program) (tree : List Declaration) (fs : List typed.Function) → IsOfWordsTree tree → Derives (rule_functions p tree) fs → list_all is_built_function fs ≡ true → AreOfWordsFunctions fs
-functions_constants p [] fs w (u, eq) i = subst AreOfWordsFunctions (sym eq) tt
-functions_constants p (StructType s rs ms ∷ tree) fs (w, ws) h i = functions_constants p tree fs ws h i
-functions_constants p (Exceptions cs ∷ tree) fs (w, ws) h i = functions_constants p tree fs ws h i
-functions_constants p (Global t x v ∷ tree) fs (w, ws) h i = functions_constants p tree fs ws h i
-functions_constants p (Function r x ps (Braces o is q) ∷ tree) fs (w, ws) (f, (js, h, (u, is_f)), (gs, hs, (v, eq))) i =
-    let s : Signature = signature_of p.known r ps in
-    subst (λ z. list_all is_built_function z ≡ true → AreOfWordsFunctions z) (sym (eq ∙ ap (λ k. k ∷ gs) is_f))
-    (λ (b : (list_all is_built_type s.parameters && (is_built_result s.result && are_built_items js)) && list_all is_built_function gs ≡ true).
-    let (first, rest) = and_parts (list_all is_built_type s.parameters && (is_built_result s.result && are_built_items js)) (list_all is_built_function gs) b in
-    let (parameters, more) = and_parts (list_all is_built_type s.parameters) (is_built_result s.result && are_built_items js) first in
-    (items_constants (body_scope p s x ps) is w js h (and_parts (is_built_result s.result) (are_built_items js) more).1, functions_constants p tree gs ws hs rest))
-    i
+functions_constants : (p : Program) (tree : List Declaration) (fs : List typed.Function) → IsOfWordsTree tree → Derives (rule_functions p tree) fs → FunctionsHaveWords fs
+functions_constants p [] fs w (u, eq) = subst FunctionsHaveWords (sym eq) tt
+functions_constants p (StructType s rs ms ∷ tree) fs (w, ws) h = functions_constants p tree fs ws h
+functions_constants p (Exceptions cs ∷ tree) fs (w, ws) h = functions_constants p tree fs ws h
+functions_constants p (Global t x v ∷ tree) fs (w, ws) h = functions_constants p tree fs ws h
+functions_constants p (Function r x ps (Braces o is q) ∷ tree) fs (w, ws) (f, (js, h, (u, is_f)), (gs, hs, (v, eq))) =
+    subst FunctionsHaveWords (sym (eq ∙ ap (λ k. k ∷ gs) is_f)) (items_constants (body_scope p (signature_of p.known r ps) x ps) is w js h, functions_constants p tree gs ws hs)
 
 either_constant : (b : Bool) → IsOfWordsConstant (cond b typed.Null (typed.Word 0))
 either_constant true = tt
@@ -348,15 +392,101 @@ globals_constants k (Exceptions cs ∷ tree) (w, ws) = globals_constants k tree 
 globals_constants k (Global t x v ∷ tree) (w, ws) = (global_constants _ v w, globals_constants k tree ws)
 globals_constants k (Function r x ps b ∷ tree) (w, ws) = globals_constants k tree ws
 
+-- ---- what is built has no other forms
+
+mutual
+  built_words : (a : typed.Expression) → is_built_expression a ≡ true → HasWords a → IsOfWords a
+  built_words (typed.Number n) i w = w
+  built_words typed.NullPointer i w = tt
+  built_words (typed.Copy l t) i w = tt
+  built_words (typed.Load d) i w = built_cell d i w
+  built_words (typed.AddressOfCell d t) i w = built_cell d (and_parts (is_built_place d) (is_built_type t) i).0 w
+  built_words (typed.Call f cs t) i w = built_arguments cs (and_parts (are_built_arguments cs) (is_built_value_type t) i).0 w
+  built_words (typed.Unary o a) i w = built_words a i w
+  built_words (typed.Binary a os t) i (w, ws) =
+      let (first, more) = and_parts (is_built_expression a) (are_built_operations os && is_built_type t) i in
+      (built_words a first w, built_operations os (and_parts (are_built_operations os) (is_built_type t) more).0 ws)
+  built_words (typed.Assign l c t) i w = built_converted c (and_parts (is_built_converted c) (is_built_value_type t) i).0 w
+  built_words (typed.Store d c t) i (w, ws) =
+      let (place, more) = and_parts (is_built_place d) (is_built_converted c && is_built_value_type t) i in
+      (built_cell d place w, built_converted c (and_parts (is_built_converted c) (is_built_value_type t) more).0 ws)
+  built_words (typed.New typed.OnHeap m t) i w = built_initial m (and_parts (is_built_initial m) (is_built_type t) i).0 w
+  built_words a i w = absurd (cc)
+
+  built_cell : (d : typed.Dereference) → is_built_place d ≡ true → CellHasWords d → IsOfWordsCell d
+  built_cell (typed.Target k a t) i w = built_words a (and_parts (is_built_expression a) (is_built_kind k && is_built_type t) i).0 w
+  built_cell (typed.Member k a s f t) i w = built_words a (and_parts (is_built_expression a) (is_built_kind k && is_built_type t) i).0 w
+  built_cell d i w = absurd (cc)
+
+  built_initial : (m : typed.Initial) → is_built_initial m ≡ true → InitialHasWords m → IsOfWordsObject m
+  built_initial (typed.Plain k a) i w = built_words a (and_parts (is_built_expression a) (is_built_kind k) i).0 w
+  built_initial (typed.Fields cs) i w =
+      let (size, values) = and_parts (is_built_size (argument_count cs)) (are_built_arguments cs) i in
+      (leb-true (argument_count cs) 1000 (and_parts (nat_le 1 (argument_count cs)) (nat_le (argument_count cs) 1000) size).1, built_arguments cs values w)
+  built_initial m i w = absurd (cc)
+
+  built_converted : (c : Converted) → is_built_converted c ≡ true → ConvertedHasWords c → IsOfWordsConverted c
+  built_converted (typed.Convert from to a) i w = built_words a (and_parts (is_built_expression a) (is_built_kind from && is_built_kind to) i).0 w
+
+  built_arguments : (cs : typed.Arguments) → are_built_arguments cs ≡ true → ArgumentsHaveWords cs → AreOfWordsArguments cs
+  built_arguments typed.NoArguments i w = tt
+  built_arguments (typed.MoreArguments c cs) i (w, ws) =
+      let (first, rest) = and_parts (is_built_converted c) (are_built_arguments cs) i in (built_converted c first w, built_arguments cs rest ws)
+
+  built_operations : (os : typed.Operations) → are_built_operations os ≡ true → OperationsHaveWords os → AreOfWordsOperations os
+  built_operations typed.NoOperations i w = tt
+  built_operations (typed.ThenCompute o a os) i (w, ws) =
+      let (first, rest) = and_parts (is_built_expression a) (are_built_operations os) i in (built_words a first w, built_operations os rest ws)
+  built_operations (typed.ThenTest o a os) i (w, ws) =
+      let (first, rest) = and_parts (is_built_expression a) (are_built_operations os) i in (built_words a first w, built_operations os rest ws)
+  built_operations (typed.ThenPointer o a os) i (w, ws) =
+      let (operator, more) = and_parts (is_built_operator o) (is_built_expression a && are_built_operations os) i in
+      let (first, rest) = and_parts (is_built_expression a) (are_built_operations os) more in (built_words a first w, built_operations os rest ws)
+  built_operations os i w = absurd (cc)
+
+built_value : (v : Option Converted) → is_built_value v ≡ true → ValueHasWords v → IsOfWordsInitial v
+built_value None i w = tt
+built_value (Some c) i w = built_converted c i w
+
+mutual
+  built_statement : (s : typed.Statement) → is_built_statement s ≡ true → StatementHasWords s → IsOfWordsStatement s
+  built_statement (typed.Block r js) i w = built_items js i w
+  built_statement typed.Empty i w = tt
+  built_statement (typed.Evaluate a) i w = built_words a i w
+  built_statement (typed.If a s t) i (w, x, y) =
+      let (first, more) = and_parts (is_built_expression a) (is_built_statement s && is_built_statement t) i in
+      let (second, third) = and_parts (is_built_statement s) (is_built_statement t) more in (built_words a first w, built_statement s second x, built_statement t third y)
+  built_statement (typed.While p a s) i (w, ws) =
+      let (first, second) = and_parts (is_built_expression a) (is_built_statement s) i in (built_words a first w, built_statement s second ws)
+  built_statement (typed.Return v) i w = built_value v i w
+  built_statement typed.Break i w = tt
+  built_statement typed.Continue i w = tt
+  built_statement s i w = absurd (cc)
+
+  built_items : (js : typed.Items) → are_built_items js ≡ true → ItemsHaveWords js → AreOfWordsItems js
+  built_items typed.NoItems i w = tt
+  built_items (typed.MoreItems (typed.Execute s) js) i (w, ws) =
+      let (first, rest) = and_parts (is_built_statement s) (are_built_items js) i in (built_statement s first w, built_items js rest ws)
+  built_items (typed.MoreItems (typed.Declare n t v) js) i (w, ws) =
+      let (of_type, more) = and_parts (is_built_type t) (is_built_value v && are_built_items js) i in
+      let (first, rest) = and_parts (is_built_value v) (are_built_items js) more in (built_value v first w, built_items js rest ws)
+  built_items js i w = absurd (cc)
+
+built_functions : (hs : List typed.Function) → list_all is_built_function hs ≡ true → FunctionsHaveWords hs → AreOfWordsFunctions hs
+built_functions [] i w = tt
+built_functions (h ∷ hs) i (w, ws) =
+    let (first, rest) = and_parts (is_built_function h) (list_all is_built_function hs) i in
+    let (parameters, more) = and_parts (list_all is_built_type h.parameters) (is_built_result h.result && are_built_items h.body) first in
+    (built_items h.body (and_parts (is_built_result h.result) (are_built_items h.body) more).1 w, built_functions hs rest ws)
+
 pub typed_constants : (texts : List (List ℕ)) (tree : List Declaration) (p : typed.Program) → IsTypedProgram texts tree p → is_built p ≡ true → IsOfWordsTree tree → IsOfWordsProgram p
 typed_constants texts tree p (u, heads_kept, (v, main, (fs, functions, (x, eq)))) i w =
     let q : Program = program_known texts tree in
     let same : p.functions ≡ fs = ap (λ (z : typed.Program). z.functions) eq in
-    let built : list_all is_built_function p.functions ≡ true =
-    (and_parts (list_all is_built_global p.globals) (list_all is_built_function p.functions)
-    (and_parts (is_empty p.exceptions) (list_all is_built_global p.globals && list_all is_built_function p.functions)
-    (and_parts (is_empty p.structs) (is_empty p.exceptions && (list_all is_built_global p.globals && list_all is_built_function p.functions)) i).1).1).1 in
+    let (structs, more) = and_parts (list_all is_built_struct p.structs) (is_empty p.exceptions && (list_all is_built_global p.globals && list_all is_built_function p.functions)) i in
+    let (exceptions, others) = and_parts (is_empty p.exceptions) (list_all is_built_global p.globals && list_all is_built_function p.functions) more in
+    let (globals, built) = and_parts (list_all is_built_global p.globals) (list_all is_built_function p.functions) others in
     record {
-      functions = functions_constants q tree p.functions w (subst (Derives (rule_functions q tree)) (sym same) functions) built;
+      functions = built_functions p.functions built (functions_constants q tree p.functions w (subst (Derives (rule_functions q tree)) (sym same) functions));
       globals = subst AreOfWordsGlobals (sym (ap (λ (z : typed.Program). z.globals) eq)) (globals_constants q.known tree w);
     }
