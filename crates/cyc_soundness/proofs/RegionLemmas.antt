@@ -17,7 +17,7 @@ use Rattle.cyc_types.specs.typing.WellTyped.{LocalInScope, Context, IsLive, AreL
 use Rattle.cyc_soundness.specs.Lives.{Life, OfRegion, OfObject, Never, Lives, at, value_at, heap_life, lives_of, as_heap, Reading, AsHeap, ByScope, AllOf, AllIn, AllInValue, IsKnown, IsOther}
 use Rattle.cyc_soundness.specs.Worlds.{Outlasts, heap as for_ever, encloses, whole, behind, AgreesWith, IsNumber}
 use Rattle.cyc_soundness.specs.Classes.{IsDeclarable, Source}
-use Rattle.cyc_soundness.specs.Frames.{later, InScope, Variable, Level, Names, Instance, Home, life_named, is_live_named, lives_in, read, read_value, home_of, lives_among, IsThereBy, IsThere, IsHomed, IsScope, IsLasting, IsLiveIn, AreLiveIn, Exits, AreNamed, StandBy, Stand, IsHome, AreKnownLocals, AreKnown, IsContext}
+use Rattle.cyc_soundness.specs.Frames.{later, InScope, Variable, Level, Names, Instance, Home, Lent, life_named, is_live_named, lives_in, read, read_value, home_of, lives_among, IsThereBy, IsThere, IsHomed, IsScope, IsLasting, IsLiveIn, AreLiveIn, Exits, AreNamed, StandBy, Stand, IsHome, AreKnownLocals, AreKnown, AreLent, IsContext}
 use Rattle.cyc_soundness.specs.Stacks.{IsNew, regions_at_call, IsInstance}
 use Rattle.cyc_soundness.proofs.TypeLemmas.{all_in, every_in, read_alike, value_alike, lives_by, instance_by, result_by}
 use Rattle.cyc_soundness.proofs.ValueLemmas.{given_agree}
@@ -62,6 +62,7 @@ named_lasting ns [] k are live = inl refl
 named_lasting ns (Variable b ∷ bs) k (is, are) live = named_lasting ns bs k are live
 named_lasting ns (Level l ∷ bs) k (is, are) live = named_lasting ns bs k are live
 named_lasting ns (Home region ∷ bs) k (is, are) live = named_lasting ns bs k are live
+named_lasting ns (Lent number object ∷ bs) k (is, are) live = named_lasting ns bs k are live
 named_lasting ns (Instance these lives ∷ bs) k (is, are) live = is k live
 named_lasting ns (Names number l alive ∷ bs) k (is, are) live = named_either (k == number) ns l (life_named bs k) alive (is_live_named bs k) is (λ e. named_lasting ns bs k are e) live
 
@@ -76,6 +77,11 @@ lasts_around ns n (OfRegion m ms) (inl heap) = subst (λ l. Outlasts l (OfRegion
 lasts_around ns n (OfRegion m ms) (inr end) = encloses m n ms ns end
 lasts_around ns n (OfObject o) is = absurd is
 lasts_around ns n Never is = absurd is
+
+-- what is lent is so further inside
+pub lent_more : (b : InScope) (bs : List InScope) (ns : List ℕ) → AreLent ns bs → AreLent ns (b ∷ bs)
+lent_more b bs [] are = tt
+lent_more b bs (n ∷ ns) ((object, among), are) = ((object, later b bs among), lent_more b bs ns are)
 
 -- ---- names
 
@@ -365,6 +371,7 @@ module _ (p : Source) (x : Exits) (bs : List InScope) (c : Context) (stands : Is
       known = known_opened p.reading c.next_region scopes.Block c.regions c.locals c.result stands.known;
       regions = stand_here scopes.Block refl;
       home = new_home p.reading c.next_region region ns bs;
+      lent = lent_more (Home region) here x.locks (lent_more (Names c.next_region (opened_life p.reading region ns) true) bs x.locks stands.lent);
     }
 
     -- behind a lexical region
@@ -382,6 +389,7 @@ module _ (p : Source) (x : Exits) (bs : List InScope) (c : Context) (stands : Is
       known = known_opened p.reading c.next_region scopes.Lexical c.regions c.locals c.result stands.known;
       regions = stand_here scopes.Lexical refl;
       home = same_home p.reading c.next_region region ns c bs stands.known refl alive stands.home;
+      lent = lent_more (Names c.next_region (opened_life p.reading region ns) true) bs x.locks stands.lent;
     }
 
 -- ---- a function begins

@@ -10,7 +10,7 @@ use Rattle.cyc_types.specs.TypedTrees.{Operations, NoOperations, ThenCompute, Th
 use Rattle.cyc_types.specs.typing.Tests.{is_tested, is_moved}
 use Rattle.cyc_types.specs.typing.WellTyped.{LocalInScope, Context, HasLocal, HasPlace, Converts, PointerOperation, adds, subtracts, equals, differs, thin_null, thin_there, fat_null, fat_there, null_is, null_is_not, IsChain}
 use Rattle.cyc_types.specs.flow.States as flow
-use Rattle.cyc_types.specs.flow.States.{Full, with_fullness}
+use Rattle.cyc_types.specs.flow.States.{Full, with_fullness, with_each, is_reached}
 use Rattle.cyc_meaning.specs.Values as values
 use Rattle.cyc_meaning.specs.State.{Region, Access, Found, Closed, Missing, found_region, is_open, heap_number, globals_number, World, FillElement, AwaitingPlace, SwapRight, Write, Environment, with_local, Awaiting, Entry, Needs, NeedsPlace, Discard, Rest, Join, Loop, CloseRegion, CloseLexical, Handler, Caller, Main}
 use Rattle.cyc_meaning.specs.Nesting.{ends_of, IsFound, AreOpen, IsHome, IsNested}
@@ -18,12 +18,12 @@ use Rattle.cyc_meaning.specs.Nesting as nesting
 use Rattle.cyc_soundness.specs.Lives.{Life, OfRegion, OfObject, Never, heap_life, RunTy, RunValue, Void, Null, Value, Lives, at, value_at, Reading}
 use Rattle.cyc_soundness.specs.Lives as lives
 use Rattle.cyc_soundness.specs.Worlds.{Typing, IsFull, variable_type, IsEndOf, whole, behind, Outlasts, alike, heap as for_ever, globals as with_globals, encloses, IsOpenLife, Grows}
-use Rattle.cyc_soundness.specs.Frames.{IsAmong, first, later, Bound, InScope, Variable, Level, Home, lives_in, read, home_of, IsHomed, IsScope, AreBelow, IsBound, AreVariables, IsLasting, AreLiveIn, home_in, LiveIn, IsInner, Within, itself, older, IsSet, AreSet, Holds, Exits}
+use Rattle.cyc_soundness.specs.Frames.{IsAmong, first, later, Bound, InScope, Variable, Level, Home, Lent, lives_in, read, home_of, IsHomed, IsScope, AreBelow, IsBound, AreVariables, IsLasting, AreLiveIn, home_in, LiveIn, IsInner, Within, itself, older, IsSet, AreSet, Holds, Exits, AreLent}
 use Rattle.cyc_soundness.specs.Classes.{InOperations, Source}
 use Rattle.cyc_soundness.specs.Stacks.{IsAccepted, Want, Nothing, Val, PlaceOf, Go, held, Waits, IsArrayOf, Keeps, IsSpot, of_local, of_global, of_cell, KeepsPlace, AreSwapped, IsStack}
 use Rattle.cyc_soundness.specs.Stacks as stacks
 use Rattle.cyc_soundness.proofs.Numbers.{same_or_other}
-use Rattle.cyc_soundness.proofs.FlowLemmas.{other_set}
+use Rattle.cyc_soundness.proofs.FlowLemmas.{other_set, reached_with}
 use Rattle.cyc_soundness.proofs.ValueLemmas.{ends_through}
 use Rattle.cyc_soundness.proofs.RegionLemmas.{lasting_more}
 use Rattle.cyc_soundness.proofs.WorldLemmas.{type_grown, result_grown, operands_grown, variables_grown, holds_grown}
@@ -267,6 +267,7 @@ within_holds g f cs bs within (reached, are) = (reached, within_set g f cs bs wi
 pub below_more : (n m : ℕ) (bs : List InScope) → n ≤ m → AreBelow n bs → AreBelow m bs
 below_more n m [] less are = tt
 below_more n m (Variable b ∷ bs) less (is, are) = (omega (arith, less, is), below_more n m bs less are)
+below_more n m (Lent k object ∷ bs) less (is, are) = (omega (arith, less, is), below_more n m bs less are)
 below_more n m (b ∷ bs) less (is, are) = (tt, below_more n m bs less are)
 
 -- ---- a local more, and one that is stored
@@ -282,6 +283,8 @@ pub bound_more : (e : Environment) (number object : ℕ) (bs : List InScope) →
 bound_more e number object [] below are = tt
 bound_more e number object (Variable b ∷ bs) (less, below) (is, are) =
     (local_other e number b.number object (λ e. (let k : b.number ≡ number = e in absurd (omega (arith, less, k)))) ∙ is, bound_more e number object bs below are)
+bound_more e number object (Lent n o ∷ bs) (less, below) (is, are) =
+    (local_other e number n object (λ e. (let k : n ≡ number = e in absurd (omega (arith, less, k)))) ∙ is, bound_more e number object bs below are)
 bound_more e number object (b ∷ bs) (less, below) (is, are) = (is, bound_more e number object bs below are)
 
 pub set_more : (g : Typing) (a : flow.Fullness) (f : flow.State) (number : ℕ) (bs : List InScope) → AreBelow number bs → AreSet g f bs → AreSet g (with_fullness a f number) bs
@@ -301,6 +304,41 @@ set_stored g e f number object (Variable b ∷ bs) (here, bound) there full (is,
       | inr apart ↦ is (other_set Full f number b.number apart s)
     ]
 set_stored g e f number object (b ∷ bs) (here, bound) there full (is, are) = (tt, set_stored g e f number object bs bound there full are)
+
+-- ---- what is lent
+
+pub none_among : {A B : Type 0} {a : A} → IsAmong a [] → B
+none_among among = elim among [ ]
+
+among_lent : {n object : ℕ} {bs : List InScope} (e : Environment) → IsAmong (Lent n object) bs → IsBound e.locals e.counters bs → e.locals n ≡ Some object
+among_lent e (first cs) (is, are) = is
+among_lent e (later c cs among) (is, are) = among_lent e among are
+
+lent_full : {n object : ℕ} {bs : List InScope} (g : Typing) → IsAmong (Lent n object) bs → AreVariables g bs → IsFull g object
+lent_full g (first cs) (is, are) = is
+lent_full g (later c cs among) (is, are) = lent_full g among are
+
+lent_one : (n : ℕ) (ns : List ℕ) (bs : List InScope) → IsAmong n ns → AreLent ns bs → (object : ℕ) × IsAmong (Lent n object) bs
+lent_one n ns bs (first ms) (is, are) = is
+lent_one n ns bs (later m ms among) (is, are) = lent_one n ms bs among are
+
+-- some of what is lent
+pub lent_among : (ms ns : List ℕ) (bs : List InScope) → ((n : ℕ) → IsAmong n ms → IsAmong n ns) → AreLent ns bs → AreLent ms bs
+lent_among [] ns bs among are = tt
+lent_among (m ∷ ms) ns bs among are = (lent_one m ns bs (among m (first ms)) are, lent_among ms ns bs (λ n is. among n (later m ms is)) are)
+
+lent_set : (g : Typing) (e : Environment) (ns : List ℕ) (f : flow.State) (bs : List InScope) → IsBound e.locals e.counters bs → AreVariables g bs → AreLent ns bs → AreSet g f bs → AreSet g (with_each Full ns f) bs
+lent_set g e [] f bs bound variables lent are = are
+lent_set g e (n ∷ ns) f bs bound variables ((object, among), lent) are =
+    lent_set g e ns (with_fullness Full f n) bs bound variables lent (set_stored g e f n object bs bound (among_lent e among bound) (lent_full g among variables) are)
+
+each_reached : (a : flow.Fullness) (ns : List ℕ) (f : flow.State) → is_reached f ≡ true → is_reached (with_each a ns f) ≡ true
+each_reached a [] f reached = reached
+each_reached a (n ∷ ns) f reached = each_reached a ns (with_fullness a f n) (reached_with a f n reached)
+
+-- what is lent holds something, and so is full where it is given back
+pub lent_holds : (g : Typing) (e : Environment) (ns : List ℕ) (f : flow.State) (bs : List InScope) → IsBound e.locals e.counters bs → AreVariables g bs → AreLent ns bs → Holds g f bs → Holds g (with_each Full ns f) bs
+lent_holds g e ns f bs bound variables lent (reached, are) = (each_reached Full ns f reached, lent_set g e ns f bs bound variables lent are)
 
 -- ---- regions that will end
 

@@ -39,7 +39,7 @@ use Rattle.cyc_soundness.proofs.TypeLemmas.{is_kind_same, kind_read}
 use Rattle.cyc_soundness.proofs.FlowLemmas.{holds_implied, reached_with, vacant_now}
 use Rattle.cyc_soundness.proofs.WorldLemmas.{type_grown, with_object, object_grows, object_typed, globals_grown, variables_grown, set_grown}
 use Rattle.cyc_soundness.proofs.StackLemmas.{stack_grown, below_more, local_new, bound_more, set_more, home_is, home_lasting, found_is, within_bound, within_variables, within_live, within_holds}
-use Rattle.cyc_soundness.proofs.RegionLemmas.{there_lasting, known_local}
+use Rattle.cyc_soundness.proofs.RegionLemmas.{lent_more, there_lasting, known_local}
 use Rattle.cyc_soundness.proofs.ValueLemmas.{negated, complemented, combined, zero_is}
 use Rattle.cyc_soundness.specs.Classes.{InInitial, Source}
 use Rattle.cyc_soundness.proofs.Cells.{running}
@@ -63,6 +63,7 @@ context_more p x bs c is_place t b stands new number of_type hidden life = recor
   known = known_local p.reading c is_place t stands.known new;
   regions = stands.regions;
   home = stands.home;
+  lent = lent_more (Variable b) bs x.locks stands.lent;
 }
 
 -- how long the next local is there: as long as the block that it stands in
@@ -196,6 +197,7 @@ module _ (p : Source) (g : Typing) (x : Exits) (bs : List InScope) (e : Environm
           known = loop.stands.known;
           regions = loop.stands.regions;
           home = loop.stands.home;
+          lent = tt;
         },
         holds,
         loop.again,

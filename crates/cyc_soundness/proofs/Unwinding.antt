@@ -65,7 +65,7 @@ module _ (p : Source) (g : Typing) (e : Environment) (w : World) (typed : IsType
     pub proceed : (k : List Entry) (f : flow.State) → IsNested k e w → LiveIn k bs → Holds g f bs → IsStack p g x bs (Go f) k → IsWell p (step_proceeding k e w)
     proceed (Discard ∷ k) f nests live holds stack = on Proceeding k live (f, holds, stack)
     proceed (Rest js ∷ k) f nests live holds (cs, c, h, within, stands, rest, stack) =
-        continue_with p g x bs e w typed globals bound variables js k cs c f h rest.before rest.behind nests live within stands holds rest.typed rest.flows rest.breaks rest.kept stack
+        continue_with p g x bs e w typed globals bound variables js k cs c f h rest.before rest.behind rest.ending rest.locked nests live within stands holds rest.typed rest.flows rest.breaks rest.kept rest.among rest.ends stack
     proceed (Join ∷ k) f nests live holds (h, i, stack) = on Proceeding k live (h, holds_implied g f h bs i holds, stack)
     proceed (Loop condition body ∷ k) f nests live holds (y, l, v, u, h, same, loop, i, stack) = tests_again condition body k y l v u h live loop (holds_implied g f l.head bs i holds) stack
     proceed (CloseRegion region home ∷ k) f nests live holds (cs, number, l, alive, h, same, i, outer, stack) =

@@ -9,7 +9,7 @@ use Rattle.cyc_meaning.specs.State.{Region, Owner, InRegion, Unique, Object, Wor
 use Rattle.cyc_meaning.proofs.ListLemmas.{slice_get-append, slice_get-end, slice_get-set_other}
 use Rattle.cyc_soundness.specs.Lives.{Life, OfRegion, RunTy, Int, Pointer, Handle, Key, Struct, RunValue, Void, Null, Value, kind_at, at}
 use Rattle.cyc_soundness.specs.Worlds.{ObjectType, Typing, IsFilled, IsPart, IsTarget, HasType, IsResult, AreOperands, IsContent, AreCells, IsOwner, IsObject, IsTyped, IsOpenLife, Grows}
-use Rattle.cyc_soundness.specs.Frames.{InScope, Variable, lives_among, IsOfVariable, HoldsIts, AreVariables, AreSet, Holds, KnowsProgram}
+use Rattle.cyc_soundness.specs.Frames.{InScope, Variable, Lent, lives_among, IsOfVariable, HoldsIts, AreVariables, AreSet, Holds, KnowsProgram}
 use Rattle.cyc_soundness.specs.Classes.{Source}
 use Rattle.cyc_types.specs.flow.States as flow
 use Rattle.cyc_soundness.proofs.Numbers.{same_or_other, slice_get-set_same, appended, some_same}
@@ -65,6 +65,7 @@ module _ (g h : Typing) (grows : Grows g h) where
 
   variable_grown : (b : InScope) → IsOfVariable g b → IsOfVariable h b
   variable_grown (Variable b) is = grows.objects b.object _ is
+  variable_grown (Lent number object) is = grows.filled object 1 is
   variable_grown b is = tt
 
   pub variables_grown : (bs : List InScope) → AreVariables g bs → AreVariables h bs

@@ -41,6 +41,8 @@ pub data InScope : Type 0 where
   Instance : (ℕ → Life) → (ℕ → Bool) → InScope
   -- the region in which the variables of the innermost block live
   Home : (region : ℕ) → InScope
+  -- what the local of this number holds, whose object this is, is lent
+  Lent : (number object : ℕ) → InScope
 
 -- ---- regions
 
@@ -52,6 +54,7 @@ life_named (Level l ∷ bs) k = life_named bs k
 life_named (Names number life live ∷ bs) k = if k == number then life else life_named bs k
 life_named (Instance these live ∷ bs) k = these k
 life_named (Home region ∷ bs) k = life_named bs k
+life_named (Lent number object ∷ bs) k = life_named bs k
 
 abbrev pub is_live_named : List InScope → ℕ → Bool
 is_live_named [] k = true
@@ -60,6 +63,7 @@ is_live_named (Level l ∷ bs) k = is_live_named bs k
 is_live_named (Names number life live ∷ bs) k = if k == number then live else is_live_named bs k
 is_live_named (Instance these live ∷ bs) k = live k
 is_live_named (Home region ∷ bs) k = is_live_named bs k
+is_live_named (Lent number object ∷ bs) k = is_live_named bs k
 
 -- what the regions of the function stand for here
 abbrev pub lives_in : List InScope → Lives
@@ -109,6 +113,7 @@ IsScope r m vs (b ∷ bs) = (rest : List LocalInScope) × IsNewest r m vs b rest
 -- the numbers of locals in scope were given out before this one
 abbrev pub IsBelow : ℕ → InScope → Type 0
 IsBelow n (Variable b) = b.number < n
+IsBelow n (Lent number object) = number < n
 IsBelow n b = Unit {0}
 
 abbrev pub AreBelow : ℕ → List InScope → Type 0
@@ -119,15 +124,17 @@ AreBelow n (b ∷ bs) = IsBelow n b × AreBelow n bs
 abbrev pub HasMeaning : (locals counters : ℕ → Option ℕ) → InScope → Type 0
 HasMeaning locals counters (Variable b) = locals b.number ≡ Some b.object
 HasMeaning locals counters (Level l) = (index : ℕ) × (counters l ≡ Some index)
+HasMeaning locals counters (Lent number object) = locals number ≡ Some object
 HasMeaning locals counters b = Unit {0}
 
 abbrev pub IsBound : (locals counters : ℕ → Option ℕ) → List InScope → Type 0
 IsBound locals counters [] = Unit {0}
 IsBound locals counters (b ∷ bs) = HasMeaning locals counters b × IsBound locals counters bs
 
--- the objects of locals are variables of their types
+-- the objects of locals are variables of their types, and what is lent is there
 abbrev pub IsOfVariable : Typing → InScope → Type 0
 IsOfVariable g (Variable b) = slice_get g.objects b.object ≡ Some (variable_type b.of_type b.life b.is_hidden)
+IsOfVariable g (Lent number object) = IsFull g object
 IsOfVariable g b = Unit {0}
 
 abbrev pub AreVariables : Typing → List InScope → Type 0
@@ -208,6 +215,8 @@ pub record Exits : Type 0 where
   pub result : Option Ty
   -- as its caller reads it
   pub gives : RunValue
+  -- the locals that the items around have lent since the loop's body began
+  pub locks : List ℕ
 
 -- where there is no result, nothing is given
 abbrev pub HasResult : Option Ty → RunValue → Type 0
@@ -219,7 +228,12 @@ loop_of None = None
 loop_of (Some l) = Some (record { place = l.place; head = l.head })
 
 abbrev pub around : Exits → Around
-around x = record { loop = loop_of x.loop; locks = [] }
+around x = record { loop = loop_of x.loop; locks = x.locks }
+
+-- these locals are lent here
+abbrev pub AreLent : List ℕ → List InScope → Type 0
+AreLent [] bs = Unit {0}
+AreLent (n ∷ ns) bs = ((object : ℕ) × IsAmong (Lent n object) bs) × AreLent ns bs
 
 -- what is known at breaks so far holds behind the loop
 abbrev pub AreBreaks : Option LoopExit → flow.State → Type 0
@@ -282,6 +296,7 @@ pub record IsContext (p : Source) (x : Exits) (bs : List InScope) (c : Context) 
   pub known : AreKnown p.reading c.next_region c.regions c.locals c.result
   pub regions : Stand p.reading c.regions bs
   pub home : IsHome p.reading c.region bs
+  pub lent : AreLent x.locks bs
 
 -- ---- programs
 

@@ -1,6 +1,6 @@
 -- THE TYPING OF STATES. Each entry of the control stack is typed from what it awaits to what it hands on. Typed trees on it keep their
 -- judgements, types and flow in one; the locals in scope are an index, of which an entry may forget the newest.
-use Rattle.std.specs.Prelude.{◌≡◌, ◌⊎◌, ℕ, zero, suc, ◌+◌, ◌<◌, ◌≤◌, Bool, true, false, List, [], ◌∷◌, length, map, Option, Some, None, slice_get}
+use Rattle.std.specs.Prelude.{◌≡◌, ◌⊎◌, ℕ, zero, suc, ◌+◌, ◌<◌, ◌≤◌, Bool, true, false, List, [], ◌∷◌, ◌++◌, length, map, Option, Some, None, slice_get}
 use Rattle.cyc_syntax.specs.declared.tree.PointerKind.{PointerKind}
 use Rattle.cyc_syntax.specs.declared.tree.PointerKind.TheVariants as marks
 use Rattle.cyc_types.specs.declared.region.Region.{Region}
@@ -21,9 +21,9 @@ use Rattle.cyc_types.specs.typing.Tests.{is_struct, is_tested, kind_of_mark, kin
 use Rattle.cyc_types.specs.typing.Expressions.{assigned_type}
 use Rattle.cyc_types.specs.typing.WellTyped.{LocalInScope, Context, WellTyped, IsPeek, IsCell, IsSide, ArePassed, IsMade, Converts, PointerOperation, IsChain, with_counter, IsLive, in_body, body_context, with_local, WellTypedStatement, WellTypedItems, WellTypedClauses, IsWellTypedFunction, parameters_in_scope}
 use Rattle.cyc_types.specs.flow.States as flow
-use Rattle.cyc_types.specs.flow.States.{Unreached, Full, with_fullness, is_reached}
+use Rattle.cyc_types.specs.flow.States.{Unreached, Full, with_fullness, with_each, is_reached}
 use Rattle.cyc_types.specs.flow.Expressions.{rule, rule_place, rule_initial, rule_arguments, rule_operations}
-use Rattle.cyc_types.specs.flow.Statements.{rule_side, side_demanded, rule_statement, rule_items, rule_clauses}
+use Rattle.cyc_types.specs.flow.Statements.{rule_side, side_demanded, locks_of, rule_statement, rule_items, rule_clauses}
 use Rattle.cyc_types.specs.flow.Programs.{start_of, in_function}
 use Rattle.cyc_meaning.specs.Values.{Operand}
 use Rattle.cyc_meaning.specs.Values as values
@@ -88,13 +88,19 @@ pub record Executes (m : Reading) (x : Exits) (c : Context) (s : Statement) (f h
   pub breaks : AreBreaks x.loop behind
   pub kept : InStatement m c.next_region s
 
+-- what is left of a block: at its end, what its items have locked is full again
 pub record Continues (m : Reading) (x : Exits) (c : Context) (js : Items) (f h : flow.State) : Type 0 where
   pub before : flow.State
   pub behind : flow.State
+  pub ending : flow.State
+  -- what the items before these have locked
+  pub locked : List ℕ
   pub typed : WellTypedItems c js
-  pub flows : Derives (rule_items (around x) js (record { now = f; breaks = before })) (record { now = h; breaks = behind })
+  pub flows : Derives (rule_items (around x) js (record { now = f; breaks = before })) (record { now = ending; breaks = behind })
   pub breaks : AreBreaks x.loop behind
   pub kept : InItems m c.next_region js
+  pub among : (n : ℕ) → IsAmong n locked → IsAmong n x.locks
+  pub ends : Implies (with_each Full (locked ++ locks_of js) ending) h
 
 -- clauses that begin with this known
 pub record Catches (m : Reading) (x : Exits) (c : Context) (start : flow.State) (cs : Clauses) (f h : flow.State) : Type 0 where
@@ -170,7 +176,7 @@ null = record { kind = kinds.Nullable; value = values.Null }
 
 -- in the body of this loop
 abbrev pub inside : Exits → LoopExit → Exits
-inside x l = record x { loop = Some l }
+inside x l = record x { loop = Some l; locks = [] }
 
 -- A loop, whose condition has a value of this type and leaves this known; behind the loop it is this.
 pub record IsLoop (p : Source) (x : Exits) (bs : List InScope) (l : LoopExit) (condition : Expression) (body : Statement) (v : ValueType) (f exit : flow.State) : Type 0 where
@@ -383,7 +389,7 @@ AreFull g (b ∷ bs) = IsFilledIn g b × AreFull g bs
 
 -- in a function's body, outside of loops
 abbrev pub IsBody : Exits → List InScope → Function → Type 0
-IsBody x bs h = (x.loop ≡ None) × (x.result ≡ h.result) × (read_value bs (result_type h.result) ≡ x.gives)
+IsBody x bs h = (x.loop ≡ None) × (x.locks ≡ []) × (x.result ≡ h.result) × (read_value bs (result_type h.result) ≡ x.gives)
 
 abbrev pub IsFocus : Source → Typing → Exits → List InScope → Focus → List Entry → Type 0
 IsFocus p g x bs (Evaluating a) k =
