@@ -28,7 +28,7 @@ use Rattle.cyc_meaning.specs.Nesting.{ends_of, IsNested}
 use Rattle.cyc_meaning.specs.Step.{called, values_of, prints, reads, step_calling, step_entering, step_binding}
 use Rattle.cyc_soundness.specs.Lives.{Life, RunTy, RunValue, Value, Lives, at, value_at, lives_of, Reading, AsHeap, ByScope}
 use Rattle.cyc_soundness.specs.Lives as lives
-use Rattle.cyc_soundness.specs.Worlds.{Typing, HasType, AreOperands, IsTyped, Grows}
+use Rattle.cyc_soundness.specs.Worlds.{Typing, IsKnownLife, HasType, AreOperands, IsTyped, Grows}
 use Rattle.cyc_soundness.specs.Frames.{InScope, Variable, Names, Instance, Home, lives_in, read, IsScope, AreBelow, IsBound, AreVariables, IsLasting, LiveIn, Within, itself, older, AreSet, Holds, Implies, Exits, HasResult, loop_of, around, AreBreaks, AreLent, Stand, IsHome, IsContext, KnowsProgram}
 use Rattle.cyc_soundness.specs.Classes.{IsDeclarable, InItems, InClauses, Source}
 use Rattle.cyc_soundness.specs.Stacks.{regions_at_call, IsInstance, Continues, Catches, IsAccepted, Val, Go, turned, IsCalled, IsBlocked, AreFull, IsBody, IsStack, IsWell}
@@ -37,7 +37,7 @@ use Rattle.cyc_soundness.proofs.FlowLemmas.{implies_self, implies_after, meet_se
 use Rattle.cyc_soundness.proofs.RuleLemmas.{breaks_clauses, clauses_implied}
 use Rattle.cyc_soundness.proofs.WorldLemmas.{type_grown, operands_grown, opened_typed}
 use Rattle.cyc_soundness.proofs.StackLemmas.{AreAccepted, stack_grown, below_more, none_among}
-use Rattle.cyc_soundness.proofs.RegionLemmas.{live_more, there_lasting, opened_life, opened_lasting, stand_opened, new_home, context_inside, other_same, named_function, known_body}
+use Rattle.cyc_soundness.proofs.RegionLemmas.{region_known, opened_known, live_more, there_lasting, opened_life, opened_lasting, stand_opened, new_home, context_inside, other_same, named_function, known_body}
 use Rattle.cyc_soundness.proofs.Cells.{running}
 use Rattle.cyc_soundness.proofs.Objects.{operands_reversed}
 use Rattle.cyc_soundness.proofs.Supply.{new_life, declares}
@@ -79,7 +79,7 @@ result_given (Some t) n = tt
 
 new_int : (m : Reading) (n : ℕ) → IsDeclarable m n types.Int
 new_int AsHeap n = tt
-new_int ByScope n = tt
+new_int (ByScope lends) n = tt
 
 -- the region of a block is live in it
 block_region : (c : Context) → IsLive (in_block c) (regions.Variable c.next_region)
@@ -119,6 +119,9 @@ module _ (p : Source) (accepted : AreAccepted p) where
         let (r, there, same) = instance.lasting n is in
         subst (λ l. IsLasting (ends_of k) l) same (there_lasting (ends_of k) bs r live.0 there)
 
+    instance_known : (h : Function) (these : ℕ → Life) (alive : ℕ → Bool) → IsInstance p bs h these alive → (n : ℕ) → IsKnownLife g (these n)
+    instance_known h these alive instance n = let (r, same) = instance.named n in subst (λ l. IsKnownLife g l) same (region_known g bs r variables)
+
     pub call : (callee : Callee) (vs : List Operand) (k : List Entry) (ts : List RunTy) (r : RunValue) (f : flow.State) → LiveIn k bs → Holds g f bs → IsCalled p bs callee (turned ts []) r → AreOperands g ts vs
         → IsStack p g x bs (Val r f) k → IsWell p (step_calling p.program callee vs k e w)
     call callees.Putchar vs k ts r f live holds (types_is, result_is) are stack = printed_on ts vs k f live holds types_is are (subst (λ z. IsStack p g x bs (Val z f) k) result_is stack)
@@ -132,7 +135,7 @@ module _ (p : Source) (accepted : AreAccepted p) where
         subst (λ o. IsWell p (called o (reverse vs) (Caller e ∷ k) w)) (sym there)
         (subst (λ (b : Bool). IsWell p (if b then Running (Entering h (reverse vs)) (Caller e ∷ k) no_locals w else wrong w))
         (sym (eq-eqb (length (reverse vs)) (length h.parameters) (operands_count (lives_of these) g h.parameters (reverse vs) arguments)))
-        (running p g y cs no_locals w typed globals (tt, tt) (tt, tt) (Entering h (reverse vs)) (Caller e ∷ k) ((instance_lasting k h these alive live instance, tt), refl) (
+        (running p g y cs no_locals w typed globals (tt, tt) (instance_known h these alive instance, tt) (Entering h (reverse vs)) (Caller e ∷ k) ((instance_lasting k h these alive live instance, tt), refl) (
           end,
           these,
           alive,
@@ -156,7 +159,7 @@ module _ (p : Source) (accepted : AreAccepted p) where
         let full : AreFull g bs = subst (λ z. AreFull g z) (sym these_are) (tt, tt) in
         let named = named_function p.reading p.program h ok.typed in
         let same = other_same p.reading region (ends_of k) (regions_at_call h) bs stand in
-        running p g x cs (inside e w) (opened w) (opened_typed g w.regions (new_region Stack ∷ []) w.objects typed) globals (tt, (tt, bound)) (tt, (tt, variables)) (Binding 0 h.parameters vs h.body) (region_end e w ∷ k)
+        running p g x cs (inside e w) (opened w) (opened_typed g w.regions (new_region Stack ∷ []) w.objects typed) globals (tt, (tt, bound)) (tt, (opened_known g p.reading region (ends_of k), variables)) (Binding 0 h.parameters vs h.body) (region_end e w ∷ k)
         ((tt, ((λ is. opened_lasting p.reading region (ends_of k)), live_more region (ends_of k) bs live.0)), refl) (
           h,
           end,
@@ -228,7 +231,7 @@ module _ (p : Source) (accepted : AreAccepted p) where
         let l = new_life p.reading bs 0 e.home k live at_home nests.2 in
         subst (λ (b : Bool). IsWell p (if b then declared (region_at w e.home) (Binding (suc number) ts arguments js) number (values.kind_of t) (Some v.value) k e w else wrong w))
         (sym (is_kind_same v.kind (values.kind_of t) (is.0 ∙ kind_meant (lives_in bs) t)))
-        (declares p g x bs e w typed globals bound variables number (values.kind_of t) t (Some v.value) 1 l.life (Binding (suc number) ts arguments js) k nests live below l.number l.lasting
+        (declares p g x bs e w typed globals bound variables number (values.kind_of t) t (Some v.value) 1 l.life (Binding (suc number) ts arguments js) k nests live below l.number l.lasting (l.known g variables)
         (λ grows. ((sym (kind_meant (lives_in bs) t), type_grown g _ grows (read bs t) v.value is.1), tt))
         (λ grows filled. (
           h,
@@ -271,7 +274,7 @@ module _ (p : Source) (accepted : AreAccepted p) where
           among = λ n is. none_among is;
           ends = implies;
         } in
-        running p g x (scope c k) (inside e w) (opened w) (opened_typed g w.regions (new_region Stack ∷ []) w.objects typed) globals (tt, (tt, bound)) (tt, (tt, variables)) Proceeding (Rest js ∷ region_end e w ∷ k)
+        running p g x (scope c k) (inside e w) (opened w) (opened_typed g w.regions (new_region Stack ∷ []) w.objects typed) globals (tt, (tt, bound)) (tt, (opened_known g p.reading (length w.regions) (ends_of k), variables)) Proceeding (Rest js ∷ region_end e w ∷ k)
         (block_live p g x bs e w typed globals bound variables c k live) (
           start,
           (holds.0, (tt, (tt, holds.1))),
@@ -304,7 +307,7 @@ module _ (p : Source) (accepted : AreAccepted p) where
           among = λ n is. none_among is;
           ends = implies;
         } in
-        running p g x (scope c k) (inside e w) (opened w) (opened_typed g w.regions (new_region Stack ∷ []) w.objects typed) globals (tt, (tt, bound)) (tt, (tt, variables))
+        running p g x (scope c k) (inside e w) (opened w) (opened_typed g w.regions (new_region Stack ∷ []) w.objects typed) globals (tt, (tt, bound)) (tt, (opened_known g p.reading (length w.regions) (ends_of k), variables))
         (Naming n (record { kind = kinds.Int; value = values.Int value }) js) (region_end e w ∷ k) (block_live p g x bs e w typed globals bound variables c k live) (
           in_block c,
           true,

@@ -12,6 +12,7 @@ mod Objects
 mod Swapping
 mod Places
 mod Evaluation
+mod Loans
 mod Supply
 mod Execution
 mod Calls
