@@ -23,5 +23,6 @@ pub mod Whole
 -- texts, and programs that the rules accept and refuse
 mod Examples
 mod LaterRegions
+mod KeyFields
 mod AcceptedPrograms
 mod RefusedPrograms
