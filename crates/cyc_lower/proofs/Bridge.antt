@@ -22,7 +22,7 @@ use Rattle.cyc_plain.specs.declared.instruction.Instruction.TheVariants as instr
 use Rattle.cyc_plain.specs.Program.{Routine, no_routine, routine_at}
 use Rattle.cyc_plain.specs.Straight.{At, HasAt}
 use Rattle.cyc_plain.proofs.Straight.{has_front, has_back, has_whole}
-use Rattle.cyc_store.specs.declared.range.TheConstants.{MOST_BLOCK_WORDS, HEAP}
+use Rattle.cyc_store.specs.declared.range.TheConstants.{MOST_BLOCK_WORDS, HEAP, UNIQUE}
 use Rattle.cyc_meaning.specs.Values.{kind_of, words_of_kind}
 use Rattle.cyc_meaning.specs.FrameCount.{words_of_all, operand_words}
 use Rattle.cyc_lower.specs.Slots.{Types, starts_of, slot_of}
@@ -290,7 +290,7 @@ module _ (code : List Instruction) (b : Numbering) (types : Types) where
           copy_by (is_in o d) (passed_words c) o d m q (cut p q both back end) (has_back code p both back has),
         )
     expression_stands (New OnHeap i ty) d t p q numbered end has = made_stands i HEAP d t p q numbered end has
-    expression_stands (New AsUnique i ty) d t p q numbered end has = absurd numbered
+    expression_stands (New AsUnique i ty) d t p q numbered end has = made_stands i UNIQUE d t p q numbered end has
     expression_stands (New (ByHandle h) i ty) d t p q numbered end has = absurd numbered
     expression_stands a d t p q numbered end has = absurd numbered
 

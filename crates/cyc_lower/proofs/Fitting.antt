@@ -382,15 +382,26 @@ module _ (b : Numbering) (types : Types) where
         let (kind, fitting) = fits_converted d c t suits numbered converted in
         let single = ap words_of_kind kind ∙ type_words t ∙ ap words_of same ∙ cell_single x place in
         (stored_given x d u t v kind (is ∙ u_is), (fits_place, single, fitting))
-    fits (New OnHeap (Plain kind a) t) c v suits (single, numbered) (mark, u, r, place, (well, unlocked, kind_is, mark_is), t_is, is) =
-        let (given_is, fitting) = fits a c (Value u) suits numbered well in
-        (pointer_given mark u r t v mark_is t_is is, (single, kind_is ∙ sym (kinds_same u) ∙ sym given_is, fitting))
-    fits (New OnHeap (Fields cs) t) c v suits (single, some, few, numbered) (mark, u, r, place, (n, rs, s, there, many, passed, u_is, mark_is), t_is, is) =
-        (pointer_given mark u r t v mark_is t_is is, (single, some, few, (fit_arguments cs c (map (substituted_ty rs) s.fields) suits numbered passed).1))
+    fits (New OnHeap (Plain kind a) t) c v suits numbered (mark, u, r, place, made, t_is, is) =
+        (pointer_given mark u r t v made.3 t_is is, fits_object (Plain kind a) c mark u suits numbered made)
+    fits (New OnHeap (Fields cs) t) c v suits numbered (mark, u, r, place, (n, rs, s, there, many, passed, u_is, mark_is), t_is, is) =
+        (pointer_given mark u r t v mark_is t_is is, fits_object (Fields cs) c mark u suits numbered (n, rs, s, there, many, passed, u_is, mark_is))
     fits (New OnHeap (Array p level n kind a) t) c v suits numbered well = absurd numbered
-    fits (New AsUnique i t) c v suits numbered well = absurd numbered
+    fits (New AsUnique (Plain kind a) t) c v suits numbered (mark, u, r, place, made, t_is, is) =
+        (pointer_given mark u r t v made.3 t_is is, fits_object (Plain kind a) c mark u suits numbered made)
+    fits (New AsUnique (Fields cs) t) c v suits numbered (mark, u, r, place, (n, rs, s, there, many, passed, u_is, mark_is), t_is, is) =
+        (pointer_given mark u r t v mark_is t_is is, fits_object (Fields cs) c mark u suits numbered (n, rs, s, there, many, passed, u_is, mark_is))
+    fits (New AsUnique (Array p level n kind a) t) c v suits numbered well = absurd numbered
     fits (New (ByHandle h) i t) c v suits numbered well = absurd numbered
     fits a c v suits numbered well = absurd numbered
+
+    fits_object : (i : Initial) (c : Context) (mark : PointerKind) (u : Ty) → Suits c → IsLowerableObject b i → IsMade c i mark u → FitsObject b types i
+    fits_object (Plain kind a) c mark u suits (single, numbered) (well, unlocked, kind_is, mark_is) =
+        let (given_is, fitting) = fits a c (Value u) suits numbered well in
+        (single, kind_is ∙ sym (kinds_same u) ∙ sym given_is, fitting)
+    fits_object (Fields cs) c mark u suits (single, some, few, numbered) (n, rs, s, there, many, passed, u_is, mark_is) =
+        (single, some, few, (fit_arguments cs c (map (substituted_ty rs) s.fields) suits numbered passed).1)
+    fits_object (Array p level n kind a) c mark u suits numbered made = absurd numbered
 
     fits_cell : (x : Dereference) (c : Context) (t : Ty) (r : Region) → Suits c → IsLowerableCell b x → IsCell c x t r → (t ≡ type_of_place x) × FitsCell b types x
     fits_cell (Target k a u) c t r suits (thin, single, numbered) (m, well, live, kind, same) =

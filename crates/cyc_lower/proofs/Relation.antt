@@ -11,7 +11,7 @@ use Rattle.cyc_types.specs.Types.{Ty}
 use Rattle.cyc_types.specs.TypedTrees.{Lvalue, Local, Global, Expression, NoArguments, NoOperations, Statement, Function, Program, Convert}
 use Rattle.cyc_types.specs.Numbered.{Numbering, argument_count, numbering_of, signatures_of}
 use Rattle.cyc_store.specs.State.{StoreState, demand}
-use Rattle.cyc_store.specs.declared.range.TheConstants.{HEAP}
+use Rattle.cyc_store.specs.declared.range.TheConstants.{HEAP, UNIQUE}
 use Rattle.cyc_objects.specs.Tables.{Variable, Placed, Tables}
 use Rattle.cyc_objects.specs.Words.{words_of_kinds, InRange, Is, Points, before}
 use Rattle.cyc_objects.specs.Related as objects
@@ -100,7 +100,8 @@ held (entry ∷ k) = []
 -- the handle of the region where an object with this owner is made
 abbrev pub IsHandleOf : Owner → (handle : ℕ) → Type 0
 IsHandleOf (InRegion region) handle = (region ≡ heap_number) × (handle ≡ HEAP)
-IsHandleOf (Unique live) handle = ⊥
+IsHandleOf (Unique true) handle = handle ≡ UNIQUE
+IsHandleOf (Unique false) handle = ⊥
 
 -- a new object has cells of these kinds, which stand from this address on
 pub record IsObject (t : Tables) (object address : ℕ) (kinds : List Kind) : Type 0 where

@@ -8,7 +8,7 @@ use Rattle.cyc_types.specs.declared.typed.Operator.{Operator}
 use Rattle.cyc_types.specs.declared.typed.Operator.TheVariants as operators
 use Rattle.cyc_types.specs.declared.typed.PointerOperator.{PointerOperator}
 use Rattle.cyc_types.specs.declared.typed.PointerOperator.TheVariants as pointers
-use Rattle.cyc_types.specs.TypedTrees.{type_of_place, Load, Dereference, Target, Lvalue, Local, Global, Expression, Number, NullPointer, Copy, Call, Unary, Binary, Assign, Converted, Convert, Arguments, NoArguments, MoreArguments, Operations, NoOperations, ThenCompute, ThenTest, ThenPointer, Statement, Block, Empty, Evaluate, If, While, Return, Break, Continue, Items, NoItems, MoreItems, Execute, Declare, Move, Peek, ThenPointerPeek, New, OnHeap, Initial, Plain, Fields, AddressOfCell, Store, Member}
+use Rattle.cyc_types.specs.TypedTrees.{type_of_place, Load, Dereference, Target, Lvalue, Local, Global, Expression, Number, NullPointer, Copy, Call, Unary, Binary, Assign, Converted, Convert, Arguments, NoArguments, MoreArguments, Operations, NoOperations, ThenCompute, ThenTest, ThenPointer, Statement, Block, Empty, Evaluate, If, While, Return, Break, Continue, Items, NoItems, MoreItems, Execute, Declare, Move, Peek, ThenPointerPeek, New, OnHeap, AsUnique, Initial, Plain, Fields, AddressOfCell, Store, Member}
 use Rattle.cyc_types.specs.Types.{words_of}
 use Rattle.cyc_types.specs.Numbered.{Numbering, argument_count}
 use Rattle.cyc_plain.specs.declared.instruction.UnaryOperator.TheVariants as plain_unary
@@ -20,7 +20,7 @@ use Rattle.cyc_plain.specs.declared.instruction.Request.TheVariants as requests
 use Rattle.cyc_plain.specs.declared.instruction.Instruction.{Instruction}
 use Rattle.cyc_plain.specs.declared.instruction.Instruction.TheVariants as instructions
 use Rattle.cyc_plain.specs.Straight.{At}
-use Rattle.cyc_store.specs.declared.range.TheConstants.{MOST_BLOCK_WORDS, HEAP}
+use Rattle.cyc_store.specs.declared.range.TheConstants.{MOST_BLOCK_WORDS, HEAP, UNIQUE}
 use Rattle.cyc_meaning.specs.Operators.{null_exception, division_by_zero}
 use Rattle.cyc_meaning.specs.Values.{is_thin, words_of_kind}
 use Rattle.cyc_lower.specs.declared.statements.Exits.{Exits}
@@ -145,6 +145,7 @@ module _ (code : List Instruction) (bounds : Numbering) (types : Types) where
     ExpressionAt (Load x) d t p q =
         (o : Operand) × (c : ℕ) × (r : ℕ) × PlaceAt x o c t p r × (words_of (type_of_place x) ≡ 1) × At code r (instructions.Load d o c) × (r + 1 ≡ q)
     ExpressionAt (New OnHeap i ty) d t p q = MadeAt i HEAP d t p q
+    ExpressionAt (New AsUnique i ty) d t p q = MadeAt i UNIQUE d t p q
     ExpressionAt (AddressOfCell x ty) d t p q = (o : Operand) × (c : ℕ) × (r : ℕ) × PlaceAt x o c t p r × AddressAt code o c d r q
     ExpressionAt (Store x v ty) d t p q =
         (o : Operand) × (m : ℕ)

@@ -28,7 +28,7 @@ use Rattle.cyc_plain.specs.WellFormed.{IsOperand, IsInRange, IsRoutine, IsWellFo
 use Rattle.std.specs.Prelude.{◌==◌, max, if◌then◌else◌}
 use Rattle.std.proofs.lemmas.Bool.{eqb-true}
 use Rattle.cyc_meaning.specs.Operators.{null_exception, division_by_zero}
-use Rattle.cyc_store.specs.declared.range.TheConstants.{HEAP}
+use Rattle.cyc_store.specs.declared.range.TheConstants.{HEAP, UNIQUE}
 use Rattle.cyc_meaning.specs.Values.{kind_of, words_of_kind}
 use Rattle.cyc_meaning.specs.FrameCount.{result_words, operand_words, converted_words, argument_words, expression_need, dereference_need, converted_need, arguments_need, operations_need, initial_need, statement_need, items_need, words_of_all, initial_value_need, place_words}
 use Rattle.cyc_lower.specs.declared.statements.Exits.{Exits}
@@ -175,7 +175,9 @@ module _ (program : PlainProgram) (r : Routine) (b : Numbering) (types : Types) 
   given_needs (New OnHeap (Plain kind a) t) numbered = omega arith
   given_needs (New OnHeap (Fields cs) t) numbered = omega arith
   given_needs (New OnHeap (Array p level n kind a) t) numbered = absurd numbered
-  given_needs (New AsUnique i t) numbered = absurd numbered
+  given_needs (New AsUnique (Plain kind a) t) numbered = omega arith
+  given_needs (New AsUnique (Fields cs) t) numbered = omega arith
+  given_needs (New AsUnique (Array p level n kind a) t) numbered = absurd numbered
   given_needs (New (ByHandle h) i t) numbered = absurd numbered
   given_needs (AddressOfCell x t) numbered = omega arith
   given_needs (Store x (Convert from to a) t) numbered = omega arith
@@ -533,25 +535,26 @@ module _ (program : PlainProgram) (r : Routine) (b : Numbering) (types : Types) 
         (λ less. addressed_in x p t t place (omega (arith, few)) (omega (arith, few)) less (λ shorter. place_in x place_words p t place (omega arith) (omega (arith, few)) shorter))
         (λ q less. converted_operand_in c q (t + 1) numbered (omega (arith, few)) (omega (arith, few)) less))
         (copy_in (is_in o d) c o d (converted_room c (t + 1) numbered (omega (arith, few))) (omega (arith, room, ap words_of_kind (stored_kind x c ty))))
-    expression_in (New OnHeap i ty) p d t numbered room few short = made_in i HEAP ty p d t numbered (omega (arith, room, kind_positive (made_kind i))) (omega (arith, few)) short
-    expression_in (New AsUnique i ty) p d t numbered room few short = absurd numbered
+    expression_in (New OnHeap i ty) p d t numbered room few short = made_in i HEAP 0 ty p d t numbered (omega (arith, room, kind_positive (made_kind i))) (omega (arith, few)) short
+    expression_in (New AsUnique i ty) p d t numbered room few short = made_in i UNIQUE 1 ty p d t numbered (omega (arith, room, kind_positive (made_kind i))) (omega (arith, few)) short
     expression_in (New (ByHandle h) i ty) p d t numbered room few short = absurd numbered
     expression_in a p d t numbered room few short = absurd numbered
 
-    made_in : (i : Initial) (handle : ℕ) (ty : Ty) (p d t : ℕ) → FitsObject b types i → d < r.slots → t + initial_value_need i 0 (words_of ty) ≤ r.slots → p + length (made_code (starts_of types) i handle p d t) < length r.code → AreIn (made_code (starts_of types) i handle p d t)
-    made_in (Plain kind a) handle ty p d t (single, kind_is, numbered) room few short =
+    -- behind a handle of so many words
+    made_in : (i : Initial) (handle words : ℕ) (ty : Ty) (p d t : ℕ) → FitsObject b types i → d < r.slots → t + initial_value_need i words (words_of ty) ≤ r.slots → p + length (made_code (starts_of types) i handle p d t) < length r.code → AreIn (made_code (starts_of types) i handle p d t)
+    made_in (Plain kind a) handle words ty p d t (single, kind_is, numbered) room few short =
         let front = expression_code (starts_of types) a p t t in
         let back = object_code handle 1 d t in
         append front back
         (expression_in a p t t numbered (omega (arith, few, single, ap words_of_kind kind_is, words_positive ty)) (omega (arith, few)) (omega (arith, short, length-append front back)))
         (object_in handle 1 d t room (omega (arith, few, single, words_positive ty)))
-    made_in (Fields cs) handle ty p d t (single, some, many, numbered) room few short =
+    made_in (Fields cs) handle words ty p d t (single, some, many, numbered) room few short =
         let front = arguments_code (starts_of types) cs p t in
         let back = object_code handle (argument_count cs) d t in
         append front back
-        (arguments_in cs p t t 0 numbered (omega arith) (omega (arith, few)) (omega (arith, few)) (omega (arith, short, length-append front back)))
+        (arguments_in cs p t t words numbered (omega arith) (omega (arith, few)) (omega (arith, few)) (omega (arith, short, length-append front back)))
         (object_in handle (argument_count cs) d t room (omega (arith, few, single, arguments_words cs, words_positive ty)))
-    made_in i handle ty p d t numbered room few short = absurd numbered
+    made_in i handle words ty p d t numbered room few short = absurd numbered
 
     -- a place of what has so many words
     place_in : (x : Dereference) (own p t : ℕ) → FitsCell b types x → 1 ≤ own → t + dereference_need x own ≤ r.slots → p + length (place_code (starts_of types) x p t) < length r.code → AreIn (place_code (starts_of types) x p t)

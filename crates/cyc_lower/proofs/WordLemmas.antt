@@ -27,7 +27,7 @@ use Rattle.cyc_lower.specs.Slots.{starts_of, slot_of, Starts, bytes_from, field_
 use Rattle.std.specs.Prelude.{◌==◌, if◌then◌else◌}
 use Rattle.cyc_types.specs.Types.{words_of, Ty}
 use Rattle.cyc_types.specs.Numbered.{argument_count}
-use Rattle.cyc_store.specs.declared.range.TheConstants.{HEAP}
+use Rattle.cyc_store.specs.declared.range.TheConstants.{HEAP, UNIQUE}
 use Rattle.cyc_meaning.specs.Values.{words_of_kind}
 use Rattle.cyc_lower.specs.Lowering.{types_of, are_as_wide, converts_there, passed_words, source_of, source_slot, converted_by, moved_by, move_of, operand_of, operand_or, code_unless, slot_or, code_unless_slot, left_with, left_of, value_slot, next_slot, left_slot, value_operand, converted_operand, printed_operand, check_code, conversion_code, divisor_code, checked_code, operator_code, truth_code, load_code, test_code, is_in, copy_code, expression_code, arguments_code, converted_code, converted_operand_code, printed_code, initial_code, assignment_code, operations_code, discarded_code, failing_comparison, compared_or, compared_of, slot_with, first_code, second_code, pair_code, condition_code, condition_of, return_code, declaration_code, statement_code, items_code, first_temporary, initial_word, lower_function, lower_global, lower_program, behind_left, pointer_code, outside_loops, inside_loop, index_of, first_two, pointer_instructions, stores_code, object_code, made_code, place_operand, place_offset, place_code, address_code, addressed_by, store_address_code, store_code}
 use Rattle.cyc_lower.proofs.WellFormed.{all_append, all_of}
@@ -225,7 +225,7 @@ module _ (starts : Starts) where
         (append address _ (address_of_words x p t t first) (append value _ (converted_operand_words c (p + length address) (t + 1) second) ((tt, omega arith, word), tt)))
         (copy_words (is_in o d) (passed_words c) o d word)
     expression_words (New OnHeap i ty) p d t words = made_words i HEAP p d t (omega arith) words
-    expression_words (New AsUnique i ty) p d t words = absurd words
+    expression_words (New AsUnique i ty) p d t words = made_words i UNIQUE p d t (omega arith) words
     expression_words (New (ByHandle h) i ty) p d t words = absurd words
     expression_words a p d t words = absurd words
 

@@ -20,7 +20,7 @@ use Rattle.cyc_types.specs.declared.typed.LogicalOperator.{LogicalOperator}
 use Rattle.cyc_types.specs.declared.typed.LogicalOperator.TheVariants as logical
 use Rattle.cyc_types.specs.Types.{Ty, words_of}
 use Rattle.cyc_types.specs.Numbered.{argument_count}
-use Rattle.cyc_types.specs.TypedTrees.{Load, New, OnHeap, Initial, Plain, Fields, Dereference, Target, Lvalue, Local, Global, Expression, Number, NullPointer, Copy, Call, Unary, Binary, Assign, Converted, Convert, Arguments, NoArguments, MoreArguments, Operations, NoOperations, ThenCompute, ThenTest, ThenPointer, ThenPointerPeek, Statement, Block, Empty, Evaluate, If, While, Return, Break, Continue, Items, NoItems, MoreItems, Execute, Declare, Constant, Word, Null, GlobalVariable, StructType, Function, Program, Move, Peek, AddressOfCell, Store, Member, Element}
+use Rattle.cyc_types.specs.TypedTrees.{Load, New, OnHeap, AsUnique, Initial, Plain, Fields, Dereference, Target, Lvalue, Local, Global, Expression, Number, NullPointer, Copy, Call, Unary, Binary, Assign, Converted, Convert, Arguments, NoArguments, MoreArguments, Operations, NoOperations, ThenCompute, ThenTest, ThenPointer, ThenPointerPeek, Statement, Block, Empty, Evaluate, If, While, Return, Break, Continue, Items, NoItems, MoreItems, Execute, Declare, Constant, Word, Null, GlobalVariable, StructType, Function, Program, Move, Peek, AddressOfCell, Store, Member, Element}
 use Rattle.cyc_plain.specs.declared.instruction.UnaryOperator.{UnaryOperator as PlainUnary}
 use Rattle.cyc_plain.specs.declared.instruction.UnaryOperator.TheVariants as plain_unary
 use Rattle.cyc_plain.specs.declared.instruction.BinaryOperator.{BinaryOperator as PlainBinary}
@@ -33,7 +33,7 @@ use Rattle.cyc_plain.specs.declared.instruction.Request.TheVariants as requests
 use Rattle.cyc_plain.specs.declared.instruction.Instruction.{Instruction}
 use Rattle.cyc_plain.specs.declared.instruction.Instruction.TheVariants as instructions
 use Rattle.cyc_plain.specs.Program.{Routine, Program as PlainProgram}
-use Rattle.cyc_store.specs.declared.range.TheConstants.{HEAP}
+use Rattle.cyc_store.specs.declared.range.TheConstants.{HEAP, UNIQUE}
 use Rattle.cyc_meaning.specs.Values.{words_of_kind}
 use Rattle.cyc_meaning.specs.Operators.{null_exception, division_by_zero}
 use Rattle.cyc_meaning.specs.FrameCount.{frame_count, items_need, words_of_all}
@@ -456,6 +456,7 @@ module _ (starts : Starts) where
         (converted_operand_code c (p + length (addressed_by (place_code x p t) (place_operand x t) (place_offset x) t)) (t + 1)) t (converted_operand c (t + 1))
         ++ copy_code (passed_words c) (converted_operand c (t + 1)) d
     expression_code (New OnHeap i ty) p d t = made_code i HEAP p d t
+    expression_code (New AsUnique i ty) p d t = made_code i UNIQUE p d t
     expression_code a p d t = instructions.Move d (operands.Word 0) ∷ []
 
     -- a place that a pointer leads to, which is tested

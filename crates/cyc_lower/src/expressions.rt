@@ -22,7 +22,7 @@ use crate::operators::{
     test_jump, unary_operator,
 };
 use cyc_plain::{BinaryOperator, Comparison, Instruction, Operand, Request, UnaryOperator};
-use cyc_store::HEAP;
+use cyc_store::{HEAP, UNIQUE};
 use cyc_types::typed;
 use cyc_types::typed::{
     Callee, Converted, Dereference, Expr, Initial, Kind, Lvalue, Operation, Operator, Placement,
@@ -266,7 +266,8 @@ impl Emitter {
                 ..
             } => match placement {
                 Placement::OnHeap => self.lower_object(starts, initial, HEAP, slot, free),
-                _ => self.emit_missing(slot),
+                Placement::AsUnique => self.lower_object(starts, initial, UNIQUE, slot, free),
+                Placement::ByHandle { .. } => self.emit_missing(slot),
             },
             Expr::Move {
                 span,
