@@ -46,7 +46,7 @@ use Rattle.cyc_objects.proofs.Making.{open-home, allocated, allocated-unique, re
 use Rattle.cyc_lower.specs.Lowering.{lower_program}
 use Rattle.cyc_lower.proofs.Widths.{kind_positive, Outside}
 use Rattle.cyc_lower.proofs.Stands.{StoresAt, ObjectAt}
-use Rattle.cyc_lower.proofs.Relation.{IsWord, IsIn, IsHandleOf, IsObject, words_held, height, Holds, HoldsFrom, held, callers, homes, silent, DataIn, SharedAt, in_temporary, into_slot, LandsStack, ValueStack, Matches, code_of, bounds_at, types_at, base_of, top}
+use Rattle.cyc_lower.proofs.Relation.{IsWord, IsIn, IsHandleOf, IsObject, words_held, height, Holds, HoldsFrom, held, callers, homes, silent, DataIn, SharedAt, in_temporary, into_slot, LandsStack, ValueStack, Matches, code_of, bounds_at, types_at, base_of, top, contents}
 use Rattle.cyc_lower.proofs.Data.{Is-same, height-least, one_word, Holds-same, Holds-rest, Holds-grows, HoldsFrom-grows, in_order, words-reverse, data_above, data_grows, variables_grow, contents_made}
 use Rattle.cyc_lower.proofs.Accesses.{IsWell, is_fitting}
 use Rattle.cyc_lower.proofs.CellWrites.{SameVariables, data_beside, cell_is_there, saves_there, shared_saved, data_saved}
@@ -108,9 +108,10 @@ is_sized vs some few =
 -- what it holds is related.
 pub record Makes (t : Tables) (w : World) (s : StoreState) (owner : Owner) (handle : ℕ) (cells : List Cell) (new : World) : Type 0 where
   pub creates : created w owner cells ≡ Found new
-  pub objects : new.objects ≡ w.objects ++ record { owner = owner; cells = cells } ∷ []
+  pub joined : new.objects ≡ w.objects ++ record { owner = owner; cells = cells } ∷ []
   pub output : new.output ≡ w.output
   pub input : new.input ≡ w.input
+  pub pages : (choice : services.Choice) → (served s (Allocate handle (block_size cells)) choice).pages ≡ s.pages
   pub refuses : refusal s (Allocate handle (block_size cells)) ≡ full_at (nat_lt s.pages (pages_of new))
   pub related : (choice : services.Choice) → refusal s (Allocate handle (block_size cells)) ≡ None → IsAllowed s (Allocate handle (block_size cells)) choice
       → objects.Related (with_row t (Placed choice.address (kinds_of cells))) (silent new) (served s (Allocate handle (block_size cells)) choice)
@@ -132,9 +133,10 @@ module _ {t : Tables} {w : World} {s : StoreState} (related : objects.Related t 
         made_in w heap_number r cells,
         record {
           creates = ap (λ a. created_in w heap_number a cells) found;
-          objects = refl;
+          joined = refl;
           output = refl;
           input = refl;
+          pages = λ choice. refl;
           refuses = refusal-allocate related heap_number HEAP r cells there kept related.heap (is_sized vs some few);
           related = λ choice free allowed. allocated related heap_number HEAP r cells there kept related.heap choice (operands-blank vs) free allowed;
         },
@@ -144,9 +146,10 @@ module _ {t : Tables} {w : World} {s : StoreState} (related : objects.Related t 
   made_alone : Makes t w s (Unique true) UNIQUE (blanks_of vs) (made_unique w (blanks_of vs))
   made_alone = record {
     creates = refl;
-    objects = refl;
+    joined = refl;
     output = refl;
     input = refl;
+    pages = λ choice. refl;
     refuses = refusal-unique related (blanks_of vs) (is_sized vs some few);
     related = λ choice free allowed. allocated-unique related (blanks_of vs) choice (operands-blank vs) (omega (arith, size_fits vs some few)) free allowed;
   }
@@ -238,7 +241,7 @@ module _ (source : Program) (pages calls : ℕ) where
       tables = grown;
       same_output = shared.same_output ∙ sym makes.output;
       same_input = shared.same_input ∙ sym makes.input;
-      same_pages = shared.same_pages;
+      same_pages = makes.pages choice ∙ shared.same_pages;
       related = related_made;
       globals = shared.globals;
       variables = variables_grow shared.tables grown grows (e.home ∷ homes k) shared.variables;
@@ -247,7 +250,7 @@ module _ (source : Program) (pages calls : ℕ) where
     }
       where
         within_pages : demand after.store ≤ pages
-        within_pages = omega (arith, (served-sound c.store (Allocate handle (block_size cells)) choice shared.related.sound free served.allowed).demand, shared.same_pages)
+        within_pages = omega (arith, (served-sound c.store (Allocate handle (block_size cells)) choice shared.related.sound free served.allowed).demand, makes.pages choice, shared.same_pages)
 
     -- the slots differ behind the values alone
     same_slots : (m : ℕ) → Outside (t + words_held vs) 1 m → after.active.slots m ≡ c.active.slots m
@@ -257,13 +260,13 @@ module _ (source : Program) (pages calls : ℕ) where
     data_made : DataIn source grown after.active.slots k e new after
     data_made =
         let g = c.active.function in
-        let many : length new.objects ≡ length w.objects + 1 = ap length makes.objects ∙ length-append w.objects (record { owner = owner; cells = cells } ∷ []) in
+        let many : length new.objects ≡ length w.objects + 1 = ap length makes.joined ∙ length-append w.objects (record { owner = owner; cells = cells } ∷ []) in
         data_above grown source g new.objects e.locals (callers k) c.active.slots after.active.slots c.globals c.frames (t + words_held vs) 1 (omega (arith, height-least (base_of source g) (held k))) same_slots
         (data_grows shared.tables grown grows source g new.objects e.locals (callers k) c.active.slots c.globals c.frames
         (data_beside shared.tables source g w.objects new.objects e.locals (callers k) c.active.slots c.globals c.frames (omega (arith, many)) beside facts))
       where
         beside : SameVariables shared.tables w.objects new.objects
-        beside o row = ap (λ l. contents l o) makes.objects ∙ contents_made w.objects (record { owner = owner; cells = cells }) o (omega (arith, slice_get-below shared.tables.rows o Variable row, shared.related.rows))
+        beside o row = ap (λ l. contents l o) makes.joined ∙ contents_made w.objects (record { owner = owner; cells = cells }) o (omega (arith, slice_get-below shared.tables.rows o Variable row, shared.related.rows))
 
     holds_made : Holds grown after.active.slots (base_of source c.active.function) (held k)
     holds_made =

@@ -19,10 +19,10 @@ use Rattle.cyc_types.specs.TypedTrees.{Load, New, OnHeap, AsUnique, ByHandle, In
 use Rattle.cyc_types.specs.typing.Scopes.{signature_of_ints}
 use Rattle.cyc_types.specs.typing.Tests as tests
 use Rattle.cyc_types.specs.typing.Expressions.{instantiated}
-use Rattle.cyc_types.specs.typing.WellTyped.{Context, PointerOperation, adds, subtracts, equals, differs, thin_null, thin_there, fat_null, fat_there, null_is, null_is_not, IsCallee, Converts, IsPeek, WellTyped, IsCell, IsConverted, ArePassed, IsChain, IsCondition, IsReturned, IsInitial, WellTypedStatement, WellTypedItems, behind, in_block, in_body, with_local, body_context, AreWellTypedFunctions, AreWellTypedGlobals, IsWellTypedProgram, IsLeft}
+use Rattle.cyc_types.specs.typing.WellTyped.{Context, PointerOperation, adds, subtracts, equals, differs, thin_null, thin_there, fat_null, fat_there, null_is, null_is_not, IsCallee, Converts, IsPeek, WellTyped, IsCell, IsConverted, ArePassed, IsChain, IsCondition, IsReturned, IsInitial, WellTypedStatement, WellTypedItems, behind, in_block, in_body, with_local, body_context, AreWellTypedFunctions, AreWellTypedGlobals, IsWellTypedProgram, IsLeft, IsMade}
 use Rattle.cyc_types.specs.Numbered.{Numbering, signatures_of, IsSignature, argument_count, numbering_of}
 use Rattle.cyc_meaning.specs.Pointers.{result_kind as operator_kind}
-use Rattle.cyc_lower.specs.Lowerable.{IsLowerable, IsLowerableConverted, AreLowerableArguments, AreLowerableOperations, IsLowerableReturn, IsLowerableInitial, IsLowerableStatement, AreLowerableItems, AreLowerableFunctions, IsLowerableProgram, is_comparison, are_sums, stands_alone, IsLowerableCell}
+use Rattle.cyc_lower.specs.Lowerable.{IsLowerable, IsLowerableConverted, AreLowerableArguments, AreLowerableOperations, IsLowerableReturn, IsLowerableInitial, IsLowerableStatement, AreLowerableItems, AreLowerableFunctions, IsLowerableProgram, is_comparison, are_sums, stands_alone, IsLowerableCell, IsLowerableObject}
 use Rattle.cyc_store.specs.declared.range.TheConstants.{MOST_BLOCK_WORDS}
 use Rattle.cyc_meaning.specs.Values.{kind_of, is_thin, words_of_kind}
 use Rattle.cyc_meaning.specs.FrameCount.{result_words, words_of_all, operand_words}
@@ -59,6 +59,7 @@ module _ (b : Numbering) (types : Types) where
     Fits (Assign l c t) = FitsStored l (passed_kind c) × FitsConverted c
     Fits (Load x) = FitsCell x
     Fits (New OnHeap i t) = FitsObject i
+    Fits (New AsUnique i t) = FitsObject i
     Fits (AddressOfCell x t) = FitsCell x
     Fits (Store x c t) = FitsCell x × (words_of_kind (passed_kind c) ≡ 1) × FitsConverted c
     Fits a = ⊥
