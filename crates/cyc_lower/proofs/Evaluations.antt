@@ -27,7 +27,7 @@ use Rattle.cyc_meaning.specs.Values.{Int, Null, Thin, Operand as Kinded, kind_of
 use Rattle.cyc_store.specs.declared.range.TheConstants.{HEAP, UNIQUE}
 use Rattle.cyc_meaning.specs.SourceMachine.{status_in}
 use Rattle.cyc_meaning.specs.Allocation.{makes, allocates}
-use Rattle.cyc_meaning.specs.State.{status_of, Owner, InRegion, Unique, World, heap_number, Environment, ConvertTo, Operate, Chain, Apply, Store, Pass, MakePlain, MakeFields, Choose, Test, Follow, LoadFrom, Entry, Needs, NeedsPlace, Discard, Focus, Evaluating, Locating, Given, Running, FollowMember, TakeAddress, StoreTo}
+use Rattle.cyc_meaning.specs.State.{status_of, Owner, InRegion, Unique, World, heap_number, Environment, ConvertTo, Operate, Chain, Apply, Store, Pass, MakePlain, MakeFields, Choose, Test, Follow, LoadFrom, Entry, Needs, NeedsPlace, Discard, Focus, Evaluating, Locating, Given, Running, FollowMember, TakeAddress, StoreTo, FreeObject}
 use Rattle.cyc_meaning.specs.Step.{target_of, target_by, object_of, assigned, passes, step, loaded_from}
 use Rattle.cyc_lower.specs.Slots.{slot_of, field_in}
 use Rattle.cyc_meaning.specs.Places.{locates_member}
@@ -420,6 +420,10 @@ module _ (source : Program) (pages calls : ℕ) where
       (shared, facts, (o, offset, r, at, holds, (d, q, address, lands)))
       (omega arith)
   comes (typed.Store x (Convert from to a) t) k e w c d q known (o, m, at, copy) lands = cell_begins x from to a t k e w c o m known at (copies d q copy lands)
+  comes (typed.FreeUnique a) k e w c d q (well, shared, facts, holds) (o, m, at_a, (jump, ask, end)) lands =
+      silently source pages calls (Running (Evaluating (typed.FreeUnique a)) k e w) (Running (Evaluating a) (Needs FreeObject ∷ k) e w) (plain.Running c) refl
+      (shared, facts, as_operand o m at_a holds (d, q, (jump, ask, end), lands))
+      (omega arith)
   comes (typed.New typed.OnHeap i t) k e w c d q known at lands = made_of typed.OnHeap (InRegion heap_number) HEAP i t k e w c d q refl (refl, refl) known at lands
   comes (typed.New typed.AsUnique i t) k e w c d q known at lands = made_of typed.AsUnique (Unique true) UNIQUE i t k e w c d q refl refl known at lands
   comes (typed.New (typed.ByHandle h) i t) k e w c d q known at lands = absurd at
@@ -456,6 +460,7 @@ module _ (source : Program) (pages calls : ℕ) where
       (leaves (subst (λ x. ValueStack source g e.locals to x m c.frames k) (is ∙ sym is_there) (subst (λ r. ValueStack source g e.locals to o r c.frames k) (sym end) stack)))
   operand (Assign (Global n) c' t) k e w c o q known at stack = in_top (Assign (Global n) c' t) k e w c o q known at stack
   operand (typed.Load x) k e w c o q known at stack = in_top (typed.Load x) k e w c o q known at stack
+  operand (typed.FreeUnique a) k e w c o q known at stack = in_top (typed.FreeUnique a) k e w c o q known at stack
   operand (typed.New x i t) k e w c o q known at stack = in_top (typed.New x i t) k e w c o q known at stack
   operand (typed.AddressOfCell x t) k e w c o q known at stack = in_top (typed.AddressOfCell x t) k e w c o q known at stack
   operand (typed.Store x v t) k e w c o q known at stack = in_top (typed.Store x v t) k e w c o q known at stack
@@ -483,7 +488,7 @@ module _ (source : Program) (pages calls : ℕ) where
   for_its_effect (typed.AddressOf l t) k e w c q known (o, (is, at)) stack = absurd at
   for_its_effect (typed.AddressOfCell x t) k e w c q known (o, at) stack = in_top (typed.AddressOfCell x t) k e w c o q known at (dropped_value c.active.function e.locals (given_at source c.active.function (typed.AddressOfCell x t)) o q c.frames k stack)
   for_its_effect (typed.NumberOfElements a) k e w c q known (o, (is, at)) stack = absurd at
-  for_its_effect (typed.FreeUnique a) k e w c q known (o, (is, at)) stack = absurd at
+  for_its_effect (typed.FreeUnique a) k e w c q known (o, at) stack = in_top (typed.FreeUnique a) k e w c o q known at (dropped_value c.active.function e.locals (given_at source c.active.function (typed.FreeUnique a)) o q c.frames k stack)
   for_its_effect (typed.FreeKey a) k e w c q known (o, (is, at)) stack = absurd at
   for_its_effect (typed.Store x (Convert from to a) t) k e w c q known (o, at) stack = cell_begins x from to a t k e w c o q known at (drops stack)
   for_its_effect (typed.New x i t) k e w c q known (o, at) stack = in_top (typed.New x i t) k e w c o q known at (dropped_value c.active.function e.locals (given_at source c.active.function (typed.New x i t)) o q c.frames k stack)

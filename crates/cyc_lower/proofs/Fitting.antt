@@ -58,6 +58,7 @@ module _ (b : Numbering) (types : Types) where
     Fits (Binary a os t) = Fits a × FitOperations (operand_words (type_of a)) t os
     Fits (Assign l c t) = FitsStored l (passed_kind c) × FitsConverted c
     Fits (Load x) = FitsCell x
+    Fits (FreeUnique a) = Fits a
     Fits (New OnHeap i t) = FitsObject i
     Fits (New AsUnique i t) = FitsObject i
     Fits (AddressOfCell x t) = FitsCell x
@@ -383,6 +384,7 @@ module _ (b : Numbering) (types : Types) where
         let (kind, fitting) = fits_converted d c t suits numbered converted in
         let single = ap words_of_kind kind ∙ type_words t ∙ ap words_of same ∙ cell_single x place in
         (stored_given x d u t v kind (is ∙ u_is), (fits_place, single, fitting))
+    fits (FreeUnique a) c v suits numbered (k, u, well, is) = (subst (IsGiven kinds.Int) (sym is) tt, (fits a c _ suits numbered well).1)
     fits (New OnHeap (Plain kind a) t) c v suits numbered (mark, u, r, place, made, t_is, is) =
         (pointer_given mark u r t v made.3 t_is is, fits_object (Plain kind a) c mark u suits numbered made)
     fits (New OnHeap (Fields cs) t) c v suits numbered (mark, u, r, place, (n, rs, s, there, many, passed, u_is, mark_is), t_is, is) =

@@ -16,6 +16,7 @@ pub mod Data
 pub mod Sharing
 pub mod CellWrites
 pub mod Allocations
+pub mod UniqueBlocks
 pub mod PlaceWords
 pub mod PlaceSteps
 pub mod Values

@@ -27,7 +27,7 @@ use Rattle.cyc_words.proofs.Matching.{by_none, way_before}
 use Rattle.cyc_plain.proofs.Steps.{step_performs, place_known}
 use Rattle.cyc_plain.specs.Straight.{At}
 use Rattle.cyc_words.specs.Demand.{demand_of}
-use Rattle.cyc_meaning.specs.State.{World, Environment, ConvertTo, Operate, Chain, Apply, ApplyPointer, Follow, LoadFrom, Decide, Store, Pass, MakePlain, MakeFields, Initialise, Choose, Test, Return, Entry, Needs, NeedsPlace, Discard, Rest, Join, Loop, CloseRegion, Caller, Main, counted, calls_in, Focus, Evaluating, Locating, Given, Executing, Proceeding, Calling, Entering, Binding, Writing, Breaking, Continuing, Returning, Throwing, State, Running, Ended, Dead, Wrong, output_of, input_of, status_of, GivenPlace, FollowMember, TakeAddress, StoreTo, StoreCell}
+use Rattle.cyc_meaning.specs.State.{World, Environment, ConvertTo, Operate, Chain, Apply, ApplyPointer, Follow, LoadFrom, Decide, Store, Pass, MakePlain, MakeFields, Initialise, Choose, Test, Return, Entry, Needs, NeedsPlace, Discard, Rest, Join, Loop, CloseRegion, Caller, Main, counted, calls_in, Focus, Evaluating, Locating, Given, Executing, Proceeding, Calling, Entering, Binding, Writing, Breaking, Continuing, Returning, Throwing, State, Running, Ended, Dead, Wrong, output_of, input_of, status_of, GivenPlace, FollowMember, TakeAddress, StoreTo, StoreCell, FreeObject}
 use Rattle.cyc_meaning.specs.Step.{step}
 use Rattle.cyc_meaning.specs.Run.{is_within, limited_step}
 use Rattle.cyc_objects.specs.Tables.{Tables}
@@ -103,6 +103,8 @@ module _ (source : Program) where
     value_depth g locals kind o p frames (Needs (Choose s t) ∷ k) (exits, r, q, at, at_s, jump, at_t, stack) = statement_depth g exits q frames k stack
     value_depth g locals kind o p frames (Needs (Test a s) ∷ k) (exits, outer, q, at, r, jump, body, back, stack) = statement_depth g outer q frames k stack
     value_depth g locals kind o p frames (Needs Return ∷ k) (exits, q, s, is, at, one, stack) = statement_depth g exits q frames k stack
+    value_depth g locals kind o p frames (Needs FreeObject ∷ k) (d, q, at, lands) =
+        by_lands lands (λ stack. value_depth g locals kinds.Int (operands.Slot d) q frames k stack) (λ stack. ahead_depth g locals kinds.Int d q frames k stack)
     value_depth g locals kind o p frames (Needs (Follow pointer target) ∷ k) (q, thin, check, place) = place_depth g locals o 0 q frames k place
     value_depth g locals kind o p frames (Needs (FollowMember pointer fields field) ∷ k) (c, q, thin, check, inside, is, place) = place_depth g locals o c q frames k place
     value_depth g locals kind o p frames (Discard ∷ k) (exits, stack) = statement_depth g exits p frames k stack
@@ -190,6 +192,8 @@ module _ (source : Program) where
     value_plain g locals kind o p frames (Needs (Choose s t) ∷ k) (exits, r, q, at, at_s, jump, at_t, stack) = statement_plain g exits q frames k stack
     value_plain g locals kind o p frames (Needs (Test a s) ∷ k) (exits, outer, q, at, r, jump, body, back, stack) = statement_plain g outer q frames k stack
     value_plain g locals kind o p frames (Needs Return ∷ k) (exits, q, s, is, at, one, stack) = statement_plain g exits q frames k stack
+    value_plain g locals kind o p frames (Needs FreeObject ∷ k) (d, q, at, lands) =
+        by_lands lands (λ stack. value_plain g locals kinds.Int (operands.Slot d) q frames k stack) (λ stack. ahead_plain g locals kinds.Int d q frames k stack)
     value_plain g locals kind o p frames (Needs (Follow pointer target) ∷ k) (q, thin, check, place) = place_plain g locals o 0 q frames k place
     value_plain g locals kind o p frames (Needs (FollowMember pointer fields field) ∷ k) (c, q, thin, check, inside, is, place) = place_plain g locals o c q frames k place
     value_plain g locals kind o p frames (Discard ∷ k) (exits, stack) = statement_plain g exits p frames k stack

@@ -1,6 +1,6 @@
 -- The weight of a source state, which falls with each step that the plain program makes no step for.
 use Rattle.std.proofs.Common.{ℕ, suc, ◌+◌, List, [], ◌∷◌, Option, None, Some, length}
-use Rattle.cyc_types.specs.TypedTrees.{Load, New, Initial, Plain, Fields, Dereference, Target, Expression, Number, NullPointer, Copy, Call, Unary, Binary, Assign, Converted, Convert, Arguments, NoArguments, MoreArguments, Operations, NoOperations, ThenCompute, ThenTest, ThenPointer, Statement, Block, Empty, Evaluate, If, While, Break, Continue, Items, NoItems, MoreItems, Execute, Declare, Move, Peek, ThenPointerPeek, AddressOfCell, Member}
+use Rattle.cyc_types.specs.TypedTrees.{Load, New, Initial, Plain, Fields, Dereference, Target, Expression, Number, NullPointer, Copy, Call, Unary, Binary, Assign, Converted, Convert, Arguments, NoArguments, MoreArguments, Operations, NoOperations, ThenCompute, ThenTest, ThenPointer, Statement, Block, Empty, Evaluate, If, While, Break, Continue, Items, NoItems, MoreItems, Execute, Declare, Move, Peek, ThenPointerPeek, AddressOfCell, Member, FreeUnique}
 use Rattle.cyc_types.specs.TypedTrees as typed
 use Rattle.cyc_meaning.specs.State.{Awaiting, Chain, Pass, MakeFields, Initialise, Entry, Needs, Rest, Focus, Evaluating, Locating, Executing, Entering, Binding, State, Running, AwaitingPlace, StoreTo, NeedsPlace}
 
@@ -17,6 +17,7 @@ abbrev mutual
   expression_weight (Binary a os t) = suc (suc (expression_weight a + operations_weight os))
   expression_weight (Assign l c t) = suc (suc (converted_weight c))
   expression_weight (Load x) = suc (suc (dereference_weight x))
+  expression_weight (FreeUnique a) = suc (suc (expression_weight a))
   expression_weight (New w i t) = suc (suc (object_weight i))
   expression_weight (AddressOfCell x t) = suc (suc (dereference_weight x))
   expression_weight (typed.Store x c t) = suc (suc (suc (dereference_weight x + converted_weight c)))

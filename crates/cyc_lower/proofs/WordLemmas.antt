@@ -14,7 +14,7 @@ use Rattle.cyc_types.specs.declared.typed.PointerOperator.{PointerOperator}
 use Rattle.cyc_types.specs.declared.typed.PointerOperator.TheVariants as pointers
 use Rattle.cyc_types.specs.declared.typed.LogicalOperator.{LogicalOperator}
 use Rattle.cyc_types.specs.declared.typed.LogicalOperator.TheVariants as logical
-use Rattle.cyc_types.specs.TypedTrees.{Load, New, OnHeap, AsUnique, ByHandle, Initial, Plain, Fields, Dereference, Target, Lvalue, Local, Global, Expression, Number, NullPointer, Copy, Call, Unary, Binary, Assign, Converted, Convert, Arguments, NoArguments, MoreArguments, Operations, NoOperations, ThenCompute, ThenTest, ThenPointer, Statement, Block, Empty, Evaluate, If, While, Return, Break, Continue, Items, NoItems, MoreItems, Execute, Declare, Constant, Word, Null, GlobalVariable, StructType, Function, Program, Move, Peek, ThenPointerPeek, AddressOfCell, Store, Member, Element}
+use Rattle.cyc_types.specs.TypedTrees.{Load, New, OnHeap, AsUnique, ByHandle, Initial, Plain, Fields, Dereference, Target, Lvalue, Local, Global, Expression, Number, NullPointer, Copy, Call, Unary, Binary, Assign, Converted, Convert, Arguments, NoArguments, MoreArguments, Operations, NoOperations, ThenCompute, ThenTest, ThenPointer, Statement, Block, Empty, Evaluate, If, While, Return, Break, Continue, Items, NoItems, MoreItems, Execute, Declare, Constant, Word, Null, GlobalVariable, StructType, Function, Program, Move, Peek, ThenPointerPeek, AddressOfCell, Store, Member, Element, FreeUnique}
 use Rattle.cyc_plain.specs.declared.instruction.Comparison.{Comparison}
 use Rattle.cyc_plain.specs.declared.instruction.Operand.{Operand}
 use Rattle.cyc_plain.specs.declared.instruction.Operand.TheVariants as operands
@@ -224,6 +224,11 @@ module _ (starts : Starts) where
         append (store_code starts x c p t) (copy_code (passed_words c) o d)
         (append address _ (address_of_words x p t t first) (append value _ (converted_operand_words c (p + length address) (t + 1) second) ((tt, omega arith, word), tt)))
         (copy_words (is_in o d) (passed_words c) o d word)
+    expression_words (FreeUnique a) p d t words =
+        let slot = value_slot starts a t in
+        let inner = expression_code starts a p slot t in
+        let word = known_word a slot words in
+        append (code_unless (operand_of starts a) inner) _ (unless_words (operand_of starts a) inner (expression_words a p slot t words)) ((word, omega arith), ((word, tt), tt))
     expression_words (New OnHeap i ty) p d t words = made_words i HEAP p d t (omega arith) words
     expression_words (New AsUnique i ty) p d t words = made_words i UNIQUE p d t (omega arith) words
     expression_words (New (ByHandle h) i ty) p d t words = absurd words

@@ -20,7 +20,7 @@ use Rattle.cyc_types.specs.declared.typed.LogicalOperator.{LogicalOperator}
 use Rattle.cyc_types.specs.declared.typed.LogicalOperator.TheVariants as logical
 use Rattle.cyc_types.specs.Types.{Ty, words_of}
 use Rattle.cyc_types.specs.Numbered.{argument_count}
-use Rattle.cyc_types.specs.TypedTrees.{Load, New, OnHeap, AsUnique, Initial, Plain, Fields, Dereference, Target, Lvalue, Local, Global, Expression, Number, NullPointer, Copy, Call, Unary, Binary, Assign, Converted, Convert, Arguments, NoArguments, MoreArguments, Operations, NoOperations, ThenCompute, ThenTest, ThenPointer, ThenPointerPeek, Statement, Block, Empty, Evaluate, If, While, Return, Break, Continue, Items, NoItems, MoreItems, Execute, Declare, Constant, Word, Null, GlobalVariable, StructType, Function, Program, Move, Peek, AddressOfCell, Store, Member, Element}
+use Rattle.cyc_types.specs.TypedTrees.{Load, New, OnHeap, AsUnique, Initial, Plain, Fields, Dereference, Target, Lvalue, Local, Global, Expression, Number, NullPointer, Copy, Call, Unary, Binary, Assign, Converted, Convert, Arguments, NoArguments, MoreArguments, Operations, NoOperations, ThenCompute, ThenTest, ThenPointer, ThenPointerPeek, Statement, Block, Empty, Evaluate, If, While, Return, Break, Continue, Items, NoItems, MoreItems, Execute, Declare, Constant, Word, Null, GlobalVariable, StructType, Function, Program, Move, Peek, AddressOfCell, Store, Member, Element, FreeUnique}
 use Rattle.cyc_plain.specs.declared.instruction.UnaryOperator.{UnaryOperator as PlainUnary}
 use Rattle.cyc_plain.specs.declared.instruction.UnaryOperator.TheVariants as plain_unary
 use Rattle.cyc_plain.specs.declared.instruction.BinaryOperator.{BinaryOperator as PlainBinary}
@@ -291,6 +291,10 @@ object_code handle words d t =
     ++ instructions.Move d (operands.Slot (t + words))
     ∷ []
 
+-- the unique block at an address is freed, where that is not 0
+abbrev pub free_code : Operand → (p : ℕ) → List Instruction
+free_code o p = jump_if_zero o (p + 2) ∷ instructions.Ask (requests.Free o) ∷ []
+
 -- ---- conditions, branches and loops
 
 -- A condition compares two expressions, and this comparison of them holds where it fails.
@@ -455,6 +459,9 @@ module _ (starts : Starts) where
         stored_by (addressed_by (place_code x p t) (place_operand x t) (place_offset x) t)
         (converted_operand_code c (p + length (addressed_by (place_code x p t) (place_operand x t) (place_offset x) t)) (t + 1)) t (converted_operand c (t + 1))
         ++ copy_code (passed_words c) (converted_operand c (t + 1)) d
+    expression_code (FreeUnique a) p d t =
+        code_unless (operand_of a) (expression_code a p (value_slot a t) t)
+        ++ free_code (value_operand a t) (p + length (code_unless (operand_of a) (expression_code a p (value_slot a t) t)))
     expression_code (New OnHeap i ty) p d t = made_code i HEAP p d t
     expression_code (New AsUnique i ty) p d t = made_code i UNIQUE p d t
     expression_code a p d t = instructions.Move d (operands.Word 0) ∷ []

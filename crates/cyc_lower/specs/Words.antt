@@ -4,7 +4,7 @@ use Rattle.std.specs.Prelude.{◌≤◌, List, [], ◌∷◌, Option, None, Some
 use Rattle.cyc_words.specs.Word.{IsWord}
 use Rattle.cyc_types.specs.Numbered.{argument_count}
 use Rattle.cyc_store.specs.declared.range.TheConstants.{MOST_BLOCK_WORDS}
-use Rattle.cyc_types.specs.TypedTrees.{Load, New, OnHeap, AsUnique, Initial, Plain, Fields, Dereference, Target, Expression, Number, NullPointer, Copy, Call, Unary, Binary, Assign, Converted, Convert, Arguments, NoArguments, MoreArguments, Operations, NoOperations, ThenCompute, ThenTest, ThenPointer, Statement, Block, Empty, Evaluate, If, While, Return, Break, Continue, Items, NoItems, MoreItems, Execute, Declare, Constant, Word, Null, GlobalVariable, Function, Program, Move, Peek, ThenPointerPeek, AddressOfCell, Store, Member}
+use Rattle.cyc_types.specs.TypedTrees.{Load, New, OnHeap, AsUnique, Initial, Plain, Fields, Dereference, Target, Expression, Number, NullPointer, Copy, Call, Unary, Binary, Assign, Converted, Convert, Arguments, NoArguments, MoreArguments, Operations, NoOperations, ThenCompute, ThenTest, ThenPointer, Statement, Block, Empty, Evaluate, If, While, Return, Break, Continue, Items, NoItems, MoreItems, Execute, Declare, Constant, Word, Null, GlobalVariable, Function, Program, Move, Peek, ThenPointerPeek, AddressOfCell, Store, Member, FreeUnique}
 
 abbrev mutual
   pub IsOfWords : Expression → Type 0
@@ -18,6 +18,7 @@ abbrev mutual
   IsOfWords (Binary a os t) = IsOfWords a × AreOfWordsOperations os
   IsOfWords (Assign l c t) = IsOfWordsConverted c
   IsOfWords (Load x) = IsOfWordsCell x
+  IsOfWords (FreeUnique a) = IsOfWords a
   IsOfWords (New OnHeap i t) = IsOfWordsObject i
   IsOfWords (New AsUnique i t) = IsOfWordsObject i
   IsOfWords (AddressOfCell x t) = IsOfWordsCell x
