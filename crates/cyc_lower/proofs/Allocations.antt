@@ -415,10 +415,9 @@ module _ (source : Program) (pages calls : ℕ) where
   }
 
   -- a cell of a new object is written, and behind the last the pointer to it comes to its slot
-  pub writing : (writes : List Write) (result : Option Kinded) (k : List Entry) (e : Environment) (w : World) (c : Configuration) → plain.HoldsWords (plain.Running c)
-      → IsStep source pages calls (Writing writes result) k e w c
-  writing writes None k e w c words well (shared, facts, at) = absurd at
-  writing [] (Some pointer) k e w c words well (shared, facts, (object, done, [], address, slot, d, m, q, are, is, there, single, held_in, at, move, end, holds, lands)) =
+  pub writing : (writes : List Write) (pointer : Kinded) (k : List Entry) (e : Environment) (w : World) (c : Configuration) → plain.HoldsWords (plain.Running c)
+      → IsStep source pages calls (Writing writes (Some pointer)) k e w c
+  writing [] pointer k e w c words well (shared, facts, (object, done, [], address, slot, d, m, q, are, is, there, single, held_in, at, move, end, holds, lands)) =
       let points : Points shared.tables object 0 (c.active.slots address) = first_cell shared.tables object (c.active.slots address) (done ++ []) there in
       let v : Kinded = record { kind = kinds.NonNull; value = Thin object 0 } in
       by_one source pages calls (ap (λ (x : Kinded). Running (Given x) k e w) is) shared (subst (λ p. At (code_of source c.active.function) p (instructions.Move d (operands.Slot address))) (sym at) move)
@@ -426,9 +425,9 @@ module _ (source : Program) (pages calls : ℕ) where
     where
       first_cell : (t : Tables) (object address : ℕ) (kinds : List Kind) → IsObject t object address kinds → Points t object 0 address
       first_cell t object address kinds is = record { address = address; kinds = kinds; row = is.row; range = is.range; inside = is.some; at = omega arith }
-  writing [] (Some pointer) k e w c words well (shared, facts, (object, done, u ∷ us, address, slot, d, m, q, are, is, there, single, held_in, at, move, end, holds, lands)) = absurd (let f : [] ≡ writes_from object (length done) (u ∷ us) = are in cc)
-  writing (x ∷ writes) (Some pointer) k e w c words well (shared, facts, (object, done, [], address, slot, d, m, q, are, is, there, single, held_in, at, move, end, holds, lands)) = absurd (let f : x ∷ writes ≡ [] = are in cc)
-  writing (x ∷ writes) (Some pointer) k e w c words well (shared, facts, (object, done, u ∷ us, address, slot, d, m, q, are, is, there, single, (is_u, held_in), at, move, end, holds, lands)) =
+  writing [] pointer k e w c words well (shared, facts, (object, done, u ∷ us, address, slot, d, m, q, are, is, there, single, held_in, at, move, end, holds, lands)) = absurd (let f : [] ≡ writes_from object (length done) (u ∷ us) = are in cc)
+  writing (x ∷ writes) pointer k e w c words well (shared, facts, (object, done, [], address, slot, d, m, q, are, is, there, single, held_in, at, move, end, holds, lands)) = absurd (let f : x ∷ writes ≡ [] = are in cc)
+  writing (x ∷ writes) pointer k e w c words well (shared, facts, (object, done, u ∷ us, address, slot, d, m, q, are, is, there, single, (is_u, held_in), at, move, end, holds, lands)) =
       let g = c.active.function in
       let tables = shared.tables in
       let slots = c.active.slots in

@@ -18,6 +18,9 @@ pub mod CellWrites
 pub mod Allocations
 pub mod UniqueBlocks
 pub mod PlaceWords
+pub mod CellReads
+pub mod AddressSteps
+pub mod Swaps
 pub mod PlaceSteps
 pub mod Values
 pub mod PointerSteps
