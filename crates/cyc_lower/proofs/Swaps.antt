@@ -378,7 +378,10 @@ module _ (source : Program) (pages calls : ℕ) where
         slots_above shared.tables (base + 1) m slots k e w c (omega arith) same facts,
         (exits, q, CellSide x, CellSide y, single, tt, tt, subst (Points shared.tables first start) (sym (same base (inl (omega arith)))) is_first, points, exchange, stack),
       ))
-  right_found object offset kind peek left a k e w c shared facts holds brought is_left behind = absurd is_left
+  right_found object offset kind None left (VariableSide l ty) k e w c shared facts holds brought is_left behind = absurd is_left
+  right_found object offset kind None left (CellSide x) k e w c shared facts holds brought is_left behind = absurd is_left
+  right_found object offset kind (Some n) left (VariableSide l ty) k e w c shared facts holds brought is_left behind = absurd is_left
+  right_found object offset kind (Some n) left (CellSide x) k e w c shared facts holds brought is_left behind = absurd is_left
 
   -- ---- a swap begins
 

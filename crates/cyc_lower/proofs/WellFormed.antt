@@ -13,7 +13,7 @@ use Rattle.cyc_types.specs.declared.typed.PointerOperator.TheVariants as pointer
 use Rattle.cyc_types.specs.declared.typed.LogicalOperator.{LogicalOperator}
 use Rattle.cyc_types.specs.declared.typed.LogicalOperator.TheVariants as logical
 use Rattle.cyc_types.specs.Types.{Ty, words_of, ValueType, Void, Null, Value}
-use Rattle.cyc_types.specs.TypedTrees.{Load, New, OnHeap, AsUnique, ByHandle, Initial, Plain, Fields, Array, Dereference, Target, type_of_place, Lvalue, Local, Global, Expression, Number, NullPointer, Copy, Call, Unary, Binary, Assign, Converted, Convert, Arguments, NoArguments, MoreArguments, Operations, NoOperations, ThenCompute, ThenTest, ThenPointer, type_of, Statement, Block, Empty, Evaluate, If, While, Return, Break, Continue, Items, NoItems, MoreItems, Execute, Declare, GlobalVariable, Signature, StructType, Function, Program, Move, Peek, ThenPointerPeek, AddressOfCell, Store, Member, FreeUnique}
+use Rattle.cyc_types.specs.TypedTrees.{Load, New, OnHeap, AsUnique, ByHandle, Initial, Plain, Fields, Array, Dereference, Target, type_of_place, Lvalue, Local, Global, Expression, Number, NullPointer, Copy, Call, Unary, Binary, Assign, Converted, Convert, Arguments, NoArguments, MoreArguments, Operations, NoOperations, ThenCompute, ThenTest, ThenPointer, type_of, Statement, Block, Empty, Evaluate, If, While, Return, Break, Continue, Items, NoItems, MoreItems, Execute, Declare, GlobalVariable, Signature, StructType, Function, Program, Move, Peek, ThenPointerPeek, AddressOfCell, Store, Member, FreeUnique, Side, VariableSide, CellSide, Swap}
 use Rattle.cyc_types.specs.typing.WellTyped.{signature_of}
 use Rattle.cyc_types.specs.Numbered.{Numbering, argument_count, signatures_of, numbering_of}
 use Rattle.cyc_plain.specs.declared.instruction.Comparison.{Comparison}
@@ -30,13 +30,14 @@ use Rattle.std.proofs.lemmas.Bool.{eqb-true}
 use Rattle.cyc_meaning.specs.Operators.{null_exception, division_by_zero}
 use Rattle.cyc_store.specs.declared.range.TheConstants.{HEAP, UNIQUE}
 use Rattle.cyc_meaning.specs.Values.{kind_of, words_of_kind}
-use Rattle.cyc_meaning.specs.FrameCount.{result_words, operand_words, converted_words, argument_words, expression_need, dereference_need, converted_need, arguments_need, operations_need, initial_need, statement_need, items_need, words_of_all, initial_value_need, place_words}
+use Rattle.cyc_meaning.specs.FrameCount.{result_words, operand_words, converted_words, argument_words, expression_need, dereference_need, converted_need, arguments_need, operations_need, initial_need, statement_need, items_need, words_of_all, initial_value_need, place_words, side_need}
 use Rattle.cyc_lower.specs.declared.statements.Exits.{Exits}
 use Rattle.cyc_meaning.specs.Pointers.{result_kind as operator_kind}
 use Rattle.cyc_lower.specs.Slots.{starts_of, slot_of, Types}
-use Rattle.cyc_lower.specs.Lowering.{types_of, spare_slots, are_as_wide, converts_there, passed_words, all_passed, source_of, source_slot, moved_by, move_of, unary_operator, binary_operator, operand_of, operand_or, code_unless, slot_or, code_unless_slot, left_with, left_of, value_slot, next_slot, slot_with, left_slot, value_operand, converted_operand, printed_operand, check_code, conversion_code, divisor_code, checked_code, operator_code, truth_code, load_code, low_byte, test_code, is_in, copy_code, expression_code, arguments_code, converted_code, converted_operand_code, printed_code, initial_code, assignment_code, operations_code, discarded_code, failing_comparison, compared_or, first_operand, first_code, second_code, pair_code, condition_code, condition_of, failing_jump, break_target, continue_target, return_code, declaration_code, statement_code, items_code, first_temporary, results_of, lower_function, lower_global, lower_program, pointer_operator, left_kind, behind_left, pointer_code, outside_loops, inside_loop, index_code, pointer_instructions, stores_code, object_code, made_code, place_operand, place_offset, place_code, address_code, addressed_by, store_address_code, store_code, free_code}
+use Rattle.cyc_lower.specs.Lowering.{types_of, spare_slots, are_as_wide, converts_there, passed_words, all_passed, source_of, source_slot, moved_by, move_of, unary_operator, binary_operator, operand_of, operand_or, code_unless, slot_or, code_unless_slot, left_with, left_of, value_slot, next_slot, slot_with, left_slot, value_operand, converted_operand, printed_operand, check_code, conversion_code, divisor_code, checked_code, operator_code, truth_code, load_code, low_byte, test_code, is_in, copy_code, expression_code, arguments_code, converted_code, converted_operand_code, printed_code, initial_code, assignment_code, operations_code, discarded_code, failing_comparison, compared_or, first_operand, first_code, second_code, pair_code, condition_code, condition_of, failing_jump, break_target, continue_target, return_code, declaration_code, statement_code, items_code, first_temporary, results_of, lower_function, lower_global, lower_program, pointer_operator, left_kind, behind_left, pointer_code, outside_loops, inside_loop, index_code, pointer_instructions, stores_code, object_code, made_code, place_operand, place_offset, place_code, address_code, addressed_by, store_address_code, store_code, free_code, right_slot, side_code, read_side, write_side, exchange_code, swap_code}
 use Rattle.cyc_lower.proofs.Widths.{kind_positive, kind_few, type_words, kind_of_result, result_kind, given, passed_kind, words_in, chain_kind, made_kind}
-use Rattle.cyc_lower.proofs.Fitting.{FitsPlace, FitsStored, FitsCell, Fits, FitsConverted, FitArguments, FitOperations, FitsReturn, FitsInitial, FitsStatement, FitItems, AreFitting, IsFitting, FitsObject}
+use Rattle.cyc_types.specs.typing.Expressions.{type_of_side}
+use Rattle.cyc_lower.proofs.Fitting.{FitsPlace, FitsStored, FitsCell, Fits, FitsConverted, FitArguments, FitOperations, FitsReturn, FitsInitial, FitsStatement, FitItems, AreFitting, IsFitting, FitsObject, FitsSide}
 use Rattle.cyc_lower.proofs.Values.{as_wide}
 use Rattle.cyc_lower.proofs.Slots.{words_positive, slot-room, slot_types-many, slots-few}
 
@@ -801,11 +802,53 @@ module _ (program : PlainProgram) (r : Routine) (b : Numbering) (types : Types) 
   declaration_in n (Some c) p t within (own, numbered) few short =
       initial_in c p (slot_of (starts_of types) n) t numbered (omega (arith, locals n within, own)) (omega (arith, few, converted_few c)) (omega (arith, few)) short
 
+  -- ---- swaps
+
+  side_in : (a : Side) (kind : Kind) (p t : ℕ) → FitsSide b types a kind → t < r.slots → t + side_need a ≤ r.slots → p + length (side_code (starts_of types) a p t) < length r.code → AreIn (side_code (starts_of types) a p t)
+  side_in (VariableSide l ty) kind p t numbered room few short = tt
+  side_in (CellSide x) kind p t numbered room few short = addressed_in x p t t numbered room few short (λ less. place_in x place_words p t numbered (omega arith) few less)
+
+  read_in : (a : Side) (kind : Kind) (s d : ℕ) → FitsSide b types a kind → s < r.slots → d < r.slots → IsInRange program r (read_side (starts_of types) a s d)
+  read_in (VariableSide (Local w n) ty) kind s d (within, own) low room = (room, omega (arith, locals n within, own, kind_positive kind))
+  read_in (VariableSide (Global n) ty) kind s d within low room = (room, omega (arith, within, globals))
+  read_in (CellSide x) kind s d numbered low room = (room, low)
+
+  write_in : (a : Side) (kind : Kind) (s v : ℕ) → FitsSide b types a kind → s < r.slots → v < r.slots → IsInRange program r (write_side (starts_of types) a s v)
+  write_in (VariableSide (Local w n) ty) kind s v (within, own) low room = (omega (arith, locals n within, own, kind_positive kind), room)
+  write_in (VariableSide (Global n) ty) kind s v within low room = (omega (arith, within, globals), room)
+  write_in (CellSide x) kind s v numbered low room = (low, room)
+
+  right_near : (a : Side) (t : ℕ) → right_slot a t ≤ t + 1
+  right_near (VariableSide l ty) t = omega arith
+  right_near (CellSide x) t = omega arith
+
+  swap_in : (x y : Side) (kind : Kind) (p t : ℕ) → FitsSide b types x kind → FitsSide b types y kind → t + statement_need (Swap x y) ≤ r.slots → p + length (swap_code (starts_of types) x y p t) < length r.code → AreIn (swap_code (starts_of types) x y p t)
+  swap_in x y kind p t fits_x fits_y few short =
+      let front = side_code (starts_of types) x p t in
+      let middle = side_code (starts_of types) y (p + length front) (right_slot x t) in
+      let back = exchange_code (starts_of types) x y t in
+      let slot = right_near x t in
+      let long = length-append front (middle ++ back) in
+      let long_rest = length-append middle back in
+      let room : t + 4 ≤ r.slots = omega (arith, few) in
+      append front (middle ++ back) (side_in x kind p t fits_x (omega (arith, room)) (omega (arith, few)) (omega (arith, short, long)))
+      (append middle back (side_in y kind (p + length front) (right_slot x t) fits_y (omega (arith, room, slot)) (omega (arith, few, slot)) (omega (arith, short, long, long_rest))) (
+        read_in x kind t (t + 2) fits_x (omega (arith, room)) (omega (arith, room)),
+        (
+          read_in y kind (right_slot x t) (t + 3) fits_y (omega (arith, room, slot)) (omega (arith, room)),
+          (
+            write_in x kind t (t + 3) fits_x (omega (arith, room)) (omega (arith, room)),
+            (write_in y kind (right_slot x t) (t + 2) fits_y (omega (arith, room, slot)) (omega (arith, room)), tt),
+          ),
+        ),
+      ))
+
   mutual
     statement_in : (s : Statement) (in_loop : Bool) (p : ℕ) (exits : Exits) (t : ℕ) → FitsStatement b types in_loop s → (in_loop ≡ true → exits.head + 2 < length r.code) → t + statement_need s + spare_slots ≤ r.slots → p + length (statement_code (starts_of types) s p exits t) < length r.code → AreIn (statement_code (starts_of types) s p exits t)
     statement_in (Block n js) in_loop p exits t numbered around few short = items_in js in_loop p exits t numbered around few short
     statement_in Empty in_loop p exits t numbered around few short = tt
     statement_in (Evaluate a) in_loop p exits t numbered around few short = discarded_in a p t numbered few short
+    statement_in (Swap x y) in_loop p exits t (single, fits_x, fits_y, waits) around few short = swap_in x y (kind_of (type_of_side x)) p t fits_x fits_y (omega (arith, few)) short
     statement_in (If a s u) in_loop p exits t (numbered_a, numbered_s, numbered_u) around few short =
         let condition = condition_code (starts_of types) a p t in
         let m = p + length condition in

@@ -621,7 +621,7 @@ module _ (starts : Starts) where
 
   abbrev pub swap_code : (left right : Side) → (p t : ℕ) → List Instruction
   swap_code a b p t =
-      side_code a p t ++ side_code b (p + length (side_code a p t)) (right_slot a t) ++ exchange_code a b t
+      side_code a p t ++ (side_code b (p + length (side_code a p t)) (right_slot a t) ++ exchange_code a b t)
 
   -- a local with an initial value gets it
   abbrev pub declaration_code : (number : ℕ) → Option Converted → (p t : ℕ) → List Instruction
