@@ -20,7 +20,7 @@ pub mod UniqueBlocks
 pub mod PlaceWords
 pub mod CellReads
 pub mod AddressSteps
-pub mod Swaps
+pub mod SwapSteps
 pub mod PlaceSteps
 pub mod Values
 pub mod PointerSteps

@@ -32,7 +32,7 @@ use Rattle.cyc_lower.proofs.Data.{Is-same, height-least, Holds-same, data_above}
 use Rattle.cyc_lower.proofs.Stands.{CopyBy, AddressAt, OperandBy, ExpressionAt, ConvertedOperandAt}
 use Rattle.cyc_lower.proofs.CellReads.{word_read}
 use Rattle.cyc_lower.proofs.AddressSteps.{Brought, in_slot, by_word, brought}
-use Rattle.cyc_lower.proofs.Swaps.{left_found, right_found}
+use Rattle.cyc_lower.proofs.SwapSteps.{left_found, right_found}
 use Rattle.cyc_lower.proofs.Accesses.{IsWell}
 use Rattle.cyc_lower.proofs.Matched.{IsMatched, silently, by_one}
 use Rattle.cyc_lower.proofs.Evaluations.{IsStep, sources, landed}

@@ -37,7 +37,7 @@ use Rattle.cyc_lower.proofs.Relation.{types_in, types_at, starts_at, given_at, r
 use Rattle.cyc_lower.proofs.Data.{height-least, Holds-same, Holds-above, data_declared, data_returned, data_grows, held_by_caller}
 use Rattle.cyc_lower.proofs.Values.{int_at}
 use Rattle.cyc_lower.proofs.Accesses.{IsWell, is_declared, is_closed, home_there}
-use Rattle.cyc_lower.proofs.Swaps.{begins_swap}
+use Rattle.cyc_lower.proofs.SwapSteps.{begins_swap}
 use Rattle.cyc_lower.proofs.Matched.{IsMatched, silently, by_one, by_two}
 use Rattle.cyc_lower.proofs.Evaluations.{IsStep, sources}
 

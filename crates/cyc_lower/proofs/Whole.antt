@@ -44,7 +44,7 @@ use Rattle.cyc_lower.proofs.Evaluations.{evaluating, locating}
 use Rattle.cyc_lower.proofs.Keeping.{keeping, stepped_keeping}
 use Rattle.cyc_lower.proofs.Allocations.{writing}
 use Rattle.cyc_lower.proofs.Values.{given}
-use Rattle.cyc_lower.proofs.Swaps.{swapping, writing_sides}
+use Rattle.cyc_lower.proofs.SwapSteps.{swapping, writing_sides}
 use Rattle.cyc_lower.proofs.PlaceSteps.{given_place}
 use Rattle.cyc_lower.proofs.StatementSteps.{executing, proceeding, breaking, continuing, returning, throwing}
 use Rattle.cyc_lower.proofs.Calls.{FunctionsStand, calling, entering, binding, entered}

@@ -336,7 +336,7 @@ impl Emitter {
 
     /// The address of a place comes to a slot.
     #[cycle(expression)]
-    fn take_address(
+    pub(crate) fn take_address(
         &mut self,
         starts: &Starts,
         place: &Dereference,

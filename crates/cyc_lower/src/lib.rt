@@ -15,3 +15,4 @@ mod operands;
 mod operators;
 mod program;
 mod statements;
+mod swaps;

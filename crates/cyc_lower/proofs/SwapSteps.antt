@@ -84,9 +84,22 @@ module _ (source : Program) (pages calls : ℕ) where
   writes_same : (t : Tables) (locals : ℕ → Option ℕ) (g : ℕ) (slots other : Words) (writes : List Write) (p q : ℕ) → ((m : ℕ) → base_of source g ≤ m → other m ≡ slots m)
       → WritesAt source t locals g slots writes p q → WritesAt source t locals g other writes p q
   writes_same t locals g slots other [] p q same at = at
-  writes_same t locals g slots other (x ∷ writes) p q same (a, object, offset, s, v, here, has, single, high, above, place, is, word, rest) =
-      (a, object, offset, s, v, here, has, single, high, above, place, side_same t locals slots other a s object offset (same s high) is, subst (IsWord t x.operand.kind x.operand.value) (sym (same v above)) word,
-      writes_same t locals g slots other writes (p + 1) q same rest)
+  writes_same t locals g slots other (x ∷ writes) p q same (a, object, offset, s, v, here, has, single, high, above, place, is, word, rest) = (
+    a,
+    object,
+    offset,
+    s,
+    v,
+    here,
+    has,
+    single,
+    high,
+    above,
+    place,
+    side_same t locals slots other a s object offset (same s high) is,
+    subst (IsWord t x.operand.kind x.operand.value) (sym (same v above)) word,
+    writes_same t locals g slots other writes (p + 1) q same rest,
+  )
 
   -- ---- a side is read
 
@@ -340,8 +353,19 @@ module _ (source : Program) (pages calls : ℕ) where
       (λ slots same points. (
         shared,
         slots_above shared.tables base m slots k e w c (omega arith) same facts,
-        (exits, q, CellSide x, VariableSide l ty, single, tt, has, points, (refl, object_of_same l e ∙ found),
-        subst (λ p. ExchangeAt (code_of source g) (bounds_at source g) (types_at source g) (CellSide x) (VariableSide l ty) base p q) (sym end) exchange, stack),
+        (
+          exits,
+          q,
+          CellSide x,
+          VariableSide l ty,
+          single,
+          tt,
+          has,
+          points,
+          (refl, object_of_same l e ∙ found),
+          subst (λ p. ExchangeAt (code_of source g) (bounds_at source g) (types_at source g) (CellSide x) (VariableSide l ty) base p q) (sym end) exchange,
+          stack,
+        ),
       ))
   left_found object offset kind (Some n) (CellSide y) k e w c {m} well shared facts brought (exits, x, r, q, single, has, waits, (o, more, s, at_y, address), exchange, stack) =
       let g = c.active.function in
@@ -396,8 +420,19 @@ module _ (source : Program) (pages calls : ℕ) where
       (does ∙ ap (λ x. finds_right_object kind (Thin object 0) x k e w) found_right) (
         shared,
         facts,
-        (exits, q, VariableSide l ty, VariableSide l' ty', type_words ty ∙ single, has_a, has_b, (refl, object_of_same l e ∙ found), (refl, object_of_same l' e ∙ found_right),
-        subst (λ p. ExchangeAt (code_of source g) (bounds_at source g) (types_at source g) (VariableSide l ty) (VariableSide l' ty') (base_of source g) p q) (sym (start ∙ end)) exchange, stack),
+        (
+          exits,
+          q,
+          VariableSide l ty,
+          VariableSide l' ty',
+          type_words ty ∙ single,
+          has_a,
+          has_b,
+          (refl, object_of_same l e ∙ found),
+          (refl, object_of_same l' e ∙ found_right),
+          subst (λ p. ExchangeAt (code_of source g) (bounds_at source g) (types_at source g) (VariableSide l ty) (VariableSide l' ty') (base_of source g) p q) (sym (start ∙ end)) exchange,
+          stack,
+        ),
       )
       (omega arith)
   begins_swap (VariableSide l ty) (CellSide y) k e w c well (shared, facts, (exits, q, (m, r, single, has_a, has_b, waits, start, (o, more, s, at_y, address), exchange), stack)) =
@@ -408,8 +443,14 @@ module _ (source : Program) (pages calls : ℕ) where
       (ap (λ x. finds_left_object kind x (CellSide y) k e w) found) (
         shared,
         facts,
-        (o, more, s, subst (λ p. PlaceAt (code_of source g) (bounds_at source g) (types_at source g) y o more (base_of source g) p s) (sym start) at_y, tt,
-        (exits, VariableSide l ty, y, r, q, type_words ty ∙ single, has_a, (refl, object_of_same l e ∙ found), address, exchange, stack)),
+        (
+          o,
+          more,
+          s,
+          subst (λ p. PlaceAt (code_of source g) (bounds_at source g) (types_at source g) y o more (base_of source g) p s) (sym start) at_y,
+          tt,
+          (exits, VariableSide l ty, y, r, q, type_words ty ∙ single, has_a, (refl, object_of_same l e ∙ found), address, exchange, stack),
+        ),
       )
       (omega arith)
   begins_swap (CellSide x) b k e w c well (shared, facts, (exits, q, (m, r, single, has_a, has_b, waits, (o, more, s, at_x, address), at_b, exchange), stack)) =
