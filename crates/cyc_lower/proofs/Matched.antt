@@ -27,7 +27,7 @@ use Rattle.cyc_words.proofs.Matching.{by_none, way_before}
 use Rattle.cyc_plain.proofs.Steps.{step_performs, place_known}
 use Rattle.cyc_plain.specs.Straight.{At}
 use Rattle.cyc_words.specs.Demand.{demand_of}
-use Rattle.cyc_meaning.specs.State.{World, Environment, ConvertTo, Operate, Chain, Apply, ApplyPointer, Follow, LoadFrom, Decide, Store, Pass, MakePlain, MakeFields, Initialise, Choose, Test, Return, Entry, Needs, NeedsPlace, Discard, Rest, Join, Loop, CloseRegion, Caller, Main, counted, calls_in, Focus, Evaluating, Locating, Given, Executing, Proceeding, Calling, Entering, Binding, Writing, Breaking, Continuing, Returning, Throwing, State, Running, Ended, Dead, Wrong, output_of, input_of, status_of, GivenPlace, FollowMember, TakeAddress, StoreTo, StoreCell}
+use Rattle.cyc_meaning.specs.State.{World, Environment, ConvertTo, Operate, Chain, Apply, ApplyPointer, Follow, LoadFrom, Decide, Store, Pass, MakePlain, MakeFields, Initialise, Choose, Test, Return, Entry, Needs, NeedsPlace, Discard, Rest, Join, Loop, CloseRegion, Caller, Main, counted, calls_in, Focus, Evaluating, Locating, Given, Executing, Proceeding, Calling, Entering, Binding, Writing, Breaking, Continuing, Returning, Throwing, State, Running, Ended, Dead, Wrong, output_of, input_of, status_of, GivenPlace, FollowMember, TakeAddress, StoreTo, StoreCell, FreeObject, SwapLeft, SwapRight, Swapping}
 use Rattle.cyc_meaning.specs.Step.{step}
 use Rattle.cyc_meaning.specs.Run.{is_within, limited_step}
 use Rattle.cyc_objects.specs.Tables.{Tables}
@@ -103,12 +103,16 @@ module _ (source : Program) where
     value_depth g locals kind o p frames (Needs (Choose s t) ∷ k) (exits, r, q, at, at_s, jump, at_t, stack) = statement_depth g exits q frames k stack
     value_depth g locals kind o p frames (Needs (Test a s) ∷ k) (exits, outer, q, at, r, jump, body, back, stack) = statement_depth g outer q frames k stack
     value_depth g locals kind o p frames (Needs Return ∷ k) (exits, q, s, is, at, one, stack) = statement_depth g exits q frames k stack
+    value_depth g locals kind o p frames (Needs FreeObject ∷ k) (d, q, at, lands) =
+        by_lands lands (λ stack. value_depth g locals kinds.Int (operands.Slot d) q frames k stack) (λ stack. ahead_depth g locals kinds.Int d q frames k stack)
     value_depth g locals kind o p frames (Needs (Follow pointer target) ∷ k) (q, thin, check, place) = place_depth g locals o 0 q frames k place
     value_depth g locals kind o p frames (Needs (FollowMember pointer fields field) ∷ k) (c, q, thin, check, inside, is, place) = place_depth g locals o c q frames k place
     value_depth g locals kind o p frames (Discard ∷ k) (exits, stack) = statement_depth g exits p frames k stack
     value_depth g locals kind o p frames (entry ∷ k) stack = absurd stack
 
     pub place_depth : (g : ℕ) (locals : ℕ → Option ℕ) (o : Operand) (c p : ℕ) (frames : List Frame) (k : List Entry) → PlaceStack source g locals o c p frames k → HasDepth frames k
+    place_depth g locals o c p frames (NeedsPlace (SwapLeft kind peek right) ∷ k) (exits, x, m, r, q, single, has, waits, address, at_right, exchange, stack) = statement_depth g exits q frames k stack
+    place_depth g locals o c p frames (NeedsPlace (SwapRight kind peek left) ∷ k) (exits, a, y, m, q, single, has, is_left, address, exchange, stack) = statement_depth g exits q frames k stack
     place_depth g locals o c p frames (NeedsPlace (LoadFrom cell) ∷ k) (d, at, single, lands) =
         by_lands lands (λ stack. value_depth g locals cell (operands.Slot d) (p + 1) frames k stack) (λ stack. ahead_depth g locals cell d (p + 1) frames k stack)
     place_depth g locals o c p frames (NeedsPlace TakeAddress ∷ k) (d, q, at, lands) =
@@ -190,12 +194,16 @@ module _ (source : Program) where
     value_plain g locals kind o p frames (Needs (Choose s t) ∷ k) (exits, r, q, at, at_s, jump, at_t, stack) = statement_plain g exits q frames k stack
     value_plain g locals kind o p frames (Needs (Test a s) ∷ k) (exits, outer, q, at, r, jump, body, back, stack) = statement_plain g outer q frames k stack
     value_plain g locals kind o p frames (Needs Return ∷ k) (exits, q, s, is, at, one, stack) = statement_plain g exits q frames k stack
+    value_plain g locals kind o p frames (Needs FreeObject ∷ k) (d, q, at, lands) =
+        by_lands lands (λ stack. value_plain g locals kinds.Int (operands.Slot d) q frames k stack) (λ stack. ahead_plain g locals kinds.Int d q frames k stack)
     value_plain g locals kind o p frames (Needs (Follow pointer target) ∷ k) (q, thin, check, place) = place_plain g locals o 0 q frames k place
     value_plain g locals kind o p frames (Needs (FollowMember pointer fields field) ∷ k) (c, q, thin, check, inside, is, place) = place_plain g locals o c q frames k place
     value_plain g locals kind o p frames (Discard ∷ k) (exits, stack) = statement_plain g exits p frames k stack
     value_plain g locals kind o p frames (entry ∷ k) stack = absurd stack
 
     pub place_plain : (g : ℕ) (locals : ℕ → Option ℕ) (o : Operand) (c p : ℕ) (frames : List Frame) (k : List Entry) → PlaceStack source g locals o c p frames k → IsPlainStack k
+    place_plain g locals o c p frames (NeedsPlace (SwapLeft kind peek right) ∷ k) (exits, x, m, r, q, single, has, waits, address, at_right, exchange, stack) = statement_plain g exits q frames k stack
+    place_plain g locals o c p frames (NeedsPlace (SwapRight kind peek left) ∷ k) (exits, a, y, m, q, single, has, is_left, address, exchange, stack) = statement_plain g exits q frames k stack
     place_plain g locals o c p frames (NeedsPlace (LoadFrom cell) ∷ k) (d, at, single, lands) =
         by_lands lands (λ stack. value_plain g locals cell (operands.Slot d) (p + 1) frames k stack) (λ stack. ahead_plain g locals cell d (p + 1) frames k stack)
     place_plain g locals o c p frames (NeedsPlace TakeAddress ∷ k) (d, q, at, lands) =
@@ -281,6 +289,9 @@ module _ (source : Program) where
   depth_going t (Calling callees.Getchar before) k locals g p slots frames (d, q, at, holds, lands) = lands_depth g locals kinds.Int d q frames k lands
   depth_going t (Calling (callees.Function n) before) k locals g p slots frames (d, q, at, holds, lands) = lands_depth g locals (called_at source g (callees.Function n)) d q frames k lands
   depth_going t (Writing writes (Some pointer)) k locals g p slots frames (object, done, values, address, slot, d, m, q, are, is, there, single, held, at, move, end, holds, lands) = lands_depth g locals kinds.NonNull d q frames k lands
+  depth_going t (Writing writes None) k locals g p slots frames (exits, q, at, stack) = statement_depth g exits q frames k stack
+  depth_going t (Swapping kind (Thin object offset) (Thin other beside) None) k locals g p slots frames (exits, q, a, b, single, has_a, has_b, is_a, is_b, exchange, stack) = statement_depth g exits q frames k stack
+  depth_going t (Swapping kind (Thin object offset) (Thin other beside) (Some before)) k locals g p slots frames (exits, q, a, b, single, has_a, has_b, is_a, is_b, same, is, read, first, second, end, stack) = statement_depth g exits q frames k stack
   depth_going t (Entering h arguments) k locals g p slots frames (m, at, stack, holds, few) = statement_depth g (outside_loops (base_of source g)) m frames k stack
   depth_going t (Binding n types arguments body) k locals g p slots frames (m, first, at, stack, holds, few, count) = statement_depth g (outside_loops (base_of source g)) m frames k stack
   depth_going t Breaking k locals g p slots frames (exits, q, at, stack) = statement_depth g exits q frames k stack

@@ -6,7 +6,7 @@ use Rattle.cyc_words.specs.Word.{signed}
 use Rattle.cyc_words.specs.Ending.{Returned, Uncaught}
 use Rattle.cyc_types.specs.declared.typed.Kind.{Kind}
 use Rattle.cyc_types.specs.Types.{Ty}
-use Rattle.cyc_types.specs.TypedTrees.{Local, Expression, Copy, Move, Peek, Converted, Convert, Statement, Block, Empty, Evaluate, If, While, Break, Continue, Items, NoItems, MoreItems, Execute, Declare, Function, Program}
+use Rattle.cyc_types.specs.TypedTrees.{Local, Expression, Copy, Move, Peek, Converted, Convert, Statement, Block, Empty, Evaluate, If, While, Break, Continue, Items, NoItems, MoreItems, Execute, Declare, Function, Program, Swap}
 use Rattle.cyc_types.specs.TypedTrees as typed
 use Rattle.cyc_plain.specs.declared.instruction.Operand.{Operand}
 use Rattle.cyc_plain.specs.declared.instruction.Operand.TheVariants as operands
@@ -37,6 +37,7 @@ use Rattle.cyc_lower.proofs.Relation.{types_in, types_at, starts_at, given_at, r
 use Rattle.cyc_lower.proofs.Data.{height-least, Holds-same, Holds-above, data_declared, data_returned, data_grows, held_by_caller}
 use Rattle.cyc_lower.proofs.Values.{int_at}
 use Rattle.cyc_lower.proofs.Accesses.{IsWell, is_declared, is_closed, home_there}
+use Rattle.cyc_lower.proofs.SwapSteps.{begins_swap}
 use Rattle.cyc_lower.proofs.Matched.{IsMatched, silently, by_one, by_two}
 use Rattle.cyc_lower.proofs.Evaluations.{IsStep, sources}
 
@@ -89,6 +90,7 @@ module _ (source : Program) (pages calls : ℕ) where
       silently source pages calls (Running (Executing (Evaluate a)) k e w) (Running (Evaluating a) (Discard ∷ k) e w) (plain.Running c) refl
       (shared, facts, for_effect q here tt (exits, stack))
       (omega arith)
+  executing (Swap a b) k e w c well related = begins_swap source pages calls a b k e w c well related
   executing (If a s t) k e w c well (shared, facts, (exits, q, (x, y, m, r, at_a, jump, at_s, over, at_t), stack)) =
       silently source pages calls (Running (Executing (If a s t)) k e w) (Running (Evaluating a) (Needs (Choose s t) ∷ k) e w) (plain.Running c) refl
       (shared, facts, as_condition x y m at_a tt (exits, r, q, jump, at_s, over, at_t, stack))

@@ -121,6 +121,7 @@ impl Emitter {
             Stmt::Block { items, .. } => self.lower_items(starts, items, exits, free),
             Stmt::Empty => Ok(()),
             Stmt::Evaluate { value } => self.discard(starts, value, free),
+            Stmt::Swap { left, right } => self.lower_swap(starts, left, right, free),
             Stmt::If {
                 condition,
                 then,
@@ -144,7 +145,7 @@ impl Emitter {
             Stmt::Break => self.lower_break(exits.head),
             Stmt::Continue => self.lower_continue(exits.head),
             // These are not built yet, and never run.
-            Stmt::Swap { .. } | Stmt::Throw { .. } | Stmt::Try { .. } => Ok(()),
+            Stmt::Throw { .. } | Stmt::Try { .. } => Ok(()),
         }
     }
 
