@@ -23,6 +23,7 @@ pub mod PointerSteps
 pub mod Evaluations
 pub mod Accesses
 pub mod Branching
+pub mod Handlers
 pub mod Conditions
 pub mod Calls
 pub mod StatementSteps

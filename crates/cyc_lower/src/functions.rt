@@ -12,7 +12,7 @@ ghost use Rattle.cyc_lower.specs.Emission.{most_frame_count, HaveFewWords};
 ghost use Rattle.cyc_lower.specs.Lowered.{CanBeLowered};
 
 use crate::emitter::Emitter;
-use crate::frame_count::{frame_count, items_need, words_of, words_of_all};
+use crate::frame_count::{frame_count, items_need, kept_by_items, words_of, words_of_all};
 use crate::locals::{Starts, slots_of_locals};
 use crate::statements::Exits;
 use cyc_plain::{Function, Instruction, Plain};
@@ -43,7 +43,7 @@ fn initial_word(value: Constant) -> u32
     }
 }
 
-/// A function. Its slots are its locals, and behind them the temporaries and one value more.
+/// A function. Its slots are its locals, and behind them the records of handlers, the temporaries and one value more.
 fn lower_function(
     alloc: Global,
     structs: &[StructType],
@@ -64,12 +64,15 @@ fn lower_function(
         first_record: free,
     };
     emitter.lower_items(&starts, &function.body, exits, free)?;
-    emitter.emit(Instruction::Return { value: free })?;
+    emitter.emit(Instruction::Finish { value: free })?;
     Ok(Function {
         name: function.span,
         parameters: words_of_all(&function.parameters),
         results: results_of(&function.result),
-        slots: free + items_need(&function.body) + SPARE_SLOTS,
+        slots: free
+            + kept_by_items(&function.body)
+            + items_need(&function.body)
+            + SPARE_SLOTS,
         frame_count: frame_count(function),
         code: emitter.code,
     })
