@@ -42,15 +42,6 @@ use Rattle.cyc_lower.proofs.Slots.{words_positive, slot-room, slot_types-many, s
 
 -- ---- lists
 
-pub all_append : {X : Type 0} (P : X → Type 0) (xs ys : List X) → AllByRecursion P xs → AllByRecursion P ys → AllByRecursion P (xs ++ ys)
-all_append P [] ys all more = more
-all_append P (x ∷ xs) ys (first, rest) more = (first, all_append P xs ys rest more)
-
-pub all_of : {X : Type 0} (P : X → Type 0) (xs : List X) → AllByRecursion P xs → All P xs
-all_of P [] all k d below = absurd (omega arith)
-all_of P (x ∷ xs) (first, rest) zero d below = first
-all_of P (x ∷ xs) (first, rest) (suc k) d below = all_of P xs rest k d (omega arith)
-
 last_of : {X : Type 0} (xs : List X) (x : X) → slice_get (xs ++ x ∷ []) (length (xs ++ x ∷ []) - 1) ≡ Some x
 last_of xs x =
     ap (slice_get (xs ++ x ∷ [])) (let e : length (xs ++ x ∷ []) - 1 ≡ length xs = omega (arith, length-append xs (x ∷ [])) in e) ∙ at_end xs

@@ -1,10 +1,10 @@
 -- All numbers of a typed tree of the int language are words: its constants, and what its globals hold at the start. So it is in every
 -- tree of a text.
-use Rattle.std.specs.Prelude.{◌≤◌, List, [], ◌∷◌, Option, None, Some}
+use Rattle.std.specs.Prelude.{ℕ, ◌≤◌, List, [], ◌∷◌, Option, None, Some}
 use Rattle.cyc_words.specs.Word.{IsWord}
 use Rattle.cyc_types.specs.Numbered.{argument_count}
 use Rattle.cyc_store.specs.declared.range.TheConstants.{MOST_BLOCK_WORDS}
-use Rattle.cyc_types.specs.TypedTrees.{Load, New, OnHeap, Initial, Plain, Fields, Dereference, Target, Expression, Number, NullPointer, Copy, Call, Unary, Binary, Assign, Converted, Convert, Arguments, NoArguments, MoreArguments, Operations, NoOperations, ThenCompute, ThenTest, ThenPointer, Statement, Block, Empty, Evaluate, If, While, Return, Break, Continue, Items, NoItems, MoreItems, Execute, Declare, Constant, Word, Null, GlobalVariable, Function, Program, Move, Peek, ThenPointerPeek}
+use Rattle.cyc_types.specs.TypedTrees.{Load, New, OnHeap, Initial, Plain, Fields, Dereference, Target, Expression, Number, NullPointer, Copy, Call, Unary, Binary, Assign, Converted, Convert, Arguments, NoArguments, MoreArguments, Operations, NoOperations, ThenCompute, ThenTest, ThenPointer, Statement, Block, Empty, Evaluate, If, While, Return, Break, Continue, Items, NoItems, MoreItems, Execute, Declare, Constant, Word, Null, GlobalVariable, Function, Program, Move, Peek, ThenPointerPeek, Throw, Try, Clauses, NoClauses, Default, Case}
 
 abbrev mutual
   pub IsOfWords : Expression → Type 0
@@ -49,6 +49,11 @@ abbrev pub IsOfWordsInitial : Option Converted → Type 0
 IsOfWordsInitial None = Unit {0}
 IsOfWordsInitial (Some c) = IsOfWordsConverted c
 
+-- the number of an exception is a word, and what it tells has such numbers
+abbrev pub IsOfWordsThrown : (tag : ℕ) → Option Expression → Type 0
+IsOfWordsThrown tag None = IsWord tag
+IsOfWordsThrown tag (Some a) = IsWord tag × IsOfWords a
+
 abbrev mutual
   pub IsOfWordsStatement : Statement → Type 0
   IsOfWordsStatement (Block r js) = AreOfWordsItems js
@@ -59,6 +64,8 @@ abbrev mutual
   IsOfWordsStatement (Return v) = IsOfWordsInitial v
   IsOfWordsStatement Break = Unit {0}
   IsOfWordsStatement Continue = Unit {0}
+  IsOfWordsStatement (Throw tag v) = IsOfWordsThrown tag v
+  IsOfWordsStatement (Try s cs) = IsOfWordsStatement s × AreOfWordsClauses cs
   IsOfWordsStatement s = ⊥
 
   pub AreOfWordsItems : Items → Type 0
@@ -66,6 +73,11 @@ abbrev mutual
   AreOfWordsItems (MoreItems (Execute s) js) = IsOfWordsStatement s × AreOfWordsItems js
   AreOfWordsItems (MoreItems (Declare n t v) js) = IsOfWordsInitial v × AreOfWordsItems js
   AreOfWordsItems js = ⊥
+
+  pub AreOfWordsClauses : Clauses → Type 0
+  AreOfWordsClauses NoClauses = Unit {0}
+  AreOfWordsClauses (Default r js) = AreOfWordsItems js
+  AreOfWordsClauses (Case tag n r js cs) = IsWord tag × AreOfWordsItems js × AreOfWordsClauses cs
 
 abbrev pub IsOfWordsConstant : Constant → Type 0
 IsOfWordsConstant (Word n) = IsWord n
