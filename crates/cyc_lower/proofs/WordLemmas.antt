@@ -373,9 +373,9 @@ module _ (starts : Starts) where
   declaration_words n (Some c) p t words = initial_words c p (slot_of starts n) t words
 
   -- the number of an exception is less than 2 ^ 32 in an operand, whatever it is
-  throw_words : (tag : ℕ) (v : Option Expression) (p : ℕ) (exits : Exits) (t : ℕ) → IsOfWordsThrown tag v → HaveWords (statement_code starts (Throw tag v) p exits t)
-  throw_words tag None p exits t word = ((omega arith, omega arith), tt)
-  throw_words tag (Some a) p exits t (word, words) =
+  throw_words : (tag : ℕ) (v : Option Expression) (p : ℕ) (exits : Exits) (t : ℕ) → IsOfWordsThrown v → HaveWords (statement_code starts (Throw tag v) p exits t)
+  throw_words tag None p exits t words = ((omega arith, omega arith), tt)
+  throw_words tag (Some a) p exits t words =
       let slot = value_slot starts a t in
       let inner = expression_code starts a p slot t in
       append (code_unless (operand_of starts a) inner) _ (unless_words (operand_of starts a) inner (expression_words a p slot t words)) ((omega arith, known_word a slot words), tt)
@@ -425,7 +425,7 @@ module _ (starts : Starts) where
     clauses_words : (cs : Clauses) (p out : ℕ) (exits : Exits) (t : ℕ) → AreOfWordsClauses cs → HaveWords (clauses_code starts cs p out exits t)
     clauses_words NoClauses p out exits t words = ((tt, tt), tt)
     clauses_words (Default r js) p out exits t words = items_words js p exits t words
-    clauses_words (Case tag x r js cs) p out exits t (word, first, rest) =
+    clauses_words (Case tag x r js cs) p out exits t (first, rest) =
         let caught = caught_code starts x t in
         let items = items_code starts js (p + 1 + length caught) exits t in
         let clause = clause_code tag t (caught ++ items) p out in

@@ -1,6 +1,6 @@
 -- All numbers of a typed tree of the int language are words: its constants, and what its globals hold at the start. So it is in every
 -- tree of a text.
-use Rattle.std.specs.Prelude.{ℕ, ◌≤◌, List, [], ◌∷◌, Option, None, Some}
+use Rattle.std.specs.Prelude.{◌≤◌, List, [], ◌∷◌, Option, None, Some}
 use Rattle.cyc_words.specs.Word.{IsWord}
 use Rattle.cyc_types.specs.Numbered.{argument_count}
 use Rattle.cyc_store.specs.declared.range.TheConstants.{MOST_BLOCK_WORDS}
@@ -49,10 +49,9 @@ abbrev pub IsOfWordsInitial : Option Converted → Type 0
 IsOfWordsInitial None = Unit {0}
 IsOfWordsInitial (Some c) = IsOfWordsConverted c
 
--- the number of an exception is a word, and what it tells has such numbers
-abbrev pub IsOfWordsThrown : (tag : ℕ) → Option Expression → Type 0
-IsOfWordsThrown tag None = IsWord tag
-IsOfWordsThrown tag (Some a) = IsWord tag × IsOfWords a
+abbrev pub IsOfWordsThrown : Option Expression → Type 0
+IsOfWordsThrown None = Unit {0}
+IsOfWordsThrown (Some a) = IsOfWords a
 
 abbrev mutual
   pub IsOfWordsStatement : Statement → Type 0
@@ -64,7 +63,7 @@ abbrev mutual
   IsOfWordsStatement (Return v) = IsOfWordsInitial v
   IsOfWordsStatement Break = Unit {0}
   IsOfWordsStatement Continue = Unit {0}
-  IsOfWordsStatement (Throw tag v) = IsOfWordsThrown tag v
+  IsOfWordsStatement (Throw tag v) = IsOfWordsThrown v
   IsOfWordsStatement (Try s cs) = IsOfWordsStatement s × AreOfWordsClauses cs
   IsOfWordsStatement s = ⊥
 
@@ -77,7 +76,7 @@ abbrev mutual
   pub AreOfWordsClauses : Clauses → Type 0
   AreOfWordsClauses NoClauses = Unit {0}
   AreOfWordsClauses (Default r js) = AreOfWordsItems js
-  AreOfWordsClauses (Case tag n r js cs) = IsWord tag × AreOfWordsItems js × AreOfWordsClauses cs
+  AreOfWordsClauses (Case tag n r js cs) = AreOfWordsItems js × AreOfWordsClauses cs
 
 abbrev pub IsOfWordsConstant : Constant → Type 0
 IsOfWordsConstant (Word n) = IsWord n
