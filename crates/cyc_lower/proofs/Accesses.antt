@@ -1,13 +1,16 @@
 -- What a step did that did not go wrong: it found what it looked for.
 use Rattle.std.proofs.Common.{◌≡◌, ◌≢◌, ℕ, Bool, true, false, List, length, set, Option, None, Some, slice_get, refl, ap, ◌∙◌, length-set}
-use Rattle.std.specs.Prelude.{if◌then◌else◌}
+use Rattle.std.specs.Prelude.{if◌then◌else◌, ◌==◌, ◌&&◌}
+use Rattle.std.proofs.lemmas.Bool.{eqb-true}
 use Rattle.cyc_words.specs.Simulation.{Failed}
 use Rattle.cyc_types.specs.declared.typed.Kind.{Kind}
-use Rattle.cyc_meaning.specs.Values.{Value, Operand, Cell, is_kind}
-use Rattle.cyc_meaning.specs.State.{Region, Object, World, Access, Found, Closed, Missing, found_region, region_at, is_live, Located, located, cell_in, cell_at, closed, written, Environment, with_local, made, variable, Entry, Focus, Given, State, Running, status_of}
+use Rattle.cyc_meaning.specs.Values.{Value, Thin, Operand, Cell, kinds_of, is_kind, are_kinds}
+use Rattle.cyc_meaning.specs.Pointers.{At, Nowhere}
+use Rattle.cyc_meaning.specs.Places.{arrives, member_of, field_of}
+use Rattle.cyc_meaning.specs.State.{Region, Object, World, Access, Found, Closed, Missing, found_region, region_at, is_live, Located, located, cell_in, cell_at, closed, written, Environment, with_local, made, variable, Entry, Focus, Given, GivenPlace, State, Running, status_of}
 use Rattle.cyc_meaning.specs.Step.{wrong, read, loaded, loaded_from, stored, declared, closing}
 use Rattle.cyc_meaning.specs.SourceMachine.{status_in}
-use Rattle.cyc_lower.proofs.Widths.{same_kind}
+use Rattle.cyc_lower.proofs.Widths.{same_kind, same_kinds}
 use Rattle.cyc_lower.proofs.Relation.{with_kind, content_of_cell, content_of, contents}
 use Rattle.cyc_lower.proofs.Data.{get_set_same, get_set_other}
 
@@ -109,6 +112,32 @@ module _ (w : World) (number : ℕ) (at : Located) (v : Value) (object_there : s
 
   pub written_length : length (written w number 0 at v).objects ≡ length w.objects
   written_length = length-set w.objects number (record at.object { cells = set at.object.cells 0 (record at.cell { content = Some v }) })
+
+-- ---- a field is found
+
+pub record IsMember (object start : ℕ) (fields : List Kind) (field : ℕ) (stack : List Entry) (e : Environment) (w : World) : Type 0 where
+  pub of_object : Object
+  pub there : slice_get w.objects object ≡ Some of_object
+  pub first : start ≡ 0
+  pub same : kinds_of of_object.cells ≡ fields
+  pub gives : arrives (member_of w (At object start) fields field) stack e w ≡ Running (GivenPlace (Thin object field)) stack e w
+
+pub is_member : (object start : ℕ) (fields : List Kind) (field : ℕ) (stack : List Entry) (e : Environment) (w : World) → IsWell (arrives (member_of w (At object start) fields field) stack e w)
+    → IsMember object start fields field stack e w
+is_member object start fields field stack e w well =
+    let (x, there, first, same, gives) = of_object (slice_get w.objects object) well in
+    record { of_object = x; there = there; first = first; same = same; gives = gives }
+  where
+    tested : (x : Object) (a b : Bool) → (start == 0) ≡ a → are_kinds (kinds_of x.cells) fields ≡ b → IsWell (arrives (if a && b then At object field else Nowhere) stack e w)
+        → (start ≡ 0) × (kinds_of x.cells ≡ fields) × (arrives (if a && b then At object field else Nowhere) stack e w ≡ Running (GivenPlace (Thin object field)) stack e w)
+    tested x true true at are well = (eqb-true start 0 at, same_kinds (kinds_of x.cells) fields are, refl)
+    tested x true false at are well = absurd (well refl)
+    tested x false b at are well = absurd (well refl)
+
+    of_object : (o : Option Object) → IsWell (arrives (field_of o object start fields field) stack e w)
+        → (x : Object) × (o ≡ Some x) × (start ≡ 0) × (kinds_of x.cells ≡ fields) × (arrives (field_of o object start fields field) stack e w ≡ Running (GivenPlace (Thin object field)) stack e w)
+    of_object None well = absurd (well refl)
+    of_object (Some x) well = let (first, same, gives) = tested x (start == 0) (are_kinds (kinds_of x.cells) fields) refl refl well in (x, refl, first, same, gives)
 
 -- ---- a local is declared
 

@@ -12,7 +12,7 @@ use Rattle.cyc_types.specs.declared.typed.Operator.TheVariants as operators
 use Rattle.cyc_types.specs.declared.typed.PointerOperator.{PointerOperator}
 use Rattle.cyc_types.specs.declared.typed.PointerOperator.TheVariants as pointers
 use Rattle.cyc_types.specs.Types.{Ty, words_of}
-use Rattle.cyc_types.specs.TypedTrees.{Load, New, OnHeap, AsUnique, ByHandle, Initial, Plain, Fields, Dereference, Target, Lvalue, Local, Global, Expression, Number, NullPointer, Copy, Call, Unary, Binary, Assign, Converted, Convert, Arguments, NoArguments, MoreArguments, Operations, NoOperations, ThenCompute, ThenTest, ThenPointer, Statement, Block, Empty, Evaluate, If, While, Return, Break, Continue, Items, NoItems, MoreItems, Execute, Declare, Signature, StructType, Function, Program, Move, Peek, ThenPointerPeek, type_of}
+use Rattle.cyc_types.specs.TypedTrees.{Load, New, OnHeap, AsUnique, ByHandle, Initial, Plain, Fields, Dereference, Target, Lvalue, Local, Global, Expression, Number, NullPointer, Copy, Call, Unary, Binary, Assign, Converted, Convert, Arguments, NoArguments, MoreArguments, Operations, NoOperations, ThenCompute, ThenTest, ThenPointer, Statement, Block, Empty, Evaluate, If, While, Return, Break, Continue, Items, NoItems, MoreItems, Execute, Declare, Signature, StructType, Function, Program, Move, Peek, ThenPointerPeek, type_of, AddressOfCell, Store, Member, type_of_place}
 use Rattle.cyc_types.specs.Numbered.{Numbering, argument_count, numbering_of, signatures_of}
 use Rattle.cyc_plain.specs.declared.instruction.Comparison.{Comparison}
 use Rattle.cyc_plain.specs.declared.instruction.Operand.{Operand}
@@ -26,9 +26,9 @@ use Rattle.cyc_store.specs.declared.range.TheConstants.{MOST_BLOCK_WORDS, HEAP}
 use Rattle.cyc_meaning.specs.Values.{kind_of, words_of_kind}
 use Rattle.cyc_meaning.specs.FrameCount.{words_of_all, operand_words}
 use Rattle.cyc_lower.specs.Slots.{Types, starts_of, slot_of}
-use Rattle.cyc_lower.specs.Lowering.{types_of, are_as_wide, converts_there, passed_words, source_of, source_slot, moved_by, move_of, operand_of, operand_or, code_unless, slot_or, code_unless_slot, left_with, left_of, value_slot, next_slot, slot_with, left_slot, value_operand, converted_operand, printed_operand, jump_if_nonzero, check_code, conversion_code, divisor_code, checked_code, operator_code, truth_code, load_code, low_byte, test_code, is_in, copy_code, expression_code, arguments_code, converted_code, converted_operand_code, printed_code, dereference_code, initial_code, assignment_code, assigned_operand, operations_code, discarded_code, failing_comparison, compared_or, compared_of, first_operand, first_code, second_code, pair_code, condition_code, condition_of, failing_jump, break_target, continue_target, return_code, declaration_code, statement_code, items_code, function_code, first_temporary, results_of, lower_function, lower_program, behind_left, pointer_code, outside_loops, inside_loop, pointer_operator, index_code, pointer_instructions, stores_code, object_code, made_code}
+use Rattle.cyc_lower.specs.Lowering.{types_of, are_as_wide, converts_there, passed_words, source_of, source_slot, moved_by, move_of, operand_of, operand_or, code_unless, slot_or, code_unless_slot, left_with, left_of, value_slot, next_slot, slot_with, left_slot, value_operand, converted_operand, printed_operand, jump_if_nonzero, check_code, conversion_code, divisor_code, checked_code, operator_code, truth_code, load_code, low_byte, test_code, is_in, copy_code, expression_code, arguments_code, converted_code, converted_operand_code, printed_code, initial_code, assignment_code, assigned_operand, operations_code, discarded_code, failing_comparison, compared_or, compared_of, first_operand, first_code, second_code, pair_code, condition_code, condition_of, failing_jump, break_target, continue_target, return_code, declaration_code, statement_code, items_code, function_code, first_temporary, results_of, lower_function, lower_program, behind_left, pointer_code, outside_loops, inside_loop, pointer_operator, index_code, pointer_instructions, stores_code, object_code, made_code, place_operand, place_offset, place_code, address_code}
 use Rattle.cyc_lower.specs.declared.statements.Exits.{Exits}
-use Rattle.cyc_lower.proofs.Stands.{OperandBy, CheckAt, ConversionBy, ConversionAt, DivisorAt, CheckedAt, OperatorAt, LoadAt, CopyBy, ExpressionAt, InitialAt, InitialBy, ConvertedAt, ConvertedOperandAt, PrintedAt, ArgumentsAt, OperationsAt, PairAt, ConditionAt, AssignmentAt, DiscardedAt, ReturnedAt, ReturnAt, DeclarationAt, StatementAt, ItemsAt, FirstTwoAt, IndexAt, PointerAt, StoresAt, ObjectAt, MadeAt}
+use Rattle.cyc_lower.proofs.Stands.{OperandBy, CheckAt, ConversionBy, ConversionAt, DivisorAt, CheckedAt, OperatorAt, LoadAt, CopyBy, ExpressionAt, InitialAt, InitialBy, ConvertedAt, ConvertedOperandAt, PrintedAt, ArgumentsAt, OperationsAt, PairAt, ConditionAt, AssignmentAt, DiscardedAt, ReturnedAt, ReturnAt, DeclarationAt, StatementAt, ItemsAt, FirstTwoAt, IndexAt, PointerAt, StoresAt, ObjectAt, MadeAt, AddressAt, PlaceAt}
 use Rattle.cyc_lower.proofs.Widths.{kind_of_result, given, passed_kind, type_words}
 use Rattle.cyc_lower.proofs.Fitting.{FitsPlace, FitsStored, FitsCell, FitsObject, Fits, FitsConverted, FitArguments, FitOperations, FitsReturn, FitsInitial, FitsStatement, FitItems, AreFitting, IsFitting}
 use Rattle.cyc_lower.proofs.Values.{as_wide}
@@ -161,6 +161,15 @@ module _ (code : List Instruction) (b : Numbering) (types : Types) where
   copy_by true words o d p q end has = omega (arith, end)
   copy_by false words o d p q end (here, none) = (here, end)
 
+  address_stands : (o : Operand) (bytes d p q : ℕ) → p + length (address_code o bytes d) ≡ q → HasAt code p (address_code o bytes d) → AddressAt code o bytes d p q
+  address_stands o zero d p q end has = copy_by (is_in o d) 1 o d p q end has
+  address_stands o (suc bytes) d p q end (here, none) = (here, end)
+
+  cell_single : (x : Dereference) → FitsCell b types x → words_of (type_of_place x) ≡ 1
+  cell_single (Target k a ty) (thin, single, numbered) = single
+  cell_single (Member k a s f ty) (thin, single, there, numbered) = single
+  cell_single x numbered = absurd numbered
+
   words_kept : (from to : Kind) (a : Expression) → from ≡ given b.functions a → converts_there from to ≡ true → words_of_kind (given b.functions a) ≡ words_of_kind to
   words_kept from to a kind lands = ap words_of_kind (sym kind) ∙ as_wide from to lands
 
@@ -233,39 +242,88 @@ module _ (code : List Instruction) (b : Numbering) (types : Types) where
         let has_both = has_front code p both back has in
         let (here, none) = has_back code p front _ has_both in
         (o, m, (p + length front, converted_operand_stands c t p (p + length front) numbered refl (has_front code p front _ has_both), few, single, here, cut p m front _ refl), copy_by (is_in o d) (passed_words c) o d m q (cut p q both back end) (has_back code p both back has))
-    expression_stands (Load x) d t p q numbered end has = dereference_stands x d t p q numbered end has
+    expression_stands (Load x) d t p q numbered end has =
+        let front = place_code (starts_of types) x p t in
+        let r = p + length front in
+        let (here, none) = has_back code p front _ has in
+        (place_operand (starts_of types) x t, place_offset (starts_of types) x, r, place_stands x t p r numbered refl (has_front code p front _ has), cell_single x numbered, here, cut p q front _ end)
+    expression_stands (AddressOfCell x ty) d t p q numbered end has =
+        let o = place_operand (starts_of types) x t in
+        let front = place_code (starts_of types) x p t in
+        let back = address_code o (place_offset (starts_of types) x) d in
+        let r = p + length front in
+        (o, place_offset (starts_of types) x, r, place_stands x t p r numbered refl (has_front code p front back has), address_stands o (place_offset (starts_of types) x) d r q (cut p q front back end) (has_back code p front back has))
+    expression_stands (Store x c ty) d t p q (place, single, numbered) end has =
+        let a = place_operand (starts_of types) x t in
+        let bytes = place_offset (starts_of types) x in
+        let o = converted_operand (starts_of types) c (t + 1) in
+        let front = place_code (starts_of types) x p t in
+        let bring = address_code a bytes t in
+        let address = front ++ bring in
+        let r = p + length front in
+        let s = p + length address in
+        let value = converted_operand_code (starts_of types) c s (t + 1) in
+        let u = s + length value in
+        let write = instructions.Store (operands.Slot t) 0 o ∷ [] in
+        let both = address ++ (value ++ write) in
+        let back = copy_code (passed_words c) o d in
+        let m = p + length both in
+        let has_both = has_front code p both back has in
+        let has_address = has_front code p address (value ++ write) has_both in
+        let has_value = has_back code p address (value ++ write) has_both in
+        let (here, none) = has_back code s value write has_value in (
+          o,
+          m,
+          (
+            a,
+            bytes,
+            r,
+            s,
+            u,
+            place_stands x t p r place refl (has_front code p front bring has_address),
+            address_stands a bytes t r s (cut p s front bring refl) (has_back code p front bring has_address),
+            converted_operand_stands c (t + 1) s u numbered refl (has_front code s value write has_value),
+            single,
+            here,
+            cut s m value write (cut p m address (value ++ write) refl),
+          ),
+          copy_by (is_in o d) (passed_words c) o d m q (cut p q both back end) (has_back code p both back has),
+        )
     expression_stands (New OnHeap i ty) d t p q numbered end has = made_stands i HEAP d t p q numbered end has
     expression_stands (New AsUnique i ty) d t p q numbered end has = absurd numbered
     expression_stands (New (ByHandle h) i ty) d t p q numbered end has = absurd numbered
     expression_stands a d t p q numbered end has = absurd numbered
 
-    dereference_stands : (x : Dereference) (d t p q : ℕ) → FitsCell b types x → p + length (dereference_code (starts_of types) x p d t) ≡ q → HasAt code p (dereference_code (starts_of types) x p d t) → ExpressionAt code b types (Load x) d t p q
-    dereference_stands (Target k a ty) d t p q (thin, single, numbered) end has =
+    place_stands : (x : Dereference) (t p q : ℕ) → FitsCell b types x → p + length (place_code (starts_of types) x p t) ≡ q → HasAt code p (place_code (starts_of types) x p t)
+        → PlaceAt code b types x (place_operand (starts_of types) x t) (place_offset (starts_of types) x) t p q
+    place_stands (Target k a ty) t p q (thin, single, numbered) end has =
         let slot = value_slot (starts_of types) a t in
         let o = value_operand (starts_of types) a t in
         let inner = expression_code (starts_of types) a p slot t in
         let front = code_unless (operand_of (starts_of types) a) inner in
         let m = p + length front in
-        let check = check_code null_exception o m in
-        let both = front ++ check in
-        let r = p + length both in
-        let has_both = has_front code p both _ has in
-        let (here, none) = has_back code p both _ has in (
-          o,
-          0,
-          r,
-          (
-            m,
-            operand_by (operand_of (starts_of types) a) _ inner slot p m refl (has_front code p front check has_both) (λ e h. expression_stands a slot t p m numbered e h),
-            thin,
-            check_stands null_exception o m r (cut p r front check refl) (has_back code p front check has_both),
-            refl,
-          ),
-          single,
-          here,
-          cut p q both _ end,
+        let check = check_code null_exception o m in (
+          m,
+          operand_by (operand_of (starts_of types) a) _ inner slot p m refl (has_front code p front check has) (λ e h. expression_stands a slot t p m numbered e h),
+          thin,
+          check_stands null_exception o m q (cut p q front check end) (has_back code p front check has),
+          refl,
         )
-    dereference_stands x d t p q numbered end has = absurd numbered
+    place_stands (Member k a s f ty) t p q (thin, single, there, numbered) end has =
+        let slot = value_slot (starts_of types) a t in
+        let o = value_operand (starts_of types) a t in
+        let inner = expression_code (starts_of types) a p slot t in
+        let front = code_unless (operand_of (starts_of types) a) inner in
+        let m = p + length front in
+        let check = check_code null_exception o m in (
+          m,
+          operand_by (operand_of (starts_of types) a) _ inner slot p m refl (has_front code p front check has) (λ e h. expression_stands a slot t p m numbered e h),
+          thin,
+          check_stands null_exception o m q (cut p q front check end) (has_back code p front check has),
+          there,
+          refl,
+        )
+    place_stands x t p q numbered end has = absurd numbered
 
     made_stands : (i : Initial) (handle d t p q : ℕ) → FitsObject b types i → p + length (made_code (starts_of types) i handle p d t) ≡ q → HasAt code p (made_code (starts_of types) i handle p d t) → MadeAt code b types i handle d t p q
     made_stands (Plain kind a) handle d t p q (single, kind_is, numbered) end has =
@@ -407,6 +465,36 @@ module _ (code : List Instruction) (b : Numbering) (types : Types) where
       let single : argument_count cs ≡ 1 = many ∙ ap (λ (x : Signature). length x.parameters) signature in
       (printed_operand (starts_of types) cs (operands.Slot t) t, p + length front, printed_stands cs (operands.Slot t) t p (p + length front) single numbered refl (has_front code p front _ has), write, cut p q front _ end)
   discarded_stands (Assign l c ty) t p q (few, numbered) end has = (assigned_operand (starts_of types) l c t, assignment_stands l c t p q few numbered end has)
+  discarded_stands (Store x c ty) t p q (place, single, numbered) end has =
+      let a = place_operand (starts_of types) x t in
+      let bytes = place_offset (starts_of types) x in
+      let o = converted_operand (starts_of types) c (t + 1) in
+      let front = place_code (starts_of types) x p t in
+      let bring = address_code a bytes t in
+      let address = front ++ bring in
+      let r = p + length front in
+      let s = p + length address in
+      let value = converted_operand_code (starts_of types) c s (t + 1) in
+      let u = s + length value in
+      let write = instructions.Store (operands.Slot t) 0 o ∷ [] in
+      let has_address = has_front code p address (value ++ write) has in
+      let has_value = has_back code p address (value ++ write) has in
+      let (here, none) = has_back code s value write has_value in (
+        o,
+        (
+          a,
+          bytes,
+          r,
+          s,
+          u,
+          place_stands x t p r place refl (has_front code p front bring has_address),
+          address_stands a bytes t r s (cut p s front bring refl) (has_back code p front bring has_address),
+          converted_operand_stands c (t + 1) s u numbered refl (has_front code s value write has_value),
+          single,
+          here,
+          cut s q value write (cut p q address (value ++ write) end),
+        ),
+      )
   discarded_stands a t p q numbered end has =
       (operand_or (operand_of (starts_of types) a) t, operand_by (operand_of (starts_of types) a) _ (expression_code (starts_of types) a p t t) t p q end has (λ e h. expression_stands a t t p q numbered e h))
 

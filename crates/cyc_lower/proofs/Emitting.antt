@@ -21,6 +21,7 @@ use Rattle.cyc_types.specs.declared.typed.Expr.{Expr}
 use Rattle.cyc_types.specs.declared.typed.Expr.TheVariants as expr
 use Rattle.cyc_types.specs.declared.typed.Initial.{Initial as InitialCode}
 use Rattle.cyc_types.specs.declared.typed.Initial.TheVariants as initial
+use Rattle.cyc_types.specs.declared.typed.Dereference.{Dereference as DereferenceCode}
 use Rattle.cyc_types.specs.declared.typed.Converted.{Converted as ConvertedCode}
 use Rattle.cyc_types.specs.declared.typed.Operation.{Operation}
 use Rattle.cyc_types.specs.declared.typed.Operation.TheVariants as operation
@@ -28,8 +29,8 @@ use Rattle.cyc_types.specs.Numbered.{argument_count}
 use Rattle.cyc_store.specs.declared.range.TheConstants.{HEAP}
 use Rattle.cyc_types.specs.Types.{ValueType, Void, words_of}
 use Rattle.cyc_types.specs.TypeView.{view_ty, view_value_type}
-use Rattle.cyc_types.specs.TypedTrees.{Load, New, OnHeap, AsUnique, ByHandle, Initial, Plain, Fields, Array, Dereference, Target, Lvalue, Local, Global, Expression, Number, Copy, Call, Unary, Binary, Assign, Converted, Convert, Arguments, Operations, NoOperations, ThenCompute, ThenTest, Move, Peek}
-use Rattle.cyc_types.specs.TypedTreeView.{view_lvalue, view_initial, view_expression, view_converted, arguments_of, operations_of}
+use Rattle.cyc_types.specs.TypedTrees.{Load, New, OnHeap, AsUnique, ByHandle, Initial, Plain, Fields, Array, Dereference, Target, Lvalue, Local, Global, Expression, Number, Copy, Call, Unary, Binary, Assign, Converted, Convert, Arguments, Operations, NoOperations, ThenCompute, ThenTest, Move, Peek, AddressOfCell, Store, Member, Element}
+use Rattle.cyc_types.specs.TypedTreeView.{view_lvalue, view_initial, view_expression, view_converted, arguments_of, operations_of, view_dereference}
 use Rattle.cyc_types.specs.declared.typed.Kind.{Kind}
 use Rattle.cyc_types.specs.declared.typed.Kind.TheVariants as kinds
 use Rattle.cyc_meaning.specs.Values.{words_of_kind}
@@ -39,7 +40,7 @@ use Rattle.cyc_plain.specs.declared.instruction.Operand.TheVariants as operands
 use Rattle.cyc_plain.specs.declared.instruction.Instruction.{Instruction}
 use Rattle.cyc_plain.specs.declared.instruction.Instruction.TheVariants as instructions
 use Rattle.cyc_lower.specs.Slots.{slot_of, Starts}
-use Rattle.cyc_lower.specs.Lowering.{passed_words, all_passed, converts_there, source_of, source_slot, converted_by, moved_by, move_of, operand_of, operand_or, code_unless, left_with, left_of, slot_with, left_slot, low_byte, value_operand, next_slot, converted_operand, printed_operand, operator_code, load_code, compute_code, test_jump, truth_code, test_code, copy_code, expression_code, dereference_code, value_slot, arguments_code, converted_code, converted_operand_code, printed_code, initial_code, assignment_code, assigned_operand, operations_code, discarded_code, binary_operator, behind_left, pointer_instructions, stores_code, object_code, made_code}
+use Rattle.cyc_lower.specs.Lowering.{passed_words, all_passed, converts_there, source_of, source_slot, converted_by, moved_by, move_of, operand_of, operand_or, code_unless, left_with, left_of, slot_with, left_slot, low_byte, value_operand, next_slot, converted_operand, printed_operand, operator_code, load_code, compute_code, test_jump, truth_code, test_code, copy_code, expression_code, value_slot, arguments_code, converted_code, converted_operand_code, printed_code, initial_code, assignment_code, assigned_operand, operations_code, discarded_code, binary_operator, behind_left, pointer_instructions, stores_code, object_code, made_code, address_code, addressed_by, place_operand, place_offset, place_code, store_address_code, store_code}
 use Rattle.cyc_lower.specs.Emission.{most_locals, value_code, print_code, left_code, takes_operand, HasRoom, operation_code}
 
 behind : (xs ys : List Instruction) → 0 < length ys → 0 < length (xs ++ ys)
@@ -236,6 +237,11 @@ module _ (starts : Starts) where
   initial_by true known at_once inner to o p d some = some
   initial_by false known at_once inner to o p d some = behind (converted_by known inner to o p) (move_of (words_of_kind to) d o ∷ []) (omega arith)
 
+  place_some : (x : Dereference) (p t : ℕ) → 0 < length (place_code starts x p t)
+  place_some (Target k a ty) p t = behind (code_unless (operand_of starts a) (expression_code starts a p (value_slot starts a t) t)) _ (omega arith)
+  place_some (Member k a s f ty) p t = behind (code_unless (operand_of starts a) (expression_code starts a p (value_slot starts a t) t)) _ (omega arith)
+  place_some (Element a i ty) p t = omega arith
+
   mutual
     pub expression_some : (a : Expression) (p d t : ℕ) → 0 < length (expression_code starts a p d t)
     expression_some (Number n) p d t = omega arith
@@ -257,7 +263,9 @@ module _ (starts : Starts) where
     expression_some (Assign (Local w n) c ty) p d t = before (initial_code starts c p (slot_of starts n) t) _ (initial_some c p (slot_of starts n) t)
     expression_some (Assign (Global n) c ty) p d t =
         before (converted_operand_code starts c p t ++ _) (copy_code (passed_words c) (converted_operand starts c t) d) (behind (converted_operand_code starts c p t) _ (omega arith))
-    expression_some (Load x) p d t = dereference_some x p d t
+    expression_some (Load x) p d t = behind (place_code starts x p t) _ (omega arith)
+    expression_some (AddressOfCell x ty) p d t = before (place_code starts x p t) _ (place_some x p t)
+    expression_some (Store x c ty) p d t = before (store_code starts x c p t) _ (before (store_address_code starts x p t) _ (before (place_code starts x p t) _ (place_some x p t)))
     expression_some (New OnHeap i ty) p d t = made_some i HEAP p d t
     expression_some (New AsUnique i ty) p d t = omega arith
     expression_some (New (ByHandle h) i ty) p d t = omega arith
@@ -267,10 +275,6 @@ module _ (starts : Starts) where
     made_some (Plain kind a) handle p d t = behind (expression_code starts a p t t) (object_code handle 1 d t) (omega arith)
     made_some (Fields cs) handle p d t = behind (arguments_code starts cs p t) (object_code handle (argument_count cs) d t) (omega arith)
     made_some (Array w level n kind a) handle p d t = omega arith
-
-    dereference_some : (x : Dereference) (p d t : ℕ) → 0 < length (dereference_code starts x p d t)
-    dereference_some (Target k a ty) p d t = behind (converted_by (operand_of starts a) (expression_code starts a p (value_slot starts a t) t) kinds.NonNull (value_operand starts a t) p) (instructions.Load d (value_operand starts a t) 0 ∷ []) (omega arith)
-    dereference_some x p d t = omega arith
 
     initial_some : (c : Converted) (p d t : ℕ) → 0 < length (initial_code starts c p d t)
     initial_some (Convert from to a) p d t =
@@ -534,3 +538,49 @@ module _ (starts : Starts) where
       ∙ ap (λ (q : Operand). old ++ (front ++ copy_code (words_of_kind x.to) q d)) o_is
       ∙ ap (λ (k : List Instruction). old ++ k) (assigned_code (view_lvalue l) c (view_value_type ty) (length old) d t)
       ∙ ap (λ (y : Expression). old ++ expression_code starts y (length old) d t) (sym tree)
+
+  -- ---- cells that are written
+
+  -- the address of a place waits in a slot, so there are as many instructions as slots
+  pub room_for_right : (x : Dereference) (old new : List Instruction) (t : ℕ) → t ≤ most_locals + length old
+      → new ≡ old ++ addressed_by (place_code starts x (length old) t) (place_operand starts x t) (place_offset starts x) t → t < most_locals + length new
+  room_for_right x old new t low made =
+      let front = place_code starts x (length old) t in
+      let address = address_code (place_operand starts x t) (place_offset starts x) t in
+      omega (arith, low, place_some x (length old) t, length-append front address, length-append old (front ++ address), ap (λ (l : List Instruction). length l) made)
+
+  stored_viewed : (value : Expr) (b : Box DereferenceCode Heap) (b' : Box ConvertedCode Heap) (ty : ValueTypeCode) → value ≡ expr.Store b b' ty → (x : DereferenceCode) → x ≡ b.value → (y : ConvertedCode) → y ≡ b'.value
+      → view_expression value ≡ Store (view_dereference x) (view_converted y) (view_value_type ty)
+  stored_viewed value b b' ty is x x_at y y_at =
+      ap view_expression is
+      ∙ ap (λ (z : DereferenceCode). Store (view_dereference z) (view_converted b'.value) (view_value_type ty)) (sym x_at)
+      ∙ ap (λ (z : ConvertedCode). Store (view_dereference x) (view_converted z) (view_value_type ty)) (sym y_at)
+
+  -- the address, and behind it what is stored there
+  made_store : (x : Dereference) (c : Converted) (old m1 m2 : List Instruction) (t : ℕ)
+      → m1 ≡ old ++ addressed_by (place_code starts x (length old) t) (place_operand starts x t) (place_offset starts x) t
+      → m2 ≡ m1 ++ (converted_operand_code starts c (length m1) (t + 1) ++ instructions.Store (operands.Slot t) 0 (converted_operand starts c (t + 1)) ∷ []) → m2 ≡ old ++ store_code starts x c (length old) t
+  made_store x c old m1 m2 t e1 e2 =
+      joined old (store_address_code starts x (length old) t) (λ p. converted_operand_code starts c p (t + 1) ++ instructions.Store (operands.Slot t) 0 (converted_operand starts c (t + 1)) ∷ []) m1 m2 e1 e2
+
+  -- a value that is stored in a cell comes to a slot then
+  pub made_stored : (value : Expr) (b : Box DereferenceCode Heap) (b' : Box ConvertedCode Heap) (ty : ValueTypeCode) → value ≡ expr.Store b b' ty → (x : DereferenceCode) → x ≡ b.value → (y : ConvertedCode) → y ≡ b'.value
+      → (old m1 m2 m3 : List Instruction) (o : Operand) (d t : ℕ) → o ≡ converted_operand starts (view_converted y) (t + 1)
+      → m1 ≡ old ++ addressed_by (place_code starts (view_dereference x) (length old) t) (place_operand starts (view_dereference x) t) (place_offset starts (view_dereference x)) t
+      → m2 ≡ m1 ++ (converted_operand_code starts (view_converted y) (length m1) (t + 1) ++ instructions.Store (operands.Slot t) 0 (converted_operand starts (view_converted y) (t + 1)) ∷ [])
+      → m3 ≡ m2 ++ copy_code (words_of_kind y.to) o d → m3 ≡ old ++ expression_code starts (view_expression value) (length old) d t
+  made_stored value b b' ty is x x_at y y_at old m1 m2 m3 o d t o_is e1 e2 e3 =
+      let front = store_code starts (view_dereference x) (view_converted y) (length old) t in
+      joined old front (λ p. copy_code (words_of_kind y.to) o d) m2 m3 (made_store (view_dereference x) (view_converted y) old m1 m2 t e1 e2) e3
+      ∙ ap (λ (q : Operand). old ++ (front ++ copy_code (words_of_kind y.to) q d)) o_is
+      ∙ ap (λ (z : Expression). old ++ expression_code starts z (length old) d t) (sym (stored_viewed value b b' ty is x x_at y y_at))
+
+  -- one that nobody wants then
+  pub made_stored_only : (value : Expr) (b : Box DereferenceCode Heap) (b' : Box ConvertedCode Heap) (ty : ValueTypeCode) → value ≡ expr.Store b b' ty → (x : DereferenceCode) → x ≡ b.value → (y : ConvertedCode) → y ≡ b'.value
+      → (old m1 m2 : List Instruction) (t : ℕ)
+      → m1 ≡ old ++ addressed_by (place_code starts (view_dereference x) (length old) t) (place_operand starts (view_dereference x) t) (place_offset starts (view_dereference x)) t
+      → m2 ≡ m1 ++ (converted_operand_code starts (view_converted y) (length m1) (t + 1) ++ instructions.Store (operands.Slot t) 0 (converted_operand starts (view_converted y) (t + 1)) ∷ [])
+      → m2 ≡ old ++ discarded_code starts (view_expression value) (length old) t
+  made_stored_only value b b' ty is x x_at y y_at old m1 m2 t e1 e2 =
+      made_store (view_dereference x) (view_converted y) old m1 m2 t e1 e2
+      ∙ ap (λ (z : Expression). old ++ discarded_code starts z (length old) t) (sym (stored_viewed value b b' ty is x x_at y y_at))

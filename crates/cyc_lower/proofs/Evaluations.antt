@@ -1,7 +1,8 @@
 -- The steps that begin an expression.
-use Rattle.std.proofs.Common.{◌≡◌, ℕ, ◌+◌, ◌≤◌, ◌<◌, Bool, true, false, List, [], ◌∷◌, ◌++◌, length, Option, None, Some, slice_get, refl, sym, ap, subst, ◌∙◌, arith, inl, inr}
+use Rattle.std.proofs.Common.{◌≡◌, ℕ, ◌+◌, ◌≤◌, ◌<◌, Bool, true, false, List, [], ◌∷◌, ◌++◌, length, map, Option, None, Some, slice_get, refl, sym, ap, subst, ◌∙◌, arith, inl, inr}
 use Rattle.std.specs.Prelude.{if◌then◌else◌}
 use Rattle.std.proofs.lemmas.Bool.{eq-eqb}
+use Rattle.std.proofs.lemmas.List.{length-map}
 use Rattle.std.proofs.lemmas.Option.{same_Some, none-some}
 use Rattle.cyc_types.specs.declared.typed.Callee.{Callee}
 use Rattle.cyc_types.specs.declared.typed.Callee.TheVariants as callees
@@ -10,7 +11,7 @@ use Rattle.cyc_types.specs.declared.typed.Kind.TheVariants as kinds
 use Rattle.cyc_types.specs.declared.typed.UnaryOperator.TheVariants as unary
 use Rattle.cyc_types.specs.declared.typed.Operator.{Operator}
 use Rattle.cyc_types.specs.Types.{Ty, ValueType, words_of}
-use Rattle.cyc_types.specs.TypedTrees.{type_of_place, Dereference, Target, Lvalue, Local, Global, Expression, Number, Copy, Call, Unary, Binary, Assign, Converted, Convert, Arguments, NoArguments, MoreArguments, Operations, NoOperations, ThenCompute, ThenTest, ThenPointer, Function, Program, ThenPointerPeek}
+use Rattle.cyc_types.specs.TypedTrees.{type_of_place, Dereference, Target, Lvalue, Local, Global, Expression, Number, Copy, Call, Unary, Binary, Assign, Converted, Convert, Arguments, NoArguments, MoreArguments, Operations, NoOperations, ThenCompute, ThenTest, ThenPointer, Function, Program, ThenPointerPeek, peeked, Member}
 use Rattle.cyc_types.specs.TypedTrees as typed
 use Rattle.cyc_plain.specs.declared.instruction.Comparison.{Comparison}
 use Rattle.cyc_plain.specs.declared.instruction.Comparison.TheVariants as comparisons
@@ -25,15 +26,17 @@ use Rattle.cyc_plain.proofs.SlotLaws.{put-same}
 use Rattle.cyc_meaning.specs.Values.{Int, Null, Thin, Operand as Kinded, kind_of, words_of_kind}
 use Rattle.cyc_store.specs.declared.range.TheConstants.{HEAP}
 use Rattle.cyc_meaning.specs.SourceMachine.{status_in}
-use Rattle.cyc_meaning.specs.State.{status_of, InRegion, World, heap_number, Environment, ConvertTo, Operate, Chain, Apply, Store, Pass, MakePlain, MakeFields, Choose, Test, Follow, LoadFrom, Entry, Needs, NeedsPlace, Discard, Focus, Evaluating, Locating, Given, Running}
+use Rattle.cyc_meaning.specs.State.{status_of, InRegion, World, heap_number, Environment, ConvertTo, Operate, Chain, Apply, Store, Pass, MakePlain, MakeFields, Choose, Test, Follow, LoadFrom, Entry, Needs, NeedsPlace, Discard, Focus, Evaluating, Locating, Given, Running, FollowMember, TakeAddress, StoreTo}
 use Rattle.cyc_meaning.specs.Step.{target_of, target_by, object_of, assigned, passes, step, loaded_from}
-use Rattle.cyc_lower.specs.Slots.{slot_of}
+use Rattle.cyc_lower.specs.Slots.{slot_of, field_in}
+use Rattle.cyc_meaning.specs.Places.{locates_member}
+use Rattle.cyc_lower.proofs.PlaceWords.{field_bytes}
 use Rattle.cyc_lower.proofs.Slots.{slot-room}
 use Rattle.cyc_lower.proofs.Widths.{kind_positive, type_words, HasRoom, Outside}
 use Rattle.cyc_lower.proofs.Moves.{moved_slots, moves, put_elsewhere, moved_elsewhere, moved_is}
 use Rattle.cyc_lower.specs.Lowering.{failing_comparison, operand_of, value_slot, source_of, source_slot, are_as_wide, converts_there, all_passed, move_of, left_with, slot_with, compared_or, compared_of, lower_program}
 use Rattle.cyc_lower.proofs.Weights.{weight, stack_weight, expression_weight, arguments_weight}
-use Rattle.cyc_lower.proofs.Stands.{CopyBy, CopyAt, OperandBy, InitialBy, ExpressionAt, ArgumentsAt, ObjectAt, ValueAt, PairAt, ConditionAt, AssignmentAt, PrintedAt, DiscardedAt}
+use Rattle.cyc_lower.proofs.Stands.{CopyBy, CopyAt, OperandBy, InitialBy, ExpressionAt, ArgumentsAt, ObjectAt, ValueAt, PairAt, ConditionAt, AssignmentAt, PrintedAt, DiscardedAt, StoredAt}
 use Rattle.cyc_objects.specs.Tables.{Tables}
 use Rattle.cyc_objects.specs.Words.{Is}
 use Rattle.cyc_lower.proofs.Relation.{IsIn, types_at, starts_at, given_at, called_at, words_held, height, Holds, held, contents, callers, in_temporary, in_local, drops, leaves, copies, prints_only, gives_byte, DataIn, SharedAt, CallAt, to_slot, to_jump, ValueStack, PlaceStack, ConditionStack, DroppedStack, AheadStack, LandsStack, HandsOnStack, PrintsStack, RightAt, EvaluatingAt, as_operand, into_slot, for_effect, as_right, as_condition, in_operand, ahead, with_left, Related, Matches, code_of, bounds_in, bounds_at, base_of, top}
@@ -278,6 +281,16 @@ module _ (source : Program) (pages calls : ℕ) where
       (shared, facts, sources shared.tables from to a (Needs (ConvertTo from to (target_by a)) ∷ Needs (Store (Thin object 0)) ∷ k) e w c o r at_a holds (s, at_to, (Global n, o, m, (store, end, refl, few, single), (object, refl, found), hands)))
       (omega arith)
 
+  -- a cell that is stored to: its place is found first
+  cell_begins : (x : Dereference) (from to : Kind) (a : Expression) (t : ValueType) (k : List Entry) (e : Environment) (w : World) (c : Configuration) (o : Operand) (m : ℕ)
+      → At_step (typed.Store x (Convert from to a) t) k e w c
+      → StoredAt (code_of source c.active.function) (bounds_at source c.active.function) (types_at source c.active.function) x (Convert from to a) (top source c.active.function k) o c.active.next m
+      → HandsOnStack source c.active.function e.locals to o m c.frames k → IsBegun (typed.Store x (Convert from to a) t) k e w c
+  cell_begins x from to a t k e w c o m (well, shared, facts, holds) (b, offset, r, s, u, at, address, at_a, single, store, end) hands =
+      silently source pages calls (Running (Evaluating (typed.Store x (Convert from to a) t)) k e w) (Running (Locating x) (NeedsPlace (StoreTo (peeked x) (Convert from to a)) ∷ k) e w) (plain.Running c) refl
+      (shared, facts, (b, offset, r, at, holds, (o, s, u, address, at_a, store, single, subst (λ q. HandsOnStack source c.active.function e.locals to o q c.frames k) (sym end) hands)))
+      (omega arith)
+
   -- a byte is printed
   prints : (cs : Arguments) (t : ValueType) (k : List Entry) (e : Environment) (w : World) (c : Configuration) (o : Operand) (m : ℕ) → At_step (Call callees.Putchar cs t) k e w c
       → PrintedAt (code_of source c.active.function) (bounds_at source c.active.function) (types_at source c.active.function) cs (top source c.active.function k) o c.active.next m
@@ -375,6 +388,11 @@ module _ (source : Program) (pages calls : ℕ) where
       silently source pages calls (Running (Evaluating (typed.Load x)) k e w) (Running (Locating x) (NeedsPlace (LoadFrom kind) ∷ k) e w) (plain.Running c) refl
       (shared, facts, (o, offset, r, at, holds, (d, load, type_words (type_of_place x) ∙ single, lands_at c.active.function e.locals kind d (r + 1) q c.frames k end lands)))
       (omega arith)
+  comes (typed.AddressOfCell x t) k e w c d q (well, shared, facts, holds) (o, offset, r, at, address) lands =
+      silently source pages calls (Running (Evaluating (typed.AddressOfCell x t)) k e w) (Running (Locating x) (NeedsPlace TakeAddress ∷ k) e w) (plain.Running c) refl
+      (shared, facts, (o, offset, r, at, holds, (d, q, address, lands)))
+      (omega arith)
+  comes (typed.Store x (Convert from to a) t) k e w c d q known (o, m, at, copy) lands = cell_begins x from to a t k e w c o m known at (copies d q copy lands)
   comes (typed.New typed.OnHeap (typed.Plain kind a) t) k e w c d q (well, shared, facts, holds) (m, at_a, wide, object) lands =
       let g = c.active.function in
       silently source pages calls (Running (Evaluating (typed.New typed.OnHeap (typed.Plain kind a) t)) k e w) (Running (Evaluating a) (Needs (MakePlain (InRegion heap_number) kind) ∷ k) e w) (plain.Running c) refl (
@@ -431,6 +449,8 @@ module _ (source : Program) (pages calls : ℕ) where
   operand (Assign (Global n) c' t) k e w c o q known at stack = in_top (Assign (Global n) c' t) k e w c o q known at stack
   operand (typed.Load x) k e w c o q known at stack = in_top (typed.Load x) k e w c o q known at stack
   operand (typed.New x i t) k e w c o q known at stack = in_top (typed.New x i t) k e w c o q known at stack
+  operand (typed.AddressOfCell x t) k e w c o q known at stack = in_top (typed.AddressOfCell x t) k e w c o q known at stack
+  operand (typed.Store x v t) k e w c o q known at stack = in_top (typed.Store x v t) k e w c o q known at stack
   operand a k e w c o q known (is, at) stack = absurd at
 
   for_its_effect : (a : Expression) (k : List Entry) (e : Environment) (w : World) (c : Configuration) (q : ℕ) → At_step a k e w c
@@ -453,11 +473,11 @@ module _ (source : Program) (pages calls : ℕ) where
   for_its_effect (typed.Peek p n t) k e w c q known (o, at) stack = operand (typed.Peek p n t) k e w c o q known at (dropped_value c.active.function e.locals (given_at source c.active.function (typed.Peek p n t)) o q c.frames k stack)
   for_its_effect (typed.Load x) k e w c q known (o, at) stack = in_top (typed.Load x) k e w c o q known at (dropped_value c.active.function e.locals (given_at source c.active.function (typed.Load x)) o q c.frames k stack)
   for_its_effect (typed.AddressOf l t) k e w c q known (o, (is, at)) stack = absurd at
-  for_its_effect (typed.AddressOfCell x t) k e w c q known (o, (is, at)) stack = absurd at
+  for_its_effect (typed.AddressOfCell x t) k e w c q known (o, at) stack = in_top (typed.AddressOfCell x t) k e w c o q known at (dropped_value c.active.function e.locals (given_at source c.active.function (typed.AddressOfCell x t)) o q c.frames k stack)
   for_its_effect (typed.NumberOfElements a) k e w c q known (o, (is, at)) stack = absurd at
   for_its_effect (typed.FreeUnique a) k e w c q known (o, (is, at)) stack = absurd at
   for_its_effect (typed.FreeKey a) k e w c q known (o, (is, at)) stack = absurd at
-  for_its_effect (typed.Store x v t) k e w c q known (o, (is, at)) stack = absurd at
+  for_its_effect (typed.Store x (Convert from to a) t) k e w c q known (o, at) stack = cell_begins x from to a t k e w c o q known at (drops stack)
   for_its_effect (typed.New x i t) k e w c q known (o, at) stack = in_top (typed.New x i t) k e w c o q known at (dropped_value c.active.function e.locals (given_at source c.active.function (typed.New x i t)) o q c.frames k stack)
 
   -- a right operand without code, with the left one beside it
@@ -513,6 +533,16 @@ module _ (source : Program) (pages calls : ℕ) where
   locating (Target pointer a t) k e w c well (shared, facts, (o, offset, q, (m, at_a, thin, check, none), holds, place)) =
       silently source pages calls (Running (Locating (Target pointer a t)) k e w) (Running (Evaluating a) (Needs (Follow pointer (target_of t)) ∷ k) e w) (plain.Running c) refl
       (shared, facts, as_operand o m at_a holds (q, thin, check, subst (λ b. PlaceStack source c.active.function e.locals o b q c.frames k) none place))
+      (omega arith)
+  locating (Member pointer a s field t) k e w c well (shared, facts, (o, offset, q, (m, at_a, thin, check, (st, there, inside), is), holds, place)) =
+      let fields = map kind_of st.fields in
+      silently source pages calls (Running (Locating (Member pointer a s field t)) k e w) (Running (Evaluating a) (Needs (FollowMember pointer fields field) ∷ k) e w) (plain.Running c)
+      (ap (λ z. locates_member z pointer a field k e w) there) (
+        shared,
+        facts,
+        as_operand o m at_a holds
+            (offset, q, thin, check, omega (arith, inside, length-map st.fields kind_of), λ below. is ∙ ap (λ z. field_in z field) there ∙ field_bytes st.fields field below, place),
+      )
       (omega arith)
   locating x k e w c well (shared, facts, (o, offset, q, at, holds, place)) = absurd at
 

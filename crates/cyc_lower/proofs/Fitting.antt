@@ -22,14 +22,15 @@ use Rattle.cyc_types.specs.typing.Expressions.{instantiated}
 use Rattle.cyc_types.specs.typing.WellTyped.{Context, PointerOperation, adds, subtracts, equals, differs, thin_null, thin_there, fat_null, fat_there, null_is, null_is_not, IsCallee, Converts, IsPeek, WellTyped, IsCell, IsConverted, ArePassed, IsChain, IsCondition, IsReturned, IsInitial, WellTypedStatement, WellTypedItems, behind, in_block, in_body, with_local, body_context, AreWellTypedFunctions, AreWellTypedGlobals, IsWellTypedProgram, IsLeft}
 use Rattle.cyc_types.specs.Numbered.{Numbering, signatures_of, IsSignature, argument_count, numbering_of}
 use Rattle.cyc_meaning.specs.Pointers.{result_kind as operator_kind}
-use Rattle.cyc_lower.specs.Lowerable.{IsLowerable, IsLowerableConverted, AreLowerableArguments, AreLowerableOperations, IsLowerableReturn, IsLowerableInitial, IsLowerableStatement, AreLowerableItems, AreLowerableFunctions, IsLowerableProgram, is_comparison, are_sums, stands_alone}
+use Rattle.cyc_lower.specs.Lowerable.{IsLowerable, IsLowerableConverted, AreLowerableArguments, AreLowerableOperations, IsLowerableReturn, IsLowerableInitial, IsLowerableStatement, AreLowerableItems, AreLowerableFunctions, IsLowerableProgram, is_comparison, are_sums, stands_alone, IsLowerableCell}
 use Rattle.cyc_store.specs.declared.range.TheConstants.{MOST_BLOCK_WORDS}
 use Rattle.cyc_meaning.specs.Values.{kind_of, is_thin, words_of_kind}
 use Rattle.cyc_meaning.specs.FrameCount.{result_words, words_of_all, operand_words}
 use Rattle.cyc_lower.specs.Slots.{Types}
 use Rattle.cyc_lower.specs.Lowering.{types_of, are_as_wide, passed_words, all_passed, results_of, left_kind}
-use Rattle.cyc_lower.proofs.Widths.{kind_of_result, result_kind, called_kind, given, passed_kind, type_words, HasRoom, chain_kind}
+use Rattle.cyc_lower.proofs.Widths.{kind_of_result, result_kind, called_kind, given, passed_kind, type_words, HasRoom, chain_kind, HasField}
 use Rattle.cyc_lower.proofs.Slots.{words-there, words_positive}
+use Rattle.cyc_plain.proofs.Placed.{below_of_get}
 
 -- ---- what is asked
 
@@ -58,10 +59,13 @@ module _ (b : Numbering) (types : Types) where
     Fits (Assign l c t) = FitsStored l (passed_kind c) × FitsConverted c
     Fits (Load x) = FitsCell x
     Fits (New OnHeap i t) = FitsObject i
+    Fits (AddressOfCell x t) = FitsCell x
+    Fits (Store x c t) = FitsCell x × (words_of_kind (passed_kind c) ≡ 1) × FitsConverted c
     Fits a = ⊥
 
     pub FitsCell : Dereference → Type 0
     FitsCell (Target k a t) = (is_thin k ≡ true) × (words_of t ≡ 1) × Fits a
+    FitsCell (Member k a s f t) = (is_thin k ≡ true) × (words_of t ≡ 1) × HasField types s f × Fits a
     FitsCell x = ⊥
 
     -- what a new object holds
@@ -283,6 +287,7 @@ module _ (b : Numbering) (types : Types) where
   -- a place in the function with these bounds and these types of locals
   record Suits (c : Context) : Type 0 where
     functions : c.functions ≡ b.functions
+    structs : c.structs ≡ types.structs
     variables : c.variables ≡ types.locals
     result : c.result ≡ b.result
 
@@ -311,6 +316,14 @@ module _ (b : Numbering) (types : Types) where
   -- the pointer to a new object is never null
   pointer_given : (mark : PointerKind) (u : Ty) (r : Region) (t : Ty) (v : ValueType) → mark ≡ marks.NonNull → t ≡ type_forms.Pointer mark u r → v ≡ Value t → IsGiven kinds.NonNull v
   pointer_given mark u r t v mark_is t_is is = subst (IsGiven kinds.NonNull) (sym is) (sym (ap kind_of (t_is ∙ ap (λ m. type_forms.Pointer m u r) mark_is)))
+
+  stored_given : (x : Dereference) (d : Converted) (u : ValueType) (t : Ty) (v : ValueType) → passed_kind d ≡ kind_of t → v ≡ (if tests.is_moved t then Void else Value t) → IsGiven (given b.functions (Store x d u)) v
+  stored_given x (Convert from to a) u t v kind is = assigned_given (Global 0) (Convert from to a) u t v kind is
+
+  cell_single : (x : Dereference) → IsLowerableCell b x → words_of (type_of_place x) ≡ 1
+  cell_single (Target k a t) (thin, single, numbered) = single
+  cell_single (Member k a s f t) (thin, single, numbered) = single
+  cell_single x numbered = absurd numbered
 
   passed_is : (d : Converted) → passed_words d ≡ words_of_kind (passed_kind d)
   passed_is (Convert from to a) = refl
@@ -359,11 +372,16 @@ module _ (b : Numbering) (types : Types) where
     fits (Assign (Global n) d u) c v suits ((few, single), numbered) (t, r, (home, there), converted, u_is, is) =
         let (kind, fitting) = fits_converted d c t suits numbered converted in
         (assigned_given (Global n) d u t v kind (is ∙ u_is), ((few, sym (passed_is d) ∙ single), fitting))
-    fits (Load (Target k a t)) c v suits (thin, single, numbered) (u, r, (m, well, live, kind, same), flat, shared, is) = (
-      subst (IsGiven (kind_of t)) (sym (is ∙ ap Value same)) refl,
-      (thin, single, (looked_fits a c (Value (type_forms.Pointer m t r)) suits numbered (λ h. fits a c (Value (type_forms.Pointer m t r)) suits numbered h) well).1),
-    )
-    fits (Load x) c v suits numbered well = absurd numbered
+    fits (Load x) c v suits numbered (u, r, cell, flat, shared, is) =
+        let (same, fitting) = fits_cell x c u r suits numbered cell in
+        (subst (IsGiven (kind_of (type_of_place x))) (sym (is ∙ ap Value same)) refl, fitting)
+    fits (AddressOfCell x t) c v suits numbered (u, r, cell, stays, shared, t_is, is) =
+        (subst (IsGiven kinds.NonNull) (sym (is ∙ ap Value t_is)) refl, (fits_cell x c u r suits numbered cell).1)
+    fits (Store x d u) c v suits (place, numbered) (t, r, cell, converted, u_is, is) =
+        let (same, fits_place) = fits_cell x c t r suits place cell in
+        let (kind, fitting) = fits_converted d c t suits numbered converted in
+        let single = ap words_of_kind kind ∙ type_words t ∙ ap words_of same ∙ cell_single x place in
+        (stored_given x d u t v kind (is ∙ u_is), (fits_place, single, fitting))
     fits (New OnHeap (Plain kind a) t) c v suits (single, numbered) (mark, u, r, place, (well, unlocked, kind_is, mark_is), t_is, is) =
         let (given_is, fitting) = fits a c (Value u) suits numbered well in
         (pointer_given mark u r t v mark_is t_is is, (single, kind_is ∙ sym (kinds_same u) ∙ sym given_is, fitting))
@@ -373,6 +391,21 @@ module _ (b : Numbering) (types : Types) where
     fits (New AsUnique i t) c v suits numbered well = absurd numbered
     fits (New (ByHandle h) i t) c v suits numbered well = absurd numbered
     fits a c v suits numbered well = absurd numbered
+
+    fits_cell : (x : Dereference) (c : Context) (t : Ty) (r : Region) → Suits c → IsLowerableCell b x → IsCell c x t r → (t ≡ type_of_place x) × FitsCell b types x
+    fits_cell (Target k a u) c t r suits (thin, single, numbered) (m, well, live, kind, same) =
+        (same, (thin, single, (looked_fits a c (Value (type_forms.Pointer m u r)) suits numbered (λ h. fits a c (Value (type_forms.Pointer m u r)) suits numbered h) well).1))
+    fits_cell (Member k a s f u) c t r suits (thin, single, numbered) (m, rs, st, w, well, mark, live, kind, there, field, is_u, same) =
+        let pointer = Value (type_forms.Pointer m (type_forms.Struct s rs) r) in (
+          same,
+          (
+            thin,
+            single,
+            (st, ap (λ (ss : List StructType). slice_get ss s) (sym suits.structs) ∙ there, below_of_get st.fields f w field),
+            (looked_fits a c pointer suits numbered (λ h. fits a c pointer suits numbered h) well).1,
+          ),
+        )
+    fits_cell x c t r suits numbered cell = absurd numbered
 
     fits_converted : (d : Converted) (c : Context) (t : Ty) → Suits c → IsLowerableConverted b d → IsConverted c d t → (passed_kind d ≡ kind_of t) × FitsConverted b types d
     fits_converted (Convert from to a) c t suits (wide, numbered) (v, well, converts, from_is, to_is) =
@@ -427,19 +460,19 @@ module _ (b : Numbering) (types : Types) where
       (room_in c n t (passed_kind d) suits there kind, fitting)
 
   suits_behind : (s : Statement) (c : Context) → Suits c → Suits (behind c s)
-  suits_behind s c suits = record { functions = suits.functions; variables = suits.variables; result = suits.result }
+  suits_behind s c suits = record { functions = suits.functions; structs = suits.structs; variables = suits.variables; result = suits.result }
 
   mutual
     fits_statement : (s : Statement) (l : Bool) (c : Context) → Suits c → IsLowerableStatement b l s → WellTypedStatement c s → FitsStatement b types l s
     fits_statement (Block r js) l c suits numbered (next, well) =
-        fit_items js l (in_block c) (record { functions = suits.functions; variables = suits.variables; result = suits.result }) numbered well
+        fit_items js l (in_block c) (record { functions = suits.functions; structs = suits.structs; variables = suits.variables; result = suits.result }) numbered well
     fits_statement Empty l c suits numbered well = tt
     fits_statement (Evaluate a) l c suits numbered (t, well) = (fits a c t suits numbered well).1
     fits_statement (If a s t) l c suits (numbered_a, numbered_s, numbered_t) (well_a, well_s, well_t) =
         (fits_condition a c suits numbered_a well_a, fits_statement s l c suits numbered_s well_s, fits_statement t l (behind c s) (suits_behind s c suits) numbered_t well_t)
     fits_statement (While p a s) l c suits (numbered_a, numbered_s) (well_a, well_s) = (
       fits_condition a c suits numbered_a well_a,
-      fits_statement s true (in_body c) (record { functions = suits.functions; variables = suits.variables; result = suits.result }) numbered_s well_s,
+      fits_statement s true (in_body c) (record { functions = suits.functions; structs = suits.structs; variables = suits.variables; result = suits.result }) numbered_s well_s,
     )
     fits_statement (Return v) l c suits numbered well = fits_return b.result v c suits numbered (subst (λ (r : Option Ty). IsReturned c r v) suits.result well)
     fits_statement Break l c suits numbered well = numbered
@@ -453,19 +486,19 @@ module _ (b : Numbering) (types : Types) where
     fit_items (MoreItems (Declare n t v) js) l c suits (few, one, all) ((next, there, live), well, rest) = (
       few,
       fits_initial v n t c suits there one well,
-      fit_items js l (with_local true t c) (record { functions = suits.functions; variables = suits.variables; result = suits.result }) all rest,
+      fit_items js l (with_local true t c) (record { functions = suits.functions; structs = suits.structs; variables = suits.variables; result = suits.result }) all rest,
     )
     fit_items js l c suits numbered well = absurd numbered
 
-  pub body_fits : (js : Items) (c : Context) → c.functions ≡ b.functions → c.variables ≡ types.locals → c.result ≡ b.result → AreLowerableItems b false js → WellTypedItems c js → FitItems b types false js
-  body_fits js c functions variables result numbered well = fit_items js false c (record { functions = functions; variables = variables; result = result }) numbered well
+  pub body_fits : (js : Items) (c : Context) → c.functions ≡ b.functions → c.structs ≡ types.structs → c.variables ≡ types.locals → c.result ≡ b.result → AreLowerableItems b false js → WellTypedItems c js → FitItems b types false js
+  body_fits js c functions structs variables result numbered well = fit_items js false c (record { functions = functions; structs = structs; variables = variables; result = result }) numbered well
 
 -- ---- programs
 
 functions_fit : (p : Program) (hs : List Function) → AreLowerableFunctions (length p.globals) (signatures_of p.functions) hs → AreWellTypedFunctions p hs → AreFitting p.structs (length p.globals) (signatures_of p.functions) hs
 functions_fit p [] numbered well = tt
 functions_fit p (h ∷ hs) (one, all) (well, rest) =
-    (body_fits (numbering_of (length p.globals) (signatures_of p.functions) h) (types_of p.structs h) h.body (body_context p h) refl refl refl one well.body, functions_fit p hs all rest)
+    (body_fits (numbering_of (length p.globals) (signatures_of p.functions) h) (types_of p.structs h) h.body (body_context p h) refl refl refl refl one well.body, functions_fit p hs all rest)
 
 pub is_fitting_program : (p : Program) → IsLowerableProgram p → IsWellTypedProgram p → IsFitting p
 is_fitting_program p numbered well = record {

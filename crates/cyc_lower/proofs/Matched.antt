@@ -8,7 +8,7 @@ use Rattle.cyc_types.specs.declared.typed.Kind.{Kind}
 use Rattle.cyc_types.specs.declared.typed.Kind.TheVariants as kinds
 use Rattle.cyc_types.specs.declared.typed.Callee.TheVariants as callees
 use Rattle.cyc_types.specs.declared.typed.Operator.{Operator}
-use Rattle.cyc_types.specs.TypedTrees.{Expression, NoOperations, Program}
+use Rattle.cyc_types.specs.TypedTrees.{Expression, Convert, NoOperations, Program}
 use Rattle.cyc_meaning.specs.Values.{Thin, Operand as Kinded}
 use Rattle.cyc_plain.specs.declared.instruction.Comparison.{Comparison}
 use Rattle.cyc_plain.specs.declared.instruction.Comparison.TheVariants as comparisons
@@ -27,7 +27,7 @@ use Rattle.cyc_words.proofs.Matching.{by_none, way_before}
 use Rattle.cyc_plain.proofs.Steps.{step_performs, place_known}
 use Rattle.cyc_plain.specs.Straight.{At}
 use Rattle.cyc_words.specs.Demand.{demand_of}
-use Rattle.cyc_meaning.specs.State.{World, Environment, ConvertTo, Operate, Chain, Apply, ApplyPointer, Follow, LoadFrom, Decide, Store, Pass, MakePlain, MakeFields, Initialise, Choose, Test, Return, Entry, Needs, NeedsPlace, Discard, Rest, Join, Loop, CloseRegion, Caller, Main, counted, calls_in, Focus, Evaluating, Locating, Given, Executing, Proceeding, Calling, Entering, Binding, Writing, Breaking, Continuing, Returning, Throwing, State, Running, Ended, Dead, Wrong, output_of, input_of, status_of, GivenPlace}
+use Rattle.cyc_meaning.specs.State.{World, Environment, ConvertTo, Operate, Chain, Apply, ApplyPointer, Follow, LoadFrom, Decide, Store, Pass, MakePlain, MakeFields, Initialise, Choose, Test, Return, Entry, Needs, NeedsPlace, Discard, Rest, Join, Loop, CloseRegion, Caller, Main, counted, calls_in, Focus, Evaluating, Locating, Given, Executing, Proceeding, Calling, Entering, Binding, Writing, Breaking, Continuing, Returning, Throwing, State, Running, Ended, Dead, Wrong, output_of, input_of, status_of, GivenPlace, FollowMember, TakeAddress, StoreTo, StoreCell}
 use Rattle.cyc_meaning.specs.Step.{step}
 use Rattle.cyc_meaning.specs.Run.{is_within, limited_step}
 use Rattle.cyc_objects.specs.Tables.{Tables}
@@ -85,6 +85,9 @@ module _ (source : Program) where
     value_depth g locals kind o p frames (Needs (Store place) ∷ k) (l, to, q, at, is, hands) =
         by_hands hands (λ stack. dropped_depth g q frames k stack) (λ stack. value_depth g locals kind to q frames k stack)
         (λ d r lands. by_lands lands (λ stack. value_depth g locals kind (operands.Slot d) r frames k stack) (λ stack. ahead_depth g locals kind d r frames k stack))
+    value_depth g locals kind o p frames (Needs (StoreCell peek place) ∷ k) (at, single, hands) =
+        by_hands hands (λ stack. dropped_depth g (p + 1) frames k stack) (λ stack. value_depth g locals kind o (p + 1) frames k stack)
+        (λ d r lands. by_lands lands (λ stack. value_depth g locals kind (operands.Slot d) r frames k stack) (λ stack. ahead_depth g locals kind d r frames k stack))
     value_depth g locals kind o p frames (Needs (Pass callees.Putchar before cs) ∷ k) (none, single, at, prints) =
         by_prints prints (λ stack. dropped_depth g (p + 1) frames k stack)
         (λ d lands. by_lands lands (λ stack. value_depth g locals kinds.Int (operands.Slot d) (p + 1 + 1) frames k stack) (λ stack. ahead_depth g locals kinds.Int d (p + 1 + 1) frames k stack))
@@ -101,12 +104,18 @@ module _ (source : Program) where
     value_depth g locals kind o p frames (Needs (Test a s) ∷ k) (exits, outer, q, at, r, jump, body, back, stack) = statement_depth g outer q frames k stack
     value_depth g locals kind o p frames (Needs Return ∷ k) (exits, q, s, is, at, one, stack) = statement_depth g exits q frames k stack
     value_depth g locals kind o p frames (Needs (Follow pointer target) ∷ k) (q, thin, check, place) = place_depth g locals o 0 q frames k place
+    value_depth g locals kind o p frames (Needs (FollowMember pointer fields field) ∷ k) (c, q, thin, check, inside, is, place) = place_depth g locals o c q frames k place
     value_depth g locals kind o p frames (Discard ∷ k) (exits, stack) = statement_depth g exits p frames k stack
     value_depth g locals kind o p frames (entry ∷ k) stack = absurd stack
 
     pub place_depth : (g : ℕ) (locals : ℕ → Option ℕ) (o : Operand) (c p : ℕ) (frames : List Frame) (k : List Entry) → PlaceStack source g locals o c p frames k → HasDepth frames k
     place_depth g locals o c p frames (NeedsPlace (LoadFrom cell) ∷ k) (d, at, single, lands) =
         by_lands lands (λ stack. value_depth g locals cell (operands.Slot d) (p + 1) frames k stack) (λ stack. ahead_depth g locals cell d (p + 1) frames k stack)
+    place_depth g locals o c p frames (NeedsPlace TakeAddress ∷ k) (d, q, at, lands) =
+        by_lands lands (λ stack. value_depth g locals kinds.NonNull (operands.Slot d) q frames k stack) (λ stack. ahead_depth g locals kinds.NonNull d q frames k stack)
+    place_depth g locals o c p frames (NeedsPlace (StoreTo peek (Convert from to a)) ∷ k) (x, s, u, at, at_a, store, single, hands) =
+        by_hands hands (λ stack. dropped_depth g (u + 1) frames k stack) (λ stack. value_depth g locals to x (u + 1) frames k stack)
+        (λ d r lands. by_lands lands (λ stack. value_depth g locals to (operands.Slot d) r frames k stack) (λ stack. ahead_depth g locals to d r frames k stack))
     place_depth g locals o c p frames k place = absurd place
 
     pub condition_depth : (g : ℕ) (failing : Comparison) (l r : Operand) (p : ℕ) (frames : List Frame) (k : List Entry) → ConditionStack source g failing l r p frames k → HasDepth frames k
@@ -163,6 +172,9 @@ module _ (source : Program) where
     value_plain g locals kind o p frames (Needs (Store place) ∷ k) (l, to, q, at, is, hands) =
         by_hands hands (λ stack. dropped_plain g q frames k stack) (λ stack. value_plain g locals kind to q frames k stack)
         (λ d r lands. by_lands lands (λ stack. value_plain g locals kind (operands.Slot d) r frames k stack) (λ stack. ahead_plain g locals kind d r frames k stack))
+    value_plain g locals kind o p frames (Needs (StoreCell peek place) ∷ k) (at, single, hands) =
+        by_hands hands (λ stack. dropped_plain g (p + 1) frames k stack) (λ stack. value_plain g locals kind o (p + 1) frames k stack)
+        (λ d r lands. by_lands lands (λ stack. value_plain g locals kind (operands.Slot d) r frames k stack) (λ stack. ahead_plain g locals kind d r frames k stack))
     value_plain g locals kind o p frames (Needs (Pass callees.Putchar before cs) ∷ k) (none, single, at, prints) =
         by_prints prints (λ stack. dropped_plain g (p + 1) frames k stack)
         (λ d lands. by_lands lands (λ stack. value_plain g locals kinds.Int (operands.Slot d) (p + 1 + 1) frames k stack) (λ stack. ahead_plain g locals kinds.Int d (p + 1 + 1) frames k stack))
@@ -179,12 +191,18 @@ module _ (source : Program) where
     value_plain g locals kind o p frames (Needs (Test a s) ∷ k) (exits, outer, q, at, r, jump, body, back, stack) = statement_plain g outer q frames k stack
     value_plain g locals kind o p frames (Needs Return ∷ k) (exits, q, s, is, at, one, stack) = statement_plain g exits q frames k stack
     value_plain g locals kind o p frames (Needs (Follow pointer target) ∷ k) (q, thin, check, place) = place_plain g locals o 0 q frames k place
+    value_plain g locals kind o p frames (Needs (FollowMember pointer fields field) ∷ k) (c, q, thin, check, inside, is, place) = place_plain g locals o c q frames k place
     value_plain g locals kind o p frames (Discard ∷ k) (exits, stack) = statement_plain g exits p frames k stack
     value_plain g locals kind o p frames (entry ∷ k) stack = absurd stack
 
     pub place_plain : (g : ℕ) (locals : ℕ → Option ℕ) (o : Operand) (c p : ℕ) (frames : List Frame) (k : List Entry) → PlaceStack source g locals o c p frames k → IsPlainStack k
     place_plain g locals o c p frames (NeedsPlace (LoadFrom cell) ∷ k) (d, at, single, lands) =
         by_lands lands (λ stack. value_plain g locals cell (operands.Slot d) (p + 1) frames k stack) (λ stack. ahead_plain g locals cell d (p + 1) frames k stack)
+    place_plain g locals o c p frames (NeedsPlace TakeAddress ∷ k) (d, q, at, lands) =
+        by_lands lands (λ stack. value_plain g locals kinds.NonNull (operands.Slot d) q frames k stack) (λ stack. ahead_plain g locals kinds.NonNull d q frames k stack)
+    place_plain g locals o c p frames (NeedsPlace (StoreTo peek (Convert from to a)) ∷ k) (x, s, u, at, at_a, store, single, hands) =
+        by_hands hands (λ stack. dropped_plain g (u + 1) frames k stack) (λ stack. value_plain g locals to x (u + 1) frames k stack)
+        (λ d r lands. by_lands lands (λ stack. value_plain g locals to (operands.Slot d) r frames k stack) (λ stack. ahead_plain g locals to d r frames k stack))
     place_plain g locals o c p frames k place = absurd place
 
     pub condition_plain : (g : ℕ) (failing : Comparison) (l r : Operand) (p : ℕ) (frames : List Frame) (k : List Entry) → ConditionStack source g failing l r p frames k → IsPlainStack k
@@ -257,7 +275,7 @@ module _ (source : Program) where
   depth_going : (t : Tables) (focus : Focus) (k : List Entry) (locals : ℕ → Option ℕ) (g p : ℕ) (slots : ℕ → ℕ) (frames : List Frame) → FocusAt source t focus k locals g p slots frames → HasDepth frames k
   depth_going t (Evaluating a) k locals g p slots frames at = evaluating_depth t a locals g p slots frames k at
   depth_going t (Locating x) k locals g p slots frames (o, c, q, at, holds, place) = place_depth g locals o c q frames k place
-  depth_going t (GivenPlace (Thin object offset)) k locals g p slots frames (o, c, points, holds, place) = place_depth g locals o c p frames k place
+  depth_going t (GivenPlace (Thin object offset)) k locals g p slots frames (o, c, small, points, holds, place) = place_depth g locals o c p frames k place
   depth_going t (Executing s) k locals g p slots frames (exits, q, at, stack) = statement_depth g exits q frames k stack
   depth_going t (Calling callees.Putchar before) k locals g p slots frames (v, o, single, is, holds, prints) = prints_depth g locals o p frames k prints
   depth_going t (Calling callees.Getchar before) k locals g p slots frames (d, q, at, holds, lands) = lands_depth g locals kinds.Int d q frames k lands
@@ -418,6 +436,10 @@ module _ (source : Program) (pages calls : ℕ) where
   -- on the way, as long as what is shared is as before
   pub shared_way : (focus : Focus) (k : List Entry) (e : Environment) (w : World) (c : Configuration) → SharedAt source pages calls k e w c → IsOnTheWay above below (Running focus k e w) (plain.Running c)
   shared_way focus k e w c shared = way_before above below matching (Running focus k e w) (plain.Running c) refl shared.same_output
+
+  -- the same where memory is another than it was
+  pub output_way : (focus : Focus) (k : List Entry) (e : Environment) (w : World) (c : Configuration) → c.output ≡ w.output → IsOnTheWay above below (Running focus k e w) (plain.Running c)
+  output_way focus k e w c same = way_before above below matching (Running focus k e w) (plain.Running c) refl same
 
   abbrev pub place_in : Configuration → CodePlace
   place_in c = record { function = c.active.function; index = c.active.next }

@@ -1,27 +1,40 @@
--- The steps behind a place that a pointer leads to.
-use Rattle.std.proofs.Common.{◌≡◌, ℕ, ◌+◌, ◌*◌, Bool, true, false, List, ◌∷◌, Option, None, Some, refl, sym, ap, subst, ◌∙◌, arith}
+-- The steps behind a place that a pointer leads to: its cell is read, its address is taken, or waits for what is stored there.
+use Rattle.std.proofs.Common.{◌≡◌, ℕ, zero, suc, ◌+◌, ◌*◌, ◌^◌, ◌<◌, Bool, true, false, List, ◌∷◌, Option, None, Some, refl, sym, ap, subst, ◌∙◌, arith, add-zero, inl}
 use Rattle.std.specs.Prelude.{if◌then◌else◌}
+use Rattle.std.proofs.lemmas.Bool.{eqb-true}
 use Rattle.cyc_words.specs.Word.{add_of}
 use Rattle.cyc_types.specs.declared.typed.Kind.{Kind}
-use Rattle.cyc_types.specs.TypedTrees.{Program}
+use Rattle.cyc_types.specs.declared.typed.Kind.TheVariants as kinds
+use Rattle.cyc_types.specs.TypedTrees.{Expression, Convert, Program}
 use Rattle.cyc_store.specs.State.{StoreState, word_at}
+use Rattle.cyc_plain.specs.declared.instruction.BinaryOperator.TheVariants as plain_binary
+use Rattle.cyc_plain.specs.declared.instruction.Operand.{Operand}
+use Rattle.cyc_plain.specs.declared.instruction.Operand.TheVariants as operands
+use Rattle.cyc_plain.specs.declared.instruction.Instruction.{Instruction}
+use Rattle.cyc_plain.specs.declared.instruction.Instruction.TheVariants as instructions
+use Rattle.cyc_plain.specs.State as plain
 use Rattle.cyc_plain.specs.State.{put, Configuration}
-use Rattle.cyc_plain.specs.Step.{operand_word, loads}
+use Rattle.cyc_plain.specs.Step.{Choice, operand_word, with_slots, advanced, loads, performed}
+use Rattle.cyc_plain.specs.Straight.{At}
 use Rattle.cyc_plain.proofs.SlotLaws.{put-same}
 use Rattle.cyc_meaning.specs.Values.{Value, Thin, Operand as Kinded, is_kind, words_of_kind}
-use Rattle.cyc_meaning.specs.State.{World, Access, Found, Closed, Missing, Located, cell_at, Environment, LoadFrom, Entry, NeedsPlace, GivenPlace, Given, Running}
-use Rattle.cyc_meaning.specs.Step.{wrong, read, loaded}
+use Rattle.cyc_meaning.specs.State.{World, Access, Found, Closed, Missing, Located, cell_at, Environment, LoadFrom, Entry, NeedsPlace, GivenPlace, Given, Running, ConvertTo, StoreCell, TakeAddress, StoreTo, Needs, Evaluating}
+use Rattle.cyc_meaning.specs.Step.{wrong, read, loaded, target_by}
 use Rattle.cyc_objects.specs.Tables.{Tables}
 use Rattle.cyc_objects.specs.Words.{words_from, Points, Is, IsContent}
 use Rattle.cyc_objects.specs.Related as objects
 use Rattle.cyc_objects.proofs.Cells.{found-alive, cell-live, cell-read}
+use Rattle.cyc_lower.specs.Lowering.{is_in, move_of, source_of, source_slot, lower_program}
 use Rattle.cyc_lower.proofs.Widths.{kind_positive, same_kind}
 use Rattle.cyc_lower.proofs.Moves.{put_elsewhere}
-use Rattle.cyc_lower.proofs.Relation.{Matches}
-use Rattle.cyc_lower.proofs.Data.{Is-same}
+use Rattle.cyc_lower.proofs.Relation.{Matches, held, callers, types_at, starts_at, Holds, DataIn, SharedAt, LandsStack, HandsOnStack, Related, code_of, bounds_at, base_of, top}
+use Rattle.cyc_lower.proofs.Data.{Is-same, height-least, Holds-same, data_above}
+use Rattle.cyc_lower.proofs.Stands.{CopyBy, AddressAt, OperandBy, ExpressionAt, ConvertedOperandAt}
+use Rattle.cyc_lower.proofs.PlaceWords.{add_is}
 use Rattle.cyc_lower.proofs.Accesses.{IsWell}
-use Rattle.cyc_lower.proofs.Matched.{by_one}
-use Rattle.cyc_lower.proofs.Evaluations.{IsStep, landed}
+use Rattle.cyc_lower.proofs.Matched.{IsMatched, silently, by_one}
+use Rattle.cyc_lower.proofs.Evaluations.{IsStep, sources, landed}
+use Rattle.cyc_lower.proofs.Values.{of_kind, landed_there}
 
 -- ---- a cell is read
 
@@ -65,9 +78,104 @@ module _ {t : Tables} {w : World} {s : StoreState} (related : objects.Related t 
       )
 
 module _ (source : Program) (pages calls : ℕ) where
+  -- ---- an address comes to a slot
+
+  -- the address of a place is in a slot, or one instruction brings it there
+  data Brought (t : Tables) (object offset d q : ℕ) (c : Configuration) : Type 0 where
+    in_slot : c.active.next ≡ q → Points t object offset (c.active.slots d) → Brought t object offset d q c
+    by_word : (i : Instruction) → (word : ℕ) → At (code_of source c.active.function) c.active.next i
+        → ((choice : Choice) → performed (lower_program source) choice c i ≡ plain.Running (advanced (with_slots c (put c.active.slots d word))))
+        → c.active.next + 1 ≡ q → Points t object offset word → Brought t object offset d q c
+
+  -- nothing is added to it
+  itself : (w : ℕ) → w < 4294967296 → add_of w 0 ≡ w
+  itself w small = add_is w 0 (omega (arith, small)) ∙ add-zero w
+
+  copied_address : (t : Tables) (object offset : ℕ) (b : Bool) (o : Operand) (d q : ℕ) (c : Configuration) → is_in o d ≡ b → Points t object offset (operand_word c.active.slots o)
+      → CopyBy (code_of source c.active.function) b 1 o d c.active.next q → Brought t object offset d q c
+  copied_address t object offset true (operands.Slot n) d q c same points end = in_slot end (subst (λ x. Points t object offset (c.active.slots x)) (eqb-true n d same) points)
+  copied_address t object offset true (operands.Word n) d q c same points end = absurd (let f : false ≡ true = same in cc)
+  copied_address t object offset false (operands.Slot n) d q c same points (here, end) = by_word (move_of 1 d (operands.Slot n)) (c.active.slots n) here (λ choice. refl) end points
+  copied_address t object offset false (operands.Word n) d q c same points (here, end) = by_word (move_of 1 d (operands.Word n)) n here (λ choice. refl) end points
+
+  brought : (t : Tables) (object offset more : ℕ) (o : Operand) (d q : ℕ) (c : Configuration) → operand_word c.active.slots o < 2 ^ 32 → Points t object offset (add_of (operand_word c.active.slots o) more)
+      → AddressAt (code_of source c.active.function) o more d c.active.next q → Brought t object offset d q c
+  brought t object offset zero o d q c small points copy =
+      copied_address t object offset (is_in o d) o d q c refl (subst (Points t object offset) (itself (operand_word c.active.slots o) small) points) copy
+  brought t object offset (suc bytes) o d q c small points (here, end) =
+      by_word (instructions.Binary plain_binary.Add d o (operands.Word (suc bytes))) (add_of (operand_word c.active.slots o) (suc bytes)) here (λ choice. refl) end points
+
+  -- ---- the address of a cell is a value
+
+  takes_address : (object offset more : ℕ) (o : Operand) (d q : ℕ) (k : List Entry) (e : Environment) (w : World) (c : Configuration)
+      → (shared : SharedAt source pages calls (NeedsPlace TakeAddress ∷ k) e w c) → DataIn source shared.tables c.active.slots k e w c → Holds shared.tables c.active.slots (base_of source c.active.function) (held k)
+      → Brought shared.tables object offset d q c → LandsStack source c.active.function e.locals kinds.NonNull d q c.frames k
+      → IsMatched source pages calls (Running (GivenPlace (Thin object offset)) (NeedsPlace TakeAddress ∷ k) e w) (plain.Running c)
+  takes_address object offset more o d q k e w c shared facts holds (in_slot end points) lands =
+      silently source pages calls (Running (GivenPlace (Thin object offset)) (NeedsPlace TakeAddress ∷ k) e w) (Running (Given (of_kind kinds.NonNull (Thin object offset))) k e w) (plain.Running c) refl
+      (landed_there source pages calls (of_kind kinds.NonNull (Thin object offset)) d k e w c q (shared, facts, points, holds) end lands)
+      (omega arith)
+  takes_address object offset more o d q k e w c shared facts holds (by_word i word here goes end points) lands =
+      let v = of_kind kinds.NonNull (Thin object offset) in
+      let after = put c.active.slots d word in
+      by_one source pages calls refl shared here
+      (λ choice. subst (Matches source pages calls (Running (Given v) k e w)) (sym (goes choice))
+      (landed source pages calls v after d k e w c q shared (subst (Points shared.tables object offset) (sym (put-same c.active.slots d word)) points)
+      (λ m out. put_elsewhere c.active.slots d word 1 m (omega arith) out) facts holds end lands))
+
+  -- ---- the address waits for what is stored there
+
+  -- the right side, with the address in the temporary before its own
+  abbrev StoresBehind : (from to : Kind) → Expression → List Entry → Environment → Configuration → (s : ℕ) → Type 0
+  StoresBehind from to a k e c s =
+      (x : Operand) × (u : ℕ) × ConvertedOperandAt (code_of source c.active.function) (bounds_at source c.active.function) (types_at source c.active.function) (Convert from to a) (top source c.active.function k + 1) x s u
+      × At (code_of source c.active.function) u (instructions.Store (operands.Slot (top source c.active.function k)) 0 x) × (words_of_kind to ≡ 1)
+      × HandsOnStack source c.active.function e.locals to x (u + 1) c.frames k
+
+  abbrev right_side : (from to : Kind) → Expression → Option ℕ → (place : Value) → List Entry → List Entry
+  right_side from to a peek place k = Needs (ConvertTo from to (target_by a)) ∷ Needs (StoreCell peek place) ∷ k
+
+  right_begins : (from to : Kind) (a : Expression) (peek : Option ℕ) (object offset : ℕ) (k : List Entry) (e : Environment) (w : World) (c : Configuration) (s : ℕ)
+      → (shared : SharedAt source pages calls k e w c) → DataIn source shared.tables c.active.slots k e w c → Holds shared.tables c.active.slots (base_of source c.active.function) (held k)
+      → Points shared.tables object offset (c.active.slots (top source c.active.function k)) → c.active.next ≡ s → StoresBehind from to a k e c s
+      → Related source pages calls (Evaluating a) (right_side from to a peek (Thin object offset) k) e w c
+  right_begins from to a peek object offset k e w c s shared facts holds points start (x, u, (m, at_a, at_to), store, single, hands) =
+      let g = c.active.function in
+      let entries = right_side from to a peek (Thin object offset) k in (
+        shared,
+        facts,
+        sources source pages calls shared.tables from to a entries e w c x m
+            (subst
+            (λ p. OperandBy (code_of source g) (bounds_at source g) (types_at source g) (source_of (starts_at source g) (Convert from to a))
+            (ExpressionAt (code_of source g) (bounds_at source g) (types_at source g) a (source_slot (starts_at source g) (Convert from to a) (top source g entries)) (top source g entries) p m)
+            (source_slot (starts_at source g) (Convert from to a) (top source g entries)) x p m)
+            (sym start) at_a)
+            (points, holds) (u, at_to, (store, single, hands)),
+      )
+
+  stores_to : (from to : Kind) (a : Expression) (peek : Option ℕ) (object offset : ℕ) (k : List Entry) (e : Environment) (w : World) (c : Configuration) (s : ℕ)
+      → (shared : SharedAt source pages calls k e w c) → DataIn source shared.tables c.active.slots k e w c → Holds shared.tables c.active.slots (base_of source c.active.function) (held k)
+      → Brought shared.tables object offset (top source c.active.function k) s c → StoresBehind from to a k e c s
+      → IsMatched source pages calls (Running (GivenPlace (Thin object offset)) (NeedsPlace (StoreTo peek (Convert from to a)) ∷ k) e w) (plain.Running c)
+  stores_to from to a peek object offset k e w c s shared facts holds (in_slot end points) behind =
+      silently source pages calls (Running (GivenPlace (Thin object offset)) (NeedsPlace (StoreTo peek (Convert from to a)) ∷ k) e w) (Running (Evaluating a) (right_side from to a peek (Thin object offset) k) e w) (plain.Running c) refl
+      (right_begins from to a peek object offset k e w c s shared facts holds points end behind)
+      (omega arith)
+  stores_to from to a peek object offset k e w c s shared facts holds (by_word i word here goes end points) behind =
+      let g = c.active.function in
+      let base = base_of source g in
+      let free = top source g k in
+      let after = put c.active.slots free word in
+      by_one source pages calls refl shared here
+      (λ choice. subst (Matches source pages calls (Running (Evaluating a) (right_side from to a peek (Thin object offset) k) e w)) (sym (goes choice))
+      (right_begins from to a peek object offset k e w (advanced (with_slots c after)) s shared
+      (data_above shared.tables source g w.objects e.locals (callers k) c.active.slots after c.globals c.frames free 1 (height-least base (held k)) (λ m out. put_elsewhere c.active.slots free word 1 m (omega arith) out) facts)
+      (Holds-same shared.tables c.active.slots after base (held k) (λ m below. put_elsewhere c.active.slots free word 1 m (omega arith) (inl below)) holds)
+      (subst (Points shared.tables object offset) (sym (put-same c.active.slots free word)) points) end behind))
+
   -- a place is found
   pub given_place : (place : Value) (k : List Entry) (e : Environment) (w : World) (c : Configuration) → IsStep source pages calls (GivenPlace place) k e w c
-  given_place (Thin object offset) (NeedsPlace (LoadFrom kind) ∷ k) e w c well (shared, facts, (o, more, points, holds, (d, load, single, lands))) =
+  given_place (Thin object offset) (NeedsPlace (LoadFrom kind) ∷ k) e w c well (shared, facts, (o, more, small, points, holds, (d, load, single, lands))) =
       let found = is_read kind (cell_at w object offset) k e w well in
       let v : Kinded = record { kind = kind; value = found.value } in
       let word = add_of (operand_word c.active.slots o) more in
@@ -78,5 +186,10 @@ module _ (source : Program) (pages calls : ℕ) where
       (landed source pages calls v after d k e w c (c.active.next + 1) shared
       (subst (λ i. Is shared.tables i found.value after d) found.same (stands after d (put-same c.active.slots d (c.store.memory word))))
       (λ m out. put_elsewhere c.active.slots d (c.store.memory word) (words_of_kind kind) m (kind_positive kind) out) facts holds refl lands))
-  given_place (Thin object offset) k e w c well (shared, facts, (o, more, points, holds, place)) = absurd place
+  given_place (Thin object offset) (NeedsPlace TakeAddress ∷ k) e w c well (shared, facts, (o, more, small, points, holds, (d, q, address, lands))) =
+      takes_address object offset more o d q k e w c shared facts holds (brought shared.tables object offset more o d q c small points address) lands
+  given_place (Thin object offset) (NeedsPlace (StoreTo peek (Convert from to a)) ∷ k) e w c well (shared, facts, (o, more, small, points, holds, (x, s, u, address, at_a, store, single, hands))) =
+      stores_to from to a peek object offset k e w c s shared facts holds (brought shared.tables object offset more o (top source c.active.function k) s c small points address)
+      (x, u, at_a, store, single, hands)
+  given_place (Thin object offset) k e w c well (shared, facts, (o, more, small, points, holds, place)) = absurd place
   given_place place k e w c well (shared, facts, at) = absurd at

@@ -1,16 +1,17 @@
 -- The words of a place that a pointer leads to: what the code of an address computes is the address of the cell, which never wraps, and
 -- each word of a cell that the source finds is there. It speaks of tables of objects and of words alone.
-use Rattle.std.proofs.Common.{◌≡◌, ℕ, zero, suc, ◌+◌, ◌*◌, ◌^◌, ◌%◌, ◌<◌, ◌≤◌, List, length, Option, Some, None, refl, sym, ap, subst, ◌∙◌, arith, add-zero, inl, inr}
+use Rattle.std.proofs.Common.{◌≡◌, ℕ, zero, suc, ◌+◌, ◌*◌, ◌^◌, ◌%◌, ◌<◌, ◌≤◌, List, [], ◌∷◌, length, map, Option, Some, None, refl, sym, ap, subst, ◌∙◌, arith, add-zero, inl, inr}
 use Rattle.std.specs.Prelude.{◌≢◌, ◌==◌, if◌then◌else◌, slice_get}
 use Rattle.std.proofs.Math.Nat.{mod-eq_of_lt}
 use Rattle.std.proofs.lemmas.Bool.{cases_eq}
 use Rattle.cyc_words.specs.Word.{IsWord, add_of, mul_of, shl_of}
 use Rattle.cyc_types.specs.declared.typed.Kind.{Kind}
 use Rattle.cyc_types.specs.declared.typed.Kind.TheVariants as kinds
+use Rattle.cyc_types.specs.Types.{Ty, words_of}
 use Rattle.cyc_store.specs.State.{Memory, put, AreWords, StoreState, homes, Holder, holder, word_in, word_at}
 use Rattle.cyc_store.proofs.LookupLemmas.{when_equal, when_other, not_both}
 use Rattle.cyc_store.proofs.WordLemmas.{words-put}
-use Rattle.cyc_meaning.specs.Values.{Value, words_of_kind, Cell, kinds_of}
+use Rattle.cyc_meaning.specs.Values.{Value, words_of_kind, Cell, kind_of, kinds_of}
 use Rattle.cyc_meaning.specs.State.{Object, World, Found, Located, cell_at}
 use Rattle.cyc_meaning.proofs.WorldLaws.{cell_found}
 use Rattle.cyc_objects.proofs.NumberLemmas.{slice_get-map}
@@ -19,6 +20,8 @@ use Rattle.cyc_objects.specs.Words.{words_of_kinds, before, words_from, Points, 
 use Rattle.cyc_objects.proofs.Values.{Is-same, before-inside}
 use Rattle.cyc_objects.specs.Related.{Related}
 use Rattle.cyc_objects.proofs.Cells.{found-alive, cell-live}
+use Rattle.cyc_lower.specs.Slots.{bytes_from}
+use Rattle.cyc_lower.proofs.Widths.{type_words}
 use Rattle.cyc_objects.proofs.Pointers.{thinned, member-points, pointer-word, Is-put_three}
 
 -- ---- what does not wrap
@@ -35,6 +38,20 @@ shifted_is i below = below_wrap (i * 4) (omega (arith, below)) ∙ omega arith
 
 pub multiplied_is : (i : ℕ) → 12 * i < 4294967296 → mul_of i 12 ≡ 4 * (i * 3)
 multiplied_is i below = below_wrap (i * 12) (omega (arith, below)) ∙ omega arith
+
+-- the bytes before a field are those of the cells before it, where they are a word
+bytes_before : (ts : List Ty) (field bytes : ℕ) → bytes + 4 * before field (map kind_of ts) < 4294967296 → bytes_from bytes ts field ≡ bytes + 4 * before field (map kind_of ts)
+bytes_before [] zero bytes below = omega arith
+bytes_before [] (suc field) bytes below = omega arith
+bytes_before (t ∷ ts) zero bytes below = omega arith
+bytes_before (t ∷ ts) (suc field) bytes below =
+    let words = type_words t in
+    let next : add_of bytes (4 * words_of t) ≡ bytes + 4 * words_of t = add_is bytes (4 * words_of t) (omega (arith, below, words)) in
+    let rest : bytes_from (bytes + 4 * words_of t) ts field ≡ bytes + 4 * words_of t + 4 * before field (map kind_of ts) = bytes_before ts field (bytes + 4 * words_of t) (omega (arith, below, words)) in
+    ap (λ (n : ℕ). bytes_from n ts field) next ∙ rest ∙ omega (arith, words)
+
+pub field_bytes : (ts : List Ty) (field : ℕ) → 4 * before field (map kind_of ts) < 4294967296 → bytes_from 0 ts field ≡ 4 * before field (map kind_of ts)
+field_bytes ts field below = bytes_before ts field 0 (omega (arith, below)) ∙ omega arith
 
 module _ {t : Tables} where
   -- the address of a cell with nothing added
@@ -191,3 +208,12 @@ module _ {t : Tables} {w : World} {s : StoreState} (related : Related t w s) whe
       → kinds_of x.cells ≡ fields → field < length fields → Points t o field (add_of a (4 * before field fields))
   field_there {o} p x fields field there same inside =
       field_is p fields field (related.shapes o p.address p.kinds x there p.row ∙ same) inside
+
+  -- the place of a field, by a number of bytes that is that of the cells before it
+  pub member_there : {o a : ℕ} (p : Points t o 0 a) (x : Object) (fields : List Kind) (field c : ℕ) → slice_get w.objects o ≡ Some x
+      → kinds_of x.cells ≡ fields → field < length fields → (4 * before field fields < 4294967296 → c ≡ 4 * before field fields) → Points t o field (add_of a c)
+  member_there {o} {a} p x fields field c there same inside is =
+      let kinds : p.kinds ≡ fields = related.shapes o p.address p.kinds x there p.row ∙ same in
+      let below : a + 4 * before field fields < 4294967296
+      = subst (λ ks. a + 4 * before field ks < 4294967296) kinds (pointer-word (member-points p field (subst (λ ks. field < length ks) (sym kinds) inside))) in
+      subst (λ n. Points t o field (add_of a n)) (sym (is (omega (arith, below)))) (field_there p x fields field there same inside)

@@ -1,5 +1,5 @@
 -- What a state of the source and one of the plain program have in common while the one is matched by the other.
-use Rattle.std.proofs.Common.{◌≡◌, ℕ, suc, ◌+◌, ◌*◌, ◌≤◌, ◌<◌, true, List, [], ◌∷◌, ◌++◌, length, Option, None, Some, slice_get}
+use Rattle.std.proofs.Common.{◌≡◌, ℕ, suc, ◌+◌, ◌*◌, ◌≤◌, ◌<◌, true, List, [], ◌∷◌, ◌++◌, length, Option, None, Some, slice_get, ◌^◌}
 use Rattle.cyc_words.specs.Word.{add_of}
 use Rattle.cyc_types.specs.declared.typed.Kind.{Kind}
 use Rattle.cyc_types.specs.declared.typed.Kind.TheVariants as kinds
@@ -8,12 +8,12 @@ use Rattle.cyc_types.specs.declared.typed.UnaryOperator.TheVariants as unary
 use Rattle.cyc_types.specs.declared.typed.Operator.{Operator}
 use Rattle.cyc_types.specs.declared.typed.Callee.TheVariants as callees
 use Rattle.cyc_types.specs.Types.{Ty}
-use Rattle.cyc_types.specs.TypedTrees.{Lvalue, Local, Global, Expression, NoArguments, NoOperations, Statement, Function, Program}
+use Rattle.cyc_types.specs.TypedTrees.{Lvalue, Local, Global, Expression, NoArguments, NoOperations, Statement, Function, Program, Convert}
 use Rattle.cyc_types.specs.Numbered.{Numbering, argument_count, numbering_of, signatures_of}
 use Rattle.cyc_store.specs.State.{StoreState, demand}
 use Rattle.cyc_store.specs.declared.range.TheConstants.{HEAP}
 use Rattle.cyc_objects.specs.Tables.{Variable, Placed, Tables}
-use Rattle.cyc_objects.specs.Words.{words_of_kinds, InRange, Is, Points}
+use Rattle.cyc_objects.specs.Words.{words_of_kinds, InRange, Is, Points, before}
 use Rattle.cyc_objects.specs.Related as objects
 use Rattle.cyc_plain.specs.declared.instruction.Comparison.{Comparison}
 use Rattle.cyc_plain.specs.declared.instruction.Comparison.TheVariants as comparisons
@@ -29,16 +29,16 @@ use Rattle.cyc_plain.specs.State as plain
 use Rattle.cyc_plain.specs.Straight.{At}
 use Rattle.cyc_meaning.specs.Values.{Value, Null, Thin, Operand as Kinded, Cell, kinds_of, words_of_kind, is_thin}
 use Rattle.cyc_meaning.specs.Allocation.{writes_from, blanks_of}
-use Rattle.cyc_meaning.specs.State.{Owner, InRegion, Unique, Object, World, heap_number, globals_number, Environment, ConvertTo, Operate, Chain, Apply, ApplyPointer, Follow, LoadFrom, Decide, Store, Pass, MakePlain, MakeFields, Initialise, Choose, Test, Return, Entry, Needs, NeedsPlace, Discard, Rest, Join, Loop, CloseRegion, CloseLexical, EndLoan, Handler, Caller, Main, calls_in, Focus, Evaluating, Locating, Given, Executing, Proceeding, Calling, Entering, Binding, Writing, Breaking, Continuing, Returning, Throwing, State, Running, Ended, GivenPlace}
+use Rattle.cyc_meaning.specs.State.{Owner, InRegion, Unique, Object, World, heap_number, globals_number, Environment, ConvertTo, Operate, Chain, Apply, ApplyPointer, Follow, LoadFrom, Decide, Store, Pass, MakePlain, MakeFields, Initialise, Choose, Test, Return, Entry, Needs, NeedsPlace, Discard, Rest, Join, Loop, CloseRegion, CloseLexical, EndLoan, Handler, Caller, Main, calls_in, Focus, Evaluating, Locating, Given, Executing, Proceeding, Calling, Entering, Binding, Writing, Breaking, Continuing, Returning, Throwing, State, Running, Ended, GivenPlace, FollowMember, TakeAddress, StoreTo, StoreCell}
 use Rattle.cyc_meaning.specs.Step.{object_of}
 use Rattle.cyc_meaning.specs.Operators.{null_exception, is_zero}
 use Rattle.cyc_meaning.specs.FrameCount.{words_of_all}
 use Rattle.cyc_lower.specs.declared.statements.Exits.{Exits}
 use Rattle.cyc_meaning.specs.Pointers.{result_kind as operator_kind}
 use Rattle.cyc_lower.specs.Slots.{Types, Starts, starts_of, slot_of}
-use Rattle.cyc_lower.specs.Lowering.{types_of, unary_operator, failing_comparison, operand_of, move_of, low_byte, converts_there, all_passed, compared_of, break_target, continue_target, results_of, lower_program, outside_loops}
+use Rattle.cyc_lower.specs.Lowering.{unary_operator, failing_comparison, operand_of, move_of, low_byte, converts_there, all_passed, compared_of, break_target, continue_target, results_of, lower_program, outside_loops, slot_types}
 use Rattle.cyc_lower.proofs.Widths.{kind_of_result, given, called_kind, HasRoom, Outside, chain_kind}
-use Rattle.cyc_lower.proofs.Stands.{CheckAt, ConversionAt, PlaceAt, OperatorAt, TruthAt, CopyAt, ExpressionAt, ArgumentsAt, OperationsAt, ValueAt, ConditionAt, FailingAt, ComparesAt, DiscardedAt, StatementAt, ItemsAt, PointerAt, StoresAt, ObjectAt}
+use Rattle.cyc_lower.proofs.Stands.{CheckAt, ConversionAt, PlaceAt, OperatorAt, TruthAt, CopyAt, ExpressionAt, ArgumentsAt, OperationsAt, ValueAt, ConditionAt, FailingAt, ComparesAt, DiscardedAt, StatementAt, ItemsAt, PointerAt, StoresAt, ObjectAt, AddressAt, ConvertedOperandAt}
 
 -- ---- values in slots
 
@@ -81,6 +81,8 @@ held (Needs (Apply operator left) ∷ k) = left ∷ held k
 held (Needs (ApplyPointer peek operator left) ∷ k) = left ∷ held k
 held (Needs Decide ∷ k) = held k
 held (Needs (Store place) ∷ k) = held k
+-- the address of the cell waits for what is stored in it
+held (Needs (StoreCell peek place) ∷ k) = record { kind = kinds.NonNull; value = place } ∷ held k
 held (Needs (Pass callee before rest) ∷ k) = before ++ held k
 held (Needs (MakePlain owner kind) ∷ k) = held k
 held (Needs (MakeFields owner before fields) ∷ k) = before ++ held k
@@ -89,6 +91,7 @@ held (Needs (Choose first second) ∷ k) = []
 held (Needs (Test condition body) ∷ k) = []
 held (Needs Return ∷ k) = []
 held (Needs (Follow pointer target) ∷ k) = held k
+held (Needs (FollowMember pointer fields field) ∷ k) = held k
 held (NeedsPlace a ∷ k) = held k
 held (entry ∷ k) = []
 
@@ -201,9 +204,12 @@ module _ (source : Program) where
   bounds_at g = bounds_in (slice_get source.functions g)
 
   -- the types of its locals with the structs, and their first slots
+  abbrev pub local_types : Option Function → List Ty
+  local_types None = []
+  local_types (Some h) = slot_types h
+
   abbrev pub types_in : Option Function → Types
-  types_in None = record { locals = []; structs = source.structs }
-  types_in (Some h) = types_of source.structs h
+  types_in h = record { locals = local_types h; structs = source.structs }
 
   abbrev pub types_at : ℕ → Types
   types_at g = types_in (slice_get source.functions g)
@@ -364,6 +370,10 @@ module _ (source : Program) where
         (l : Lvalue) × (to : Operand) × (q : ℕ) × StoreAt g kind l o to p q × IsPlaceOf locals l place
         × HandsOn (code_of g) (words_of_kind kind) to q (DroppedStack g q frames k) (ValueStack g locals kind to q frames k)
         (λ d r. Lands (base_of g) (top g k) d (words_of_kind kind) (ValueStack g locals kind (operands.Slot d) r frames k) (AheadStack g locals kind d r frames k))
+    ValueStack g locals kind o p frames (Needs (StoreCell peek place) ∷ k) =
+        At (code_of g) p (instructions.Store (operands.Slot (top g k)) 0 o) × (words_of_kind kind ≡ 1)
+        × HandsOn (code_of g) (words_of_kind kind) o (p + 1) (DroppedStack g (p + 1) frames k) (ValueStack g locals kind o (p + 1) frames k)
+        (λ d r. Lands (base_of g) (top g k) d (words_of_kind kind) (ValueStack g locals kind (operands.Slot d) r frames k) (AheadStack g locals kind d r frames k))
     ValueStack g locals kind o p frames (Needs (Pass callees.Putchar before arguments) ∷ k) =
         (before ≡ []) × (arguments ≡ NoArguments) × At (code_of g) p (instructions.WriteByte o)
         × Prints (code_of g) o (p + 1) (DroppedStack g (p + 1) frames k)
@@ -394,6 +404,9 @@ module _ (source : Program) where
         × StatementStack g exits q frames k
     ValueStack g locals kind o p frames (Needs (Follow pointer target) ∷ k) =
         (q : ℕ) × (is_thin pointer ≡ true) × CheckAt (code_of g) (bounds_at g) (types_at g) null_exception o p q × PlaceStack g locals o 0 q frames k
+    ValueStack g locals kind o p frames (Needs (FollowMember pointer fields field) ∷ k) =
+        (c : ℕ) × (q : ℕ) × (is_thin pointer ≡ true) × CheckAt (code_of g) (bounds_at g) (types_at g) null_exception o p q × (field < length fields)
+        × (4 * before field fields < 2 ^ 32 → c ≡ 4 * before field fields) × PlaceStack g locals o c q frames k
     ValueStack g locals kind o p frames (Discard ∷ k) = (exits : Exits) × StatementStack g exits p frames k
     ValueStack g locals kind o p frames (entry ∷ k) = ⊥
 
@@ -402,6 +415,15 @@ module _ (source : Program) where
     PlaceStack g locals o c p frames (NeedsPlace (LoadFrom cell) ∷ k) =
         (d : ℕ) × At (code_of g) p (instructions.Load d o c) × (words_of_kind cell ≡ 1)
         × Lands (base_of g) (top g k) d (words_of_kind cell) (ValueStack g locals cell (operands.Slot d) (p + 1) frames k) (AheadStack g locals cell d (p + 1) frames k)
+    PlaceStack g locals o c p frames (NeedsPlace TakeAddress ∷ k) =
+        (d : ℕ) × (q : ℕ) × AddressAt (code_of g) o c d p q
+        × Lands (base_of g) (top g k) d 1 (ValueStack g locals kinds.NonNull (operands.Slot d) q frames k) (AheadStack g locals kinds.NonNull d q frames k)
+    PlaceStack g locals o c p frames (NeedsPlace (StoreTo peek (Convert from to a)) ∷ k) =
+        (x : Operand) × (s : ℕ) × (u : ℕ) × AddressAt (code_of g) o c (top g k) p s
+        × ConvertedOperandAt (code_of g) (bounds_at g) (types_at g) (Convert from to a) (top g k + 1) x s u
+        × At (code_of g) u (instructions.Store (operands.Slot (top g k)) 0 x) × (words_of_kind to ≡ 1)
+        × HandsOn (code_of g) (words_of_kind to) x (u + 1) (DroppedStack g (u + 1) frames k) (ValueStack g locals to x (u + 1) frames k)
+        (λ d r. Lands (base_of g) (top g k) d (words_of_kind to) (ValueStack g locals to (operands.Slot d) r frames k) (AheadStack g locals to d r frames k))
     PlaceStack g locals o c p frames k = ⊥
 
     -- the same for a condition, which fails where this comparison holds
@@ -500,7 +522,7 @@ module _ (source : Program) where
       (o : Operand) × (c : ℕ) × (q : ℕ) × PlaceAt (code_of g) (bounds_at g) (types_at g) x o c (top g k) p q × Holds t slots (base_of g) (held k)
       × PlaceStack g locals o c q frames k
   FocusAt t (GivenPlace (Thin object offset)) k locals g p slots frames =
-      (o : Operand) × (c : ℕ) × Points t object offset (add_of (operand_word slots o) c) × Holds t slots (base_of g) (held k)
+      (o : Operand) × (c : ℕ) × (operand_word slots o < 2 ^ 32) × Points t object offset (add_of (operand_word slots o) c) × Holds t slots (base_of g) (held k)
       × PlaceStack g locals o c p frames k
   FocusAt t (Executing s) k locals g p slots frames =
       (exits : Exits) × (q : ℕ) × StatementAt (code_of g) (bounds_at g) (types_at g) s exits (base_of g) p q × StatementStack g exits q frames k

@@ -12,7 +12,7 @@ use Rattle.cyc_types.specs.declared.typed.PointerOperator.{PointerOperator}
 use Rattle.cyc_types.specs.declared.typed.PointerOperator.TheVariants as pointers
 use Rattle.cyc_types.specs.declared.typed.LogicalOperator.{LogicalOperator}
 use Rattle.cyc_types.specs.declared.typed.LogicalOperator.TheVariants as logical
-use Rattle.cyc_types.specs.TypedTrees.{Load, New, OnHeap, AsUnique, ByHandle, Initial, Plain, Fields, Array, Dereference, Target, Member, Element, Lvalue, Local, Global, Expression, Number, Copy, Call, Unary, Binary, Assign, Converted, Convert, Arguments, NoArguments, MoreArguments, Operations, NoOperations, ThenCompute, ThenTest, ThenPointer, ThenPointerPeek, Statement, Block, Empty, Evaluate, If, While, Return, Break, Continue, Items, NoItems, MoreItems, Execute, Declare, StructType, Function, Move, Peek, Throw, Try, Clauses, NoClauses, Default, Case}
+use Rattle.cyc_types.specs.TypedTrees.{Load, New, OnHeap, AsUnique, ByHandle, Initial, Plain, Fields, Array, Dereference, Target, Member, Element, Lvalue, Local, Global, Expression, Number, Copy, Call, Unary, Binary, Assign, Converted, Convert, Arguments, NoArguments, MoreArguments, Operations, NoOperations, ThenCompute, ThenTest, ThenPointer, ThenPointerPeek, Statement, Block, Empty, Evaluate, If, While, Return, Break, Continue, Items, NoItems, MoreItems, Execute, Declare, StructType, Function, Move, Peek, Throw, Try, Clauses, NoClauses, Default, Case, AddressOfCell, Store}
 use Rattle.cyc_types.specs.Types.{Ty, words_of}
 use Rattle.cyc_types.specs.Numbered.{argument_count}
 use Rattle.cyc_types.proofs.WeightLemmas.{some_token}
@@ -30,7 +30,7 @@ use Rattle.cyc_lower.specs.Slots.{starts_of, slot_of, Starts}
 use Rattle.cyc_store.specs.declared.range.TheConstants.{HEAP}
 use Rattle.cyc_meaning.specs.Values.{kind_of, words_of_kind}
 use Rattle.cyc_lower.proofs.Widths.{kind_few, type_words}
-use Rattle.cyc_lower.specs.Lowering.{types_of, converts_there, passed_words, all_passed, source_of, source_slot, converted_by, moved_by, move_of, unary_operator, binary_operator, operand_of, operand_or, code_unless, slot_or, code_unless_slot, left_of, value_slot, next_slot, left_slot, value_operand, converted_operand, printed_operand, conversion_code, divisor_code, checked_code, operator_code, truth_code, load_code, low_byte, test_code, is_in, copy_code, expression_code, arguments_code, converted_code, converted_operand_code, printed_code, dereference_code, initial_code, assignment_code, operations_code, discarded_code, failing_comparison, compared_or, left_with, slot_with, first_code, second_code, pair_code, condition_code, condition_of, failing_jump, break_target, continue_target, return_code, declaration_code, statement_code, items_code, first_temporary, jump_if_zero, jump_if_nonzero, lower_function, behind_left, pointer_code, outside_loops, inside_loop, pointer_operator, index_of, first_two, pointer_instructions, stores_code, object_code, made_code, leave_code, tag_operand, other_jump, clause_code, caught_code, clauses_code}
+use Rattle.cyc_lower.specs.Lowering.{types_of, converts_there, passed_words, all_passed, source_of, source_slot, converted_by, moved_by, move_of, unary_operator, binary_operator, operand_of, operand_or, code_unless, slot_or, code_unless_slot, left_of, value_slot, next_slot, left_slot, value_operand, converted_operand, printed_operand, conversion_code, divisor_code, checked_code, operator_code, truth_code, load_code, low_byte, test_code, is_in, copy_code, expression_code, arguments_code, converted_code, converted_operand_code, printed_code, initial_code, assignment_code, operations_code, discarded_code, failing_comparison, compared_or, left_with, slot_with, first_code, second_code, pair_code, condition_code, condition_of, failing_jump, break_target, continue_target, return_code, declaration_code, statement_code, items_code, first_temporary, jump_if_zero, jump_if_nonzero, lower_function, behind_left, pointer_code, outside_loops, inside_loop, pointer_operator, index_of, first_two, pointer_instructions, stores_code, object_code, made_code, leave_code, tag_operand, other_jump, clause_code, caught_code, clauses_code, place_operand, place_offset, place_code, address_code, store_address_code, store_code}
 use Rattle.cyc_lower.specs.Lowered.{size_per_weight}
 
 abbrev code_size : List Instruction → ℕ
@@ -92,6 +92,19 @@ copy_size c o d = by (is_in o d)
     by : (is : Bool) → code_size (if is then [] else move_of (passed_words c) d o ∷ []) ≤ 20
     by true = omega arith
     by false = move_size (passed_words c) d o (passed_few c)
+
+-- an address that nothing is added to
+copied_address_size : (o : Operand) (d : ℕ) → code_size (copy_code 1 o d) ≤ 6
+copied_address_size (operands.Word n) d = omega arith
+copied_address_size (operands.Slot n) d = by (n == d)
+  where
+    by : (is : Bool) → code_size (if is then [] else instructions.Move d (operands.Slot n) ∷ []) ≤ 6
+    by true = omega arith
+    by false = omega arith
+
+address_size : (o : Operand) (bytes d : ℕ) → code_size (address_code o bytes d) ≤ 11
+address_size o zero d = omega (arith, copied_address_size o d)
+address_size o (suc bytes) d = omega arith
 
 converted_by_size : (known : Option Operand) (inner : List Instruction) (to : Kind) (o : Operand) (p bound : ℕ) → code_size inner ≤ bound → code_size (converted_by known inner to o p) ≤ bound + 18
 converted_by_size known inner to o p bound few =
@@ -203,7 +216,25 @@ module _ (starts : Starts) where
         let front = converted_operand_code starts c p t in
         let store = instructions.StoreGlobal n o ∷ [] in
         omega (arith, both (front ++ store) (copy_code (passed_words c) o d), both front store, converted_operand_size c p t, copy_size c o d)
-    expression_size (Load x) p d t = dereference_size x p d t
+    expression_size (Load x) p d t =
+        omega (arith, both (place_code starts x p t) (instructions.Load d (place_operand starts x t) (place_offset starts x) ∷ []), place_size x p t)
+    expression_size (AddressOfCell x ty) p d t =
+        let address = address_code (place_operand starts x t) (place_offset starts x) d in
+        omega (arith, both (place_code starts x p t) address, place_size x p t, address_size (place_operand starts x t) (place_offset starts x) d)
+    expression_size (Store x c ty) p d t =
+        let address = store_address_code starts x p t in
+        let value = converted_operand_code starts c (p + length address) (t + 1) in
+        let o = converted_operand starts c (t + 1) in
+        let write = instructions.Store (operands.Slot t) 0 o ∷ [] in
+        omega (
+          arith,
+          both (address ++ (value ++ write)) (copy_code (passed_words c) o d),
+          both address (value ++ write),
+          both value write,
+          store_address_size x p t,
+          converted_operand_size c (p + length address) (t + 1),
+          copy_size c o d,
+        )
     expression_size (New OnHeap i ty) p d t = made_size i HEAP p d t
     expression_size (New AsUnique i ty) p d t = omega arith
     expression_size (New (ByHandle h) i ty) p d t = omega arith
@@ -216,14 +247,40 @@ module _ (starts : Starts) where
         omega (arith, both (arguments_code starts cs p t) (object_code handle (argument_count cs) d t), fields_size cs p t, more_weight cs, object_size handle (argument_count cs) d t)
     made_size (Array w level n kind a) handle p d t = omega arith
 
-    dereference_size : (x : Dereference) (p d t : ℕ) → code_size (dereference_code starts x p d t) ≤ size_per_weight * dereference_weight x
-    dereference_size (Target k a ty) p d t =
+    place_size : (x : Dereference) (p t : ℕ) → code_size (place_code starts x p t) + 18 ≤ size_per_weight * dereference_weight x
+    place_size (Target k a ty) p t =
+        let slot = value_slot starts a t in
+        omega (arith, converted_by_size (operand_of starts a) (expression_code starts a p slot t) kinds.NonNull (value_operand starts a t) p (size_per_weight * expression_weight a) (expression_size a p slot t))
+    place_size (Member k a n f ty) p t =
+        let slot = value_slot starts a t in
+        omega (arith, converted_by_size (operand_of starts a) (expression_code starts a p slot t) kinds.NonNull (value_operand starts a t) p (size_per_weight * expression_weight a) (expression_size a p slot t))
+    place_size (Element a i ty) p t = omega (arith, some_token a)
+
+    -- with the address in a slot
+    store_address_size : (x : Dereference) (p t : ℕ) → code_size (store_address_code starts x p t) + 12 ≤ size_per_weight * dereference_weight x
+    store_address_size (Target k a ty) p t =
         let slot = value_slot starts a t in
         let o = value_operand starts a t in
-        let inner = expression_code starts a p slot t in
-        omega (arith, both (converted_by (operand_of starts a) inner kinds.NonNull o p) (instructions.Load d o 0 ∷ []), converted_by_size (operand_of starts a) inner kinds.NonNull o p (size_per_weight * expression_weight a) (expression_size a p slot t))
-    dereference_size (Member k a n f ty) p d t = omega (arith, some_token a)
-    dereference_size (Element a i ty) p d t = omega (arith, some_token a)
+        let front = place_code starts (Target k a ty) p t in
+        omega (
+          arith,
+          both front (copy_code 1 o t),
+          converted_by_size (operand_of starts a) (expression_code starts a p slot t) kinds.NonNull o p (size_per_weight * expression_weight a) (expression_size a p slot t),
+          copied_address_size o t,
+        )
+    store_address_size (Member k a n f ty) p t =
+        let slot = value_slot starts a t in
+        let o = value_operand starts a t in
+        let x = Member k a n f ty in
+        let front = place_code starts x p t in
+        omega (
+          arith,
+          both front (address_code o (place_offset starts x) t),
+          converted_by_size (operand_of starts a) (expression_code starts a p slot t) kinds.NonNull o p (size_per_weight * expression_weight a) (expression_size a p slot t),
+          address_size o (place_offset starts x) t,
+        )
+    store_address_size (Element a i ty) p t =
+        omega (arith, both (instructions.Move t (operands.Word 0) ∷ []) (copy_code 1 (operands.Slot t) t), copied_address_size (operands.Slot t) t, some_token a)
 
     initial_size : (c : Converted) (p d t : ℕ) → code_size (initial_code starts c p d t) ≤ size_per_weight * converted_weight c + 38
     initial_size (Convert from to a) p d t =
@@ -318,6 +375,11 @@ module _ (starts : Starts) where
   discarded_size (Call callees.Putchar cs ty) p t =
       omega (arith, both (printed_code starts cs p t) (instructions.WriteByte (printed_operand starts cs (operands.Slot t) t) ∷ []), printed_size cs p t)
   discarded_size (Assign l c ty) p t = omega (arith, assignment_size l c p t)
+  discarded_size (Store x c ty) p t =
+      let address = store_address_code starts x p t in
+      let value = converted_operand_code starts c (p + length address) (t + 1) in
+      let write = instructions.Store (operands.Slot t) 0 (converted_operand starts c (t + 1)) ∷ [] in
+      omega (arith, both address (value ++ write), both value write, store_address_size x p t, converted_operand_size c (p + length address) (t + 1))
   discarded_size a p t = omega (arith, unless_size (operand_of starts a) (expression_code starts a p t t), expression_size a p t t)
 
   -- ---- statements

@@ -8,10 +8,11 @@ use Rattle.cyc_types.specs.declared.typed.Operator.{Operator}
 use Rattle.cyc_types.specs.declared.typed.Operator.TheVariants as operators
 use Rattle.cyc_types.specs.declared.typed.PointerOperator.{PointerOperator}
 use Rattle.cyc_types.specs.declared.typed.PointerOperator.TheVariants as pointers
-use Rattle.cyc_types.specs.TypedTrees.{type_of_place, Load, Dereference, Target, Lvalue, Local, Global, Expression, Number, NullPointer, Copy, Call, Unary, Binary, Assign, Converted, Convert, Arguments, NoArguments, MoreArguments, Operations, NoOperations, ThenCompute, ThenTest, ThenPointer, Statement, Block, Empty, Evaluate, If, While, Return, Break, Continue, Items, NoItems, MoreItems, Execute, Declare, Move, Peek, ThenPointerPeek, New, OnHeap, Initial, Plain, Fields}
+use Rattle.cyc_types.specs.TypedTrees.{type_of_place, Load, Dereference, Target, Lvalue, Local, Global, Expression, Number, NullPointer, Copy, Call, Unary, Binary, Assign, Converted, Convert, Arguments, NoArguments, MoreArguments, Operations, NoOperations, ThenCompute, ThenTest, ThenPointer, Statement, Block, Empty, Evaluate, If, While, Return, Break, Continue, Items, NoItems, MoreItems, Execute, Declare, Move, Peek, ThenPointerPeek, New, OnHeap, Initial, Plain, Fields, AddressOfCell, Store, Member}
 use Rattle.cyc_types.specs.Types.{words_of}
 use Rattle.cyc_types.specs.Numbered.{Numbering, argument_count}
 use Rattle.cyc_plain.specs.declared.instruction.UnaryOperator.TheVariants as plain_unary
+use Rattle.cyc_plain.specs.declared.instruction.BinaryOperator.TheVariants as plain_binary
 use Rattle.cyc_plain.specs.declared.instruction.Comparison.{Comparison}
 use Rattle.cyc_plain.specs.declared.instruction.Operand.{Operand}
 use Rattle.cyc_plain.specs.declared.instruction.Operand.TheVariants as operands
@@ -23,9 +24,9 @@ use Rattle.cyc_store.specs.declared.range.TheConstants.{MOST_BLOCK_WORDS, HEAP}
 use Rattle.cyc_meaning.specs.Operators.{null_exception, division_by_zero}
 use Rattle.cyc_meaning.specs.Values.{is_thin, words_of_kind}
 use Rattle.cyc_lower.specs.declared.statements.Exits.{Exits}
-use Rattle.cyc_lower.specs.Slots.{Types, starts_of, slot_of}
+use Rattle.cyc_lower.specs.Slots.{Types, starts_of, slot_of, field_of}
 use Rattle.cyc_lower.specs.Lowering.{unary_operator, binary_operator, operand_of, source_of, source_slot, failing_comparison, left_with, left_of, value_slot, next_slot, slot_with, left_slot, is_in, jump_if_nonzero, move_of, test_jump, are_as_wide, converts_there, passed_words, all_passed, compared_of, low_byte, break_target, continue_target, results_of, behind_left, inside_loop, pointer_operator}
-use Rattle.cyc_lower.proofs.Widths.{kind_of_result, given, passed_kind, HasRoom}
+use Rattle.cyc_lower.proofs.Widths.{kind_of_result, given, passed_kind, HasRoom, HasField}
 
 -- ---- expressions
 
@@ -37,6 +38,11 @@ module _ (code : List Instruction) where
 
   abbrev pub CopyAt : (words : ℕ) → Operand → (d p q : ℕ) → Type 0
   CopyAt words o d p q = CopyBy (is_in o d) words o d p q
+
+  -- an address comes to a slot: the word of an operand, and so many bytes more
+  abbrev pub AddressAt : Operand → (bytes d p q : ℕ) → Type 0
+  AddressAt o zero d p q = CopyAt 1 o d p q
+  AddressAt o (suc bytes) d p q = At code p (instructions.Binary plain_binary.Add d o (operands.Word (suc bytes))) × (p + 1 ≡ q)
 
 -- In a code of a function with these bounds, whose locals have these types, from p to q stands the code of this, with temporaries from
 -- slot t on.
@@ -139,6 +145,12 @@ module _ (code : List Instruction) (bounds : Numbering) (types : Types) where
     ExpressionAt (Load x) d t p q =
         (o : Operand) × (c : ℕ) × (r : ℕ) × PlaceAt x o c t p r × (words_of (type_of_place x) ≡ 1) × At code r (instructions.Load d o c) × (r + 1 ≡ q)
     ExpressionAt (New OnHeap i ty) d t p q = MadeAt i HEAP d t p q
+    ExpressionAt (AddressOfCell x ty) d t p q = (o : Operand) × (c : ℕ) × (r : ℕ) × PlaceAt x o c t p r × AddressAt code o c d r q
+    ExpressionAt (Store x v ty) d t p q =
+        (o : Operand) × (m : ℕ)
+        × ((a : Operand) × (c : ℕ) × (r : ℕ) × (s : ℕ) × (u : ℕ) × PlaceAt x a c t p r × AddressAt code a c t r s × ConvertedOperandAt v (t + 1) o s u
+        × (words_of_kind (passed_kind v) ≡ 1) × At code u (instructions.Store (operands.Slot t) 0 o) × (u + 1 ≡ m))
+        × CopyAt code (passed_words v) o d m q
     ExpressionAt a d t p q = ⊥
 
     -- a new object in the region of this handle
@@ -153,6 +165,9 @@ module _ (code : List Instruction) (bounds : Numbering) (types : Types) where
     PlaceAt (Target k a ty) o c t p q =
         (m : ℕ) × OperandBy (operand_of (starts_of types) a) (ExpressionAt a (value_slot (starts_of types) a t) t p m) (value_slot (starts_of types) a t) o p m
         × (is_thin k ≡ true) × CheckAt null_exception o m q × (c ≡ 0)
+    PlaceAt (Member k a s f ty) o c t p q =
+        (m : ℕ) × OperandBy (operand_of (starts_of types) a) (ExpressionAt a (value_slot (starts_of types) a t) t p m) (value_slot (starts_of types) a t) o p m
+        × (is_thin k ≡ true) × CheckAt null_exception o m q × HasField types s f × (c ≡ field_of (starts_of types) s f)
     PlaceAt x o c t p q = ⊥
 
     -- the value comes to slot d, converted
@@ -240,10 +255,17 @@ module _ (code : List Instruction) (bounds : Numbering) (types : Types) where
   AssignmentAt (Global n) c o t p q =
       (r : ℕ) × ConvertedOperandAt c t o p r × (n < bounds.globals) × (words_of_kind (passed_kind c) ≡ 1) × At code r (instructions.StoreGlobal n o) × (r + 1 ≡ q)
 
+  -- a value is stored in a cell, whose address waits in slot t, and then stands in an operand
+  abbrev pub StoredAt : Dereference → Converted → (t : ℕ) → Operand → (p q : ℕ) → Type 0
+  StoredAt x v t o p q =
+      (a : Operand) × (c : ℕ) × (r : ℕ) × (s : ℕ) × (u : ℕ) × PlaceAt x a c t p r × AddressAt code a c t r s × ConvertedOperandAt v (t + 1) o s u
+      × (words_of_kind (passed_kind v) ≡ 1) × At code u (instructions.Store (operands.Slot t) 0 o) × (u + 1 ≡ q)
+
   -- the value of an expression is dropped
   abbrev pub DiscardedAt : Expression → (t p q : ℕ) → Type 0
   DiscardedAt (Call callees.Putchar cs ty) t p q = (o : Operand) × (m : ℕ) × PrintedAt cs t o p m × At code m (instructions.WriteByte o) × (m + 1 ≡ q)
   DiscardedAt (Assign l c ty) t p q = (o : Operand) × AssignmentAt l c o t p q
+  DiscardedAt (Store x v ty) t p q = (o : Operand) × StoredAt x v t o p q
   DiscardedAt a t p q = (o : Operand) × OperandBy (operand_of (starts_of types) a) (ExpressionAt a t t p q) t o p q
 
   -- ---- statements

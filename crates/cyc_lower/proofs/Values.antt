@@ -4,7 +4,8 @@ use Rattle.std.specs.Prelude.{ℤ, nat_lt, ◌==◌, ◌&&◌, ◌<ℤ◌, ◌�
 use Rattle.std.proofs.lemmas.Int.{ints}
 use Rattle.std.proofs.lemmas.Bool.{eqb-true, false_from_ne_true}
 use Rattle.std.proofs.lemmas.Option.{same_Some, none-some}
-use Rattle.cyc_words.specs.Word.{signed, slt_of}
+use Rattle.cyc_words.specs.Word.{signed, slt_of, add_of}
+use Rattle.cyc_words.specs.Word.{IsWord as IsMachineWord}
 use Rattle.cyc_words.proofs.WordLemmas.{slt_of_cases}
 use Rattle.cyc_types.specs.declared.typed.Kind.{Kind}
 use Rattle.cyc_types.specs.declared.typed.Kind.TheVariants as kinds
@@ -27,17 +28,21 @@ use Rattle.cyc_plain.specs.declared.instruction.UnaryOperator.TheVariants as pla
 use Rattle.cyc_plain.specs.Operators.{truth, compares}
 use Rattle.cyc_plain.specs.Operators as plain_operators
 use Rattle.cyc_plain.specs.State as plain
-use Rattle.cyc_plain.specs.State.{Words, put, Frame, Configuration}
+use Rattle.cyc_plain.specs.State.{Words, put, Frame, Configuration, with_memory}
 use Rattle.cyc_plain.specs.Step.{Choice, operand_word, with_slots, at, advanced, gives, performed}
 use Rattle.cyc_plain.specs.Step as plain_step
+use Rattle.cyc_plain.specs.Program.{CodePlace, no_routine}
+use Rattle.cyc_plain.specs.WellFormed.{HasWord, HasWords}
+use Rattle.cyc_plain.proofs.Placed.{holds_at}
+use Rattle.cyc_plain.proofs.Steps.{function_known}
 use Rattle.cyc_plain.proofs.SlotLaws.{put-same}
 use Rattle.cyc_plain.specs.Straight.{At}
 use Rattle.cyc_meaning.specs.Values.{Value, Int, Null, Thin, Fat, Handle, Key, Operand as Kinded, is_kind, is_thin, words_of_kind}
 use Rattle.cyc_meaning.specs.Operators.{Result, Gives, Raises, Misfits, has_no_result, binary_word, is_zero, unary_result, truth_result, truth_of, division_by_zero, array_bounds}
 use Rattle.cyc_meaning.specs.Pointers.{takes_kind, followed, result_kind as operator_kind}
-use Rattle.cyc_meaning.specs.Places.{arrives}
+use Rattle.cyc_meaning.specs.Places.{arrives, member_of}
 use Rattle.cyc_meaning.specs.Conversion.{conversion}
-use Rattle.cyc_meaning.specs.State.{Region, World, Environment, with_local, made, variable, written, region_at, Awaiting, ConvertTo, Operate, Chain, Apply, ApplyPointer, Follow, Decide, Store, Pass, MakePlain, MakeFields, Initialise, Choose, Test, Return, Entry, Needs, Discard, Rest, Join, Loop, Focus, Evaluating, Given, GivenPlace, Executing, Proceeding, Calling, Returning, Throwing, State, Running}
+use Rattle.cyc_meaning.specs.State.{Region, World, Environment, with_local, made, variable, written, region_at, Awaiting, ConvertTo, Operate, Chain, Apply, ApplyPointer, Follow, Decide, Store, Pass, MakePlain, MakeFields, Initialise, Choose, Test, Return, Entry, Needs, Discard, Rest, Join, Loop, Focus, Evaluating, Given, GivenPlace, Executing, Proceeding, Calling, Returning, Throwing, State, Running, cell_at, FollowMember, StoreCell}
 use Rattle.cyc_meaning.specs.Step.{leads_to, wrong, object_of, computed, stored_at, declared, passes, tested, awaits_right, chosen, looped, step}
 use Rattle.cyc_meaning.specs.State.{status_of}
 use Rattle.cyc_meaning.specs.SourceMachine.{status_in}
@@ -50,17 +55,18 @@ use Rattle.cyc_lower.specs.Lowering.{unary_operator, binary_operator, failing_co
 use Rattle.cyc_lower.proofs.Stands.{OperandBy, CopyBy, CopyAt, CheckAt, CheckedAt, OperatorAt, TruthAt, ExpressionAt, OperationsAt}
 use Rattle.cyc_objects.specs.Tables.{Tables}
 use Rattle.cyc_objects.specs.Words.{Points, Is}
-use Rattle.cyc_objects.proofs.Pointers.{not-null, part-not-null}
+use Rattle.cyc_objects.proofs.Pointers.{not-null, part-not-null, pointer-word}
 use Rattle.cyc_objects.specs.Tables.{Variable, with_row}
 use Rattle.cyc_objects.proofs.Values.{Grows-row, Is-grows}
 use Rattle.cyc_lower.proofs.Sharing.{shared_declared, row_declared, shared_written}
 use Rattle.cyc_lower.proofs.Relation.{IsWord, IsIn, with_kind, types_at, starts_at, Holds, held, contents, callers, in_place, by_jump, in_temporary, in_local, drops, leaves, copies, DataIn, SharedAt, StoreAt, to_slot, to_jump, ValueStack, ConditionStack, DroppedStack, AheadStack, LandsStack, HandsOnStack, AppliedStack, ReadyAt, as_operand, into_slot, as_right, in_operand, nowhere, ahead, compared, with_left, behind_statement, Related, Matches, code_of, bounds_at, base_of, top}
 use Rattle.cyc_lower.proofs.Data.{in_words, IsWord-is, one_word, height-least, Holds-same, Holds-above, data_above, data_assigned, data_assigned_global, data_declared, data_grows}
-use Rattle.cyc_lower.proofs.Accesses.{IsWell, is_fitting, is_stored, written_here, written_elsewhere, written_length, is_declared, home_there}
-use Rattle.cyc_lower.proofs.PlaceWords.{stays}
+use Rattle.cyc_lower.proofs.Accesses.{IsWell, is_fitting, is_stored, written_here, written_elsewhere, written_length, is_declared, home_there, is_member}
+use Rattle.cyc_lower.proofs.PlaceWords.{stays, member_there}
+use Rattle.cyc_lower.proofs.CellWrites.{cell_is_there, saves_there, shared_saved, data_saved}
 use Rattle.cyc_lower.proofs.Weights.{weight}
 use Rattle.cyc_lower.proofs.Relation.{StatementStack}
-use Rattle.cyc_lower.proofs.Matched.{IsMatched, silently, by_one, by_two, by_three, shared_way, shared_within, lands_depth, value_depth, place_depth, lands_plain, value_plain, place_plain}
+use Rattle.cyc_lower.proofs.Matched.{IsMatched, silently, by_one, by_two, by_three, shared_way, shared_within, lands_depth, value_depth, place_depth, lands_plain, value_plain, place_plain, by_two_known, output_way}
 use Rattle.cyc_lower.proofs.PointerSteps.{applies_pointers, right_follows}
 use Rattle.cyc_lower.proofs.Allocations.{plain_made, fields_made}
 use Rattle.cyc_lower.proofs.Evaluations.{IsStep, landed_word, landed_moved, lands_at, passes_related, passes_weight, object_of_same, global_there}
@@ -718,13 +724,13 @@ module _ (source : Program) (pages calls : ℕ) where
   -- ---- assignments
 
   -- the value of an assignment is where it is to be, or one instruction brings it there
-  data Handed (v : Kinded) (k : List Entry) (e : Environment) (w : World) (c : Configuration) : Type 0 where
+  pub data Handed (v : Kinded) (k : List Entry) (e : Environment) (w : World) (c : Configuration) : Type 0 where
     at_once : Related source pages calls (Given v) k e w c → Handed v k e w c
     by_copy : (i : Instruction) → At (code_of source c.active.function) c.active.next i
         → ((choice : Choice) → Matches source pages calls (Running (Given v) k e w) (performed (lower_program source) choice c i)) → Handed v k e w c
 
   -- a value that is in a slot already has landed there
-  landed_there : (v : Kinded) (d : ℕ) (k : List Entry) (e : Environment) (w : World) (c : Configuration) (q : ℕ) → Stands v (operands.Slot d) k e w c → c.active.next ≡ q
+  pub landed_there : (v : Kinded) (d : ℕ) (k : List Entry) (e : Environment) (w : World) (c : Configuration) (q : ℕ) → Stands v (operands.Slot d) k e w c → c.active.next ≡ q
       → LandsStack source c.active.function e.locals v.kind d q c.frames k → Related source pages calls (Given v) k e w c
   landed_there v d k e w c q (shared, facts, is, holds) end (in_temporary least stack) =
       (shared, in_operand (operands.Slot d) facts is holds (subst (λ r. ValueStack source c.active.function e.locals v.kind (operands.Slot d) r c.frames k) (sym end) stack))
@@ -759,6 +765,16 @@ module _ (source : Program) (pages calls : ℕ) where
       by_one source pages calls does shared here (λ choice. subst (Matches source pages calls (Running (Given v) k e w)) (sym (first choice)) related)
   hands_behind {focus} {before} {w0} {i} v k e w c d does shared shared_d here first other (by_copy j at goes) =
       by_two source pages calls d does shared shared_d here first at other goes
+
+  -- the same where memory is another then
+  hands_saved : {i : Instruction} (v : Kinded) (before : List Entry) (k : List Entry) (e : Environment) (w0 w : World) (c d : Configuration)
+      → step source (Running (Given v) before e w0) ≡ Running (Given v) k e w → SharedAt source pages calls before e w0 c → plain_step.is_within pages calls (plain.Running d) ≡ true → d.output ≡ w0.output
+      → At (code_of source c.active.function) c.active.next i → ((choice : Choice) → performed (lower_program source) choice c i ≡ plain.Running d) → c.active.next ≢ d.active.next
+      → Handed v k e w d → IsMatched source pages calls (Running (Given v) before e w0) (plain.Running c)
+  hands_saved {i} v before k e w0 w c d does shared within_d same here first other (at_once related) =
+      by_one source pages calls does shared here (λ choice. subst (Matches source pages calls (Running (Given v) k e w)) (sym (first choice)) related)
+  hands_saved {i} v before k e w0 w c d does shared within_d same here first other (by_copy j at goes) =
+      by_two_known source pages calls d does shared within_d (output_way source pages calls (Given v) before e w0 d same) here first at other goes
 
   hands_at_once : (v : Kinded) (before : List Entry) (k : List Entry) (e : Environment) (w0 w : World) (c : Configuration)
       → step source (Running (Given v) before e w0) ≡ Running (Given v) k e w → SharedAt source pages calls before e w0 c
@@ -815,6 +831,39 @@ module _ (source : Program) (pages calls : ℕ) where
   stores_at place v o k e w c well stands (l, to, q, here, (object, place_is, found), hands) =
       subst (λ p. GoesBehind v (Needs (Store p) ∷ k) e w c) (sym place_is)
       (stores object v l o to k e w c q (sym (object_of_same l e) ∙ found) (subst (λ p. IsWell (stored_at p v (Given v) k e w)) place_is well) stands here hands)
+
+  -- a word that an instruction stores is one
+  stored_word : (c : Configuration) → HasWords (lower_program source) → plain.HoldsWords (plain.Running c) → (p : ℕ) (address : Operand) (bytes : ℕ) (o : Operand) → At (code_of source c.active.function) p (instructions.Store address bytes o)
+      → IsMachineWord (operand_word c.active.slots o)
+  stored_word c of_words words p address bytes (operands.Slot n) here = words.0 n
+  stored_word c of_words words p address bytes (operands.Word n) here =
+      let g = c.active.function in
+      let place : CodePlace = record { function = g; index = p } in
+      (holds_at HasWord (code_of source g) p (instructions.Store address bytes (operands.Word n))
+      (of_words.functions g no_routine (function_known (lower_program source) place (instructions.Store address bytes (operands.Word n)) here)) here).2
+
+  -- a value is stored in a cell, whose address waits in a temporary, and then it is handed on
+  stores_cell : (peek : Option ℕ) (place : Value) (v : Kinded) (o : Operand) (k : List Entry) (e : Environment) (w : World) (c : Configuration) → HasWords (lower_program source) → plain.HoldsWords (plain.Running c)
+      → IsWell (step source (Running (Given v) (Needs (StoreCell peek place) ∷ k) e w)) → Stands v o (Needs (StoreCell peek place) ∷ k) e w c
+      → ValueStack source c.active.function e.locals v.kind o c.active.next c.frames (Needs (StoreCell peek place) ∷ k) → GoesBehind v (Needs (StoreCell peek place) ∷ k) e w c
+  stores_cell peek (Thin object offset) v o k e w c of_words words well (shared, facts, is, (is_place, holds)) (here, single, hands) =
+      let g = c.active.function in
+      let free = top source g k in
+      let address = add_of (c.active.slots free) 0 in
+      let word = operand_word c.active.slots o in
+      let points : Points shared.tables object offset address = stays is_place in
+      let (at, found, same, gives) = cell_is_there (cell_at w object offset) object offset v (Given v) k e w well in
+      let one : words_of_kind at.cell.kind ≡ 1 = ap words_of_kind same ∙ single in
+      let is_word = subst (λ i. IsWord shared.tables i v.value word) (sym same) (first_word shared.tables v c.active.slots o single is) in
+      let fits = stored_word c of_words words c.active.next (operands.Slot free) 0 o here in
+      let after : Configuration = advanced (with_memory c address word) in
+      let next = written w object offset at v.value in
+      let saved = saves_there source pages calls k e w c shared object offset address word at v.value found points one is_word fits in
+      let kept : SharedAt source pages calls k e next after = shared_saved source pages calls k e w c shared object offset address word at v.value found points one is_word fits in
+      let facts_kept : DataIn source shared.tables c.active.slots k e next after = data_saved source pages calls k e w c shared object offset address word at v.value found points one is_word fits facts in
+      hands_saved v (Needs (StoreCell peek (Thin object offset)) ∷ k) k e w next c after gives shared (shared_within source pages calls k e next after kept) shared.same_output here (λ choice. saved)
+      (λ equal. omega (arith, equal)) (handed v o k e next after (c.active.next + 1) refl (kept, facts_kept, is, holds) hands)
+  stores_cell peek place v o k e w c of_words words well stands stack = absurd (well refl)
 
   -- the local has the value already
   catches_up : (object n : ℕ) (old : Words) (v : Kinded) (k : List Entry) (e : Environment) (w : World) (c : Configuration) (shared : SharedAt source pages calls k e w c)
@@ -986,7 +1035,7 @@ module _ (source : Program) (pages calls : ℕ) where
       = ap (λ (b : Bool). if b then there else wrong w) (is_fitting (is_kind i pointer && leads_to w target (followed (Thin object offset))) there w well) in
       by_one source pages calls does shared jump
       (λ choice. taken there c (not (operand_word c.active.slots o == 0)) q (ap not (not_zero shared.tables i object offset c.active.slots o is))
-      (shared, facts, (o, 0, stays (points_in shared.tables i object offset c.active.slots o is), holds, place)))
+      (shared, facts, (o, 0, pointer-word (points_in shared.tables i object offset c.active.slots o is), stays (points_in shared.tables i object offset c.active.slots o is), holds, place)))
   follows pointer target i (Fat object start many index) o k e w c well (shared, facts, is, holds) (q, thin, check, place) =
       let reach = followed (Fat object start many index) in
       let fits = is_fitting (is_kind i pointer && leads_to w target reach) (arrives reach k e w) w well in
@@ -997,38 +1046,78 @@ module _ (source : Program) (pages calls : ℕ) where
   follows pointer target i (Handle region) o k e w c well stands stack = absurd (goes_wrong (is_kind i pointer && leads_to w target (followed (Handle region))) w well)
   follows pointer target i (Key region) o k e w c well stands stack = absurd (goes_wrong (is_kind i pointer && leads_to w target (followed (Key region))) w well)
 
+  -- the same for a field, whose place is some bytes behind that of its struct
+  follows_member : (pointer : Kind) (fields : List Kind) (field : ℕ) (i : Kind) (v : Value) (o : Operand) (k : List Entry) (e : Environment) (w : World) (c : Configuration)
+      → IsWell (step source (Running (Given (of_kind i v)) (Needs (FollowMember pointer fields field) ∷ k) e w)) → Stands (of_kind i v) o k e w c
+      → ValueStack source c.active.function e.locals i o c.active.next c.frames (Needs (FollowMember pointer fields field) ∷ k)
+      → GoesBehind (of_kind i v) (Needs (FollowMember pointer fields field) ∷ k) e w c
+  follows_member pointer fields field i Null o k e w c well (shared, facts, is, holds) (offset, q, thin, (jump, uncaught, end), inside, same, place) =
+      let zero_word = null_is shared.tables i c.active.slots o is in
+      let does : step source (Running (Given (of_kind i Null)) (Needs (FollowMember pointer fields field) ∷ k) e w) ≡ Running (Throwing 1 0) k e w
+      = ap (λ (b : Bool). if b then Running (Throwing 1 0) k e w else wrong w) (is_fitting (is_kind i pointer) (Running (Throwing 1 0) k e w) w well) in
+      by_one source pages calls does shared jump
+      (λ choice. not_taken (Running (Throwing 1 0) k e w) c (not (operand_word c.active.slots o == 0)) q (ap (λ x. not (x == 0)) zero_word) (
+        shared,
+        omega (arith, place_depth source c.active.function e.locals o offset q c.frames k place, shared.fits),
+        place_plain source c.active.function e.locals o offset q c.frames k place,
+        o,
+        uncaught,
+        zero_word,
+      ))
+  follows_member pointer fields field i (Thin object start) o k e w c well (shared, facts, is, holds) (offset, q, thin, (jump, uncaught, end), inside, same, place) =
+      let there = Running (GivenPlace (Thin object field)) k e w in
+      let arrived = arrives (member_of w (followed (Thin object start)) fields field) k e w in
+      let fits = is_fitting (is_kind i pointer) arrived w well in
+      let found = is_member object start fields field k e w (subst (λ (b : Bool). IsWell (if b then arrived else wrong w)) fits well) in
+      let does : step source (Running (Given (of_kind i (Thin object start))) (Needs (FollowMember pointer fields field) ∷ k) e w) ≡ there = ap (λ (b : Bool). if b then arrived else wrong w) fits ∙ found.gives in
+      let points = points_in shared.tables i object start c.active.slots o is in
+      let first : Points shared.tables object 0 (operand_word c.active.slots o) = subst (λ n. Points shared.tables object n (operand_word c.active.slots o)) found.first points in
+      by_one source pages calls does shared jump
+      (λ choice. taken there c (not (operand_word c.active.slots o == 0)) q (ap not (not_zero shared.tables i object start c.active.slots o is))
+      (shared, facts, (o, offset, pointer-word points, member_there shared.related first found.of_object fields field offset found.there found.same inside same, holds, place)))
+  follows_member pointer fields field i (Fat object start many index) o k e w c well (shared, facts, is, holds) (offset, q, thin, check, inside, same, place) =
+      let reach = arrives (member_of w (followed (Fat object start many index)) fields field) k e w in
+      let kind : i ≡ pointer = same_kind i pointer (is_fitting (is_kind i pointer) reach w well) in
+      let (words, p, equal, is_it) = in_words shared.tables (of_kind i (Fat object start many index)) c.active.slots o is in
+      absurd (not_fat shared.tables i object start many index words p (ap is_thin kind ∙ thin) is_it)
+  follows_member pointer fields field i (Int a) o k e w c well stands stack = absurd (goes_wrong (is_kind i pointer) w well)
+  follows_member pointer fields field i (Handle region) o k e w c well stands stack = absurd (goes_wrong (is_kind i pointer) w well)
+  follows_member pointer fields field i (Key region) o k e w c well stands stack = absurd (goes_wrong (is_kind i pointer) w well)
+
   -- where the value stands in an operand
-  stands_given : (v : Kinded) (o : Operand) (k : List Entry) (e : Environment) (w : World) (c : Configuration) → IsWell (step source (Running (Given v) k e w)) → Stands v o k e w c
+  stands_given : (v : Kinded) (o : Operand) (k : List Entry) (e : Environment) (w : World) (c : Configuration) → HasWords (lower_program source) → plain.HoldsWords (plain.Running c) → IsWell (step source (Running (Given v) k e w)) → Stands v o k e w c
       → ValueStack source c.active.function e.locals v.kind o c.active.next c.frames k → GoesBehind v k e w c
-  stands_given v o [] e w c well stands stack = absurd stack
-  stands_given v o (Needs (ConvertTo from to target) ∷ k) e w c well stands stack = converts from to target v o k e w c well stands stack
-  stands_given v o (Needs (Operate u) ∷ k) e w c well stands stack = operates u v o k e w c well stands stack
-  stands_given v o (Needs (Chain os) ∷ k) e w c well stands stack = chains os v o k e w c well stands stack
-  stands_given v o (Needs (Apply u left) ∷ k) e w c well (shared, facts, is, (is_left, holds)) applied =
+  stands_given v o [] e w c of_words words well stands stack = absurd stack
+  stands_given v o (Needs (ConvertTo from to target) ∷ k) e w c of_words words well stands stack = converts from to target v o k e w c well stands stack
+  stands_given v o (Needs (Operate u) ∷ k) e w c of_words words well stands stack = operates u v o k e w c well stands stack
+  stands_given v o (Needs (Chain os) ∷ k) e w c of_words words well stands stack = chains os v o k e w c well stands stack
+  stands_given v o (Needs (Apply u left) ∷ k) e w c of_words words well (shared, facts, is, (is_left, holds)) applied =
       applies u left v k e w c well shared facts (operands.Slot (top source c.active.function k), o, is_left, is, holds, applied)
-  stands_given v o (Needs (ApplyPointer peek u left) ∷ k) e w c well (shared, facts, is, (is_left, holds)) (d, q, here, lands) =
+  stands_given v o (Needs (ApplyPointer peek u left) ∷ k) e w c of_words words well (shared, facts, is, (is_left, holds)) (d, q, here, lands) =
       applies_pointers source pages calls u peek left v o d q k e w c well shared facts is is_left holds here lands
-  stands_given v o (Needs Decide ∷ k) e w c well stands stack = decides_truth v o k e w c well stands stack
-  stands_given v o (Needs (Store place) ∷ k) e w c well stands stack = stores_at place v o k e w c well stands stack
-  stands_given v o (Needs (Pass f before cs) ∷ k) e w c well stands stack = hands_on f before cs v o k e w c stands stack
-  stands_given v o (Needs (MakePlain owner kind) ∷ k) e w c well (shared, facts, is, holds) stack = plain_made source pages calls owner kind v o k e w c well shared facts is holds stack
-  stands_given v o (Needs (MakeFields owner before cs) ∷ k) e w c well (shared, facts, is, holds) stack = fields_made source pages calls owner before cs v o k e w c well shared facts is holds stack
-  stands_given v o (Needs (Initialise n kind js) ∷ k) e w c well stands stack = initialises n kind js v o k e w c well stands stack
-  stands_given v o (Needs (Choose s t) ∷ k) e w c well (shared, facts, is, holds) stack =
+  stands_given v o (Needs Decide ∷ k) e w c of_words words well stands stack = decides_truth v o k e w c well stands stack
+  stands_given v o (Needs (Store place) ∷ k) e w c of_words words well stands stack = stores_at place v o k e w c well stands stack
+  stands_given v o (Needs (StoreCell peek place) ∷ k) e w c of_words words well stands stack = stores_cell peek place v o k e w c of_words words well stands stack
+  stands_given v o (Needs (Pass f before cs) ∷ k) e w c of_words words well stands stack = hands_on f before cs v o k e w c stands stack
+  stands_given v o (Needs (MakePlain owner kind) ∷ k) e w c of_words words well (shared, facts, is, holds) stack = plain_made source pages calls owner kind v o k e w c well shared facts is holds stack
+  stands_given v o (Needs (MakeFields owner before cs) ∷ k) e w c of_words words well (shared, facts, is, holds) stack = fields_made source pages calls owner before cs v o k e w c well shared facts is holds stack
+  stands_given v o (Needs (Initialise n kind js) ∷ k) e w c of_words words well stands stack = initialises n kind js v o k e w c well stands stack
+  stands_given v o (Needs (Choose s t) ∷ k) e w c of_words words well (shared, facts, is, holds) stack =
       chooses s t v (operand_word c.active.slots o == 0) comparisons.Equal o (operands.Word 0) k e w c (zero_is shared.tables v c.active.slots o (λ none. well (ap (λ x. status_in (status_of (chosen x s t k e w))) none)) is) refl shared facts stack
-  stands_given v o (Needs (Test a s) ∷ k) e w c well (shared, facts, is, holds) stack =
+  stands_given v o (Needs (Test a s) ∷ k) e w c of_words words well (shared, facts, is, holds) stack =
       loops a s v (operand_word c.active.slots o == 0) comparisons.Equal o (operands.Word 0) k e w c (zero_is shared.tables v c.active.slots o (λ none. well (ap (λ x. status_in (status_of (looped x a s k e w))) none)) is) refl shared facts stack
-  stands_given v o (Needs Return ∷ k) e w c well (shared, facts, is, holds) (exits, q, s, there, here, single, stack) =
+  stands_given v o (Needs Return ∷ k) e w c of_words words well (shared, facts, is, holds) (exits, q, s, there, here, single, stack) =
       silently source pages calls (Running (Given v) (Needs Return ∷ k) e w) (Running (Returning (Some v)) k e w) (plain.Running c) refl
       (shared, facts, (exits, q, s, here, subst (IsIn shared.tables v c.active.slots) there is, single, stack))
       (omega arith)
-  stands_given v o (Needs (Follow pointer target) ∷ k) e w c well stands stack = follows pointer target v.kind v.value o k e w c well stands stack
-  stands_given v o (Discard ∷ k) e w c well (shared, facts, is, holds) (exits, stack) =
+  stands_given v o (Needs (Follow pointer target) ∷ k) e w c of_words words well stands stack = follows pointer target v.kind v.value o k e w c well stands stack
+  stands_given v o (Needs (FollowMember pointer fields field) ∷ k) e w c of_words words well stands stack = follows_member pointer fields field v.kind v.value o k e w c well stands stack
+  stands_given v o (Discard ∷ k) e w c of_words words well (shared, facts, is, holds) (exits, stack) =
       silently source pages calls (Running (Given v) (Discard ∷ k) e w) (Running Proceeding k e w) (plain.Running c) refl
       (shared, behind_statement exits facts stack)
       (omega arith)
-  stands_given v o (Needs a ∷ k) e w c well stands stack = absurd stack
-  stands_given v o (entry ∷ k) e w c well stands stack = absurd (well refl)
+  stands_given v o (Needs a ∷ k) e w c of_words words well stands stack = absurd stack
+  stands_given v o (entry ∷ k) e w c of_words words well stands stack = absurd (well refl)
 
   dropped_given : (v : Kinded) (k : List Entry) (e : Environment) (w : World) (c : Configuration) → (shared : SharedAt source pages calls k e w c) → DataIn source shared.tables c.active.slots k e w c
       → DroppedStack source c.active.function c.active.next c.frames k → GoesBehind v k e w c
@@ -1079,9 +1168,9 @@ module _ (source : Program) (pages calls : ℕ) where
   left_given v (Needs (Apply u left) ∷ k) e w c well shared facts ready = applies u left v k e w c well shared facts ready
   left_given v k e w c well shared facts ready = absurd ready
 
-  pub given : (v : Kinded) (k : List Entry) (e : Environment) (w : World) (c : Configuration) → IsStep source pages calls (Given v) k e w c
-  given v k e w c well (shared, in_operand o facts is holds stack) = stands_given v o k e w c well (shared, facts, is, holds) stack
-  given v k e w c well (shared, nowhere facts stack) = dropped_given v k e w c shared facts stack
-  given v k e w c well (shared, ahead n (old, same, facts) is holds stack) = ahead_given v n old k e w c well shared same facts is holds stack
-  given v k e w c well (shared, compared failing l r facts fails stack) = compared_given v failing l r k e w c shared facts fails stack
-  given v k e w c well (shared, with_left facts ready) = left_given v k e w c well shared facts ready
+  pub given : (v : Kinded) (k : List Entry) (e : Environment) (w : World) (c : Configuration) → HasWords (lower_program source) → plain.HoldsWords (plain.Running c) → IsStep source pages calls (Given v) k e w c
+  given v k e w c of_words words well (shared, in_operand o facts is holds stack) = stands_given v o k e w c of_words words well (shared, facts, is, holds) stack
+  given v k e w c of_words words well (shared, nowhere facts stack) = dropped_given v k e w c shared facts stack
+  given v k e w c of_words words well (shared, ahead n (old, same, facts) is holds stack) = ahead_given v n old k e w c well shared same facts is holds stack
+  given v k e w c of_words words well (shared, compared failing l r facts fails stack) = compared_given v failing l r k e w c shared facts fails stack
+  given v k e w c of_words words well (shared, with_left facts ready) = left_given v k e w c well shared facts ready

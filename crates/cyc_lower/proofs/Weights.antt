@@ -1,8 +1,8 @@
 -- The weight of a source state, which falls with each step that the plain program makes no step for.
 use Rattle.std.proofs.Common.{ℕ, suc, ◌+◌, List, [], ◌∷◌, Option, None, Some, length}
-use Rattle.cyc_types.specs.TypedTrees.{Load, New, Initial, Plain, Fields, Dereference, Target, Expression, Number, NullPointer, Copy, Call, Unary, Binary, Assign, Converted, Convert, Arguments, NoArguments, MoreArguments, Operations, NoOperations, ThenCompute, ThenTest, ThenPointer, Statement, Block, Empty, Evaluate, If, While, Break, Continue, Items, NoItems, MoreItems, Execute, Declare, Move, Peek, ThenPointerPeek}
+use Rattle.cyc_types.specs.TypedTrees.{Load, New, Initial, Plain, Fields, Dereference, Target, Expression, Number, NullPointer, Copy, Call, Unary, Binary, Assign, Converted, Convert, Arguments, NoArguments, MoreArguments, Operations, NoOperations, ThenCompute, ThenTest, ThenPointer, Statement, Block, Empty, Evaluate, If, While, Break, Continue, Items, NoItems, MoreItems, Execute, Declare, Move, Peek, ThenPointerPeek, AddressOfCell, Member}
 use Rattle.cyc_types.specs.TypedTrees as typed
-use Rattle.cyc_meaning.specs.State.{Awaiting, Chain, Pass, MakeFields, Initialise, Entry, Needs, Rest, Focus, Evaluating, Locating, Executing, Entering, Binding, State, Running}
+use Rattle.cyc_meaning.specs.State.{Awaiting, Chain, Pass, MakeFields, Initialise, Entry, Needs, Rest, Focus, Evaluating, Locating, Executing, Entering, Binding, State, Running, AwaitingPlace, StoreTo, NeedsPlace}
 
 -- An expression that is an operand may have no code. One that begins with another weighs more than that and what waits for it.
 abbrev mutual
@@ -18,10 +18,13 @@ abbrev mutual
   expression_weight (Assign l c t) = suc (suc (converted_weight c))
   expression_weight (Load x) = suc (suc (dereference_weight x))
   expression_weight (New w i t) = suc (suc (object_weight i))
+  expression_weight (AddressOfCell x t) = suc (suc (dereference_weight x))
+  expression_weight (typed.Store x c t) = suc (suc (suc (dereference_weight x + converted_weight c)))
   expression_weight a = 0
 
   pub dereference_weight : Dereference → ℕ
   dereference_weight (Target k a t) = suc (suc (expression_weight a))
+  dereference_weight (Member k a s f t) = suc (suc (expression_weight a))
   dereference_weight x = 0
 
   -- what a new object holds
@@ -75,8 +78,13 @@ awaiting_weight (MakeFields owner before cs) = arguments_weight cs
 awaiting_weight (Initialise number kind js) = suc (items_weight js)
 awaiting_weight a = 0
 
+abbrev pub place_weight : AwaitingPlace → ℕ
+place_weight (StoreTo peek c) = suc (converted_weight c)
+place_weight a = 0
+
 abbrev pub entry_weight : Entry → ℕ
 entry_weight (Needs a) = suc (awaiting_weight a)
+entry_weight (NeedsPlace a) = suc (place_weight a)
 entry_weight (Rest js) = suc (items_weight js)
 entry_weight entry = 1
 

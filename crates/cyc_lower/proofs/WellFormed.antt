@@ -13,7 +13,7 @@ use Rattle.cyc_types.specs.declared.typed.PointerOperator.TheVariants as pointer
 use Rattle.cyc_types.specs.declared.typed.LogicalOperator.{LogicalOperator}
 use Rattle.cyc_types.specs.declared.typed.LogicalOperator.TheVariants as logical
 use Rattle.cyc_types.specs.Types.{Ty, words_of, ValueType, Void, Null, Value}
-use Rattle.cyc_types.specs.TypedTrees.{Load, New, OnHeap, AsUnique, ByHandle, Initial, Plain, Fields, Array, Dereference, Target, type_of_place, Lvalue, Local, Global, Expression, Number, NullPointer, Copy, Call, Unary, Binary, Assign, Converted, Convert, Arguments, NoArguments, MoreArguments, Operations, NoOperations, ThenCompute, ThenTest, ThenPointer, type_of, Statement, Block, Empty, Evaluate, If, While, Return, Break, Continue, Items, NoItems, MoreItems, Execute, Declare, GlobalVariable, Signature, StructType, Function, Program, Move, Peek, ThenPointerPeek}
+use Rattle.cyc_types.specs.TypedTrees.{Load, New, OnHeap, AsUnique, ByHandle, Initial, Plain, Fields, Array, Dereference, Target, type_of_place, Lvalue, Local, Global, Expression, Number, NullPointer, Copy, Call, Unary, Binary, Assign, Converted, Convert, Arguments, NoArguments, MoreArguments, Operations, NoOperations, ThenCompute, ThenTest, ThenPointer, type_of, Statement, Block, Empty, Evaluate, If, While, Return, Break, Continue, Items, NoItems, MoreItems, Execute, Declare, GlobalVariable, Signature, StructType, Function, Program, Move, Peek, ThenPointerPeek, AddressOfCell, Store, Member}
 use Rattle.cyc_types.specs.typing.WellTyped.{signature_of}
 use Rattle.cyc_types.specs.Numbered.{Numbering, argument_count, signatures_of, numbering_of}
 use Rattle.cyc_plain.specs.declared.instruction.Comparison.{Comparison}
@@ -30,11 +30,11 @@ use Rattle.std.proofs.lemmas.Bool.{eq-eqb, eqb-true}
 use Rattle.cyc_meaning.specs.Operators.{null_exception, division_by_zero}
 use Rattle.cyc_store.specs.declared.range.TheConstants.{HEAP}
 use Rattle.cyc_meaning.specs.Values.{kind_of, words_of_kind}
-use Rattle.cyc_meaning.specs.FrameCount.{result_words, operand_words, converted_words, argument_words, expression_need, dereference_need, converted_need, arguments_need, operations_need, initial_need, statement_need, items_need, words_of_all, initial_value_need, kept_by, kept_by_items}
+use Rattle.cyc_meaning.specs.FrameCount.{result_words, operand_words, converted_words, argument_words, expression_need, dereference_need, converted_need, arguments_need, operations_need, initial_need, statement_need, items_need, words_of_all, initial_value_need, kept_by, kept_by_items, place_words}
 use Rattle.cyc_lower.specs.declared.statements.Exits.{Exits}
 use Rattle.cyc_meaning.specs.Pointers.{result_kind as operator_kind}
 use Rattle.cyc_lower.specs.Slots.{starts_of, slot_of, Types}
-use Rattle.cyc_lower.specs.Lowering.{types_of, spare_slots, are_as_wide, converts_there, passed_words, all_passed, source_of, source_slot, moved_by, move_of, unary_operator, binary_operator, operand_of, operand_or, code_unless, slot_or, code_unless_slot, left_with, left_of, value_slot, next_slot, slot_with, left_slot, value_operand, converted_operand, printed_operand, check_code, conversion_code, divisor_code, checked_code, operator_code, truth_code, load_code, low_byte, test_code, is_in, copy_code, expression_code, arguments_code, converted_code, converted_operand_code, printed_code, dereference_code, initial_code, assignment_code, operations_code, discarded_code, failing_comparison, compared_or, first_operand, first_code, second_code, pair_code, condition_code, condition_of, failing_jump, break_target, continue_target, return_code, declaration_code, statement_code, items_code, first_temporary, results_of, lower_function, lower_global, lower_program, pointer_operator, left_kind, behind_left, pointer_code, outside_loops, inside_loop, index_code, pointer_instructions, stores_code, object_code, made_code, leave_code}
+use Rattle.cyc_lower.specs.Lowering.{types_of, spare_slots, are_as_wide, converts_there, passed_words, all_passed, source_of, source_slot, moved_by, move_of, unary_operator, binary_operator, operand_of, operand_or, code_unless, slot_or, code_unless_slot, left_with, left_of, value_slot, next_slot, slot_with, left_slot, value_operand, converted_operand, printed_operand, check_code, conversion_code, divisor_code, checked_code, operator_code, truth_code, load_code, low_byte, test_code, is_in, copy_code, expression_code, arguments_code, converted_code, converted_operand_code, printed_code, initial_code, assignment_code, operations_code, discarded_code, failing_comparison, compared_or, first_operand, first_code, second_code, pair_code, condition_code, condition_of, failing_jump, break_target, continue_target, return_code, declaration_code, statement_code, items_code, first_temporary, results_of, lower_function, lower_global, lower_program, pointer_operator, left_kind, behind_left, pointer_code, outside_loops, inside_loop, index_code, pointer_instructions, stores_code, object_code, made_code, leave_code, place_operand, place_offset, place_code, address_code, addressed_by, store_address_code, store_code}
 use Rattle.cyc_lower.proofs.Widths.{kind_positive, kind_few, type_words, kind_of_result, result_kind, given, passed_kind, words_in, chain_kind, made_kind}
 use Rattle.cyc_lower.proofs.Fitting.{FitsPlace, FitsStored, FitsCell, Fits, FitsConverted, FitArguments, FitOperations, FitsReturn, FitsInitial, FitsStatement, FitItems, AreFitting, IsFitting, FitsObject}
 use Rattle.cyc_lower.specs.Words.{AreOfWordsItems, AreOfWordsFunctions, IsOfWordsProgram}
@@ -145,6 +145,9 @@ module _ (program : PlainProgram) (r : Routine) (b : Numbering) (types : Types) 
   chain_needs (ThenPointer o a os) kind t left (wide, numbered, rest) = omega (arith, chain_needs os (operator_kind o) t (words_of t) rest, operator_few o, wide)
   chain_needs (ThenPointerPeek n o a os) kind t left (wide, numbered, rest) = omega (arith, chain_needs os (operator_kind o) t (words_of t) rest, operator_few o, wide)
 
+  stored_kind : (x : Dereference) (c : Converted) (ty : ValueType) → kind_at (Store x c ty) ≡ passed_kind c
+  stored_kind x (Convert from to a) ty = refl
+
   -- what is given has as many words as are needed for it, or one
   given_needs : (a : Expression) → Fits b types a → words_of_kind (kind_at a) ≤ max 1 (expression_need a)
   given_needs (Number n) numbered = omega arith
@@ -160,12 +163,15 @@ module _ (program : PlainProgram) (r : Routine) (b : Numbering) (types : Types) 
   given_needs (Binary a os t) (numbered, rest) = omega (arith, given_needs a numbered, chain_needs os (kind_at a) t (operand_words (type_of a)) rest)
   given_needs (Assign l (Convert from to a) t) numbered = omega arith
   given_needs (Load (Target k a t)) numbered = omega (arith, type_words t)
+  given_needs (Load (Member k a s f t)) numbered = omega (arith, type_words t)
   given_needs (Load x) numbered = absurd numbered
   given_needs (New OnHeap (Plain kind a) t) numbered = omega arith
   given_needs (New OnHeap (Fields cs) t) numbered = omega arith
   given_needs (New OnHeap (Array p level n kind a) t) numbered = absurd numbered
   given_needs (New AsUnique i t) numbered = absurd numbered
   given_needs (New (ByHandle h) i t) numbered = absurd numbered
+  given_needs (AddressOfCell x t) numbered = omega arith
+  given_needs (Store x (Convert from to a) t) numbered = omega arith
   given_needs a numbered = absurd numbered
 
   slot_fits : (a : Expression) (t : ℕ) → Fits b types a → t + words_of_kind (kind_at a) ≤ r.slots → value_slot (starts_of types) a t + words_of_kind (kind_at a) ≤ r.slots
@@ -360,6 +366,43 @@ module _ (program : PlainProgram) (r : Routine) (b : Numbering) (types : Types) 
     append (stores_code words (t + words) 0 t) (instructions.Move d (operands.Slot (t + words)) ∷ []) (stores_in words (t + words) 0 t (omega (arith, few)) (omega (arith, few))) ((room, omega (arith, few)), tt),
   )
 
+  address_in : (o : Operand) (bytes d : ℕ) → IsOperand r o → d < r.slots → AreIn (address_code o bytes d)
+  address_in o (suc bytes) d inside few = ((few, inside, tt), tt)
+  address_in (operands.Word n) zero d inside few = ((few, inside), tt)
+  address_in (operands.Slot n) zero d inside few = by (n == d)
+    where
+      by : (is : Bool) → AreIn (if is then [] else instructions.Move d (operands.Slot n) ∷ [])
+      by true = tt
+      by false = ((few, inside), tt)
+
+  place_operand_in : (x : Dereference) (own t : ℕ) → FitsCell b types x → 1 ≤ own → t + dereference_need x own ≤ r.slots → IsOperand r (place_operand (starts_of types) x t)
+  place_operand_in (Target k a ty) own t (thin, single, numbered) some few = value_in a t numbered (omega (arith, few, given_needs a numbered, some))
+  place_operand_in (Member k a s f ty) own t (thin, single, there, numbered) some few = value_in a t numbered (omega (arith, few, given_needs a numbered, some))
+  place_operand_in x own t numbered some few = absurd numbered
+
+  addressed_in : (x : Dereference) (p d t : ℕ) → FitsCell b types x → d < r.slots → t + dereference_need x place_words ≤ r.slots
+      → p + length (addressed_by (place_code (starts_of types) x p t) (place_operand (starts_of types) x t) (place_offset (starts_of types) x) d) < length r.code
+      → (p + length (place_code (starts_of types) x p t) < length r.code → AreIn (place_code (starts_of types) x p t))
+      → AreIn (addressed_by (place_code (starts_of types) x p t) (place_operand (starts_of types) x t) (place_offset (starts_of types) x) d)
+  addressed_in x p d t numbered room few short inside =
+      let front = place_code (starts_of types) x p t in
+      let back = address_code (place_operand (starts_of types) x t) (place_offset (starts_of types) x) d in
+      append front back (inside (omega (arith, short, length-append front back))) (address_in (place_operand (starts_of types) x t) (place_offset (starts_of types) x) d (place_operand_in x place_words t numbered (omega arith) few) room)
+
+  stored_in : (x : Dereference) (c : Converted) (p t : ℕ) → FitsConverted b types c → t + 1 + converted_words c ≤ r.slots → p + length (store_code (starts_of types) x c p t) < length r.code
+      → (p + length (store_address_code (starts_of types) x p t) < length r.code → AreIn (store_address_code (starts_of types) x p t))
+      → ((q : ℕ) → q + length (converted_operand_code (starts_of types) c q (t + 1)) < length r.code → AreIn (converted_operand_code (starts_of types) c q (t + 1)))
+      → AreIn (store_code (starts_of types) x c p t)
+  stored_in x c p t numbered room short address_inside value_inside =
+      let address = store_address_code (starts_of types) x p t in
+      let q = p + length address in
+      let value = converted_operand_code (starts_of types) c q (t + 1) in
+      let write = instructions.Store (operands.Slot t) 0 (converted_operand (starts_of types) c (t + 1)) ∷ [] in
+      let long = length-append address (value ++ write) in
+      let behind = length-append value write in
+      append address (value ++ write) (address_inside (omega (arith, short, long)))
+      (append value write (value_inside q (omega (arith, short, long, behind))) ((omega (arith, room), converted_value_in c (t + 1) numbered room), tt))
+
   -- ---- expressions
 
   -- an operator on pointers with its right operand, which stands behind the left one
@@ -465,7 +508,24 @@ module _ (program : PlainProgram) (r : Routine) (b : Numbering) (types : Types) 
         append (front ++ store) back
         (append front store (converted_operand_in c p t numbered (omega (arith, few)) (omega (arith, few)) (omega (arith, short, length-append (front ++ store) back, length-append front store))) ((omega (arith, within, globals), converted_value_in c t numbered (omega (arith, few))), tt))
         (copy_in (is_in o d) c o d (converted_room c t numbered (omega (arith, few))) (omega (arith, room, ap words_of_kind (assigned_kind (Global n) c ty))))
-    expression_in (Load x) p d t numbered room few short = dereference_in x p d t numbered (omega (arith, room, kind_positive (kind_of (type_of_place x)))) few short
+    expression_in (Load x) p d t numbered room few short =
+        let own = words_of (type_of_place x) in
+        let some = words_positive (type_of_place x) in
+        let load = instructions.Load d (place_operand (starts_of types) x t) (place_offset (starts_of types) x) ∷ [] in
+        append (place_code (starts_of types) x p t) load
+        (place_in x own p t numbered some few (omega (arith, short, length-append (place_code (starts_of types) x p t) load)))
+        ((omega (arith, room, kind_positive (kind_of (type_of_place x))), place_operand_in x own t numbered some few), tt)
+    expression_in (AddressOfCell x ty) p d t numbered room few short =
+        addressed_in x p d t numbered (omega (arith, room)) (omega (arith, few)) short (λ less. place_in x place_words p t numbered (omega arith) (omega (arith, few)) less)
+    expression_in (Store x c ty) p d t (place, single, numbered) room few short =
+        let o = converted_operand (starts_of types) c (t + 1) in
+        let front = store_code (starts_of types) x c p t in
+        let back = copy_code (passed_words c) o d in
+        append front back
+        (stored_in x c p t numbered (omega (arith, few)) (omega (arith, short, length-append front back))
+        (λ less. addressed_in x p t t place (omega (arith, few)) (omega (arith, few)) less (λ shorter. place_in x place_words p t place (omega arith) (omega (arith, few)) shorter))
+        (λ q less. converted_operand_in c q (t + 1) numbered (omega (arith, few)) (omega (arith, few)) less))
+        (copy_in (is_in o d) c o d (converted_room c (t + 1) numbered (omega (arith, few))) (omega (arith, room, ap words_of_kind (stored_kind x c ty))))
     expression_in (New OnHeap i ty) p d t numbered room few short = made_in i HEAP ty p d t numbered (omega (arith, room, kind_positive (made_kind i))) (omega (arith, few)) short
     expression_in (New AsUnique i ty) p d t numbered room few short = absurd numbered
     expression_in (New (ByHandle h) i ty) p d t numbered room few short = absurd numbered
@@ -486,22 +546,29 @@ module _ (program : PlainProgram) (r : Routine) (b : Numbering) (types : Types) 
         (object_in handle (argument_count cs) d t room (omega (arith, few, single, arguments_words cs, words_positive ty)))
     made_in i handle ty p d t numbered room few short = absurd numbered
 
-    dereference_in : (x : Dereference) (p d t : ℕ) → FitsCell b types x → d < r.slots → t + dereference_need x (words_of (type_of_place x)) ≤ r.slots → p + length (dereference_code (starts_of types) x p d t) < length r.code → AreIn (dereference_code (starts_of types) x p d t)
-    dereference_in (Target k a ty) p d t (thin, single, numbered) room few short =
+    -- a place of what has so many words
+    place_in : (x : Dereference) (own p t : ℕ) → FitsCell b types x → 1 ≤ own → t + dereference_need x own ≤ r.slots → p + length (place_code (starts_of types) x p t) < length r.code → AreIn (place_code (starts_of types) x p t)
+    place_in (Target k a ty) own p t (thin, single, numbered) some few short =
         let slot = value_slot (starts_of types) a t in
         let o = value_operand (starts_of types) a t in
         let inner = expression_code (starts_of types) a p slot t in
         let front = code_unless (operand_of (starts_of types) a) inner in
         let check = check_code null_exception o (p + length front) in
-        let load = instructions.Load d o 0 ∷ [] in
-        let long = length-append (front ++ check) load in
-        let long_front = length-append front check in
-        let free : t + words_of_kind (kind_at a) ≤ r.slots = omega (arith, few, given_needs a numbered, words_positive ty) in
-        let inside = value_in a t numbered free in
-        append (front ++ check) load
-        (append front check (unless_in (operand_of (starts_of types) a) inner p (omega (arith, short, long, long_front)) (λ less. expression_in a p slot t numbered (slot_fits a t numbered free) (omega (arith, few)) less))
-        (check_in null_exception o (p + length front) inside (omega (arith, short, long, long_front)))) ((room, inside), tt)
-    dereference_in x p d t numbered room few short = absurd numbered
+        let long = length-append front check in
+        let free : t + words_of_kind (kind_at a) ≤ r.slots = omega (arith, few, given_needs a numbered, some) in
+        append front check (unless_in (operand_of (starts_of types) a) inner p (omega (arith, short, long)) (λ less. expression_in a p slot t numbered (slot_fits a t numbered free) (omega (arith, few)) less))
+        (check_in null_exception o (p + length front) (value_in a t numbered free) (omega (arith, short, long)))
+    place_in (Member k a s f ty) own p t (thin, single, there, numbered) some few short =
+        let slot = value_slot (starts_of types) a t in
+        let o = value_operand (starts_of types) a t in
+        let inner = expression_code (starts_of types) a p slot t in
+        let front = code_unless (operand_of (starts_of types) a) inner in
+        let check = check_code null_exception o (p + length front) in
+        let long = length-append front check in
+        let free : t + words_of_kind (kind_at a) ≤ r.slots = omega (arith, few, given_needs a numbered, some) in
+        append front check (unless_in (operand_of (starts_of types) a) inner p (omega (arith, short, long)) (λ less. expression_in a p slot t numbered (slot_fits a t numbered free) (omega (arith, few)) less))
+        (check_in null_exception o (p + length front) (value_in a t numbered free) (omega (arith, short, long)))
+    place_in x own p t numbered some few short = absurd numbered
 
     initial_in : (c : Converted) (p d t : ℕ) → FitsConverted b types c → d + words_of_kind (passed_kind c) ≤ r.slots → t + converted_words c ≤ r.slots → t + converted_need c ≤ r.slots → p + length (initial_code (starts_of types) c p d t) < length r.code → AreIn (initial_code (starts_of types) c p d t)
     initial_in (Convert from to a) p d t (kind, wide, numbered) room free few short =
@@ -617,6 +684,10 @@ module _ (program : PlainProgram) (r : Routine) (b : Numbering) (types : Types) 
       append front back (printed_in cs p t t 0 numbered (omega (arith, few)) (omega arith) (omega (arith, few)) (omega (arith, short, length-append front back)))
       (printed_value_in cs (operands.Slot t) t numbered (omega (arith, few)) (omega (arith, few)), tt)
   discarded_in (Assign l c ty) p t (within, numbered) few short = assignment_in l c p t within numbered (omega (arith, few)) (omega (arith, few)) short
+  discarded_in (Store x c ty) p t (place, single, numbered) few short =
+      stored_in x c p t numbered (omega (arith, few)) short
+      (λ less. addressed_in x p t t place (omega (arith, few)) (omega (arith, few)) less (λ shorter. place_in x place_words p t place (omega arith) (omega (arith, few)) shorter))
+      (λ q less. converted_operand_in c q (t + 1) numbered (omega (arith, few)) (omega (arith, few)) less)
   discarded_in a p t numbered few short =
       unless_in (operand_of (starts_of types) a) (expression_code (starts_of types) a p t t) p short (λ less. expression_in a p t t numbered (omega (arith, few, kind_few (kind_at a))) (omega (arith, few)) less)
 

@@ -94,7 +94,7 @@ module _ (source : Program) (pages calls : ℕ) (well_typed : AreWellTypedGlobal
       → IsMatched source pages calls (Running focus k e w) (plain.Running c)
   stepping (Evaluating a) k e w c well words related = evaluating source pages calls a k e w c well related
   stepping (Locating x) k e w c well words related = locating source pages calls x k e w c well related
-  stepping (Given v) k e w c well words related = given source pages calls v k e w c well related
+  stepping (Given v) k e w c well words related = given source pages calls v k e w c of_words words well related
   stepping (Executing s) k e w c well words related = executing source pages calls s k e w c well related
   stepping Proceeding k e w c well words related = proceeding source pages calls k e w c well related
   stepping (Calling f before) k e w c well words related = calling source pages calls stand f before k e w c well related

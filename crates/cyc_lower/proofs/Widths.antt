@@ -1,6 +1,6 @@
 -- The kinds of what expressions give, and the words of locals.
-use Rattle.std.proofs.Common.{◌≡◌, ◌⊎◌, ℕ, zero, suc, ◌+◌, ◌≤◌, ◌<◌, true, List, [], ◌∷◌, Option, None, Some, slice_get, refl, sym, ap, ◌∙◌, arith}
-use Rattle.std.proofs.lemmas.Bool.{eqb-true}
+use Rattle.std.proofs.Common.{◌≡◌, ◌⊎◌, ℕ, zero, suc, ◌+◌, ◌≤◌, ◌<◌, true, false, List, [], ◌∷◌, length, Option, None, Some, slice_get, refl, sym, ap, ◌∙◌, arith}
+use Rattle.std.proofs.lemmas.Bool.{eqb-true, and_parts}
 use Rattle.cyc_syntax.specs.declared.tree.PointerKind.TheVariants as marks
 use Rattle.cyc_types.specs.declared.typed.Kind.{Kind}
 use Rattle.cyc_types.specs.declared.typed.Kind.TheVariants as kinds
@@ -8,9 +8,9 @@ use Rattle.cyc_types.specs.declared.typed.Callee.{Callee}
 use Rattle.cyc_types.specs.declared.typed.Callee.TheVariants as callees
 use Rattle.cyc_types.specs.Types.{Ty, words_of, words_of_mark}
 use Rattle.cyc_types.specs.Types as types
-use Rattle.cyc_types.specs.TypedTrees.{Load, type_of_place, Expression, NullPointer, Copy, Move, Peek, Call, Binary, Assign, Converted, Convert, Operations, NoOperations, ThenCompute, ThenTest, ThenPointer, ThenPointerPeek, Signature, New, Initial, Array}
+use Rattle.cyc_types.specs.TypedTrees.{Load, type_of_place, Expression, NullPointer, Copy, Move, Peek, Call, Binary, Assign, Converted, Convert, Operations, NoOperations, ThenCompute, ThenTest, ThenPointer, ThenPointerPeek, Signature, New, Initial, Array, AddressOfCell, Store, StructType}
 use Rattle.cyc_meaning.specs.Pointers.{result_kind as operator_kind}
-use Rattle.cyc_meaning.specs.Values.{kind_of, number_of_kind, is_kind, words_of_kind}
+use Rattle.cyc_meaning.specs.Values.{kind_of, number_of_kind, is_kind, words_of_kind, are_kinds}
 use Rattle.cyc_lower.specs.Slots.{Types}
 
 -- ---- kinds and their words
@@ -60,6 +60,14 @@ number_tells kinds.Key = refl
 pub same_kind : (a b : Kind) → is_kind a b ≡ true → a ≡ b
 same_kind a b is = sym (number_tells a) ∙ ap kind_numbered (eqb-true (number_of_kind a) (number_of_kind b) is) ∙ number_tells b
 
+pub same_kinds : (these those : List Kind) → are_kinds these those ≡ true → these ≡ those
+same_kinds [] [] are = refl
+same_kinds [] (b ∷ bs) are = absurd (let f : false ≡ true = are in cc)
+same_kinds (a ∷ these) [] are = absurd (let f : false ≡ true = are in cc)
+same_kinds (a ∷ these) (b ∷ those) are =
+    let (first, rest) = and_parts (is_kind a b) (are_kinds these those) are in
+    ap (λ (k : Kind). k ∷ these) (same_kind a b first) ∙ ap (λ (ks : List Kind). b ∷ ks) (same_kinds these those rest)
+
 -- ---- what expressions give
 
 -- the kind of what a function returns, and of what is called
@@ -99,7 +107,9 @@ module _ (signatures : List Signature) where
   given (Peek p n t) = kind_of t
   given (Call f cs t) = called_kind f
   given (Binary a os t) = chain_kind (given a) os
+  given (AddressOfCell x t) = kinds.NonNull
   given (Assign l (Convert from to a) t) = to
+  given (Store x (Convert from to a) t) = to
   given a = kinds.Int
 
 abbrev pub passed_kind : Converted → Kind
@@ -116,6 +126,10 @@ words_in (t ∷ ts) (suc n) = words_in ts n
 -- a value of a kind has room in the local of this number
 abbrev pub HasRoom : Types → ℕ → Kind → Type 0
 HasRoom types n kind = words_of_kind kind ≤ words_in types.locals n
+
+-- the struct of this number has a field of that number
+abbrev pub HasField : Types → (number field : ℕ) → Type 0
+HasField types number field = (s : StructType) × (slice_get types.structs number ≡ Some s) × (field < length s.fields)
 
 -- so many places from one on are not concerned
 abbrev pub Outside : (first many n : ℕ) → Type 0

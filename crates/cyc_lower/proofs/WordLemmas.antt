@@ -1,8 +1,9 @@
 -- A lowered program has words wherever its source has.
-use Rattle.std.proofs.Common.{◌≡◌, ℕ, zero, suc, ◌+◌, ◌*◌, ◌≤◌, max, Bool, true, false, List, [], ◌∷◌, ◌++◌, length, map, Option, None, Some, All, refl, arith}
+use Rattle.std.proofs.Common.{◌≡◌, ℕ, zero, suc, ◌+◌, ◌*◌, ◌≤◌, max, Bool, true, false, List, [], ◌∷◌, ◌++◌, length, map, Option, None, Some, All, refl, arith, slice_get}
 use Rattle.cyc_meaning.specs.Operators.{null_exception, division_by_zero}
 use Rattle.std.specs.List.{AllByRecursion}
-use Rattle.cyc_words.specs.Word.{IsWord}
+use Rattle.cyc_words.proofs.WordLemmas.{IsWord-add_of}
+use Rattle.cyc_words.specs.Word.{IsWord, add_of}
 use Rattle.cyc_types.specs.declared.typed.Kind.{Kind}
 use Rattle.cyc_types.specs.declared.typed.Kind.TheVariants as kinds
 use Rattle.cyc_types.specs.declared.typed.Callee.TheVariants as callees
@@ -13,7 +14,7 @@ use Rattle.cyc_types.specs.declared.typed.PointerOperator.{PointerOperator}
 use Rattle.cyc_types.specs.declared.typed.PointerOperator.TheVariants as pointers
 use Rattle.cyc_types.specs.declared.typed.LogicalOperator.{LogicalOperator}
 use Rattle.cyc_types.specs.declared.typed.LogicalOperator.TheVariants as logical
-use Rattle.cyc_types.specs.TypedTrees.{Load, New, OnHeap, AsUnique, ByHandle, Initial, Plain, Fields, Dereference, Target, Lvalue, Local, Global, Expression, Number, NullPointer, Copy, Call, Unary, Binary, Assign, Converted, Convert, Arguments, NoArguments, MoreArguments, Operations, NoOperations, ThenCompute, ThenTest, ThenPointer, Statement, Block, Empty, Evaluate, If, While, Return, Break, Continue, Items, NoItems, MoreItems, Execute, Declare, Constant, Word, Null, GlobalVariable, StructType, Function, Program, Move, Peek, ThenPointerPeek, Throw, Try, Clauses, NoClauses, Default, Case}
+use Rattle.cyc_types.specs.TypedTrees.{Load, New, OnHeap, AsUnique, ByHandle, Initial, Plain, Fields, Dereference, Target, Lvalue, Local, Global, Expression, Number, NullPointer, Copy, Call, Unary, Binary, Assign, Converted, Convert, Arguments, NoArguments, MoreArguments, Operations, NoOperations, ThenCompute, ThenTest, ThenPointer, Statement, Block, Empty, Evaluate, If, While, Return, Break, Continue, Items, NoItems, MoreItems, Execute, Declare, Constant, Word, Null, GlobalVariable, StructType, Function, Program, Move, Peek, ThenPointerPeek, Throw, Try, Clauses, NoClauses, Default, Case, AddressOfCell, Store, Member, Element}
 use Rattle.cyc_plain.specs.declared.instruction.Comparison.{Comparison}
 use Rattle.cyc_plain.specs.declared.instruction.Operand.{Operand}
 use Rattle.cyc_plain.specs.declared.instruction.Operand.TheVariants as operands
@@ -23,13 +24,13 @@ use Rattle.cyc_plain.specs.WellFormed.{IsOfWord, HasWord, HasWords, is_return}
 use Rattle.cyc_lower.specs.Words.{IsOfWords, IsOfWordsCell, IsOfWordsObject, IsOfWordsConverted, AreOfWordsArguments, AreOfWordsOperations, IsOfWordsInitial, IsOfWordsStatement, AreOfWordsItems, IsOfWordsConstant, AreOfWordsGlobals, AreOfWordsFunctions, IsOfWordsProgram, IsOfWordsThrown, AreOfWordsClauses}
 use Rattle.cyc_plain.specs.declared.limits.TheConstants.{RECORD_WORDS}
 use Rattle.cyc_lower.specs.declared.statements.Exits.{Exits}
-use Rattle.cyc_lower.specs.Slots.{starts_of, slot_of, Starts}
+use Rattle.cyc_lower.specs.Slots.{starts_of, slot_of, Starts, bytes_from, field_in}
 use Rattle.std.specs.Prelude.{◌==◌, if◌then◌else◌}
-use Rattle.cyc_types.specs.Types.{words_of}
+use Rattle.cyc_types.specs.Types.{words_of, Ty}
 use Rattle.cyc_types.specs.Numbered.{argument_count}
 use Rattle.cyc_store.specs.declared.range.TheConstants.{HEAP}
 use Rattle.cyc_meaning.specs.Values.{words_of_kind}
-use Rattle.cyc_lower.specs.Lowering.{types_of, are_as_wide, converts_there, passed_words, source_of, source_slot, converted_by, moved_by, move_of, operand_of, operand_or, code_unless, slot_or, code_unless_slot, left_with, left_of, value_slot, next_slot, left_slot, value_operand, converted_operand, printed_operand, check_code, conversion_code, divisor_code, checked_code, operator_code, truth_code, load_code, test_code, is_in, copy_code, expression_code, arguments_code, converted_code, converted_operand_code, printed_code, dereference_code, initial_code, assignment_code, operations_code, discarded_code, failing_comparison, compared_or, compared_of, slot_with, first_code, second_code, pair_code, condition_code, condition_of, return_code, declaration_code, statement_code, items_code, first_temporary, initial_word, lower_function, lower_global, lower_program, behind_left, pointer_code, outside_loops, inside_loop, index_of, first_two, pointer_instructions, stores_code, object_code, made_code, leave_code, clause_code, caught_code, clauses_code, function_code}
+use Rattle.cyc_lower.specs.Lowering.{types_of, are_as_wide, converts_there, passed_words, source_of, source_slot, converted_by, moved_by, move_of, operand_of, operand_or, code_unless, slot_or, code_unless_slot, left_with, left_of, value_slot, next_slot, left_slot, value_operand, converted_operand, printed_operand, check_code, conversion_code, divisor_code, checked_code, operator_code, truth_code, load_code, test_code, is_in, copy_code, expression_code, arguments_code, converted_code, converted_operand_code, printed_code, initial_code, assignment_code, operations_code, discarded_code, failing_comparison, compared_or, compared_of, slot_with, first_code, second_code, pair_code, condition_code, condition_of, return_code, declaration_code, statement_code, items_code, first_temporary, initial_word, lower_function, lower_global, lower_program, behind_left, pointer_code, outside_loops, inside_loop, index_of, first_two, pointer_instructions, stores_code, object_code, made_code, place_operand, place_offset, place_code, address_code, addressed_by, store_address_code, store_code, leave_code, clause_code, caught_code, clauses_code, function_code, break_target, continue_target}
 
 -- ---- lists
 
@@ -112,6 +113,19 @@ copy_words : (is : Bool) (words : ℕ) (o : Operand) (d : ℕ) → IsOfWord o �
 copy_words true words o d word = tt
 copy_words false words o d word = move_words words d o word
 
+address_words : (o : Operand) (bytes d : ℕ) → IsOfWord o → IsWord bytes → HaveWords (address_code o bytes d)
+address_words o zero d word small = copy_words (is_in o d) 1 o d word
+address_words o (suc bytes) d word small = ((word, small), tt)
+
+bytes_word : (ts : List Ty) (field bytes : ℕ) → IsWord bytes → IsWord (bytes_from bytes ts field)
+bytes_word [] field bytes small = small
+bytes_word (t ∷ ts) zero bytes small = small
+bytes_word (t ∷ ts) (suc field) bytes small = bytes_word ts field (add_of bytes (4 * words_of t)) (IsWord-add_of bytes (4 * words_of t))
+
+field_word : (s : Option StructType) (field : ℕ) → IsWord (field_in s field)
+field_word None field = omega arith
+field_word (Some s) field = bytes_word s.fields field 0 (omega arith)
+
 converted_by_words : (known : Option Operand) (inner : List Instruction) (to : Kind) (o : Operand) (p : ℕ) → HaveWords inner → IsOfWord o → HaveWords (converted_by known inner to o p)
 converted_by_words known inner to o p all word =
     let front = code_unless known inner in
@@ -187,6 +201,16 @@ module _ (starts : Starts) where
   left_word a (ThenCompute o b os) slot words = left_with_word (operand_of starts b) a slot words
   left_word a os slot words = tt
 
+  place_word : (x : Dereference) (t : ℕ) → IsOfWordsCell x → IsOfWord (place_operand starts x t)
+  place_word (Target k a ty) t words = known_word a (value_slot starts a t) words
+  place_word (Member k a s f ty) t words = known_word a (value_slot starts a t) words
+  place_word x t words = absurd words
+
+  offset_word : (x : Dereference) → IsWord (place_offset starts x)
+  offset_word (Target k a ty) = omega arith
+  offset_word (Member k a s f ty) = field_word (slice_get starts.structs s) f
+  offset_word (Element a i ty) = omega arith
+
   load_words : (words : ℕ) (l : Lvalue) (d : ℕ) → HaveWords (load_code starts words l d)
   load_words words (Local w n) d = move_words words d (operands.Slot (slot_of starts n)) tt
   load_words words (Global n) d = (tt, tt)
@@ -220,7 +244,16 @@ module _ (starts : Starts) where
         let front = converted_operand_code starts c p t in
         let word = converted_word c t words in
         append (front ++ instructions.StoreGlobal n o ∷ []) (copy_code (passed_words c) o d) (append front _ (converted_operand_words c p t words) (word, tt)) (copy_words (is_in o d) (passed_words c) o d word)
-    expression_words (Load x) p d t words = dereference_words x p d t words
+    expression_words (Load x) p d t words = append (place_code starts x p t) _ (place_words x p t words) ((place_word x t words, offset_word x), tt)
+    expression_words (AddressOfCell x ty) p d t words = address_of_words x p d t words
+    expression_words (Store x c ty) p d t (first, second) =
+        let address = store_address_code starts x p t in
+        let value = converted_operand_code starts c (p + length address) (t + 1) in
+        let o = converted_operand starts c (t + 1) in
+        let word = converted_word c (t + 1) second in
+        append (store_code starts x c p t) (copy_code (passed_words c) o d)
+        (append address _ (address_of_words x p t t first) (append value _ (converted_operand_words c (p + length address) (t + 1) second) ((tt, omega arith, word), tt)))
+        (copy_words (is_in o d) (passed_words c) o d word)
     expression_words (New OnHeap i ty) p d t words = made_words i HEAP p d t (omega arith) words
     expression_words (New AsUnique i ty) p d t words = absurd words
     expression_words (New (ByHandle h) i ty) p d t words = absurd words
@@ -233,14 +266,31 @@ module _ (starts : Starts) where
         append (arguments_code starts cs p t) (object_code handle (argument_count cs) d t) (arguments_words cs p t words) (object_words handle (argument_count cs) d t word few)
     made_words i handle p d t word words = absurd words
 
-    dereference_words : (x : Dereference) (p d t : ℕ) → IsOfWordsCell x → HaveWords (dereference_code starts x p d t)
-    dereference_words (Target k a ty) p d t words =
+    place_words : (x : Dereference) (p t : ℕ) → IsOfWordsCell x → HaveWords (place_code starts x p t)
+    place_words (Target k a ty) p t words =
+        let slot = value_slot starts a t in
+        converted_by_words (operand_of starts a) (expression_code starts a p slot t) kinds.NonNull (value_operand starts a t) p (expression_words a p slot t words) (known_word a slot words)
+    place_words (Member k a s f ty) p t words =
+        let slot = value_slot starts a t in
+        converted_by_words (operand_of starts a) (expression_code starts a p slot t) kinds.NonNull (value_operand starts a t) p (expression_words a p slot t words) (known_word a slot words)
+    place_words x p t words = absurd words
+
+    -- its address comes to a slot
+    address_of_words : (x : Dereference) (p d t : ℕ) → IsOfWordsCell x → HaveWords (addressed_by (place_code starts x p t) (place_operand starts x t) (place_offset starts x) d)
+    address_of_words (Target k a ty) p d t words =
         let slot = value_slot starts a t in
         let o = value_operand starts a t in
-        let inner = expression_code starts a p slot t in
-        let word = known_word a slot words in
-        append (converted_by (operand_of starts a) inner kinds.NonNull o p) _ (converted_by_words (operand_of starts a) inner kinds.NonNull o p (expression_words a p slot t words) word) ((word, omega arith), tt)
-    dereference_words x p d t words = absurd words
+        append (place_code starts (Target k a ty) p t) _
+        (converted_by_words (operand_of starts a) (expression_code starts a p slot t) kinds.NonNull o p (expression_words a p slot t words) (known_word a slot words))
+        (address_words o 0 d (known_word a slot words) (omega arith))
+    address_of_words (Member k a s f ty) p d t words =
+        let slot = value_slot starts a t in
+        let o = value_operand starts a t in
+        let x = Member k a s f ty in
+        append (place_code starts x p t) _
+        (converted_by_words (operand_of starts a) (expression_code starts a p slot t) kinds.NonNull o p (expression_words a p slot t words) (known_word a slot words))
+        (address_words o (place_offset starts x) d (known_word a slot words) (offset_word x))
+    address_of_words x p d t words = absurd words
 
     initial_words : (c : Converted) (p d t : ℕ) → IsOfWordsConverted c → HaveWords (initial_code starts c p d t)
     initial_words (Convert from to a) p d t words =
@@ -314,6 +364,10 @@ module _ (starts : Starts) where
   discarded_words : (a : Expression) (p t : ℕ) → IsOfWords a → HaveWords (discarded_code starts a p t)
   discarded_words (Call callees.Putchar cs ty) p t words = append (printed_code starts cs p t) _ (printed_words cs p t words) (printed_word cs (operands.Slot t) t words tt, tt)
   discarded_words (Assign l c ty) p t words = assignment_words l c p t words
+  discarded_words (Store x c ty) p t (first, second) =
+      let address = store_address_code starts x p t in
+      let value = converted_operand_code starts c (p + length address) (t + 1) in
+      append address _ (address_of_words x p t t first) (append value _ (converted_operand_words c (p + length address) (t + 1) second) ((tt, omega arith, converted_word c (t + 1) second), tt))
   discarded_words a p t words = unless_words (operand_of starts a) (expression_code starts a p t t) (expression_words a p t t words)
 
   -- ---- statements

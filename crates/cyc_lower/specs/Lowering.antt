@@ -20,7 +20,7 @@ use Rattle.cyc_types.specs.declared.typed.LogicalOperator.{LogicalOperator}
 use Rattle.cyc_types.specs.declared.typed.LogicalOperator.TheVariants as logical
 use Rattle.cyc_types.specs.Types.{Ty, words_of}
 use Rattle.cyc_types.specs.Numbered.{argument_count}
-use Rattle.cyc_types.specs.TypedTrees.{Load, New, OnHeap, Initial, Plain, Fields, Dereference, Target, Lvalue, Local, Global, Expression, Number, NullPointer, Copy, Call, Unary, Binary, Assign, Converted, Convert, Arguments, NoArguments, MoreArguments, Operations, NoOperations, ThenCompute, ThenTest, ThenPointer, ThenPointerPeek, Statement, Block, Empty, Evaluate, If, While, Return, Break, Continue, Items, NoItems, MoreItems, Execute, Declare, Constant, Word, Null, GlobalVariable, StructType, Function, Program, Move, Peek, Throw, Try, Clauses, NoClauses, Default, Case}
+use Rattle.cyc_types.specs.TypedTrees.{Load, New, OnHeap, Initial, Plain, Fields, Dereference, Target, Lvalue, Local, Global, Expression, Number, NullPointer, Copy, Call, Unary, Binary, Assign, Converted, Convert, Arguments, NoArguments, MoreArguments, Operations, NoOperations, ThenCompute, ThenTest, ThenPointer, ThenPointerPeek, Statement, Block, Empty, Evaluate, If, While, Return, Break, Continue, Items, NoItems, MoreItems, Execute, Declare, Constant, Word, Null, GlobalVariable, StructType, Function, Program, Move, Peek, Throw, Try, Clauses, NoClauses, Default, Case, AddressOfCell, Store, Member, Element}
 use Rattle.cyc_plain.specs.declared.instruction.UnaryOperator.{UnaryOperator as PlainUnary}
 use Rattle.cyc_plain.specs.declared.instruction.UnaryOperator.TheVariants as plain_unary
 use Rattle.cyc_plain.specs.declared.instruction.BinaryOperator.{BinaryOperator as PlainBinary}
@@ -38,7 +38,7 @@ use Rattle.cyc_plain.specs.declared.limits.TheConstants.{RECORD_WORDS}
 use Rattle.cyc_meaning.specs.Values.{words_of_kind}
 use Rattle.cyc_meaning.specs.Operators.{null_exception, division_by_zero}
 use Rattle.cyc_meaning.specs.FrameCount.{frame_count, items_need, kept_by_items, words_of_all}
-use Rattle.cyc_lower.specs.Slots.{Types, Starts, starts_of, slot_of}
+use Rattle.cyc_lower.specs.Slots.{Types, Starts, starts_of, slot_of, field_of}
 use Rattle.cyc_lower.specs.declared.operands.Condition.{Condition}
 use Rattle.cyc_lower.specs.declared.statements.Exits.{Exits}
 
@@ -235,6 +235,19 @@ test_code o operand p d t = test_jump o t (p + 1 + length operand) ∷ operand +
 abbrev pub copy_code : (words : ℕ) → Operand → (d : ℕ) → List Instruction
 copy_code words o d = if is_in o d then [] else move_of words d o ∷ []
 
+-- An address comes to a slot: the word of an operand, and so many bytes more.
+abbrev pub address_code : Operand → (bytes d : ℕ) → List Instruction
+address_code o zero d = copy_code 1 o d
+address_code o (suc bytes) d = instructions.Binary plain_binary.Add d o (operands.Word (suc bytes)) ∷ []
+
+-- that of a place, which stands in an operand but for so many bytes
+abbrev pub addressed_by : (place : List Instruction) → Operand → (bytes d : ℕ) → List Instruction
+addressed_by place o bytes d = place ++ address_code o bytes d
+
+-- a value is stored in a cell, whose address waits in a slot
+abbrev pub stored_by : (address value : List Instruction) → (slot : ℕ) → Operand → List Instruction
+stored_by address value slot o = address ++ (value ++ instructions.Store (operands.Slot slot) 0 o ∷ [])
+
 -- ---- conversions
 
 -- a value has as many words after a conversion as before it
@@ -423,6 +436,16 @@ module _ (starts : Starts) where
   printed_operand NoArguments o t = o
   printed_operand (MoreArguments c cs) o t = printed_operand cs (converted_operand c t) t
 
+  -- where the address of a place stands that a pointer leads to, but for so many bytes that are to be added
+  abbrev pub place_operand : Dereference → (t : ℕ) → Operand
+  place_operand (Target k a ty) t = value_operand a t
+  place_operand (Member k a s f ty) t = value_operand a t
+  place_operand (Element a i ty) t = operands.Slot t
+
+  abbrev pub place_offset : Dereference → ℕ
+  place_offset (Member k a s f ty) = field_of starts s f
+  place_offset x = 0
+
   -- ---- expressions
 
   -- the value of a place, which has so many words
@@ -458,17 +481,20 @@ module _ (starts : Starts) where
         initial_code c p (slot_of starts n) t ++ copy_code (passed_words c) (operands.Slot (slot_of starts n)) d
     expression_code (Assign (Global n) c ty) p d t =
         (converted_operand_code c p t ++ instructions.StoreGlobal n (converted_operand c t) ∷ []) ++ copy_code (passed_words c) (converted_operand c t) d
-    expression_code (Load x) p d t = dereference_code x p d t
+    expression_code (Load x) p d t = place_code x p t ++ instructions.Load d (place_operand x t) (place_offset x) ∷ []
+    expression_code (AddressOfCell x ty) p d t = addressed_by (place_code x p t) (place_operand x t) (place_offset x) d
+    expression_code (Store x c ty) p d t =
+        stored_by (addressed_by (place_code x p t) (place_operand x t) (place_offset x) t)
+        (converted_operand_code c (p + length (addressed_by (place_code x p t) (place_operand x t) (place_offset x) t)) (t + 1)) t (converted_operand c (t + 1))
+        ++ copy_code (passed_words c) (converted_operand c (t + 1)) d
     expression_code (New OnHeap i ty) p d t = made_code i HEAP p d t
     expression_code a p d t = instructions.Move d (operands.Word 0) ∷ []
 
-    -- the value in a cell that a pointer leads to, which is tested first
-    pub dereference_code : Dereference → (p d t : ℕ) → List Instruction
-    dereference_code (Target k a ty) p d t =
-        converted_by (operand_of a) (expression_code a p (value_slot a t) t) kinds.NonNull (value_operand a t) p
-        ++ instructions.Load d (value_operand a t) 0
-        ∷ []
-    dereference_code x p d t = instructions.Move d (operands.Word 0) ∷ []
+    -- a place that a pointer leads to, which is tested
+    pub place_code : Dereference → (p t : ℕ) → List Instruction
+    place_code (Target k a ty) p t = converted_by (operand_of a) (expression_code a p (value_slot a t) t) kinds.NonNull (value_operand a t) p
+    place_code (Member k a s f ty) p t = converted_by (operand_of a) (expression_code a p (value_slot a t) t) kinds.NonNull (value_operand a t) p
+    place_code (Element a i ty) p t = instructions.Move t (operands.Word 0) ∷ []
 
     -- A new object in the region of this handle. Each of its cells has one word yet.
     pub made_code : Initial → (handle p d t : ℕ) → List Instruction
@@ -535,11 +561,21 @@ module _ (starts : Starts) where
   assigned_operand (Local w n) c t = operands.Slot (slot_of starts n)
   assigned_operand (Global n) c t = converted_operand c t
 
+  -- The address of a place comes to slot t, and waits there for the right side.
+  abbrev pub store_address_code : Dereference → (p t : ℕ) → List Instruction
+  store_address_code x p t = addressed_by (place_code x p t) (place_operand x t) (place_offset x) t
+
+  -- a value is stored in a cell
+  abbrev pub store_code : Dereference → Converted → (p t : ℕ) → List Instruction
+  store_code x c p t =
+      stored_by (store_address_code x p t) (converted_operand_code c (p + length (store_address_code x p t)) (t + 1)) t (converted_operand c (t + 1))
+
   -- the code of an expression whose value nobody wants
   abbrev pub discarded_code : Expression → (p t : ℕ) → List Instruction
   discarded_code (Call callees.Putchar cs ty) p t =
       printed_code cs p t ++ instructions.WriteByte (printed_operand cs (operands.Slot t) t) ∷ []
   discarded_code (Assign l c ty) p t = assignment_code l c p t
+  discarded_code (Store x c ty) p t = store_code x c p t
   discarded_code a p t = code_unless (operand_of a) (expression_code a p t t)
 
   -- ---- statements

@@ -1,6 +1,7 @@
 -- The slots of a function's locals, by their types: each has as many as its value has words, in the order of their
 -- numbers. Where every type has one word, a local's slot is its number. The fields of a struct begin likewise, by their types.
-use Rattle.std.specs.Prelude.{ℕ, zero, suc, ◌+◌, List, [], ◌∷◌, slice_get, unwrap_or}
+use Rattle.std.specs.Prelude.{ℕ, zero, suc, ◌+◌, ◌*◌, List, [], ◌∷◌, Option, Some, None, slice_get, unwrap_or}
+use Rattle.cyc_words.specs.Word.{add_of}
 use Rattle.cyc_types.specs.Types.{Ty, words_of}
 use Rattle.cyc_types.specs.TypedTrees.{StructType}
 
@@ -27,6 +28,21 @@ pub record Starts : Type 0 where
 
 abbrev pub starts_of : Types → Starts
 starts_of types = record { locals = starts_from 0 types.locals; structs = types.structs }
+
+-- Where the field of this number begins, in bytes behind what is before its struct's fields: a word, since it is wrapped. No text has as
+-- many fields as that takes.
+abbrev pub bytes_from : (bytes : ℕ) → List Ty → (field : ℕ) → ℕ
+bytes_from bytes [] field = bytes
+bytes_from bytes (t ∷ ts) zero = bytes
+bytes_from bytes (t ∷ ts) (suc field) = bytes_from (add_of bytes (4 * words_of t)) ts field
+
+abbrev pub field_in : Option StructType → (field : ℕ) → ℕ
+field_in None field = 0
+field_in (Some s) field = bytes_from 0 s.fields field
+
+-- by the number of the struct
+abbrev pub field_of : Starts → (number field : ℕ) → ℕ
+field_of starts number field = field_in (slice_get starts.structs number) field
 
 -- the first slot of the local of this number
 abbrev pub slot_of : Starts → (number : ℕ) → ℕ

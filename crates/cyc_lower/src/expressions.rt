@@ -1,18 +1,18 @@
 //! The code of expressions. Each method adds its code behind what there is. A value comes to a slot by the last instruction;
 //! else only the slots from `free` on are written, and those of locals that are assigned.
-ghost use Rattle.std.specs.Prelude.{◌≡◌, ◌+◌, ◌<◌, ◌≤◌, [], ◌∷◌, None, length};
+ghost use Rattle.std.specs.Prelude.{◌≡◌, ◌+◌, ◌<◌, ◌≤◌, [], ◌∷◌, ◌++◌, None, length};
 ghost use Rattle.cyc_types.specs.Types.{Void};
 ghost use Rattle.cyc_types.specs.TypedTreeView.{view_dereference, view_initial, view_expression, view_converted, view_lvalue, arguments_of, operations_of};
 ghost use Rattle.cyc_types.specs.TypedTrees.{Call};
 ghost use Rattle.cyc_meaning.specs.Values.{words_of_kind};
 ghost use Rattle.cyc_plain.specs.declared.instruction.Operand.TheVariants as operands;
 ghost use Rattle.cyc_plain.specs.declared.instruction.Instruction.TheVariants as instructions;
-ghost use Rattle.cyc_lower.specs.Lowering.{operand_of, operand_or, left_of, left_slot, value_operand, converted_operand, printed_operand, check_code, conversion_code, divisor_code, operator_code, truth_code, copy_code, all_passed, expression_code, dereference_code, arguments_code, converted_operand_code, printed_code, initial_code, assignment_code, assigned_operand, operations_code, discarded_code, condition_of, condition_code, first_two, index_code, pointer_instructions, stores_code, object_code, made_code};
+ghost use Rattle.cyc_lower.specs.Lowering.{operand_of, operand_or, left_of, left_slot, value_operand, converted_operand, printed_operand, check_code, conversion_code, divisor_code, operator_code, truth_code, copy_code, all_passed, expression_code, arguments_code, converted_operand_code, printed_code, initial_code, assignment_code, assigned_operand, operations_code, discarded_code, condition_of, condition_code, first_two, index_code, pointer_instructions, stores_code, object_code, made_code, address_code, place_operand, place_offset, place_code, addressed_by};
 ghost use Rattle.cyc_lower.specs.Emission.{Appends, Gives, HasRoom, HasRoomFor, most_locals, value_code, source_code, slot_code, print_code, converted_slot, converted_slot_code, left_code, operation_code, IsChain, zero_condition, view_starts, pointer_operation_code};
 
 use crate::emitter::Emitter;
 use crate::frame_count::{words_of, words_of_kind};
-use crate::locals::{Starts, slot_of};
+use crate::locals::{Starts, field_of, slot_of};
 use crate::operands::{
     Condition, are_as_wide, converts_there, index_of, is_in, operand_of, slot_behind,
     takes_operand, value_slot,
@@ -37,6 +37,16 @@ const DIVISION_BY_ZERO: u32 = 4;
 
 /// An object has at most as many words as a block.
 const MOST_OBJECT_WORDS: usize = 1000;
+
+/// How many bytes are to be added to an address.
+fn place_offset(starts: &Starts, place: &Dereference) -> u32
+    ensures { result ≡ place_offset (view_starts starts.now) (view_dereference place.now) }
+{
+    match place {
+        Dereference::Member { number, field, .. } => field_of(starts, *number, *field),
+        Dereference::Target { .. } | Dereference::Element { .. } => 0,
+    }
+}
 
 impl Emitter {
     /// Where a word is 0, an exception is raised, which tells that 0.
@@ -165,6 +175,26 @@ impl Emitter {
         })
     }
 
+    /// An address comes to a slot: the word of an operand, and so many bytes more.
+    fn bring_address(
+        &mut self,
+        address: Operand,
+        offset: u32,
+        slot: usize,
+    ) -> Result<(), AllocError>
+        ensures { Appends result self.old self.new (address_code address offset slot) }
+    {
+        match offset {
+            0 => self.copy(Kind::NonNull, address, slot),
+            _ => self.emit(Instruction::Binary {
+                operator: BinaryOperator::Add,
+                destination: slot,
+                left: address,
+                right: Operand::Word { word: offset },
+            }),
+        }
+    }
+
     /// What stands for a form that is not built yet, and is never run.
     fn emit_missing(&mut self, slot: usize) -> Result<(), AllocError>
         ensures { Appends result self.old self.new (instructions.Move slot (operands.Word 0) ∷ []) }
@@ -216,7 +246,20 @@ impl Emitter {
                 let assigned = self.lower_assignment(starts, *target, value, free)?;
                 self.copy(value.to, assigned, slot)
             }
-            Expr::Load { source } => self.load_cell(starts, source, slot, free),
+            Expr::Load { source } => {
+                let address = self.locate(starts, source, free)?;
+                self.emit(Instruction::Load {
+                    destination: slot,
+                    address,
+                    offset: place_offset(starts, source),
+                })
+            }
+            Expr::AddressOfCell { place, .. } => self.take_address(starts, place, slot, free),
+            Expr::Store { target, value, .. } => {
+                self.take_address(starts, target, free, free)?;
+                let stored = self.store(starts, value, free)?;
+                self.copy(value.to, stored, slot)
+            }
             Expr::New {
                 placement,
                 initial,
@@ -246,38 +289,70 @@ impl Emitter {
             | Expr::HeapRegion
             | Expr::Counter { .. }
             | Expr::AddressOf { .. }
-            | Expr::AddressOfCell { .. }
             | Expr::NumberOfElements { .. }
             | Expr::FreeUnique { .. }
-            | Expr::FreeKey { .. }
-            | Expr::Store { .. } => self.emit_missing(slot),
+            | Expr::FreeKey { .. } => self.emit_missing(slot),
         }
     }
 
-    /// The value in a cell that a pointer leads to, which is tested first.
+    /// A place that a pointer leads to, which is tested: where its address stands, but for bytes that are to be added.
     #[cycle(expression)]
-    fn load_cell(
+    fn locate(
         &mut self,
         starts: &Starts,
-        source: &Dereference,
+        place: &Dereference,
+        free: usize,
+    ) -> Result<Operand, AllocError>
+        requires { free ≤ most_locals + length self.old.code.items }
+        ensures { Gives (place_operand (view_starts starts.now) (view_dereference place.now) free) result self.old self.new (place_code (view_starts starts.now) (view_dereference place.now) (length self.old.code.items) free) }
+    {
+        match place {
+            Dereference::Target { pointer, .. } | Dereference::Member { pointer, .. } => {
+                let address = self.lower_operand(starts, pointer, free)?;
+                self.check(NULL_EXCEPTION, address)?;
+                Ok(address)
+            }
+            Dereference::Element { .. } => {
+                self.emit_missing(free)?;
+                Ok(Operand::Slot { number: free })
+            }
+        }
+    }
+
+    /// The address of a place comes to a slot.
+    #[cycle(expression)]
+    fn take_address(
+        &mut self,
+        starts: &Starts,
+        place: &Dereference,
         slot: usize,
         free: usize,
     ) -> Result<(), AllocError>
         requires { free ≤ most_locals + length self.old.code.items }
-        ensures { Appends result self.old self.new (dereference_code (view_starts starts.now) (view_dereference source.now) (length self.old.code.items) slot free) }
+        ensures { Appends result self.old self.new (addressed_by (place_code (view_starts starts.now) (view_dereference place.now) (length self.old.code.items) free) (place_operand (view_starts starts.now) (view_dereference place.now) free) (place_offset (view_starts starts.now) (view_dereference place.now)) slot) }
     {
-        match source {
-            Dereference::Target { pointer, .. } => {
-                let address = self.lower_operand(starts, pointer, free)?;
-                self.check(NULL_EXCEPTION, address)?;
-                self.emit(Instruction::Load {
-                    destination: slot,
-                    address,
-                    offset: 0,
-                })
-            }
-            _ => self.emit_missing(slot),
-        }
+        let address = self.locate(starts, place, free)?;
+        self.bring_address(address, place_offset(starts, place), slot)
+    }
+
+    /// A value is stored in the cell whose address waits in `free`, and where it stands then.
+    #[cycle(expression)]
+    fn store(
+        &mut self,
+        starts: &Starts,
+        value: &Converted,
+        free: usize,
+    ) -> Result<Operand, AllocError>
+        requires { free < most_locals + length self.old.code.items }
+        ensures { Gives (converted_operand (view_starts starts.now) (view_converted value.now) (free + 1)) result self.old self.new (converted_operand_code (view_starts starts.now) (view_converted value.now) (length self.old.code.items) (free + 1) ++ instructions.Store (operands.Slot free) 0 (converted_operand (view_starts starts.now) (view_converted value.now) (free + 1)) ∷ []) }
+    {
+        let source = self.lower_converted(starts, value, free + 1)?;
+        self.emit(Instruction::Store {
+            address: Operand::Slot { number: free },
+            offset: 0,
+            source,
+        })?;
+        Ok(source)
     }
 
     /// A new object in the region of a handle: its values come to slots, it is made of them, and its address comes to a
@@ -686,6 +761,11 @@ impl Emitter {
             } => self.discard_call(starts, *callee, arguments, free),
             Expr::Assign { target, value, .. } => {
                 self.lower_assignment(starts, *target, value, free)?;
+                Ok(())
+            }
+            Expr::Store { target, value, .. } => {
+                self.take_address(starts, target, free, free)?;
+                self.store(starts, value, free)?;
                 Ok(())
             }
             _ => {

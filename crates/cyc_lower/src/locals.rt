@@ -4,7 +4,7 @@ ghost use Rattle.cyc_types.specs.Types.{words_of};
 ghost use Rattle.cyc_types.specs.TypeView.{view_ty};
 ghost use Rattle.cyc_types.specs.TypedTreeView.{view_function};
 ghost use Rattle.cyc_meaning.specs.FrameCount.{words_of_all, frame_count};
-ghost use Rattle.cyc_lower.specs.Slots.{starts_from, slot_of};
+ghost use Rattle.cyc_lower.specs.Slots.{starts_from, bytes_from, field_of, slot_of};
 ghost use Rattle.cyc_lower.specs.Lowering.{slot_types, first_temporary};
 ghost use Rattle.cyc_lower.specs.Emission.{most_frame_count, view_starts};
 
@@ -26,6 +26,32 @@ pub(crate) fn slot_of(starts: &Starts, number: usize) -> usize
 {
     match starts.locals.get(number) {
         Some(slot) => *slot,
+        None => 0,
+    }
+}
+
+/// How many bytes the field of this number is behind its struct.
+fn bytes_before(fields: &[Ty], field: usize) -> u32
+    ensures { result ≡ bytes_from 0 (map view_ty fields.now) field }
+{
+    let mut bytes: u32 = 0;
+    let mut left = field;
+    for of_type in fields {
+        if left == 0 {
+            return bytes;
+        }
+        bytes = bytes.wrapping_add(4 * of_type.words());
+        left -= 1;
+    }
+    bytes
+}
+
+/// The same by the number of the struct.
+pub(crate) fn field_of(starts: &Starts, number: usize, field: usize) -> u32
+    ensures { result ≡ field_of (view_starts starts.now) number field }
+{
+    match starts.structs.get(number) {
+        Some(of_type) => bytes_before(&of_type.fields, field),
         None => 0,
     }
 }

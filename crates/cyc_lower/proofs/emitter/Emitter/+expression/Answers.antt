@@ -6,12 +6,12 @@ use Rattle.cyc_types.specs.declared.typed.Dereference.TheFolds as expressions
 use Rattle.cyc_types.specs.declared.typed.Operation.{Operation}
 use Rattle.cyc_types.specs.declared.typed.Converted.{Converted as ConvertedCode}
 use Rattle.cyc_meaning.specs.Values.{words_of_kind}
-use Rattle.cyc_types.specs.TypedTreeView.{view_expression, operations_of}
+use Rattle.cyc_types.specs.TypedTreeView.{view_dereference, view_expression, operations_of}
 use Rattle.cyc_plain.specs.declared.instruction.Operand.TheVariants as operands
 use Rattle.cyc_plain.specs.declared.instruction.Instruction.{Instruction}
 use Rattle.cyc_lower.specs.Lowering.{copy_code, expression_code, conversion_code, test_jump, next_slot}
 use Rattle.cyc_lower.specs.Emission.{HasRoom, operation_code, view_starts}
-use Rattle.cyc_lower.proofs.Emitting.{Remains, all_arguments, one_argument, next_argument, arguments_lower, all_operations, one_operation, next_operation, operations_lower, goes_on, joined, passed_on, made_putchar, made_call, made_called, made_fields, made_binary, room_behind, made_left_alone, made_left_first, made_compute, made_test, room_after, slot_by_count, made_print, made_assigned}
+use Rattle.cyc_lower.proofs.Emitting.{Remains, all_arguments, one_argument, next_argument, arguments_lower, all_operations, one_operation, next_operation, operations_lower, goes_on, joined, passed_on, made_putchar, made_call, made_called, made_fields, made_binary, room_behind, made_left_alone, made_left_first, made_compute, made_test, room_after, slot_by_count, made_print, made_assigned, room_for_right, made_stored}
 use Rattle.cyc_lower.proofs.emitter.Emitter.+expression.Goals.{lower_left-then-is_empty, lower_left-else-is_empty, lower_operations-then-behind-eq0, lower_operations-else-behind-eq0}
 use Rattle.cyc_lower.proofs.emitter.Emitter.+expression.Goals as goal
 
@@ -142,3 +142,18 @@ lower_object-returns-in_ok-lower_arguments-in-Fields t c =
     (made_fields (view_starts c.args.starts.now) c.args.initial.now c.in-Fields.values c.deref.result.now c.args.self.now.code.items c.lower_arguments.new.self.code.items c.make_object-in-Fields.new.self.code.items c.args.handle c.len.result c.args.slot c.args.free
     c.in-Fields.is c.deref.ensures.value (omega (arith, c.len.ensures, c.in-Fields.values.ok.0)) c.in_ok-lower_arguments-in-Fields.ensures.1)
     c.make_object-in-Fields.ensures
+
+pub lower_expression-store-requires : goal.lower_expression-store-requires
+lower_expression-store-requires t c = (
+  search (rules, types.the_lemmas, expressions.the_lemmas, get_or_read),
+  room_for_right (view_starts c.args.starts.now) (view_dereference c.deref-in-Store.result.now) c.args.self.now.code.items c.take_address-in-Store.new.self.code.items c.args.free c.requires c.in_ok-take_address-in-Store.ensures,
+)
+
+pub lower_expression-returns-in_ok-stored-in-Store : goal.lower_expression-returns-in_ok-stored-in-Store
+lower_expression-returns-in_ok-stored-in-Store t c =
+    let same = c.deref-in-Store-3.ensures ∙ sym c.deref-in-Store-2.ensures in
+    on_ok_weaker c.copy-in-Store.result
+    (λ e. made_stored (view_starts c.args.starts.now) c.args.value.now c.in-Store.target c.in-Store.value c.in-Store.result c.in-Store.is c.deref-in-Store.result.now c.deref-in-Store.ensures c.deref-in-Store-2.result.now c.deref-in-Store-2.ensures c.args.self.now.code.items c.take_address-in-Store.new.self.code.items c.store.new.self.code.items c.copy-in-Store.new.self.code.items c.in_ok-stored-in-Store.stored c.args.slot c.args.free c.in_ok-stored-in-Store.ensures.0
+    c.in_ok-take_address-in-Store.ensures c.in_ok-stored-in-Store.ensures.1
+    (e ∙ ap (λ (z : ConvertedCode). c.store.new.self.code.items ++ copy_code (words_of_kind z.to) c.in_ok-stored-in-Store.stored c.args.slot) same))
+    c.copy-in-Store.ensures
