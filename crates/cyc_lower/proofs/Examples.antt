@@ -264,8 +264,8 @@ code_of_body body = function_code [] (function [] ints body)
 -- a loop, with its two jumps in front
 loop_code : code_of_body (all (While nowhere (local 0) Break ∷ returns (local 1) ∷ [])) ≡
     Jump 2 ∷ Jump 5 ∷ jump_if_zero (Slot 0) 1 ∷ Jump 1 ∷ Jump 2
-    ∷ instructions.Return 1
-    ∷ instructions.Return 2 ∷ []
+    ∷ instructions.Finish 1
+    ∷ instructions.Finish 2 ∷ []
 loop_code = refl
 
 -- a branch, and a division with its test
@@ -273,27 +273,27 @@ branch_code : code_of_body (all (If (local 0) (Evaluate (two (local 0) (ThenComp
     jump_if_zero (Slot 0) 5
     ∷ jump_if_nonzero (Slot 1) 3 ∷ instructions.Uncaught 4 (Slot 1) ∷ instructions.Binary plain_binary.Divide 2 (Slot 0) (Slot 1)
     ∷ Jump 5
-    ∷ instructions.Return 2 ∷ []
+    ∷ instructions.Finish 2 ∷ []
 branch_code = refl
 
 -- a condition that compares is one jump, and so is one that negates
 compared_code : code_of_body (all (If (two (local 0) (ThenCompute Less (local 1) NoOperations)) (returns (local 0)) Empty ∷ [])) ≡
     instructions.Branch comparisons.GreaterOrEqual (Slot 0) (Slot 1) 3
-    ∷ instructions.Return 0
+    ∷ instructions.Finish 0
     ∷ Jump 3
-    ∷ instructions.Return 2 ∷ []
+    ∷ instructions.Finish 2 ∷ []
 compared_code = refl
 
 negated_code : code_of_body (all (While nowhere (Unary unary.Not (local 0)) Break ∷ [])) ≡
     Jump 2 ∷ Jump 5 ∷ instructions.Branch comparisons.NotEqual (Slot 0) (Constant 0) 1 ∷ Jump 1 ∷ Jump 2
-    ∷ instructions.Return 2 ∷ []
+    ∷ instructions.Finish 2 ∷ []
 negated_code = refl
 
 -- a local gets a sum by one instruction, and a byte is printed by one
 direct_code : code_of_body (all (Evaluate (sets 0 (two (local 0) (ThenCompute Add (Number 1) NoOperations))) ∷ Evaluate (call Putchar (local 1 ∷ [])) ∷ [])) ≡
     instructions.Binary plain_binary.Add 0 (Slot 0) (Constant 1)
     ∷ instructions.WriteByte (Slot 1)
-    ∷ instructions.Return 2 ∷ []
+    ∷ instructions.Finish 2 ∷ []
 direct_code = refl
 
 -- a chain that ends in the local that it reads has its values before in a temporary
@@ -301,13 +301,13 @@ chain_code : code_of_body (all (Evaluate (sets 0 (two (local 1) (ThenCompute Sub
     instructions.Binary plain_binary.Subtract 2 (Slot 1) (Constant 3)
     ∷ jump_if_nonzero (Slot 0) 3 ∷ instructions.Uncaught 4 (Slot 0) ∷ instructions.Binary plain_binary.Divide 2 (Slot 2) (Slot 0)
     ∷ instructions.Binary plain_binary.Remainder 0 (Slot 2) (Constant 7)
-    ∷ instructions.Return 2 ∷ []
+    ∷ instructions.Finish 2 ∷ []
 chain_code = refl
 
 -- a local behind a fat pointer has the slot behind its three words, and temporaries stand behind both
 wide_code : function_code [] (function [] (Pointer Fat Int Heap ∷ Int ∷ []) (all (Evaluate (sets 1 (two (local 1) (ThenCompute Add (Number 1) NoOperations))) ∷ []))) ≡
     instructions.Binary plain_binary.Add 3 (Slot 3) (Constant 1)
-    ∷ instructions.Return 4 ∷ []
+    ∷ instructions.Finish 4 ∷ []
 wide_code = refl
 
 -- ---- frame counts

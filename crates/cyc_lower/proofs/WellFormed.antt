@@ -802,7 +802,7 @@ module _ (program : PlainProgram) (r : Routine) (b : Numbering) (types : Types) 
     statement_in : (s : Statement) (in_loop : Bool) (p : ℕ) (exits : Exits) (t : ℕ) → FitsStatement b types in_loop s → (in_loop ≡ true → exits.head + 2 < length r.code) → HasExits exits t → t + kept_by s + statement_need s + spare_slots ≤ r.slots → p + length (statement_code (starts_of types) s p exits t) < length r.code → AreIn (statement_code (starts_of types) s p exits t)
     statement_in (Block n js) in_loop p exits t numbered around outside few short = items_in js in_loop p exits t numbered around outside few short
     statement_in Empty in_loop p exits t numbered around outside few short = tt
-    statement_in (Evaluate a) in_loop p exits t numbered around outside few short = discarded_in a p t numbered few short
+    statement_in (Evaluate a) in_loop p exits t numbered around outside few short = discarded_in a p t numbered (omega (arith, few)) short
     statement_in (If a s u) in_loop p exits t (numbered_a, numbered_s, numbered_u) around outside few short =
         let condition = condition_code (starts_of types) a p t in
         let m = p + length condition in
@@ -836,7 +836,7 @@ module _ (program : PlainProgram) (r : Routine) (b : Numbering) (types : Types) 
                 (omega (arith, short, long, long_front), tt),
           ),
         )
-    statement_in (Return v) in_loop p exits t numbered around outside few short = return_in v p exits t numbered outside few short
+    statement_in (Return v) in_loop p exits t numbered around outside few short = return_in v p exits t numbered outside (omega (arith, few)) short
     statement_in Break in_loop p exits t numbered around outside few short = append (leave_code exits.loop_record t) _ (leave_in exits.loop_record t outside.0) (omega (arith, around numbered), tt)
     statement_in Continue in_loop p exits t numbered around outside few short = append (leave_code exits.loop_record t) _ (leave_in exits.loop_record t outside.0) (omega (arith, around numbered), tt)
     statement_in s in_loop p exits t numbered around outside few short = absurd numbered
