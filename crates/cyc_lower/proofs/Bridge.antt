@@ -26,9 +26,9 @@ use Rattle.cyc_store.specs.declared.range.TheConstants.{MOST_BLOCK_WORDS, HEAP}
 use Rattle.cyc_meaning.specs.Values.{kind_of, words_of_kind}
 use Rattle.cyc_meaning.specs.FrameCount.{words_of_all, operand_words}
 use Rattle.cyc_lower.specs.Slots.{Types, starts_of, slot_of}
-use Rattle.cyc_lower.specs.Lowering.{types_of, are_as_wide, converts_there, passed_words, source_of, source_slot, moved_by, move_of, operand_of, operand_or, code_unless, slot_or, code_unless_slot, left_with, left_of, value_slot, next_slot, slot_with, left_slot, value_operand, converted_operand, printed_operand, jump_if_nonzero, check_code, conversion_code, divisor_code, checked_code, operator_code, truth_code, load_code, low_byte, test_code, is_in, copy_code, expression_code, arguments_code, converted_code, converted_operand_code, printed_code, initial_code, assignment_code, assigned_operand, operations_code, discarded_code, failing_comparison, compared_or, compared_of, first_operand, first_code, second_code, pair_code, condition_code, condition_of, failing_jump, break_target, continue_target, return_code, declaration_code, statement_code, items_code, function_code, first_temporary, results_of, lower_function, lower_program, behind_left, pointer_code, outside_loops, inside_loop, pointer_operator, index_code, pointer_instructions, stores_code, object_code, made_code, place_operand, place_offset, place_code, address_code}
+use Rattle.cyc_lower.specs.Lowering.{leave_code, types_of, are_as_wide, converts_there, passed_words, source_of, source_slot, moved_by, move_of, operand_of, operand_or, code_unless, slot_or, code_unless_slot, left_with, left_of, value_slot, next_slot, slot_with, left_slot, value_operand, converted_operand, printed_operand, jump_if_nonzero, check_code, conversion_code, divisor_code, checked_code, operator_code, truth_code, load_code, low_byte, test_code, is_in, copy_code, expression_code, arguments_code, converted_code, converted_operand_code, printed_code, initial_code, assignment_code, assigned_operand, operations_code, discarded_code, failing_comparison, compared_or, compared_of, first_operand, first_code, second_code, pair_code, condition_code, condition_of, failing_jump, break_target, continue_target, return_code, declaration_code, statement_code, items_code, function_code, first_temporary, results_of, lower_function, lower_program, behind_left, pointer_code, outside_loops, inside_loop, pointer_operator, index_code, pointer_instructions, stores_code, object_code, made_code, place_operand, place_offset, place_code, address_code}
 use Rattle.cyc_lower.specs.declared.statements.Exits.{Exits}
-use Rattle.cyc_lower.proofs.Stands.{OperandBy, CheckAt, ConversionBy, ConversionAt, DivisorAt, CheckedAt, OperatorAt, LoadAt, CopyBy, ExpressionAt, InitialAt, InitialBy, ConvertedAt, ConvertedOperandAt, PrintedAt, ArgumentsAt, OperationsAt, PairAt, ConditionAt, AssignmentAt, DiscardedAt, ReturnedAt, ReturnAt, DeclarationAt, StatementAt, ItemsAt, FirstTwoAt, IndexAt, PointerAt, StoresAt, ObjectAt, MadeAt, AddressAt, PlaceAt}
+use Rattle.cyc_lower.proofs.Stands.{LeaveBy, LeaveAt, OperandBy, CheckAt, ConversionBy, ConversionAt, DivisorAt, CheckedAt, OperatorAt, LoadAt, CopyBy, ExpressionAt, InitialAt, InitialBy, ConvertedAt, ConvertedOperandAt, PrintedAt, ArgumentsAt, OperationsAt, PairAt, ConditionAt, AssignmentAt, DiscardedAt, ReturnedAt, ReturnAt, DeclarationAt, StatementAt, ItemsAt, FirstTwoAt, IndexAt, PointerAt, StoresAt, ObjectAt, MadeAt, AddressAt, PlaceAt}
 use Rattle.cyc_lower.proofs.Widths.{kind_of_result, given, passed_kind, type_words}
 use Rattle.cyc_lower.proofs.Fitting.{FitsPlace, FitsStored, FitsCell, FitsObject, Fits, FitsConverted, FitArguments, FitOperations, FitsReturn, FitsInitial, FitsStatement, FitItems, AreFitting, IsFitting}
 use Rattle.cyc_lower.proofs.Values.{as_wide}
@@ -538,9 +538,20 @@ module _ (code : List Instruction) (b : Numbering) (types : Types) where
   returns_numbered None c numbered = absurd numbered
   returns_numbered (Some t) c (kind, numbered) = numbered
 
-  return_stands : (v : Option Converted) (t p q : ℕ) → FitsReturn b types b.result v → p + length (return_code (starts_of types) v p t) ≡ q → HasAt code p (return_code (starts_of types) v p t) → ReturnAt code b types v t p
-  return_stands None t p q numbered end (here, none) = (t, here)
-  return_stands (Some (Convert from to a)) t p q numbered end has =
+  leave_by : (none : Bool) (first p q : ℕ) → p + length (if none then [] else instructions.Leave first ∷ []) ≡ q → HasAt code p (if none then [] else instructions.Leave first ∷ []) → LeaveBy code b types none first p q
+  leave_by true first p q end has = omega (arith, end)
+  leave_by false first p q end (here, none) = (here, end)
+
+  leave_stands : (first t p q : ℕ) → p + length (leave_code first t) ≡ q → HasAt code p (leave_code first t) → LeaveAt code b types first t p q
+  leave_stands first t p q end has = leave_by (first == t) first p q end has
+
+  return_stands : (v : Option Converted) (exits : Exits) (t p q : ℕ) → FitsReturn b types b.result v → p + length (return_code (starts_of types) v p exits t) ≡ q → HasAt code p (return_code (starts_of types) v p exits t)
+      → ReturnAt code b types v exits t p
+  return_stands None exits t p q numbered end has =
+      let leave = leave_code exits.first_record t in
+      let (here, none) = has_back code p leave _ has in
+      (t, p + length leave, leave_stands exits.first_record t p (p + length leave) refl (has_front code p leave _ has), here)
+  return_stands (Some (Convert from to a)) exits t p q numbered end has =
       let known = source_of (starts_of types) (Convert from to a) in
       let inner = expression_code (starts_of types) a p t t in
       let front = code_unless_slot known inner in
@@ -549,15 +560,20 @@ module _ (code : List Instruction) (b : Numbering) (types : Types) where
       let conversion = conversion_code to (operands.Slot s) m in
       let both = front ++ conversion in
       let r = p + length both in
-      let has_both = has_front code p both _ has in
-      let (here, none) = has_back code p both _ has in
+      let leave = leave_code exits.first_record t in
+      let u = p + length (both ++ leave) in
+      let has_left = has_front code p (both ++ leave) _ has in
+      let has_both = has_front code p both leave has_left in
+      let (here, none) = has_back code p (both ++ leave) _ has in
       let (from_is, wide, fitting) = returns_numbered b.result (Convert from to a) numbered in
       let (words, kind) = returns_kind b.result (Convert from to a) numbered in (
         s,
         m,
         r,
+        u,
         returned_by known _ inner t p m refl (has_front code p front conversion has_both) (λ e h. expression_stands a t t p m fitting e h),
         conversion_stands from to (operands.Slot s) m r wide (cut p r front conversion refl) (has_back code p front conversion has_both),
+        leave_stands exits.first_record t r u (cut p u both leave refl) (has_back code p both leave has_left),
         here,
         words,
         kind,
@@ -623,9 +639,15 @@ module _ (code : List Instruction) (b : Numbering) (types : Types) where
           end_is,
           omega (arith, end_is),
         )
-    statement_stands (Return v) in_loop exits d p q numbered end has = return_stands v d p q numbered end has
-    statement_stands Break in_loop exits d p q numbered end (here, none) = here
-    statement_stands Continue in_loop exits d p q numbered end (here, none) = here
+    statement_stands (Return v) in_loop exits d p q numbered end has = return_stands v exits d p q numbered end has
+    statement_stands Break in_loop exits d p q numbered end has =
+        let leave = leave_code exits.loop_record d in
+        let (here, none) = has_back code p leave (instructions.Jump (break_target exits.head) ∷ []) has in
+        (p + length leave, leave_stands exits.loop_record d p (p + length leave) refl (has_front code p leave (instructions.Jump (break_target exits.head) ∷ []) has), here)
+    statement_stands Continue in_loop exits d p q numbered end has =
+        let leave = leave_code exits.loop_record d in
+        let (here, none) = has_back code p leave (instructions.Jump (continue_target exits.head) ∷ []) has in
+        (p + length leave, leave_stands exits.loop_record d p (p + length leave) refl (has_front code p leave (instructions.Jump (continue_target exits.head) ∷ []) has), here)
     statement_stands s in_loop exits d p q numbered end has = absurd numbered
 
     items_stand : (js : Items) (in_loop : Bool) (exits : Exits) (d p q : ℕ) → FitItems b types in_loop js → p + length (items_code (starts_of types) js p exits d) ≡ q → HasAt code p (items_code (starts_of types) js p exits d) → ItemsAt code b types js exits d p q
@@ -658,14 +680,14 @@ module _ (source : Program) where
   abbrev BodyStands : Function → List Instruction → Option Function → Type 0
   BodyStands h code o =
       (m : ℕ) × ItemsAt code (bounds_in source o) (types_in source o) h.body (outside_loops (words_of_all (types_in source o).locals)) (words_of_all (types_in source o).locals) 0 m
-      × At code m (instructions.Return (words_of_all (types_in source o).locals))
+      × At code m (instructions.Finish (words_of_all (types_in source o).locals))
 
   body_stands : (h : Function) → FitItems (bounds_in source (Some h)) (types_of source.structs h) false h.body → BodyStands h (function_code source.structs h) (Some h)
   body_stands h numbered =
       let d = first_temporary h in
       let starts = starts_of (types_of source.structs h) in
       let body = items_code starts h.body 0 (outside_loops d) d in
-      let end = instructions.Return d ∷ [] in
+      let end = instructions.Finish d ∷ [] in
       let has = has_whole (body ++ end) in
       let (here, none) = has_back (body ++ end) 0 body end has in
       (0 + length body, items_stand (body ++ end) (bounds_in source (Some h)) (types_of source.structs h) h.body false (outside_loops d) d 0 (0 + length body) numbered refl (has_front (body ++ end) 0 body end has), here)

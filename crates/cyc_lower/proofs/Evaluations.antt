@@ -39,7 +39,7 @@ use Rattle.cyc_lower.proofs.Weights.{weight, stack_weight, expression_weight, ar
 use Rattle.cyc_lower.proofs.Stands.{CopyBy, CopyAt, OperandBy, InitialBy, ExpressionAt, ArgumentsAt, ObjectAt, ValueAt, PairAt, ConditionAt, AssignmentAt, PrintedAt, DiscardedAt, StoredAt}
 use Rattle.cyc_objects.specs.Tables.{Tables}
 use Rattle.cyc_objects.specs.Words.{Is}
-use Rattle.cyc_lower.proofs.Relation.{IsIn, types_at, starts_at, given_at, called_at, words_held, height, Holds, held, contents, callers, in_temporary, in_local, drops, leaves, copies, prints_only, gives_byte, DataIn, SharedAt, CallAt, to_slot, to_jump, ValueStack, PlaceStack, ConditionStack, DroppedStack, AheadStack, LandsStack, HandsOnStack, PrintsStack, RightAt, EvaluatingAt, as_operand, into_slot, for_effect, as_right, as_condition, in_operand, ahead, with_left, Related, Matches, code_of, bounds_in, bounds_at, base_of, top}
+use Rattle.cyc_lower.proofs.Relation.{IsIn, types_at, starts_at, given_at, called_at, words_held, height, Holds, held, contents, callers, in_temporary, in_local, drops, leaves, copies, prints_only, gives_byte, DataIn, SharedAt, CallAt, to_slot, to_jump, ValueStack, PlaceStack, ConditionStack, DroppedStack, AheadStack, LandsStack, HandsOnStack, PrintsStack, RightAt, EvaluatingAt, as_operand, into_slot, for_effect, as_right, as_condition, in_operand, ahead, with_left, Related, Matches, code_of, bounds_in, bounds_at, base_of, floor, top}
 use Rattle.cyc_lower.proofs.Data.{IsWord-is, height-least, Holds-same, Holds-above, data_above}
 use Rattle.cyc_lower.proofs.Accesses.{IsWell, is_loaded}
 use Rattle.cyc_lower.proofs.Matched.{IsMatched, silently, by_one}
@@ -57,11 +57,11 @@ module _ (source : Program) (pages calls : ℕ) where
   -- a value comes to a slot and those behind it, and the next instruction is the one behind
   pub landed : (v : Kinded) (after : Words) (d : ℕ) (k : List Entry) (e : Environment) (w : World) (c : Configuration) (q : ℕ) (shared : SharedAt source pages calls k e w c) → Is shared.tables v.kind v.value after d
       → ((m : ℕ) → Outside d (words_of_kind v.kind) m → after m ≡ c.active.slots m)
-      → DataIn source shared.tables c.active.slots k e w c → Holds shared.tables c.active.slots (base_of source c.active.function) (held k)
+      → DataIn source shared.tables c.active.slots k e w c → Holds shared.tables c.active.slots (floor source c.active.function k) (held k)
       → c.active.next + 1 ≡ q → LandsStack source c.active.function e.locals v.kind d q c.frames k
       → Related source pages calls (Given v) k e w (advanced (with_slots c after))
   landed v after d k e w c q shared is same facts holds end (in_temporary least stack) =
-      let base = base_of source c.active.function in (
+      let base = floor source c.active.function k in (
         shared,
         in_operand (operands.Slot d)
             (data_above shared.tables source c.active.function w.objects e.locals (callers k) c.active.slots after c.globals c.frames d (words_of_kind v.kind) (omega (arith, least, height-least base (held k))) same facts)
@@ -70,7 +70,7 @@ module _ (source : Program) (pages calls : ℕ) where
             (subst (λ r. ValueStack source c.active.function e.locals v.kind (operands.Slot d) r c.frames k) (sym end) stack),
       )
   landed v after d k e w c q shared is same facts holds end (in_local below stack) =
-      let base = base_of source c.active.function in (
+      let base = floor source c.active.function k in (
         shared,
         ahead d (c.active.slots, λ m out. sym (same m out), facts)
             is
@@ -80,7 +80,7 @@ module _ (source : Program) (pages calls : ℕ) where
 
   -- the same for an int
   pub landed_word : (a word d : ℕ) (k : List Entry) (e : Environment) (w : World) (c : Configuration) (q : ℕ) → word ≡ a
-      → (shared : SharedAt source pages calls k e w c) → DataIn source shared.tables c.active.slots k e w c → Holds shared.tables c.active.slots (base_of source c.active.function) (held k)
+      → (shared : SharedAt source pages calls k e w c) → DataIn source shared.tables c.active.slots k e w c → Holds shared.tables c.active.slots (floor source c.active.function k) (held k)
       → c.active.next + 1 ≡ q → LandsStack source c.active.function e.locals kinds.Int d q c.frames k
       → Related source pages calls (Given (record { kind = kinds.Int; value = Int a })) k e w (advanced (with_slots c (put c.active.slots d word)))
   landed_word a word d k e w c q is shared facts holds end lands =
@@ -89,7 +89,7 @@ module _ (source : Program) (pages calls : ℕ) where
 
   -- a value that is moved from an operand
   pub landed_moved : (v : Kinded) (o : Operand) (d : ℕ) (k : List Entry) (e : Environment) (w : World) (c : Configuration) (q : ℕ) (choice : Choice) (shared : SharedAt source pages calls k e w c) → IsIn shared.tables v c.active.slots o
-      → DataIn source shared.tables c.active.slots k e w c → Holds shared.tables c.active.slots (base_of source c.active.function) (held k)
+      → DataIn source shared.tables c.active.slots k e w c → Holds shared.tables c.active.slots (floor source c.active.function k) (held k)
       → c.active.next + 1 ≡ q → LandsStack source c.active.function e.locals v.kind d q c.frames k
       → Matches source pages calls (Running (Given v) k e w) (performed (lower_program source) choice c (move_of (words_of_kind v.kind) d o))
   landed_moved v o d k e w c q choice shared is facts holds end lands =
@@ -162,10 +162,10 @@ module _ (source : Program) (pages calls : ℕ) where
   -- the next argument is evaluated, or the call is made
   pub passes_related : (f : Callee) (before : List Kinded) (cs : Arguments) (k : List Entry) (e : Environment) (w : World) (c : Configuration) (d m q all : ℕ)
       → (shared : SharedAt source pages calls k e w c) → DataIn source shared.tables c.active.slots k e w c
-      → ArgumentsAt (code_of source c.active.function) (bounds_at source c.active.function) (types_at source c.active.function) cs (height (base_of source c.active.function) (before ++ held k)) c.active.next m
+      → ArgumentsAt (code_of source c.active.function) (bounds_at source c.active.function) (types_at source c.active.function) cs (height (floor source c.active.function k) (before ++ held k)) c.active.next m
       → CallAt source c.active.function f all (top source c.active.function k) d m q
       → words_held before + all_passed cs ≡ all
-      → Holds shared.tables c.active.slots (base_of source c.active.function) (before ++ held k) → LandsStack source c.active.function e.locals (called_at source c.active.function f) d q c.frames k
+      → Holds shared.tables c.active.slots (floor source c.active.function k) (before ++ held k) → LandsStack source c.active.function e.locals (called_at source c.active.function f) d q c.frames k
       → Matches source pages calls (passes f before cs k e w) (plain.Running c)
   passes_related callees.Putchar before cs k e w c d m q all shared facts at call long holds lands = absurd call
   passes_related callees.Getchar before NoArguments k e w c d m q all shared facts at (here, end) long holds lands =
@@ -184,9 +184,9 @@ module _ (source : Program) (pages calls : ℕ) where
         ),
       )
   passes_related callees.Getchar before (MoreArguments (Convert from to a) cs) k e w c d m q all shared facts (r, (s, at_a, at_to), at) call long holds lands =
-      (shared, facts, into_slot (height (base_of source c.active.function) (before ++ held k)) s at_a holds (in_temporary (omega arith) (r, at_to, (d, m, q, all, refl, at, call, long, lands))))
+      (shared, facts, into_slot (height (floor source c.active.function k) (before ++ held k)) s at_a holds (in_temporary (omega arith) (r, at_to, (d, m, q, all, refl, at, call, long, lands))))
   passes_related (callees.Function n) before (MoreArguments (Convert from to a) cs) k e w c d m q all shared facts (r, (s, at_a, at_to), at) call long holds lands =
-      (shared, facts, into_slot (height (base_of source c.active.function) (before ++ held k)) s at_a holds (in_temporary (omega arith) (r, at_to, (d, m, q, all, refl, at, call, long, lands))))
+      (shared, facts, into_slot (height (floor source c.active.function k) (before ++ held k)) s at_a holds (in_temporary (omega arith) (r, at_to, (d, m, q, all, refl, at, call, long, lands))))
 
   pub passes_weight : (f : Callee) (before : List Kinded) (cs : Arguments) (k : List Entry) (e : Environment) (w : World) → weight (passes f before cs k e w) ≤ arguments_weight cs + stack_weight k
   passes_weight f before NoArguments k e w = omega arith
@@ -207,7 +207,7 @@ module _ (source : Program) (pages calls : ℕ) where
   -- what is known at each such step
   abbrev At_step : Expression → List Entry → Environment → World → Configuration → Type 0
   At_step a k e w c = IsWell (step source (Running (Evaluating a) k e w)) × (shared : SharedAt source pages calls k e w c) × DataIn source shared.tables c.active.slots k e w c
-      × Holds shared.tables c.active.slots (base_of source c.active.function) (held k)
+      × Holds shared.tables c.active.slots (floor source c.active.function k) (held k)
 
   abbrev IsBegun : Expression → List Entry → Environment → World → Configuration → Type 0
   IsBegun a k e w c = IsMatched source pages calls (Running (Evaluating a) k e w) (plain.Running c)
@@ -229,7 +229,7 @@ module _ (source : Program) (pages calls : ℕ) where
       → OperandBy (code_of source c.active.function) (bounds_at source c.active.function) (types_at source c.active.function) (source_of (starts_at source c.active.function) (Convert from to a))
       (ExpressionAt (code_of source c.active.function) (bounds_at source c.active.function) (types_at source c.active.function) a (source_slot (starts_at source c.active.function) (Convert from to a) (top source c.active.function k)) (top source c.active.function k) c.active.next m)
       (source_slot (starts_at source c.active.function) (Convert from to a) (top source c.active.function k)) o c.active.next m
-      → Holds t c.active.slots (base_of source c.active.function) (held k) → ValueStack source c.active.function e.locals (given_at source c.active.function a) o m c.frames k
+      → Holds t c.active.slots (floor source c.active.function k) (held k) → ValueStack source c.active.function e.locals (given_at source c.active.function a) o m c.frames k
       → EvaluatingAt source t a e.locals c.active.function c.active.next c.active.slots c.frames k
   sources t from to a k e w c o m at holds stack = by (are_as_wide from to) at
     where
@@ -244,7 +244,7 @@ module _ (source : Program) (pages calls : ℕ) where
   -- what is assigned to a local comes to its slots at once, or is moved there once it is converted
   assigns_local : (there : Bool) (n : ℕ) (from to : Kind) (a : Expression) (k : List Entry) (e : Environment) (w : World) (c : Configuration) (object : ℕ) (o : Operand) (m : ℕ)
       → converts_there from to ≡ there → e.locals n ≡ Some object → (shared : SharedAt source pages calls k e w c) → DataIn source shared.tables c.active.slots k e w c
-      → Holds shared.tables c.active.slots (base_of source c.active.function) (held k)
+      → Holds shared.tables c.active.slots (floor source c.active.function k) (held k)
       → o ≡ operands.Slot (slot_of (starts_at source c.active.function) n) → HasRoom (types_at source c.active.function) n to
       → InitialBy (code_of source c.active.function) (bounds_at source c.active.function) (types_at source c.active.function) there from to a (slot_of (starts_at source c.active.function) n) (top source c.active.function k) c.active.next m
       → HandsOnStack source c.active.function e.locals to o m c.frames k
@@ -331,7 +331,7 @@ module _ (source : Program) (pages calls : ℕ) where
   -- the value of a local is moved
   comes_from : (a : Expression) (n : ℕ) (t : Ty) (k : List Entry) (e : Environment) (w : World) (c : Configuration) (d q : ℕ)
       → step source (Running (Evaluating a) k e w) ≡ loaded_from (kind_of t) (e.locals n) k e w → IsWell (loaded_from (kind_of t) (e.locals n) k e w)
-      → (shared : SharedAt source pages calls k e w c) → DataIn source shared.tables c.active.slots k e w c → Holds shared.tables c.active.slots (base_of source c.active.function) (held k)
+      → (shared : SharedAt source pages calls k e w c) → DataIn source shared.tables c.active.slots k e w c → Holds shared.tables c.active.slots (floor source c.active.function k) (held k)
       → CodeAt (code_of source c.active.function) c.active.next (move_of (words_of t) d (operands.Slot (slot_of (starts_at source c.active.function) n))) → c.active.next + 1 ≡ q
       → LandsStack source c.active.function e.locals (kind_of t) d q c.frames k → IsBegun a k e w c
   comes_from a n t k e w c d q does well shared facts holds at end lands =

@@ -102,7 +102,7 @@ module _ (source : Program) where
     value_depth g locals kind o p frames (Needs (Initialise n wanted items) ∷ k) (exits, q, at, below, items_at, stack) = statement_depth g exits q frames k stack
     value_depth g locals kind o p frames (Needs (Choose s t) ∷ k) (exits, r, q, at, at_s, jump, at_t, stack) = statement_depth g exits q frames k stack
     value_depth g locals kind o p frames (Needs (Test a s) ∷ k) (exits, outer, q, at, r, jump, body, back, stack) = statement_depth g outer q frames k stack
-    value_depth g locals kind o p frames (Needs Return ∷ k) (exits, q, s, is, at, one, stack) = statement_depth g exits q frames k stack
+    value_depth g locals kind o p frames (Needs Return ∷ k) (exits, q, s, r, is, leave, at, one, stack) = statement_depth g exits q frames k stack
     value_depth g locals kind o p frames (Needs (Follow pointer target) ∷ k) (q, thin, check, place) = place_depth g locals o 0 q frames k place
     value_depth g locals kind o p frames (Needs (FollowMember pointer fields field) ∷ k) (c, q, thin, check, inside, is, place) = place_depth g locals o c q frames k place
     value_depth g locals kind o p frames (Discard ∷ k) (exits, stack) = statement_depth g exits p frames k stack
@@ -141,13 +141,13 @@ module _ (source : Program) where
     statement_depth g exits p frames (Rest js ∷ k) (q, at, stack) = statement_depth g exits q frames k stack
     statement_depth g exits p frames (Join ∷ k) (q, at, stack) = statement_depth g exits q frames k stack
     statement_depth g exits p frames (Loop a s ∷ k) (outer, q, at, jump, stack) = statement_depth g outer q frames k stack
-    statement_depth g exits p frames (CloseRegion r h ∷ k) stack = statement_depth g exits p frames k stack
-    statement_depth g exits p [] (Caller e ∷ k) (s, at, below) = absurd below
-    statement_depth g exits p (f ∷ frames) (Caller e ∷ k) (s, at, lands) =
+    statement_depth g exits p frames (CloseRegion r h ∷ k) (q, at, stack) = statement_depth g exits q frames k stack
+    statement_depth g exits p [] (Caller e ∷ k) (s, at, outside, below) = absurd below
+    statement_depth g exits p (f ∷ frames) (Caller e ∷ k) (s, at, outside, lands) =
         omega (arith, by_lands lands (λ stack. value_depth f.caller.function e.locals (returned_at source g) (operands.Slot f.result) f.caller.next frames k stack) (λ stack. ahead_depth f.caller.function e.locals (returned_at source g) f.result f.caller.next frames k stack))
-    statement_depth g exits p [] (Main ∷ []) (s, at, last) = omega arith
-    statement_depth g exits p (f ∷ frames) (Main ∷ k) (s, at, last) = absurd last
-    statement_depth g exits p [] (Main ∷ entry ∷ k) (s, at, last) = absurd last
+    statement_depth g exits p [] (Main ∷ []) (s, at, outside, last) = omega arith
+    statement_depth g exits p (f ∷ frames) (Main ∷ k) (s, at, outside, last) = absurd last
+    statement_depth g exits p [] (Main ∷ entry ∷ k) (s, at, outside, last) = absurd last
     statement_depth g exits p frames k stack = absurd stack
 
   -- and nothing waits but what the int language has
@@ -189,7 +189,7 @@ module _ (source : Program) where
     value_plain g locals kind o p frames (Needs (Initialise n wanted items) ∷ k) (exits, q, at, below, items_at, stack) = statement_plain g exits q frames k stack
     value_plain g locals kind o p frames (Needs (Choose s t) ∷ k) (exits, r, q, at, at_s, jump, at_t, stack) = statement_plain g exits q frames k stack
     value_plain g locals kind o p frames (Needs (Test a s) ∷ k) (exits, outer, q, at, r, jump, body, back, stack) = statement_plain g outer q frames k stack
-    value_plain g locals kind o p frames (Needs Return ∷ k) (exits, q, s, is, at, one, stack) = statement_plain g exits q frames k stack
+    value_plain g locals kind o p frames (Needs Return ∷ k) (exits, q, s, r, is, leave, at, one, stack) = statement_plain g exits q frames k stack
     value_plain g locals kind o p frames (Needs (Follow pointer target) ∷ k) (q, thin, check, place) = place_plain g locals o 0 q frames k place
     value_plain g locals kind o p frames (Needs (FollowMember pointer fields field) ∷ k) (c, q, thin, check, inside, is, place) = place_plain g locals o c q frames k place
     value_plain g locals kind o p frames (Discard ∷ k) (exits, stack) = statement_plain g exits p frames k stack
@@ -228,13 +228,13 @@ module _ (source : Program) where
     statement_plain g exits p frames (Rest js ∷ k) (q, at, stack) = statement_plain g exits q frames k stack
     statement_plain g exits p frames (Join ∷ k) (q, at, stack) = statement_plain g exits q frames k stack
     statement_plain g exits p frames (Loop a s ∷ k) (outer, q, at, jump, stack) = statement_plain g outer q frames k stack
-    statement_plain g exits p frames (CloseRegion r h ∷ k) stack = statement_plain g exits p frames k stack
-    statement_plain g exits p [] (Caller e ∷ k) (s, at, below) = absurd below
-    statement_plain g exits p (f ∷ frames) (Caller e ∷ k) (s, at, lands) =
+    statement_plain g exits p frames (CloseRegion r h ∷ k) (q, at, stack) = statement_plain g exits q frames k stack
+    statement_plain g exits p [] (Caller e ∷ k) (s, at, outside, below) = absurd below
+    statement_plain g exits p (f ∷ frames) (Caller e ∷ k) (s, at, outside, lands) =
         by_lands lands (λ stack. value_plain f.caller.function e.locals (returned_at source g) (operands.Slot f.result) f.caller.next frames k stack) (λ stack. ahead_plain f.caller.function e.locals (returned_at source g) f.result f.caller.next frames k stack)
-    statement_plain g exits p [] (Main ∷ []) (s, at, last) = tt
-    statement_plain g exits p (f ∷ frames) (Main ∷ k) (s, at, last) = absurd last
-    statement_plain g exits p [] (Main ∷ entry ∷ k) (s, at, last) = absurd last
+    statement_plain g exits p [] (Main ∷ []) (s, at, outside, last) = tt
+    statement_plain g exits p (f ∷ frames) (Main ∷ k) (s, at, outside, last) = absurd last
+    statement_plain g exits p [] (Main ∷ entry ∷ k) (s, at, outside, last) = absurd last
     statement_plain g exits p frames k stack = absurd stack
 
   pub lands_depth : (g : ℕ) (locals : ℕ → Option ℕ) (kind : Kind) (d p : ℕ) (frames : List Frame) (k : List Entry) → LandsStack source g locals kind d p frames k → HasDepth frames k

@@ -275,11 +275,19 @@ module _ (code : List Instruction) (bounds : Numbering) (types : Types) where
   ReturnedAt (Some (operands.Slot n)) computed slot s p q = (s ≡ n) × (p ≡ q)
   ReturnedAt o computed slot s p q = (s ≡ slot) × computed
 
-  abbrev pub ReturnAt : Option Converted → (t p : ℕ) → Type 0
-  ReturnAt None t p = (s : ℕ) × At code p (instructions.Return s)
-  ReturnAt (Some (Convert from to a)) t p =
-      (s : ℕ) × (m : ℕ) × (r : ℕ) × ReturnedAt (source_of (starts_of types) (Convert from to a)) (ExpressionAt a t t p m) t s p m × ConversionAt from to (operands.Slot s) m r
-      × At code r (instructions.Return s) × (results_of bounds.result ≡ words_of_kind to) × (to ≡ kind_of_result bounds.result)
+  -- handlers are closed whose records stand from a slot on, where there are some
+  abbrev pub LeaveBy : (none : Bool) → (first p q : ℕ) → Type 0
+  LeaveBy true first p q = p ≡ q
+  LeaveBy false first p q = At code p (instructions.Leave first) × (p + 1 ≡ q)
+
+  abbrev pub LeaveAt : (first t p q : ℕ) → Type 0
+  LeaveAt first t p q = LeaveBy (first == t) first p q
+
+  abbrev pub ReturnAt : Option Converted → Exits → (t p : ℕ) → Type 0
+  ReturnAt None exits t p = (s : ℕ) × (m : ℕ) × LeaveAt exits.first_record t p m × At code m (instructions.Finish s)
+  ReturnAt (Some (Convert from to a)) exits t p =
+      (s : ℕ) × (m : ℕ) × (r : ℕ) × (u : ℕ) × ReturnedAt (source_of (starts_of types) (Convert from to a)) (ExpressionAt a t t p m) t s p m × ConversionAt from to (operands.Slot s) m r
+      × LeaveAt exits.first_record t r u × At code u (instructions.Finish s) × (results_of bounds.result ≡ words_of_kind to) × (to ≡ kind_of_result bounds.result)
 
   abbrev pub DeclarationAt : ℕ → Option Converted → (t p q : ℕ) → Type 0
   DeclarationAt n None t p q = (n < bounds.locals) × (p ≡ q)
@@ -298,9 +306,9 @@ module _ (code : List Instruction) (bounds : Numbering) (types : Types) where
         (x : Operand) × (y : Operand) × (m : ℕ) × (r : ℕ) × At code p (instructions.Jump (continue_target p)) × At code (break_target p) (instructions.Jump q)
         × ConditionAt a x y t (continue_target p) m × FailingAt a x y m (break_target p) × StatementAt s (inside_loop p t exits) t (m + 1) r
         × At code r (instructions.Jump (continue_target p)) × (r + 1 ≡ q) × (break_target p < q)
-    StatementAt (Return v) exits t p q = ReturnAt v t p
-    StatementAt Break exits t p q = At code p (instructions.Jump (break_target exits.head))
-    StatementAt Continue exits t p q = At code p (instructions.Jump (continue_target exits.head))
+    StatementAt (Return v) exits t p q = ReturnAt v exits t p
+    StatementAt Break exits t p q = (m : ℕ) × LeaveAt exits.loop_record t p m × At code m (instructions.Jump (break_target exits.head))
+    StatementAt Continue exits t p q = (m : ℕ) × LeaveAt exits.loop_record t p m × At code m (instructions.Jump (continue_target exits.head))
     StatementAt s exits t p q = ⊥
 
     pub ItemsAt : Items → Exits → (t p q : ℕ) → Type 0

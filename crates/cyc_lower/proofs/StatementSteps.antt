@@ -33,7 +33,7 @@ use Rattle.cyc_objects.specs.Tables.{Variable, Tables, with_row, with_handle}
 use Rattle.cyc_objects.specs.Words.{Is}
 use Rattle.cyc_objects.proofs.Values.{Grows-row, Grows-handle}
 use Rattle.cyc_lower.proofs.Sharing.{shared_declared, row_declared, shared_opened, shared_closed, shared_left}
-use Rattle.cyc_lower.proofs.Relation.{types_in, types_at, starts_at, given_at, returned_at, Holds, held, callers, homes, Shared, DataAt, SharedAt, in_temporary, in_local, ValueStack, AheadStack, StatementStack, LandsStack, Related, EvaluatingAt, as_operand, into_slot, for_effect, as_condition, in_operand, ahead, behind_statement, behind_call, behind_wrong, Below, IsLast, Arrives, in_place, by_jump, code_of, bounds_in, bounds_at, base_of, top}
+use Rattle.cyc_lower.proofs.Relation.{types_in, types_at, starts_at, given_at, returned_at, Holds, held, callers, homes, Shared, DataAt, SharedAt, in_temporary, in_local, ValueStack, AheadStack, StatementStack, LandsStack, Related, EvaluatingAt, as_operand, into_slot, for_effect, as_condition, in_operand, ahead, behind_statement, behind_call, behind_wrong, Below, IsLast, Arrives, in_place, by_jump, code_of, bounds_in, bounds_at, base_of, floor, top}
 use Rattle.cyc_lower.proofs.Data.{height-least, Holds-same, Holds-above, data_declared, data_returned, data_grows, held_by_caller}
 use Rattle.cyc_lower.proofs.Values.{int_at}
 use Rattle.cyc_lower.proofs.Accesses.{IsWell, is_declared, is_closed, home_there}
@@ -63,7 +63,7 @@ module _ (source : Program) (pages calls : ℕ) where
   returned : (tables : Tables) (a : Expression) (same : Bool) (locals : ℕ → Option ℕ) (g p : ℕ) (slots : Words) (frames : List Frame) (k : List Entry) (s m : ℕ)
       → ReturnedAt (code_of source g) (bounds_at source g) (types_at source g) (if same then operand_of (starts_at source g) a else None)
       (ExpressionAt (code_of source g) (bounds_at source g) (types_at source g) a (top source g k) (top source g k) p m) (top source g k) s p m
-      → Holds tables slots (base_of source g) (held k) → ValueStack source g locals (given_at source g a) (operands.Slot s) m frames k → EvaluatingAt source tables a locals g p slots frames k
+      → Holds tables slots (floor source g k) (held k) → ValueStack source g locals (given_at source g a) (operands.Slot s) m frames k → EvaluatingAt source tables a locals g p slots frames k
   returned tables a false locals g p slots frames k s m (is, at) holds stack =
       into_slot (top source g k) m at holds (in_temporary (omega arith) (subst (λ x. ValueStack source g locals (given_at source g a) (operands.Slot x) m frames k) is stack))
   returned tables (Copy (Local w n) t) true locals g p slots frames k s m (is, end) holds stack = as_operand (operands.Slot s) m (ap operands.Slot is, end) holds stack
@@ -95,7 +95,7 @@ module _ (source : Program) (pages calls : ℕ) where
       (omega arith)
   executing (While p a s) k e w c well (shared, facts, (exits, q, (x, y, m, r, enter, leave, at_a, jump, at_s, back, end, after), stack)) =
       by_one source pages calls refl shared enter
-      (λ choice. (shared, facts, as_condition x y m at_a tt (inside_loop c.active.next (base_of source c.active.function) exits, exits, q, (x, y, m, r, leave, at_a, jump, at_s, back, after), r, jump, at_s, back, stack)))
+      (λ choice. (shared, facts, as_condition x y m at_a tt (inside_loop c.active.next (floor source c.active.function k) exits, exits, q, (x, y, m, r, leave, at_a, jump, at_s, back, after), r, jump, at_s, back, stack)))
   executing (typed.Return None) k e w c well (shared, facts, (exits, q, (s, here), stack)) =
       silently source pages calls (Running (Executing (typed.Return None)) k e w) (Running (Returning None) k e w) (plain.Running c) refl
       (shared, facts, (exits, q, s, here, stack))
@@ -125,9 +125,9 @@ module _ (source : Program) (pages calls : ℕ) where
       → DataAt source t g w.objects locals (record { locals = outer.locals; values = held k } ∷ callers k) slots globals (f ∷ frames)
       → top source f.caller.function k ≤ f.result
       → DataAt source t f.caller.function w.objects outer.locals (callers k) (copied slots value results f.caller.slots f.result) globals frames
-      × Holds t (copied slots value results f.caller.slots f.result) (base_of source f.caller.function) (held k)
+      × Holds t (copied slots value results f.caller.slots f.result) (floor source f.caller.function k) (held k)
   comes_back t g value results slots globals f frames k locals outer w facts least =
-      let base = base_of source f.caller.function in
+      let base = floor source f.caller.function k in
       let holds = held_by_caller t source g w.objects locals (record { locals = outer.locals; values = held k }) (callers k) slots globals f frames facts in (
         data_returned t source g w.objects locals (record { locals = outer.locals; values = held k }) (callers k) slots (copied slots value results f.caller.slots f.result) globals f frames
             (λ n less. copied-below slots f.caller.slots value results f.result n (omega (arith, less, least, height-least base (held k)))) facts,
@@ -169,7 +169,7 @@ module _ (source : Program) (pages calls : ℕ) where
       ))
   hands_back v active (f ∷ frames) globals store output input k e outer w s shared facts here is wide (in_local below stack) =
       let results = (routine_at (lower_program source) active.function).results in
-      let base = base_of source f.caller.function in
+      let base = floor source f.caller.function k in
       let d = f.result in
       let holds = held_by_caller shared.tables source active.function w.objects e.locals (record { locals = outer.locals; values = held k }) (callers k) active.slots globals f frames facts in
       let now = copied active.slots s results f.caller.slots d in
@@ -208,7 +208,7 @@ module _ (source : Program) (pages calls : ℕ) where
       → IsWell (step source (Running Proceeding (Rest (MoreItems (Declare n t None) js) ∷ k) e w))
       → (shared : SharedAt source pages calls k e w c) → DataAt source shared.tables c.active.function w.objects e.locals (callers k) c.active.slots c.globals c.frames
       → n < length (types_at source c.active.function).locals → c.active.next ≡ m
-      → ItemsAt (code_of source c.active.function) (bounds_at source c.active.function) (types_at source c.active.function) js exits (base_of source c.active.function) m q
+      → ItemsAt (code_of source c.active.function) (bounds_at source c.active.function) (types_at source c.active.function) js exits (floor source c.active.function k) m q
       → StatementStack source c.active.function exits q c.frames k
       → IsMatched source pages calls (Running Proceeding (Rest (MoreItems (Declare n t None) js) ∷ k) e w) (plain.Running c)
   declares n t js k e w c exits m q well shared facts few end items stack =
@@ -222,7 +222,7 @@ module _ (source : Program) (pages calls : ℕ) where
       (is_declared (region_at w e.home) Proceeding n (kind_of t) None (Rest js ∷ k) e w well) (
         shared_declared source pages calls k e w c shared n r (kind_of t) None home,
         behind_statement exits (data_declared grown source g w.objects e (callers k) c.active.slots c.active.slots c.globals c.frames n 0 x few (omega arith) (row_declared source pages calls k e w c shared) (λ m out. refl) (λ v has. absurd (none-some v has)) more)
-            (q, subst (λ p. ItemsAt (code_of source g) (bounds_at source g) (types_at source g) js exits (base_of source g) p q) (sym end) items, stack),
+            (q, subst (λ p. ItemsAt (code_of source g) (bounds_at source g) (types_at source g) js exits (floor source g k) p q) (sym end) items, stack),
       )
       (omega arith)
 
@@ -242,8 +242,8 @@ module _ (source : Program) (pages calls : ℕ) where
       → converts_there from to ≡ there
       → (shared : SharedAt source pages calls k e w c) → DataAt source shared.tables c.active.function w.objects e.locals (callers k) c.active.slots c.globals c.frames
       → HasRoom (types_at source c.active.function) n to
-      → InitialBy (code_of source c.active.function) (bounds_at source c.active.function) (types_at source c.active.function) there from to a (slot_of (starts_at source c.active.function) n) (base_of source c.active.function) c.active.next m
-      → ItemsAt (code_of source c.active.function) (bounds_at source c.active.function) (types_at source c.active.function) js exits (base_of source c.active.function) m q
+      → InitialBy (code_of source c.active.function) (bounds_at source c.active.function) (types_at source c.active.function) there from to a (slot_of (starts_at source c.active.function) n) (floor source c.active.function k) c.active.next m
+      → ItemsAt (code_of source c.active.function) (bounds_at source c.active.function) (types_at source c.active.function) js exits (floor source c.active.function k) m q
       → StatementStack source c.active.function exits q c.frames k
       → Related source pages calls (Evaluating a) (Needs (ConvertTo from to (target_by a)) ∷ Needs (Initialise n (kind_of ty) js) ∷ k) e w c
   initial_by true n ty from to a js k e w c exits m q lands shared facts room (wide, at_a) items stack =
@@ -252,14 +252,14 @@ module _ (source : Program) (pages calls : ℕ) where
       (shared, facts, into_slot (slot_of (starts_at source g) n) m at_a tt (in_local (omega (arith, inside, room, wide)) (lands, (exits, q, refl, room, items, stack))))
   initial_by false n ty from to a js k e w c exits m q lands shared facts room (o, s, r, at_a, at_to, move, end) items stack =
       let g = c.active.function in
-      let rest = subst (λ p. ItemsAt (code_of source g) (bounds_at source g) (types_at source g) js exits (base_of source g) p q) (sym end) items in
+      let rest = subst (λ p. ItemsAt (code_of source g) (bounds_at source g) (types_at source g) js exits (floor source g k) p q) (sym end) items in
       (shared, facts, sources source pages calls shared.tables from to a (Needs (ConvertTo from to (target_by a)) ∷ Needs (Initialise n (kind_of ty) js) ∷ k) e w c o s at_a tt (r, at_to, (exits, q, move, room, rest, stack)))
 
   initial : (n : ℕ) (ty : Ty) (from to : Kind) (a : Expression) (js : Items) (k : List Entry) (e : Environment) (w : World) (c : Configuration) (exits : Exits) (m q : ℕ)
       → (shared : SharedAt source pages calls k e w c) → DataAt source shared.tables c.active.function w.objects e.locals (callers k) c.active.slots c.globals c.frames
       → HasRoom (types_at source c.active.function) n to
-      → InitialAt (code_of source c.active.function) (bounds_at source c.active.function) (types_at source c.active.function) (Convert from to a) (slot_of (starts_at source c.active.function) n) (base_of source c.active.function) c.active.next m
-      → ItemsAt (code_of source c.active.function) (bounds_at source c.active.function) (types_at source c.active.function) js exits (base_of source c.active.function) m q
+      → InitialAt (code_of source c.active.function) (bounds_at source c.active.function) (types_at source c.active.function) (Convert from to a) (slot_of (starts_at source c.active.function) n) (floor source c.active.function k) c.active.next m
+      → ItemsAt (code_of source c.active.function) (bounds_at source c.active.function) (types_at source c.active.function) js exits (floor source c.active.function k) m q
       → StatementStack source c.active.function exits q c.frames k
       → IsMatched source pages calls (Running Proceeding (Rest (MoreItems (Declare n ty (Some (Convert from to a))) js) ∷ k) e w) (plain.Running c)
   initial n ty from to a js k e w c exits m q shared facts room at items stack =

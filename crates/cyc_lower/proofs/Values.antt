@@ -59,7 +59,7 @@ use Rattle.cyc_objects.proofs.Pointers.{not-null, part-not-null, pointer-word}
 use Rattle.cyc_objects.specs.Tables.{Variable, with_row}
 use Rattle.cyc_objects.proofs.Values.{Grows-row, Is-grows}
 use Rattle.cyc_lower.proofs.Sharing.{shared_declared, row_declared, shared_written}
-use Rattle.cyc_lower.proofs.Relation.{IsWord, IsIn, with_kind, types_at, starts_at, Holds, held, contents, callers, in_place, by_jump, in_temporary, in_local, drops, leaves, copies, DataIn, SharedAt, StoreAt, to_slot, to_jump, ValueStack, ConditionStack, DroppedStack, AheadStack, LandsStack, HandsOnStack, AppliedStack, ReadyAt, as_operand, into_slot, as_right, in_operand, nowhere, ahead, compared, with_left, behind_statement, Related, Matches, code_of, bounds_at, base_of, top}
+use Rattle.cyc_lower.proofs.Relation.{IsWord, IsIn, with_kind, types_at, starts_at, Holds, held, contents, callers, in_place, by_jump, in_temporary, in_local, drops, leaves, copies, DataIn, SharedAt, StoreAt, to_slot, to_jump, ValueStack, ConditionStack, DroppedStack, AheadStack, LandsStack, HandsOnStack, AppliedStack, ReadyAt, as_operand, into_slot, as_right, in_operand, nowhere, ahead, compared, with_left, behind_statement, Related, Matches, code_of, bounds_at, base_of, floor, top}
 use Rattle.cyc_lower.proofs.Data.{in_words, IsWord-is, one_word, height-least, Holds-same, Holds-above, data_above, data_assigned, data_assigned_global, data_declared, data_grows}
 use Rattle.cyc_lower.proofs.Accesses.{IsWell, is_fitting, is_stored, written_here, written_elsewhere, written_length, is_declared, home_there, is_member}
 use Rattle.cyc_lower.proofs.PlaceWords.{stays, member_there}
@@ -283,7 +283,7 @@ module _ (source : Program) (pages calls : ℕ) where
   -- what is known of a value that stands in an operand
   abbrev pub Stands : Kinded → Operand → List Entry → Environment → World → Configuration → Type 0
   Stands v o k e w c = (shared : SharedAt source pages calls k e w c) × DataIn source shared.tables c.active.slots k e w c × IsIn shared.tables v c.active.slots o
-      × Holds shared.tables c.active.slots (base_of source c.active.function) (held k)
+      × Holds shared.tables c.active.slots (floor source c.active.function k) (held k)
 
   abbrev pub GoesBehind : Kinded → List Entry → Environment → World → Configuration → Type 0
   GoesBehind v k e w c = IsMatched source pages calls (Running (Given v) k e w) (plain.Running c)
@@ -436,7 +436,7 @@ module _ (source : Program) (pages calls : ℕ) where
   quotient : (u : Operator) (a b : ℕ) (l r : Operand) (d : ℕ) (k : List Entry) (e : Environment) (w : World) (c : Configuration) (q : ℕ)
       → ((x : ℕ) → plain_operators.has_no_result (binary_operator u) x ≡ (x == 0)) → ((x y : ℕ) → plain_operators.binary_result (binary_operator u) x y ≡ binary_word u x y)
       → (b == 0) ≡ false → (shared : SharedAt source pages calls k e w c) → DataIn source shared.tables c.active.slots k e w c
-      → operand_word c.active.slots l ≡ a → operand_word c.active.slots r ≡ b → Holds shared.tables c.active.slots (base_of source c.active.function) (held k)
+      → operand_word c.active.slots l ≡ a → operand_word c.active.slots r ≡ b → Holds shared.tables c.active.slots (floor source c.active.function k) (held k)
       → c.active.next + 1 ≡ q → LandsStack source c.active.function e.locals kinds.Int d q c.frames k
       → (choice : Choice) → Matches source pages calls (Running (Given (int_of (binary_word u a b))) k e w) (performed (lower_program source) choice c (instructions.Binary (binary_operator u) d l r))
   quotient u a b l r d k e w c q plain_test same nonzero shared facts is_left is holds end lands choice =
@@ -453,7 +453,7 @@ module _ (source : Program) (pages calls : ℕ) where
       → ((x : ℕ) → plain_operators.has_no_result (binary_operator u) x ≡ (x == 0)) → ((x : ℕ) → has_no_result u x ≡ (x == 0))
       → ((x y : ℕ) → plain_operators.binary_result (binary_operator u) x y ≡ binary_word u x y) → (b == 0) ≡ f
       → (shared : SharedAt source pages calls k e w c) → DataIn source shared.tables c.active.slots k e w c
-      → operand_word c.active.slots l ≡ a → operand_word c.active.slots r ≡ b → Holds shared.tables c.active.slots (base_of source c.active.function) (held k)
+      → operand_word c.active.slots l ≡ a → operand_word c.active.slots r ≡ b → Holds shared.tables c.active.slots (floor source c.active.function k) (held k)
       → CheckAt (code_of source c.active.function) (bounds_at source c.active.function) (types_at source c.active.function) division_by_zero r c.active.next m
       → At (code_of source c.active.function) m (instructions.Binary (binary_operator u) d l r) → m + 1 ≡ q
       → LandsStack source c.active.function e.locals kinds.Int d q c.frames k → GoesBehind (of_kind j (Int b)) (Needs (Apply u (of_kind i (Int a))) ∷ k) e w c
@@ -475,7 +475,7 @@ module _ (source : Program) (pages calls : ℕ) where
       → ((x : ℕ) → plain_operators.has_no_result (binary_operator u) x ≡ (x == 0)) → ((x : ℕ) → has_no_result u x ≡ (x == 0))
       → ((x y : ℕ) → plain_operators.binary_result (binary_operator u) x y ≡ binary_word u x y)
       → (shared : SharedAt source pages calls k e w c) → DataIn source shared.tables c.active.slots k e w c
-      → operand_word c.active.slots l ≡ a → operand_word c.active.slots r ≡ b → Holds shared.tables c.active.slots (base_of source c.active.function) (held k)
+      → operand_word c.active.slots l ≡ a → operand_word c.active.slots r ≡ b → Holds shared.tables c.active.slots (floor source c.active.function k) (held k)
       → CheckedAt (code_of source c.active.function) (bounds_at source c.active.function) (types_at source c.active.function) u d l r c.active.next q
       → LandsStack source c.active.function e.locals kinds.Int d q c.frames k → GoesBehind (of_kind j (Int b)) (Needs (Apply u (of_kind i (Int a))) ∷ k) e w c
   divides u i j a b l (operands.Word (suc n)) d k e w c q plain_test test same shared facts is_left is holds (m, begin, here, end) lands =
@@ -490,7 +490,7 @@ module _ (source : Program) (pages calls : ℕ) where
 
   computes : (u : Operator) (i j : Kind) (a b : ℕ) (l r : Operand) (d : ℕ) (k : List Entry) (e : Environment) (w : World) (c : Configuration) (q : ℕ)
       → (shared : SharedAt source pages calls k e w c) → DataIn source shared.tables c.active.slots k e w c
-      → operand_word c.active.slots l ≡ a → operand_word c.active.slots r ≡ b → Holds shared.tables c.active.slots (base_of source c.active.function) (held k)
+      → operand_word c.active.slots l ≡ a → operand_word c.active.slots r ≡ b → Holds shared.tables c.active.slots (floor source c.active.function k) (held k)
       → OperatorAt (code_of source c.active.function) (bounds_at source c.active.function) (types_at source c.active.function) u d l r c.active.next q
       → LandsStack source c.active.function e.locals kinds.Int d q c.frames k → GoesBehind (of_kind j (Int b)) (Needs (Apply u (of_kind i (Int a))) ∷ k) e w c
   computes operators.Divide i j a b l r d k e w c q shared facts is_left is holds here lands =
@@ -549,12 +549,12 @@ module _ (source : Program) (pages calls : ℕ) where
   -- where a word was negated once, a second time gives 0 or 1
   negated_twice : (t d : ℕ) (k : List Entry) (e : Environment) (w : World) (c : Configuration) (q : ℕ) → t ≡ truth (not (c.active.slots (top source c.active.function k) == 0))
       → (shared : SharedAt source pages calls k e w c) → DataIn source shared.tables c.active.slots k e w c
-      → Holds shared.tables c.active.slots (base_of source c.active.function) (held k) → c.active.next + 1 + 1 ≡ q → LandsStack source c.active.function e.locals kinds.Int d q c.frames k
+      → Holds shared.tables c.active.slots (floor source c.active.function k) (held k) → c.active.next + 1 + 1 ≡ q → LandsStack source c.active.function e.locals kinds.Int d q c.frames k
       → Related source pages calls (Given (int_of t)) k e w
       (advanced (with_slots (negated c k) (put (negated c k).active.slots d (truth ((negated c k).active.slots (top source c.active.function k) == 0)))))
   negated_twice t d k e w c q t_is shared facts holds end lands =
       let free = top source c.active.function k in
-      let base = base_of source c.active.function in
+      let base = floor source c.active.function k in
       let x = truth (c.active.slots free == 0) in
       let slots = put c.active.slots free x in
       landed_word source pages calls t (truth (slots free == 0)) d k e w (negated c k) q
@@ -590,7 +590,7 @@ module _ (source : Program) (pages calls : ℕ) where
       → ((x : ℕ) → i ≢ instructions.Unary plain_unary.Not x (operands.Slot (top source c.active.function k)))
       → (c.active.slots (top source c.active.function k) == 0) ≡ f
       → (shared : SharedAt source pages calls k e w c) → DataIn source shared.tables c.active.slots k e w c
-      → Holds shared.tables c.active.slots (base_of source c.active.function) (held k)
+      → Holds shared.tables c.active.slots (floor source c.active.function k) (held k)
       → TruthAt (code_of source c.active.function) (bounds_at source c.active.function) (types_at source c.active.function) (top source c.active.function k) d m r
       → LandsStack source c.active.function e.locals kinds.Int d r c.frames (Needs (Chain os) ∷ k)
       → GoesBehind v (Needs (Chain (ThenTest u b os)) ∷ k) e w c
@@ -804,7 +804,7 @@ module _ (source : Program) (pages calls : ℕ) where
             (written_here w object stored.at v.value stored.object_there stored.cell_there v.kind stored.same) (written_elsewhere w object stored.at v.value stored.object_there stored.cell_there)
             (written_length w object stored.at v.value stored.object_there stored.cell_there) room moved elsewhere facts,
         subst (IsIn shared.tables v slots) (sym there) moved,
-        Holds-above shared.tables c.active.slots slots (base_of source g) (held k) (λ m above. elsewhere m (inr (omega (arith, inside, room, above)))) holds,
+        Holds-above shared.tables c.active.slots slots (floor source g k) (held k) (λ m above. elsewhere m (inr (omega (arith, inside, room, above)))) holds,
       ) hands)
   stores object v (Global n) o to k e w c q found well (shared, facts, is, holds) (here, end, there, few, single) hands =
       let g = c.active.function in
@@ -870,7 +870,7 @@ module _ (source : Program) (pages calls : ℕ) where
       → e.locals n ≡ Some object → IsWell (stored_at (Thin object 0) v (Given v) k e w)
       → ((m : ℕ) → Outside (slot_of (starts_at source c.active.function) n) (words_of_kind v.kind) m → old m ≡ c.active.slots m) → DataIn source shared.tables old k e w c
       → HasRoom (types_at source c.active.function) n v.kind
-      → Is shared.tables v.kind v.value c.active.slots (slot_of (starts_at source c.active.function) n) → Holds shared.tables c.active.slots (base_of source c.active.function) (held k)
+      → Is shared.tables v.kind v.value c.active.slots (slot_of (starts_at source c.active.function) n) → Holds shared.tables c.active.slots (floor source c.active.function k) (held k)
       → HandsOnStack source c.active.function e.locals v.kind (operands.Slot (slot_of (starts_at source c.active.function) n)) c.active.next c.frames k → GoesBehind v (Needs (Store (Thin object 0)) ∷ k) e w c
   catches_up object n old v k e w c shared found well same facts room is holds hands =
       let g = c.active.function in
@@ -1129,7 +1129,7 @@ module _ (source : Program) (pages calls : ℕ) where
 
   ahead_given : (v : Kinded) (n : ℕ) (old : Words) (k : List Entry) (e : Environment) (w : World) (c : Configuration) → IsWell (step source (Running (Given v) k e w)) → (shared : SharedAt source pages calls k e w c)
       → ((m : ℕ) → Outside n (words_of_kind v.kind) m → old m ≡ c.active.slots m) → DataIn source shared.tables old k e w c
-      → Is shared.tables v.kind v.value c.active.slots n → Holds shared.tables c.active.slots (base_of source c.active.function) (held k)
+      → Is shared.tables v.kind v.value c.active.slots n → Holds shared.tables c.active.slots (floor source c.active.function k) (held k)
       → AheadStack source c.active.function e.locals v.kind n c.active.next c.frames k → GoesBehind v k e w c
   ahead_given v n old (Needs (ConvertTo from to target) ∷ k) e w c well shared same facts is holds (quiet, stack) =
       let (does, now, wide) = converts_ahead shared.tables from to target v n k e w c well quiet is in
