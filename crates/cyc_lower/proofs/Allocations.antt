@@ -47,7 +47,7 @@ use Rattle.cyc_lower.specs.Lowering.{lower_program}
 use Rattle.cyc_lower.proofs.Widths.{kind_positive, Outside}
 use Rattle.cyc_lower.proofs.Stands.{StoresAt, ObjectAt}
 use Rattle.cyc_lower.proofs.Relation.{IsWord, IsIn, IsObject, words_held, height, Holds, HoldsFrom, held, callers, homes, silent, DataIn, SharedAt, in_temporary, into_slot, LandsStack, ValueStack, Matches, code_of, bounds_at, types_at, base_of, floor, top}
-use Rattle.cyc_lower.proofs.Data.{Is-same, height-least, one_word, Holds-same, Holds-rest, Holds-grows, HoldsFrom-grows, in_order, words-reverse, data_above, data_grows, variables_grow, contents_made}
+use Rattle.cyc_lower.proofs.Data.{Is-same, height-least, one_word, Holds-same, Holds-rest, Holds-grows, HoldsFrom-grows, in_order, words-reverse, data_written, data_grows, variables_grow, contents_made}
 use Rattle.cyc_lower.proofs.Accesses.{IsWell, is_fitting}
 use Rattle.cyc_lower.proofs.CellWrites.{SameVariables, data_beside, cell_is_there, saves_there, shared_saved, data_saved}
 use Rattle.cyc_lower.proofs.Matched.{IsMatched, below, silently, by_places, by_one, shared_way, shared_within, place_in, known, Executes}
@@ -214,9 +214,11 @@ module _ (source : Program) (pages calls : ℕ) where
     data_made =
         let g = c.active.function in
         let many : length new.objects ≡ length w.objects + 1 = length-append w.objects (record { owner = InRegion heap_number; cells = cells } ∷ []) in
-        data_above grown source g new.objects e.locals (callers k) c.active.slots after.active.slots c.globals c.frames (t + words_held vs) 1 (omega (arith, height-least (floor source g k) (held k))) same_slots
-        (data_grows shared.tables grown grows source g new.objects e.locals (callers k) c.active.slots c.globals c.frames
-        (data_beside shared.tables source g w.objects new.objects e.locals (callers k) c.active.slots c.globals c.frames (omega (arith, many)) beside facts))
+        data_written source grown g new.objects e.locals k c.active.slots after.active.slots c.active.handlers c.globals c.frames (t + words_held vs) 1 (omega (arith, height-least (floor source g k) (held k))) same_slots (
+          data_grows shared.tables grown grows source g new.objects e.locals (callers k) c.active.slots c.globals c.frames
+              (data_beside shared.tables source g w.objects new.objects e.locals (callers k) c.active.slots c.globals c.frames (omega (arith, many)) beside facts.0),
+          facts.1,
+        )
       where
         beside : SameVariables shared.tables w.objects new.objects
         beside o row = contents_made w.objects (record { owner = InRegion heap_number; cells = cells }) o (omega (arith, slice_get-below shared.tables.rows o Variable row, shared.related.rows))

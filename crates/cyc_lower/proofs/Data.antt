@@ -456,7 +456,7 @@ module _ (source : Program) where
   -- slots that are equal between the locals and the temporaries have the same records
   pub handlers_same : (g : ℕ) (slots other : Words) (handlers : List plain.Handler) (frames : List Frame) (k : List Entry)
       → ((n : ℕ) → base_of source g ≤ n → n < floor source g k → other n ≡ slots n) → HandlersStand source g slots handlers frames k → HandlersStand source g other handlers frames k
-  handlers_same g slots other handlers frames [] same stand = stand
+  handlers_same g slots other handlers frames [] same stand = absurd stand
   handlers_same g slots other [] frames (Handler clauses ∷ k) same stand = absurd stand
   handlers_same g slots other (plain.Caught ∷ handlers) frames (Handler clauses ∷ k) same stand = absurd stand
   handlers_same g slots other (plain.Open index first contents ∷ handlers) frames (Handler clauses ∷ k) same (is, (zeroth, second, third, fourth), rest) =
@@ -491,14 +491,14 @@ module _ (source : Program) where
   )
 
   -- each frame is a call, and the running one is one more
-  pub calls_counted : (g : ℕ) (slots : Words) (handlers : List plain.Handler) (frames : List Frame) (k : List Entry) → HandlersStand source g slots handlers frames k → calls_in k ≤ suc (length frames)
-  calls_counted g slots handlers frames [] stand = omega arith
+  pub calls_counted : (g : ℕ) (slots : Words) (handlers : List plain.Handler) (frames : List Frame) (k : List Entry) → HandlersStand source g slots handlers frames k → calls_in k ≡ suc (length frames)
+  calls_counted g slots handlers frames [] stand = absurd stand
   calls_counted g slots [] frames (Handler clauses ∷ k) stand = absurd stand
   calls_counted g slots (plain.Caught ∷ handlers) frames (Handler clauses ∷ k) stand = absurd stand
   calls_counted g slots (plain.Open index first contents ∷ handlers) frames (Handler clauses ∷ k) (is, intact, rest) = calls_counted g slots handlers frames k rest
   calls_counted g slots handlers [] (Caller e ∷ k) (none, rest) = absurd rest
-  calls_counted g slots handlers (f ∷ frames) (Caller e ∷ k) (none, rest) = omega (arith, calls_counted f.caller.function f.caller.slots f.caller.handlers frames k rest)
-  calls_counted g slots handlers [] (Main ∷ []) (none, last) = omega arith
+  calls_counted g slots handlers (f ∷ frames) (Caller e ∷ k) (none, rest) = ap suc (calls_counted f.caller.function f.caller.slots f.caller.handlers frames k rest)
+  calls_counted g slots handlers [] (Main ∷ []) (none, last) = refl
   calls_counted g slots handlers [] (Main ∷ entry ∷ k) (none, last) = absurd last
   calls_counted g slots handlers (f ∷ frames) (Main ∷ k) (none, last) = absurd last
   calls_counted g slots handlers frames (entry ∷ k) stand = calls_counted g slots handlers frames k stand

@@ -40,7 +40,7 @@ use Rattle.cyc_lower.proofs.Stands.{CopyBy, CopyAt, OperandBy, InitialBy, Expres
 use Rattle.cyc_objects.specs.Tables.{Tables}
 use Rattle.cyc_objects.specs.Words.{Is}
 use Rattle.cyc_lower.proofs.Relation.{IsIn, types_at, starts_at, given_at, called_at, words_held, height, Holds, held, contents, callers, in_temporary, in_local, drops, leaves, copies, prints_only, gives_byte, DataIn, SharedAt, CallAt, to_slot, to_jump, ValueStack, PlaceStack, ConditionStack, DroppedStack, AheadStack, LandsStack, HandsOnStack, PrintsStack, RightAt, EvaluatingAt, as_operand, into_slot, for_effect, as_right, as_condition, in_operand, ahead, with_left, Related, Matches, code_of, bounds_in, bounds_at, base_of, floor, top}
-use Rattle.cyc_lower.proofs.Data.{IsWord-is, height-least, Holds-same, Holds-above, data_above}
+use Rattle.cyc_lower.proofs.Data.{IsWord-is, height-least, Holds-same, Holds-above, data_written}
 use Rattle.cyc_lower.proofs.Accesses.{IsWell, is_loaded}
 use Rattle.cyc_lower.proofs.Matched.{IsMatched, silently, by_one}
 
@@ -64,7 +64,7 @@ module _ (source : Program) (pages calls : ℕ) where
       let base = floor source c.active.function k in (
         shared,
         in_operand (operands.Slot d)
-            (data_above shared.tables source c.active.function w.objects e.locals (callers k) c.active.slots after c.globals c.frames d (words_of_kind v.kind) (omega (arith, least, height-least base (held k))) same facts)
+            (data_written source shared.tables c.active.function w.objects e.locals k c.active.slots after c.active.handlers c.globals c.frames d (words_of_kind v.kind) (omega (arith, least, height-least base (held k))) same facts)
             is
             (Holds-same shared.tables c.active.slots after base (held k) (λ m below. same m (inl (omega (arith, below, least)))) holds)
             (subst (λ r. ValueStack source c.active.function e.locals v.kind (operands.Slot d) r c.frames k) (sym end) stack),
@@ -123,7 +123,7 @@ module _ (source : Program) (pages calls : ℕ) where
       → step source (Running (Evaluating a) k e w) ≡ loaded_from (kind_of t) (e.locals n) k e w → kind_of t ≡ given_at source c.active.function a → expression_weight a ≡ 1
       → Some (operands.Slot (slot_of (starts_at source c.active.function) n)) ≡ Some o → IsWell (loaded_from (kind_of t) (e.locals n) k e w)
       → DataIn source tables c.active.slots k e w c → IsRead tables a o k e w c
-  reads_local tables a n t o k e w c does same some known well (low, below, hold, waiting, words) =
+  reads_local tables a n t o k e w c does same some known well ((low, below, hold, waiting, words), handlers) =
       let found = is_loaded (kind_of t) (e.locals n) k e w well in
       let v : Kinded = record { kind = kind_of t; value = found.value } in
       record {
@@ -251,7 +251,7 @@ module _ (source : Program) (pages calls : ℕ) where
       → Related source pages calls (Evaluating a) (Needs (ConvertTo from to (target_by a)) ∷ Needs (Store (Thin object 0)) ∷ k) e w c
   assigns_local true n from to a k e w c object o m lands found shared facts holds there room (wide, at_a) hands =
       let g = c.active.function in
-      let inside = slot-room (types_at source g) n (facts.2.within n object found).0 in (
+      let inside = slot-room (types_at source g) n (facts.0.2.within n object found).0 in (
         shared,
         facts,
         into_slot (slot_of (starts_at source g) n) m at_a holds
@@ -340,7 +340,7 @@ module _ (source : Program) (pages calls : ℕ) where
       let v : Kinded = record { kind = kind_of t; value = found.value } in
       let o = operands.Slot (slot_of (starts_at source g) n) in
       by_one source pages calls (does ∙ found.gives) shared (subst (λ x. CodeAt (code_of source g) c.active.next (move_of x d o)) (sym (type_words t)) at)
-      (λ choice. landed_moved v o d k e w c q choice shared (facts.2.holds n found.number v found.there found.has).0 facts holds end lands)
+      (λ choice. landed_moved v o d k e w c q choice shared (facts.0.2.holds n found.number v found.there found.has).0 facts holds end lands)
 
   comes : (a : Expression) (k : List Entry) (e : Environment) (w : World) (c : Configuration) (d q : ℕ) → At_step a k e w c
       → ExpressionAt (code_of source c.active.function) (bounds_at source c.active.function) (types_at source c.active.function) a d (top source c.active.function k) c.active.next q
@@ -358,7 +358,7 @@ module _ (source : Program) (pages calls : ℕ) where
       let v : Kinded = record { kind = kind_of t; value = found.value } in
       let word = c.globals n in
       let same : n ≡ found.number = same_Some n found.number found.there in
-      let is = (facts.4 n (global_there c.active.function n few)).1 v (ap (contents w.objects) same ∙ found.has) in
+      let is = (facts.0.4 n (global_there c.active.function n few)).1 v (ap (contents w.objects) same ∙ found.has) in
       by_one source pages calls found.gives shared at
       (λ choice. landed v (put c.active.slots d word) d k e w c q shared (IsWord-is shared.tables v.kind v.value word (put c.active.slots d word) d (put-same c.active.slots d word) is)
       (λ m out. put_elsewhere c.active.slots d word (words_of_kind v.kind) m (kind_positive v.kind) out) facts holds end lands)

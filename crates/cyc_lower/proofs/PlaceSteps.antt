@@ -28,7 +28,7 @@ use Rattle.cyc_lower.specs.Lowering.{is_in, move_of, source_of, source_slot, low
 use Rattle.cyc_lower.proofs.Widths.{kind_positive, same_kind}
 use Rattle.cyc_lower.proofs.Moves.{put_elsewhere}
 use Rattle.cyc_lower.proofs.Relation.{Matches, held, callers, types_at, starts_at, Holds, DataIn, SharedAt, LandsStack, HandsOnStack, Related, code_of, bounds_at, base_of, floor, top}
-use Rattle.cyc_lower.proofs.Data.{Is-same, height-least, Holds-same, data_above}
+use Rattle.cyc_lower.proofs.Data.{Is-same, height-least, Holds-same, data_written}
 use Rattle.cyc_lower.proofs.Stands.{CopyBy, AddressAt, OperandBy, ExpressionAt, ConvertedOperandAt}
 use Rattle.cyc_lower.proofs.PlaceWords.{add_is}
 use Rattle.cyc_lower.proofs.Accesses.{IsWell}
@@ -169,7 +169,7 @@ module _ (source : Program) (pages calls : ℕ) where
       by_one source pages calls refl shared here
       (λ choice. subst (Matches source pages calls (Running (Evaluating a) (right_side from to a peek (Thin object offset) k) e w)) (sym (goes choice))
       (right_begins from to a peek object offset k e w (advanced (with_slots c after)) s shared
-      (data_above shared.tables source g w.objects e.locals (callers k) c.active.slots after c.globals c.frames free 1 (height-least base (held k)) (λ m out. put_elsewhere c.active.slots free word 1 m (omega arith) out) facts)
+      (data_written source shared.tables g w.objects e.locals k c.active.slots after c.active.handlers c.globals c.frames free 1 (height-least base (held k)) (λ m out. put_elsewhere c.active.slots free word 1 m (omega arith) out) facts)
       (Holds-same shared.tables c.active.slots after base (held k) (λ m below. put_elsewhere c.active.slots free word 1 m (omega arith) (inl below)) holds)
       (subst (Points shared.tables object offset) (sym (put-same c.active.slots free word)) points) end behind))
 

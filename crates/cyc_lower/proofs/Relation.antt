@@ -593,7 +593,7 @@ module _ (source : Program) where
 
   -- The handlers that the running call has open, and those of the calls that wait: one for each entry, with its record.
   abbrev pub HandlersStand : (g : ℕ) → Words → List plain.Handler → List Frame → List Entry → Type 0
-  HandlersStand g slots handlers frames [] = handlers ≡ []
+  HandlersStand g slots handlers frames [] = ⊥
   HandlersStand g slots handlers frames (Handler clauses ∷ k) =
       Opened handlers (λ index first contents later. (first ≡ floor g k) × IsIntact slots first contents × HandlersStand g slots later frames k)
   HandlersStand g slots handlers frames (Caller e ∷ k) =

@@ -60,7 +60,7 @@ use Rattle.cyc_objects.specs.Tables.{Variable, with_row}
 use Rattle.cyc_objects.proofs.Values.{Grows-row, Is-grows}
 use Rattle.cyc_lower.proofs.Sharing.{shared_declared, row_declared, shared_written}
 use Rattle.cyc_lower.proofs.Relation.{IsWord, IsIn, with_kind, types_at, starts_at, Holds, held, contents, callers, in_place, by_jump, in_temporary, in_local, drops, leaves, copies, DataIn, SharedAt, StoreAt, to_slot, to_jump, ValueStack, ConditionStack, DroppedStack, AheadStack, LandsStack, HandsOnStack, AppliedStack, ReadyAt, as_operand, into_slot, as_right, in_operand, nowhere, ahead, compared, with_left, behind_statement, Related, Matches, code_of, bounds_at, base_of, floor, top}
-use Rattle.cyc_lower.proofs.Data.{in_words, IsWord-is, one_word, height-least, Holds-same, Holds-above, data_above, data_assigned, data_assigned_global, data_declared, data_grows}
+use Rattle.cyc_lower.proofs.Data.{behind-least, handlers_beside, in_words, IsWord-is, one_word, height-least, Holds-same, Holds-above, data_written, data_assigned, data_assigned_global, data_declared, data_grows}
 use Rattle.cyc_lower.proofs.Accesses.{IsWell, is_fitting, is_stored, written_here, written_elsewhere, written_length, is_declared, home_there, is_member}
 use Rattle.cyc_lower.proofs.PlaceWords.{stays, member_there}
 use Rattle.cyc_lower.proofs.CellWrites.{cell_is_there, saves_there, shared_saved, data_saved}
@@ -559,7 +559,7 @@ module _ (source : Program) (pages calls : ℕ) where
       let slots = put c.active.slots free x in
       landed_word source pages calls t (truth (slots free == 0)) d k e w (negated c k) q
       (ap (λ y. truth (y == 0)) (put-same c.active.slots free x) ∙ truth_twice (c.active.slots free == 0) ∙ sym t_is)
-      shared (data_above shared.tables source c.active.function w.objects e.locals (callers k) c.active.slots slots c.globals c.frames free 1 (height-least base (held k)) (λ m out. put_elsewhere c.active.slots free x 1 m (omega arith) out) facts)
+      shared (data_written source shared.tables c.active.function w.objects e.locals k c.active.slots slots c.active.handlers c.globals c.frames free 1 (height-least base (held k)) (λ m out. put_elsewhere c.active.slots free x 1 m (omega arith) out) facts)
       (Holds-same shared.tables c.active.slots slots base (held k) (λ m below. put_elsewhere c.active.slots free x 1 m (omega arith) (inl below)) holds) end lands
 
   decides_truth : (v : Kinded) (o : Operand) (k : List Entry) (e : Environment) (w : World) (c : Configuration) → IsWell (step source (Running (Given v) (Needs Decide ∷ k) e w)) → Stands v o k e w c
@@ -791,7 +791,7 @@ module _ (source : Program) (pages calls : ℕ) where
       let words = words_of_kind v.kind in
       let stored = is_stored object v (Given v) k e w well in
       let slot = slot_of (starts_at source g) n in
-      let inside = slot-room (types_at source g) n (facts.2.within n object found).0 in
+      let inside = slot-room (types_at source g) n (facts.0.2.within n object found).0 in
       let slots = moved_slots c.active.slots words slot o in
       let elsewhere : (m : ℕ) → Outside slot words m → slots m ≡ c.active.slots m = λ m out. moved_elsewhere c.active.slots words slot o m (kind_positive v.kind) out in
       let moved = moved_is shared.tables v c.active.slots slot o is in
@@ -799,12 +799,15 @@ module _ (source : Program) (pages calls : ℕ) where
       let next = written w object 0 stored.at v.value in
       hands_behind v k e next c after stored.gives shared shared here (λ choice. moves (lower_program source) choice c words slot o) (λ same. omega (arith, same))
       (handed v to k e next after q end (
-        shared_written source pages calls k e w after shared object stored.at v.value stored.object_there stored.cell_there (facts.2.rows n object found),
-        data_assigned shared.tables source g w.objects next.objects e.locals (callers k) c.active.slots slots c.globals c.frames n object v found
-            (written_here w object stored.at v.value stored.object_there stored.cell_there v.kind stored.same) (written_elsewhere w object stored.at v.value stored.object_there stored.cell_there)
-            (written_length w object stored.at v.value stored.object_there stored.cell_there) room moved elsewhere facts,
+        shared_written source pages calls k e w after shared object stored.at v.value stored.object_there stored.cell_there (facts.0.2.rows n object found),
+        (
+          data_assigned shared.tables source g w.objects next.objects e.locals (callers k) c.active.slots slots c.globals c.frames n object v found
+              (written_here w object stored.at v.value stored.object_there stored.cell_there v.kind stored.same) (written_elsewhere w object stored.at v.value stored.object_there stored.cell_there)
+              (written_length w object stored.at v.value stored.object_there stored.cell_there) room moved elsewhere facts.0,
+          handlers_beside source g c.active.slots slots c.active.handlers c.frames k slot words (omega (arith, inside, room)) elsewhere facts.1,
+        ),
         subst (IsIn shared.tables v slots) (sym there) moved,
-        Holds-above shared.tables c.active.slots slots (floor source g k) (held k) (λ m above. elsewhere m (inr (omega (arith, inside, room, above)))) holds,
+        Holds-above shared.tables c.active.slots slots (floor source g k) (held k) (λ m above. elsewhere m (inr (omega (arith, inside, room, above, behind-least k (base_of source g))))) holds,
       ) hands)
   stores object v (Global n) o to k e w c q found well (shared, facts, is, holds) (here, end, there, few, single) hands =
       let g = c.active.function in
@@ -815,12 +818,15 @@ module _ (source : Program) (pages calls : ℕ) where
       let next = written w object 0 stored.at v.value in
       hands_behind v k e next c after stored.gives shared shared here (λ choice. refl) (λ equal. omega (arith, equal))
       (handed v to k e next after q end (
-        shared_written source pages calls k e w after shared object stored.at v.value stored.object_there stored.cell_there (ap (slice_get shared.tables.rows) (sym same) ∙ (facts.4 n (global_there source pages calls g n few)).0),
-        data_assigned_global shared.tables source g w.objects next.objects e.locals (callers k) c.active.slots c.globals c.frames n v x
-            (global_there source pages calls g n few)
-            (ap (contents next.objects) same ∙ written_here w object stored.at v.value stored.object_there stored.cell_there v.kind stored.same)
-            (λ i other. written_elsewhere w object stored.at v.value stored.object_there stored.cell_there i (λ equal. other (equal ∙ sym same)))
-            (written_length w object stored.at v.value stored.object_there stored.cell_there) (first_word shared.tables v c.active.slots o single is) facts,
+        shared_written source pages calls k e w after shared object stored.at v.value stored.object_there stored.cell_there (ap (slice_get shared.tables.rows) (sym same) ∙ (facts.0.4 n (global_there source pages calls g n few)).0),
+        (
+          data_assigned_global shared.tables source g w.objects next.objects e.locals (callers k) c.active.slots c.globals c.frames n v x
+              (global_there source pages calls g n few)
+              (ap (contents next.objects) same ∙ written_here w object stored.at v.value stored.object_there stored.cell_there v.kind stored.same)
+              (λ i other. written_elsewhere w object stored.at v.value stored.object_there stored.cell_there i (λ equal. other (equal ∙ sym same)))
+              (written_length w object stored.at v.value stored.object_there stored.cell_there) (first_word shared.tables v c.active.slots o single is) facts.0,
+          facts.1,
+        ),
         subst (IsIn shared.tables v c.active.slots) (sym there) is,
         holds,
       ) hands)
@@ -876,12 +882,16 @@ module _ (source : Program) (pages calls : ℕ) where
       let g = c.active.function in
       let stored = is_stored object v (Given v) k e w well in
       let next = written w object 0 stored.at v.value in
+      let inside = slot-room (types_at source g) n (facts.0.2.within n object found).0 in
       hands_at_once v (Needs (Store (Thin object 0)) ∷ k) k e w next c stored.gives shared (omega arith)
       (handed v (operands.Slot (slot_of (starts_at source g) n)) k e next c c.active.next refl (
-        shared_written source pages calls k e w c shared object stored.at v.value stored.object_there stored.cell_there (facts.2.rows n object found),
-        data_assigned shared.tables source g w.objects next.objects e.locals (callers k) old c.active.slots c.globals c.frames n object v found
-            (written_here w object stored.at v.value stored.object_there stored.cell_there v.kind stored.same) (written_elsewhere w object stored.at v.value stored.object_there stored.cell_there)
-            (written_length w object stored.at v.value stored.object_there stored.cell_there) room is (λ m out. sym (same m out)) facts,
+        shared_written source pages calls k e w c shared object stored.at v.value stored.object_there stored.cell_there (facts.0.2.rows n object found),
+        (
+          data_assigned shared.tables source g w.objects next.objects e.locals (callers k) old c.active.slots c.globals c.frames n object v found
+              (written_here w object stored.at v.value stored.object_there stored.cell_there v.kind stored.same) (written_elsewhere w object stored.at v.value stored.object_there stored.cell_there)
+              (written_length w object stored.at v.value stored.object_there stored.cell_there) room is (λ m out. sym (same m out)) facts.0,
+          handlers_beside source g old c.active.slots c.active.handlers c.frames k (slot_of (starts_at source g) n) (words_of_kind v.kind) (omega (arith, inside, room)) (λ m out. sym (same m out)) facts.1,
+        ),
         is,
         holds,
       ) hands)
@@ -948,14 +958,18 @@ module _ (source : Program) (pages calls : ℕ) where
       let grown = with_row shared.tables Variable in
       let grows = Grows-row shared.tables Variable in
       let slots = moved_slots c.active.slots words slot o in
+      let local = room-inside (types_at source g) n v.kind room in
+      let elsewhere : (m : ℕ) → Outside slot words m → slots m ≡ c.active.slots m = λ m out. moved_elsewhere c.active.slots words slot o m (kind_positive v.kind) out in
       by_one source pages calls (makes_local n kind js v k e w well) shared here
       (λ choice. subst (Matches source pages calls (Running Proceeding (Rest js ∷ k) (with_local e n (length w.objects)) (made w (variable e.home kind (Some v.value))))) (sym (moves (lower_program source) choice c words slot o)) (
         shared_declared source pages calls k e w (advanced (with_slots c slots)) shared n r kind (Some v.value) home,
         behind_statement exits
-            (data_declared grown source g w.objects e (callers k) c.active.slots slots c.globals c.frames n words (variable e.home kind (Some v.value)) (room-inside (types_at source g) n v.kind room) room (row_declared source pages calls k e w c shared)
-            (λ m out. moved_elsewhere c.active.slots words slot o m (kind_positive v.kind) out)
-            (made_value grown n kind js v k e w slots slot (types_at source g) well room (Is-grows grows v.kind v.value slots slot (moved_is shared.tables v c.active.slots slot o is)))
-            (data_grows shared.tables grown grows source g w.objects e.locals (callers k) c.active.slots c.globals c.frames facts))
+            (
+              data_declared grown source g w.objects e (callers k) c.active.slots slots c.globals c.frames n words (variable e.home kind (Some v.value)) local room (row_declared source pages calls k e w c shared) elsewhere
+                  (made_value grown n kind js v k e w slots slot (types_at source g) well room (Is-grows grows v.kind v.value slots slot (moved_is shared.tables v c.active.slots slot o is)))
+                  (data_grows shared.tables grown grows source g w.objects e.locals (callers k) c.active.slots c.globals c.frames facts.0),
+              handlers_beside source g c.active.slots slots c.active.handlers c.frames k slot words (omega (arith, slot-room (types_at source g) n local, room)) elsewhere facts.1,
+            )
             (q, items, stack),
       ))
 
@@ -971,14 +985,18 @@ module _ (source : Program) (pages calls : ℕ) where
       let grown = with_row shared.tables Variable in
       let grows = Grows-row shared.tables Variable in
       let slot = slot_of (starts_at source g) n in
+      let local = room-inside (types_at source g) n v.kind room in
       silently source pages calls (Running (Given v) (Needs (Initialise n kind js) ∷ k) e w)
       (Running Proceeding (Rest js ∷ k) (with_local e n (length w.objects)) (made w (variable e.home kind (Some v.value)))) (plain.Running c)
       (makes_local n kind js v k e w well) (
         shared_declared source pages calls k e w c shared n r kind (Some v.value) home,
         behind_statement exits
-            (data_declared grown source g w.objects e (callers k) old c.active.slots c.globals c.frames n (words_of_kind v.kind) (variable e.home kind (Some v.value)) (room-inside (types_at source g) n v.kind room) room (row_declared source pages calls k e w c shared)
-            (λ m out. sym (same m out)) (made_value grown n kind js v k e w c.active.slots slot (types_at source g) well room (Is-grows grows v.kind v.value c.active.slots slot is))
-            (data_grows shared.tables grown grows source g w.objects e.locals (callers k) old c.globals c.frames facts))
+            (
+              data_declared grown source g w.objects e (callers k) old c.active.slots c.globals c.frames n (words_of_kind v.kind) (variable e.home kind (Some v.value)) local room (row_declared source pages calls k e w c shared)
+                  (λ m out. sym (same m out)) (made_value grown n kind js v k e w c.active.slots slot (types_at source g) well room (Is-grows grows v.kind v.value c.active.slots slot is))
+                  (data_grows shared.tables grown grows source g w.objects e.locals (callers k) old c.globals c.frames facts.0),
+              handlers_beside source g old c.active.slots c.active.handlers c.frames k slot (words_of_kind v.kind) (omega (arith, slot-room (types_at source g) n local, room)) (λ m out. sym (same m out)) facts.1,
+            )
             stack,
       )
       (omega arith)
@@ -999,7 +1017,7 @@ module _ (source : Program) (pages calls : ℕ) where
       → is_zero v.value ≡ Some f → compares failing (operand_word c.active.slots l) (operand_word c.active.slots r) ≡ f
       → (shared : SharedAt source pages calls k e w c) → DataIn source shared.tables c.active.slots (Needs (Test a s) ∷ k) e w c
       → ConditionStack source c.active.function failing l r c.active.next c.frames (Needs (Test a s) ∷ k) → GoesBehind v (Needs (Test a s) ∷ k) e w c
-  loops a s v true failing l r k e w c fails told shared facts (exits, outer, q, (x, y, m, n, leave, at_a, again, at_body, repeats, after), i, jump, at_s, back, stack) =
+  loops a s v true failing l r k e w c fails told shared facts (exits, outer, q, (record_is, first_is, x, y, m, n, leave, at_a, again, at_body, repeats, after), i, jump, at_s, back, stack) =
       by_two source pages calls (at c (break_target exits.head)) (ap (λ (z : Option Bool). looped z a s k e w) fails) shared shared
       jump (λ choice. ap (λ z. plain_step.branches c z (break_target exits.head)) told)
       leave
