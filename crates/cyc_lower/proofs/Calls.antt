@@ -308,8 +308,7 @@ module _ (source : Program) (pages calls : ℕ) where
                 })
                 (
                   data_called shared.tables source g n w.objects e (behind_records k) (held k) (callers k) c.active.slots slots c.globals frame c.frames refl refl (Holds-rest shared.tables c.active.slots base before (held k) holds) facts.0,
-                  refl,
-                  facts.1,
+                  (refl, facts.1),
                 )
                 refl
                 (arguments_copied shared.tables c.active.slots choice.contents d 0 (words_held before) (reverse before) (omega (arith, words-reverse before))

@@ -1,5 +1,6 @@
 -- What a state of the source and one of the plain program have in common while the one is matched by the other.
-use Rattle.std.proofs.Common.{◌≡◌, ℕ, suc, ◌+◌, ◌*◌, ◌≤◌, ◌<◌, true, List, [], ◌∷◌, ◌++◌, length, Option, None, Some, slice_get, ◌^◌}
+use Rattle.std.proofs.Common.{◌≡◌, ℕ, suc, ◌+◌, ◌*◌, ◌≤◌, ◌<◌, Bool, true, false, List, [], ◌∷◌, ◌++◌, length, Option, None, Some, slice_get, ◌^◌}
+use Rattle.std.specs.Prelude.{if◌then◌else◌}
 use Rattle.cyc_words.specs.Word.{add_of}
 use Rattle.cyc_types.specs.declared.typed.Kind.{Kind}
 use Rattle.cyc_types.specs.declared.typed.Kind.TheVariants as kinds
@@ -159,6 +160,32 @@ abbrev pub callers : List Entry → List Waiting
 callers [] = []
 callers (Caller e ∷ k) = record { locals = e.locals; temporaries = behind_records k; values = held k } ∷ callers k
 callers (entry ∷ k) = callers k
+
+-- the newest handler is open
+abbrev pub Opened : List plain.Handler → ((index first : ℕ) → Words → List plain.Handler → Type 0) → Type 0
+Opened [] P = ⊥
+Opened (plain.Caught ∷ handlers) P = ⊥
+Opened (plain.Open index first contents ∷ handlers) P = P index first contents handlers
+
+-- the record of a handler holds what it held when the handler was opened
+abbrev pub IsIntact : Words → (first : ℕ) → (contents : Words) → Type 0
+IsIntact slots first contents =
+    (slots first ≡ contents 0) × (slots (first + 1) ≡ contents 1) × (slots (first + 2) ≡ contents 2) × (slots (first + 3) ≡ contents 3)
+
+-- What is left of the entries where a loop is left, or the function: its handlers are the open ones then.
+abbrev pub left_by : (loop : Bool) → List Entry → List Entry
+left_by loop [] = []
+left_by loop (Loop condition body ∷ k) = if loop then k else left_by loop k
+left_by loop (Caller e ∷ k) = Caller e ∷ k
+left_by loop (Main ∷ k) = Main ∷ k
+left_by loop (entry ∷ k) = left_by loop k
+
+-- the plain program has closed the handlers that a focus leaves at once
+abbrev pub handling : Focus → List Entry → List Entry
+handling Breaking k = left_by true k
+handling Continuing k = left_by true k
+handling (Returning v) k = left_by false k
+handling focus k = k
 
 -- the regions of variables that entries name
 abbrev pub homes : List Entry → List ℕ
@@ -580,17 +607,6 @@ module _ (source : Program) where
   abbrev pub SharedAt : (pages calls : ℕ) → List Entry → Environment → World → Configuration → Type 0
   SharedAt pages calls k e w c = Shared pages calls w (e.home ∷ homes k) c.output c.input c.store (length c.frames)
 
-  -- what a part of a list of handlers is
-  abbrev pub Opened : List plain.Handler → ((index first : ℕ) → Words → List plain.Handler → Type 0) → Type 0
-  Opened [] P = ⊥
-  Opened (plain.Caught ∷ handlers) P = ⊥
-  Opened (plain.Open index first contents ∷ handlers) P = P index first contents handlers
-
-  -- the record of a handler holds what it held when the handler was opened
-  abbrev pub IsIntact : Words → (first : ℕ) → (contents : Words) → Type 0
-  IsIntact slots first contents =
-      (slots first ≡ contents 0) × (slots (first + 1) ≡ contents 1) × (slots (first + 2) ≡ contents 2) × (slots (first + 3) ≡ contents 3)
-
   -- The handlers that the running call has open, and those of the calls that wait: one for each entry, with its record.
   abbrev pub HandlersStand : (g : ℕ) → Words → List plain.Handler → List Frame → List Entry → Type 0
   HandlersStand g slots handlers frames [] = ⊥
@@ -600,27 +616,6 @@ module _ (source : Program) where
       (handlers ≡ []) × Below frames (λ f rest. HandlersStand f.caller.function f.caller.slots f.caller.handlers rest k)
   HandlersStand g slots handlers frames (Main ∷ k) = (handlers ≡ []) × IsLast frames k
   HandlersStand g slots handlers frames (entry ∷ k) = HandlersStand g slots handlers frames k
-
-  -- What is left of the entries where a loop is left, or the function: its handlers are the open ones then.
-  abbrev pub behind_loop : List Entry → List Entry
-  behind_loop [] = []
-  behind_loop (Loop condition body ∷ k) = k
-  behind_loop (Caller e ∷ k) = Caller e ∷ k
-  behind_loop (Main ∷ k) = Main ∷ k
-  behind_loop (entry ∷ k) = behind_loop k
-
-  abbrev pub behind_function : List Entry → List Entry
-  behind_function [] = []
-  behind_function (Caller e ∷ k) = Caller e ∷ k
-  behind_function (Main ∷ k) = Main ∷ k
-  behind_function (entry ∷ k) = behind_function k
-
-  -- the plain program has closed the handlers that a focus leaves at once
-  abbrev pub handling : Focus → List Entry → List Entry
-  handling Breaking k = behind_loop k
-  handling Continuing k = behind_loop k
-  handling (Returning v) k = behind_function k
-  handling focus k = k
 
   -- the data of the running call and of those that wait, where the running one has these slots, and the handlers of these entries
   abbrev pub DataFor : Tables → (slots : Words) → (handled k : List Entry) → Environment → World → Configuration → Type 0

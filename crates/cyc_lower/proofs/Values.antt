@@ -66,6 +66,7 @@ use Rattle.cyc_lower.proofs.PlaceWords.{stays, member_there}
 use Rattle.cyc_lower.proofs.CellWrites.{cell_is_there, saves_there, shared_saved, data_saved}
 use Rattle.cyc_lower.proofs.Weights.{weight}
 use Rattle.cyc_lower.proofs.Relation.{StatementStack}
+use Rattle.cyc_lower.proofs.Handling.{leaving, record_left}
 use Rattle.cyc_lower.proofs.Matched.{IsMatched, silently, by_one, by_two, by_three, shared_way, shared_within, lands_depth, value_depth, place_depth, lands_plain, value_plain, place_plain, by_two_known, output_way}
 use Rattle.cyc_lower.proofs.PointerSteps.{applies_pointers, right_follows}
 use Rattle.cyc_lower.proofs.Allocations.{plain_made, fields_made}
@@ -1124,10 +1125,9 @@ module _ (source : Program) (pages calls : ℕ) where
       chooses s t v (operand_word c.active.slots o == 0) comparisons.Equal o (operands.Word 0) k e w c (zero_is shared.tables v c.active.slots o (λ none. well (ap (λ x. status_in (status_of (chosen x s t k e w))) none)) is) refl shared facts stack
   stands_given v o (Needs (Test a s) ∷ k) e w c of_words words well (shared, facts, is, holds) stack =
       loops a s v (operand_word c.active.slots o == 0) comparisons.Equal o (operands.Word 0) k e w c (zero_is shared.tables v c.active.slots o (λ none. well (ap (λ x. status_in (status_of (looped x a s k e w))) none)) is) refl shared facts stack
-  stands_given v o (Needs Return ∷ k) e w c of_words words well (shared, facts, is, holds) (exits, q, s, there, here, single, stack) =
-      silently source pages calls (Running (Given v) (Needs Return ∷ k) e w) (Running (Returning (Some v)) k e w) (plain.Running c) refl
-      (shared, facts, (exits, q, s, here, subst (IsIn shared.tables v c.active.slots) there is, single, stack))
-      (omega arith)
+  stands_given v o (Needs Return ∷ k) e w c of_words words well (shared, facts, is, holds) (exits, q, s, r, there, leave, here, single, stack) =
+      leaving source pages calls false (Given v) (Returning (Some v)) (Needs Return ∷ k) k e w c exits.first_record r refl shared (omega arith) (record_left source c.active.function exits q c.frames k stack).1 leave facts.1
+      (λ handlers stand. (shared, (facts.0, stand), (exits, q, s, here, subst (IsIn shared.tables v c.active.slots) there is, single, stack)))
   stands_given v o (Needs (Follow pointer target) ∷ k) e w c of_words words well stands stack = follows pointer target v.kind v.value o k e w c well stands stack
   stands_given v o (Needs (FollowMember pointer fields field) ∷ k) e w c of_words words well stands stack = follows_member pointer fields field v.kind v.value o k e w c well stands stack
   stands_given v o (Discard ∷ k) e w c of_words words well (shared, facts, is, holds) (exits, stack) =

@@ -158,13 +158,16 @@ module _ (source : Program) (pages calls : ℕ) (well_typed : AreWellTypedGlobal
         few_pages = omega (arith, new_demand pages store new, some_page);
         fits = omega (arith, some_call);
       }) (
-        length w.objects,
-        omega arith,
-        no_locals_hold t _ w.objects (length w.objects) (length w.objects) slots,
-        globals_many source.globals,
-        λ number few. (globals_rows source.globals number few, λ v has. globals_start t source.globals number v well_typed has),
+        (
+          length w.objects,
+          omega arith,
+          no_locals_hold t _ w.objects (length w.objects) (length w.objects) slots,
+          globals_many source.globals,
+          λ number few. (globals_rows source.globals number few, λ v has. globals_start t source.globals number v well_typed has),
+        ),
+        (refl, tt),
       )
-      tt (λ m end. (_, end, tt))
+      refl tt (λ m end. (_, end, (refl, refl), tt))
 
   from_start : (h : Option Function) (input : List ℕ) → slice_get source.functions source.main ≡ h → 1 ≤ calls
       → (status_in (status_of (called h [] (Main ∷ []) (first_world source input))) ≡ Failed → ⊥)
