@@ -12,8 +12,9 @@ use Rattle.cyc_types.specs.declared.typed.Operator.TheVariants as operators
 use Rattle.cyc_types.specs.declared.typed.PointerOperator.{PointerOperator}
 use Rattle.cyc_types.specs.declared.typed.PointerOperator.TheVariants as pointers
 use Rattle.cyc_types.specs.Types.{Ty, words_of}
-use Rattle.cyc_types.specs.TypedTrees.{Load, New, OnHeap, AsUnique, ByHandle, Initial, Plain, Fields, Dereference, Target, Lvalue, Local, Global, Expression, Number, NullPointer, Copy, Call, Unary, Binary, Assign, Converted, Convert, Arguments, NoArguments, MoreArguments, Operations, NoOperations, ThenCompute, ThenTest, ThenPointer, Statement, Block, Empty, Evaluate, If, While, Return, Break, Continue, Items, NoItems, MoreItems, Execute, Declare, Signature, StructType, Function, Program, Move, Peek, ThenPointerPeek, type_of, AddressOfCell, Store, Member, type_of_place}
+use Rattle.cyc_types.specs.TypedTrees.{Load, New, OnHeap, AsUnique, ByHandle, Initial, Plain, Fields, Dereference, Target, Lvalue, Local, Global, Expression, Number, NullPointer, Copy, Call, Unary, Binary, Assign, Converted, Convert, Arguments, NoArguments, MoreArguments, Operations, NoOperations, ThenCompute, ThenTest, ThenPointer, Statement, Block, Empty, Evaluate, If, While, Return, Break, Continue, Items, NoItems, MoreItems, Execute, Declare, Signature, StructType, Function, Program, Move, Peek, ThenPointerPeek, type_of, AddressOfCell, Store, Member, type_of_place, Throw, Try, Clauses, NoClauses, Default, Case}
 use Rattle.cyc_types.specs.Numbered.{Numbering, argument_count, numbering_of, signatures_of}
+use Rattle.cyc_plain.specs.declared.limits.TheConstants.{RECORD_WORDS}
 use Rattle.cyc_plain.specs.declared.instruction.Comparison.{Comparison}
 use Rattle.cyc_plain.specs.declared.instruction.Operand.{Operand}
 use Rattle.cyc_plain.specs.declared.instruction.Operand.TheVariants as operands
@@ -26,11 +27,11 @@ use Rattle.cyc_store.specs.declared.range.TheConstants.{MOST_BLOCK_WORDS, HEAP}
 use Rattle.cyc_meaning.specs.Values.{kind_of, words_of_kind}
 use Rattle.cyc_meaning.specs.FrameCount.{words_of_all, operand_words}
 use Rattle.cyc_lower.specs.Slots.{Types, starts_of, slot_of}
-use Rattle.cyc_lower.specs.Lowering.{leave_code, types_of, are_as_wide, converts_there, passed_words, source_of, source_slot, moved_by, move_of, operand_of, operand_or, code_unless, slot_or, code_unless_slot, left_with, left_of, value_slot, next_slot, slot_with, left_slot, value_operand, converted_operand, printed_operand, jump_if_nonzero, check_code, conversion_code, divisor_code, checked_code, operator_code, truth_code, load_code, low_byte, test_code, is_in, copy_code, expression_code, arguments_code, converted_code, converted_operand_code, printed_code, initial_code, assignment_code, assigned_operand, operations_code, discarded_code, failing_comparison, compared_or, compared_of, first_operand, first_code, second_code, pair_code, condition_code, condition_of, failing_jump, break_target, continue_target, return_code, declaration_code, statement_code, items_code, function_code, first_temporary, results_of, lower_function, lower_program, behind_left, pointer_code, outside_loops, inside_loop, pointer_operator, index_code, pointer_instructions, stores_code, object_code, made_code, place_operand, place_offset, place_code, address_code}
+use Rattle.cyc_lower.specs.Lowering.{leave_code, types_of, are_as_wide, converts_there, passed_words, source_of, source_slot, moved_by, move_of, operand_of, operand_or, code_unless, slot_or, code_unless_slot, left_with, left_of, value_slot, next_slot, slot_with, left_slot, value_operand, converted_operand, printed_operand, jump_if_nonzero, check_code, conversion_code, divisor_code, checked_code, operator_code, truth_code, load_code, low_byte, test_code, is_in, copy_code, expression_code, arguments_code, converted_code, converted_operand_code, printed_code, initial_code, assignment_code, assigned_operand, operations_code, discarded_code, failing_comparison, compared_or, compared_of, first_operand, first_code, second_code, pair_code, condition_code, condition_of, failing_jump, break_target, continue_target, return_code, declaration_code, statement_code, items_code, function_code, first_temporary, results_of, lower_function, lower_program, behind_left, pointer_code, outside_loops, inside_loop, pointer_operator, index_code, pointer_instructions, stores_code, object_code, made_code, place_operand, place_offset, place_code, address_code, tag_operand, other_jump, goes_on, clause_code, thrown_code, thrown_operand, caught_code, clauses_code}
 use Rattle.cyc_lower.specs.declared.statements.Exits.{Exits}
-use Rattle.cyc_lower.proofs.Stands.{LeaveBy, LeaveAt, OperandBy, CheckAt, ConversionBy, ConversionAt, DivisorAt, CheckedAt, OperatorAt, LoadAt, CopyBy, ExpressionAt, InitialAt, InitialBy, ConvertedAt, ConvertedOperandAt, PrintedAt, ArgumentsAt, OperationsAt, PairAt, ConditionAt, AssignmentAt, DiscardedAt, ReturnedAt, ReturnAt, DeclarationAt, StatementAt, ItemsAt, FirstTwoAt, IndexAt, PointerAt, StoresAt, ObjectAt, MadeAt, AddressAt, PlaceAt}
+use Rattle.cyc_lower.proofs.Stands.{LeaveBy, LeaveAt, OperandBy, CheckAt, ConversionBy, ConversionAt, DivisorAt, CheckedAt, OperatorAt, LoadAt, CopyBy, ExpressionAt, InitialAt, InitialBy, ConvertedAt, ConvertedOperandAt, PrintedAt, ArgumentsAt, OperationsAt, PairAt, ConditionAt, AssignmentAt, DiscardedAt, ReturnedAt, ReturnAt, DeclarationAt, StatementAt, ItemsAt, FirstTwoAt, IndexAt, PointerAt, StoresAt, ObjectAt, MadeAt, AddressAt, PlaceAt, ThrownAt, CaughtAt, ClausesAt}
 use Rattle.cyc_lower.proofs.Widths.{kind_of_result, given, passed_kind, type_words}
-use Rattle.cyc_lower.proofs.Fitting.{FitsPlace, FitsStored, FitsCell, FitsObject, Fits, FitsConverted, FitArguments, FitOperations, FitsReturn, FitsInitial, FitsStatement, FitItems, AreFitting, IsFitting}
+use Rattle.cyc_lower.proofs.Fitting.{FitsPlace, FitsStored, FitsCell, FitsObject, Fits, FitsConverted, FitArguments, FitOperations, FitsReturn, FitsInitial, FitsStatement, FitItems, AreFitting, IsFitting, FitsThrown, FitsCaught, FitClauses}
 use Rattle.cyc_lower.proofs.Values.{as_wide}
 use Rattle.cyc_lower.proofs.Relation.{bounds_in, types_in}
 use Rattle.cyc_lower.proofs.Calls.{FunctionsStand}
@@ -583,6 +584,17 @@ module _ (code : List Instruction) (b : Numbering) (types : Types) where
   declaration_stands n None t p q few numbered end has = (few, omega (arith, end))
   declaration_stands n (Some c) t p q few (room, numbered) end has = (few, room, initial_stands c (slot_of (starts_of types) n) t p q numbered end has)
 
+  thrown_stands : (v : Option Expression) (t p q : ℕ) → FitsThrown b types v → p + length (thrown_code (starts_of types) v p t) ≡ q → HasAt code p (thrown_code (starts_of types) v p t)
+      → ThrownAt code b types v (thrown_operand (starts_of types) v t) t p q
+  thrown_stands None t p q numbered end has = (refl, omega (arith, end))
+  thrown_stands (Some a) t p q numbered end has =
+      let slot = value_slot (starts_of types) a t in
+      operand_by (operand_of (starts_of types) a) _ (expression_code (starts_of types) a p slot t) slot p q end has (λ e h. expression_stands a slot t p q numbered e h)
+
+  caught_stands : (x : Option ℕ) (t p q : ℕ) → FitsCaught b types x → p + length (caught_code (starts_of types) x t) ≡ q → HasAt code p (caught_code (starts_of types) x t) → CaughtAt code b types x t p q
+  caught_stands None t p q numbered end has = omega (arith, end)
+  caught_stands (Some n) t p q (few, room) end (here, none) = (few, room, here, end)
+
   mutual
     statement_stands : (s : Statement) (in_loop : Bool) (exits : Exits) (d p q : ℕ) → FitsStatement b types in_loop s → p + length (statement_code (starts_of types) s p exits d) ≡ q → HasAt code p (statement_code (starts_of types) s p exits d) → StatementAt code b types s exits d p q
     statement_stands (Block r js) in_loop exits d p q numbered end has = items_stand js in_loop exits d p q numbered end has
@@ -648,6 +660,31 @@ module _ (code : List Instruction) (b : Numbering) (types : Types) where
         let leave = leave_code exits.loop_record d in
         let (here, none) = has_back code p leave (instructions.Jump (continue_target exits.head) ∷ []) has in
         (p + length leave, leave_stands exits.loop_record d p (p + length leave) refl (has_front code p leave (instructions.Jump (continue_target exits.head) ∷ []) has), here)
+    statement_stands (Throw tag v) in_loop exits t p q (word, numbered) end has =
+        let front = thrown_code (starts_of types) v p t in
+        let (here, none) = has_back code p front _ has in
+        (word, thrown_operand (starts_of types) v t, p + length front, thrown_stands v t p (p + length front) numbered refl (has_front code p front _ has), here)
+    statement_stands (Try s cs) in_loop exits t p q (numbered_s, numbered) end (opening, has) =
+        let body = statement_code (starts_of types) s (p + 1) exits (t + RECORD_WORDS) in
+        let close = instructions.Leave t ∷ [] in
+        let m = p + 1 + length body in
+        let out = p + 1 + length (body ++ close) in
+        let long : length (body ++ close) ≡ length body + 1 = length-append body close in
+        let out_is : out ≡ m + 1 = omega (arith, long) in
+        let clauses = clauses_code (starts_of types) cs (out + 1) out exits t in
+        let over = instructions.Jump (out + 1 + length clauses) in
+        let all : length ((body ++ close) ++ over ∷ clauses) ≡ length (body ++ close) + suc (length clauses) = length-append (body ++ close) (over ∷ clauses) in
+        let end_is : out + 1 + length clauses ≡ q = omega (arith, end, all) in
+        let has_front_part = has_front code (p + 1) (body ++ close) (over ∷ clauses) has in
+        let (jump, has_clauses) = has_back code (p + 1) (body ++ close) (over ∷ clauses) has in
+        let (leave, none) = has_back code (p + 1) body close has_front_part in (
+          m,
+          subst (λ n. At code p (instructions.Try t (n + 1))) out_is opening,
+          statement_stands s in_loop exits (t + RECORD_WORDS) (p + 1) m numbered_s refl (has_front code (p + 1) body close has_front_part),
+          leave,
+          subst (λ n. At code n (instructions.Jump q)) out_is (subst (λ n. At code out (instructions.Jump n)) end_is jump),
+          subst (λ n. ClausesAt code b types cs n exits t (n + 1) q) out_is (clauses_stand cs in_loop out exits t (out + 1) q (omega arith) numbered end_is has_clauses),
+        )
     statement_stands s in_loop exits d p q numbered end has = absurd numbered
 
     items_stand : (js : Items) (in_loop : Bool) (exits : Exits) (d p q : ℕ) → FitItems b types in_loop js → p + length (items_code (starts_of types) js p exits d) ≡ q → HasAt code p (items_code (starts_of types) js p exits d) → ItemsAt code b types js exits d p q
@@ -661,6 +698,38 @@ module _ (code : List Instruction) (b : Numbering) (types : Types) where
         let back = items_code (starts_of types) js (p + length front) exits d in
         (p + length front, declaration_stands n v d p (p + length front) few numbered refl (has_front code p front back has), items_stand js in_loop exits d (p + length front) q rest (cut p q front back end) (has_back code p front back has))
     items_stand js in_loop exits d p q numbered end has = absurd numbered
+
+    clauses_stand : (cs : Clauses) (in_loop : Bool) (out : ℕ) (exits : Exits) (t p q : ℕ) → out < p → FitClauses b types in_loop cs → p + length (clauses_code (starts_of types) cs p out exits t) ≡ q
+        → HasAt code p (clauses_code (starts_of types) cs p out exits t) → ClausesAt code b types cs out exits t p q
+    clauses_stand NoClauses in_loop out exits t p q behind numbered end (here, none) = here
+    clauses_stand (Default r js) in_loop out exits t p q behind numbered end has = items_stand js in_loop exits t p q numbered end has
+    clauses_stand (Case tag x r js cs) in_loop out exits t p q behind (word, caught_fits, numbered, rest) end has =
+        let caught = caught_code (starts_of types) x t in
+        let m = p + 1 + length caught in
+        let items = items_code (starts_of types) js m exits t in
+        let u = m + length items in
+        let leave = instructions.Jump out ∷ [] in
+        let clause = clause_code tag t (caught ++ items) p out in
+        let later = clauses_code (starts_of types) cs (p + length clause) out exits t in
+        let inner : length (caught ++ items) ≡ length caught + length items = length-append caught items in
+        let long : length ((caught ++ items) ++ leave) ≡ length (caught ++ items) + 1 = length-append (caught ++ items) leave in
+        let next : p + length clause ≡ u + 1 = omega (arith, inner, long) in
+        let over : p + 1 + length (caught ++ items) + 1 ≡ u + 1 = omega (arith, inner) in
+        let (jump, has_clause) = has_front code p clause later has in
+        let has_inner = has_front code (p + 1) (caught ++ items) leave has_clause in
+        let (out_jump, none) = has_back code (p + 1) (caught ++ items) leave has_clause in (
+          m,
+          u,
+          word,
+          subst (λ n. At code p (other_jump tag t n)) over jump,
+          caught_stands x t (p + 1) m caught_fits refl (has_front code (p + 1) caught items has_inner),
+          items_stand js in_loop exits t m u numbered refl (has_back code (p + 1) caught items has_inner),
+          subst (λ n. At code n (instructions.Jump out)) (let e : p + 1 + length (caught ++ items) ≡ u = omega (arith, inner) in e) out_jump,
+          omega (arith, behind),
+          clauses_stand cs in_loop out exits t (u + 1) q (omega (arith, behind)) rest
+              (subst (λ n. n + length (clauses_code (starts_of types) cs n out exits t) ≡ q) next (cut p q clause later end))
+              (subst (λ n. HasAt code n (clauses_code (starts_of types) cs n out exits t)) next (has_back code p clause later has)),
+        )
 
 -- ---- functions
 

@@ -13,7 +13,7 @@ use Rattle.cyc_types.specs.declared.typed.PointerOperator.TheVariants as pointer
 use Rattle.cyc_types.specs.declared.typed.LogicalOperator.{LogicalOperator}
 use Rattle.cyc_types.specs.declared.typed.LogicalOperator.TheVariants as logical
 use Rattle.cyc_types.specs.Types.{Ty, words_of, ValueType, Void, Null, Value}
-use Rattle.cyc_types.specs.TypedTrees.{Load, New, OnHeap, AsUnique, ByHandle, Initial, Plain, Fields, Array, Dereference, Target, type_of_place, Lvalue, Local, Global, Expression, Number, NullPointer, Copy, Call, Unary, Binary, Assign, Converted, Convert, Arguments, NoArguments, MoreArguments, Operations, NoOperations, ThenCompute, ThenTest, ThenPointer, type_of, Statement, Block, Empty, Evaluate, If, While, Return, Break, Continue, Items, NoItems, MoreItems, Execute, Declare, GlobalVariable, Signature, StructType, Function, Program, Move, Peek, ThenPointerPeek, AddressOfCell, Store, Member}
+use Rattle.cyc_types.specs.TypedTrees.{Load, New, OnHeap, AsUnique, ByHandle, Initial, Plain, Fields, Array, Dereference, Target, type_of_place, Lvalue, Local, Global, Expression, Number, NullPointer, Copy, Call, Unary, Binary, Assign, Converted, Convert, Arguments, NoArguments, MoreArguments, Operations, NoOperations, ThenCompute, ThenTest, ThenPointer, type_of, Statement, Block, Empty, Evaluate, If, While, Return, Break, Continue, Items, NoItems, MoreItems, Execute, Declare, GlobalVariable, Signature, StructType, Function, Program, Move, Peek, ThenPointerPeek, AddressOfCell, Store, Member, Throw, Try, Clauses, NoClauses, Default, Case}
 use Rattle.cyc_types.specs.typing.WellTyped.{signature_of}
 use Rattle.cyc_types.specs.Numbered.{Numbering, argument_count, signatures_of, numbering_of}
 use Rattle.cyc_plain.specs.declared.instruction.Comparison.{Comparison}
@@ -30,13 +30,13 @@ use Rattle.std.proofs.lemmas.Bool.{eq-eqb, eqb-true}
 use Rattle.cyc_meaning.specs.Operators.{null_exception, division_by_zero}
 use Rattle.cyc_store.specs.declared.range.TheConstants.{HEAP}
 use Rattle.cyc_meaning.specs.Values.{kind_of, words_of_kind}
-use Rattle.cyc_meaning.specs.FrameCount.{result_words, operand_words, converted_words, argument_words, expression_need, dereference_need, converted_need, arguments_need, operations_need, initial_need, statement_need, items_need, words_of_all, initial_value_need, kept_by, kept_by_items, place_words}
+use Rattle.cyc_meaning.specs.FrameCount.{result_words, operand_words, converted_words, argument_words, expression_need, dereference_need, converted_need, arguments_need, operations_need, initial_need, statement_need, items_need, words_of_all, initial_value_need, kept_by, kept_by_items, place_words, clauses_need, kept_by_clauses, thrown_need}
 use Rattle.cyc_lower.specs.declared.statements.Exits.{Exits}
 use Rattle.cyc_meaning.specs.Pointers.{result_kind as operator_kind}
 use Rattle.cyc_lower.specs.Slots.{starts_of, slot_of, Types}
-use Rattle.cyc_lower.specs.Lowering.{types_of, spare_slots, are_as_wide, converts_there, passed_words, all_passed, source_of, source_slot, moved_by, move_of, unary_operator, binary_operator, operand_of, operand_or, code_unless, slot_or, code_unless_slot, left_with, left_of, value_slot, next_slot, slot_with, left_slot, value_operand, converted_operand, printed_operand, check_code, conversion_code, divisor_code, checked_code, operator_code, truth_code, load_code, low_byte, test_code, is_in, copy_code, expression_code, arguments_code, converted_code, converted_operand_code, printed_code, initial_code, assignment_code, operations_code, discarded_code, failing_comparison, compared_or, first_operand, first_code, second_code, pair_code, condition_code, condition_of, failing_jump, break_target, continue_target, return_code, declaration_code, statement_code, items_code, first_temporary, results_of, lower_function, lower_global, lower_program, pointer_operator, left_kind, behind_left, pointer_code, outside_loops, inside_loop, index_code, pointer_instructions, stores_code, object_code, made_code, leave_code, place_operand, place_offset, place_code, address_code, addressed_by, store_address_code, store_code}
+use Rattle.cyc_lower.specs.Lowering.{types_of, spare_slots, are_as_wide, converts_there, passed_words, all_passed, source_of, source_slot, moved_by, move_of, unary_operator, binary_operator, operand_of, operand_or, code_unless, slot_or, code_unless_slot, left_with, left_of, value_slot, next_slot, slot_with, left_slot, value_operand, converted_operand, printed_operand, check_code, conversion_code, divisor_code, checked_code, operator_code, truth_code, load_code, low_byte, test_code, is_in, copy_code, expression_code, arguments_code, converted_code, converted_operand_code, printed_code, initial_code, assignment_code, operations_code, discarded_code, failing_comparison, compared_or, first_operand, first_code, second_code, pair_code, condition_code, condition_of, failing_jump, break_target, continue_target, return_code, declaration_code, statement_code, items_code, first_temporary, results_of, lower_function, lower_global, lower_program, pointer_operator, left_kind, behind_left, pointer_code, outside_loops, inside_loop, index_code, pointer_instructions, stores_code, object_code, made_code, leave_code, place_operand, place_offset, place_code, address_code, addressed_by, store_address_code, store_code, tag_operand, other_jump, goes_on, clause_code, thrown_code, thrown_operand, caught_code, clauses_code}
 use Rattle.cyc_lower.proofs.Widths.{kind_positive, kind_few, type_words, kind_of_result, result_kind, given, passed_kind, words_in, chain_kind, made_kind}
-use Rattle.cyc_lower.proofs.Fitting.{FitsPlace, FitsStored, FitsCell, Fits, FitsConverted, FitArguments, FitOperations, FitsReturn, FitsInitial, FitsStatement, FitItems, AreFitting, IsFitting, FitsObject}
+use Rattle.cyc_lower.proofs.Fitting.{FitsPlace, FitsStored, FitsCell, Fits, FitsConverted, FitArguments, FitOperations, FitsReturn, FitsInitial, FitsStatement, FitItems, AreFitting, IsFitting, FitsObject, FitsThrown, FitsCaught, FitClauses}
 use Rattle.cyc_lower.specs.Words.{AreOfWordsItems, AreOfWordsFunctions, IsOfWordsProgram}
 use Rattle.cyc_lower.proofs.WordLemmas.{all_append, all_of, no_return}
 use Rattle.cyc_lower.proofs.Values.{as_wide}
@@ -798,6 +798,26 @@ module _ (program : PlainProgram) (r : Routine) (b : Numbering) (types : Types) 
   declaration_in n (Some c) p t within (own, numbered) few short =
       initial_in c p (slot_of (starts_of types) n) t numbered (omega (arith, locals n within, own)) (omega (arith, few, converted_few c)) (omega (arith, few)) short
 
+  thrown_in : (v : Option Expression) (p t : ℕ) → FitsThrown b types v → t + thrown_need v + spare_slots ≤ r.slots → p + length (thrown_code (starts_of types) v p t) < length r.code → AreIn (thrown_code (starts_of types) v p t)
+  thrown_in None p t numbered few short = tt
+  thrown_in (Some a) p t numbered few short =
+      let slot = value_slot (starts_of types) a t in
+      unless_in (operand_of (starts_of types) a) (expression_code (starts_of types) a p slot t) p short
+      (λ less. expression_in a p slot t numbered (slot_fits a t numbered (omega (arith, few, kind_few (kind_at a)))) (omega (arith, few)) less)
+
+  thrown_there : (v : Option Expression) (t : ℕ) → FitsThrown b types v → t + thrown_need v + spare_slots ≤ r.slots → IsOperand r (thrown_operand (starts_of types) v t)
+  thrown_there None t numbered few = tt
+  thrown_there (Some a) t numbered few = value_in a t numbered (omega (arith, few, kind_few (kind_at a)))
+
+  caught_in : (x : Option ℕ) (t : ℕ) → FitsCaught b types x → t + 1 < r.slots → AreIn (caught_code (starts_of types) x t)
+  caught_in None t numbered few = tt
+  caught_in (Some n) t (within, room) few = ((omega (arith, locals n within, room), few), tt)
+
+  -- one handler more is open inside a `try`
+  exits_inside : (exits : Exits) (t : ℕ) → HasExits exits t → t + RECORD_WORDS ≤ r.slots → HasExits exits (t + RECORD_WORDS)
+  exits_inside exits t (in_loop, in_function) room =
+      ((omega (arith, in_loop.0), λ other. omega (arith, in_loop.0, room)), (omega (arith, in_function.0), λ other. omega (arith, in_function.0, room)))
+
   mutual
     statement_in : (s : Statement) (in_loop : Bool) (p : ℕ) (exits : Exits) (t : ℕ) → FitsStatement b types in_loop s → (in_loop ≡ true → exits.head + 2 < length r.code) → HasExits exits t → t + kept_by s + statement_need s + spare_slots ≤ r.slots → p + length (statement_code (starts_of types) s p exits t) < length r.code → AreIn (statement_code (starts_of types) s p exits t)
     statement_in (Block n js) in_loop p exits t numbered around outside few short = items_in js in_loop p exits t numbered around outside few short
@@ -839,6 +859,25 @@ module _ (program : PlainProgram) (r : Routine) (b : Numbering) (types : Types) 
     statement_in (Return v) in_loop p exits t numbered around outside few short = return_in v p exits t numbered outside (omega (arith, few)) short
     statement_in Break in_loop p exits t numbered around outside few short = append (leave_code exits.loop_record t) _ (leave_in exits.loop_record t outside.0) (omega (arith, around numbered), tt)
     statement_in Continue in_loop p exits t numbered around outside few short = append (leave_code exits.loop_record t) _ (leave_in exits.loop_record t outside.0) (omega (arith, around numbered), tt)
+    statement_in (Throw tag v) in_loop p exits t (word, numbered) around outside few short =
+        let front = thrown_code (starts_of types) v p t in
+        let back = instructions.Throw (tag_operand tag) (thrown_operand (starts_of types) v t) ∷ [] in
+        let long = length-append front back in
+        append front back (thrown_in v p t numbered (omega (arith, few)) (omega (arith, short, long))) ((tt, thrown_there v t numbered (omega (arith, few))), tt)
+    statement_in (Try s cs) in_loop p exits t (numbered_s, numbered) around outside few short =
+        let body = statement_code (starts_of types) s (p + 1) exits (t + RECORD_WORDS) in
+        let close = instructions.Leave t ∷ [] in
+        let out = p + 1 + length (body ++ close) in
+        let clauses = clauses_code (starts_of types) cs (out + 1) out exits t in
+        let over = instructions.Jump (out + 1 + length clauses) ∷ clauses in
+        let long = length-append (body ++ close) over in
+        let long_body = length-append body close in
+        let room : t + RECORD_WORDS ≤ r.slots = omega (arith, few) in (
+          record { record_in_range = room; handler_in_range = omega (arith, short, long); no_return = no_return },
+          append (body ++ close) over
+              (append body close (statement_in s in_loop (p + 1) exits (t + RECORD_WORDS) numbered_s around (exits_inside exits t outside room) (omega (arith, few)) (omega (arith, short, long, long_body))) (room, tt))
+              (omega (arith, short, long), clauses_in cs in_loop (out + 1) out exits t numbered around outside (omega (arith, few)) (omega (arith, short, long)) (omega (arith, short, long))),
+        )
     statement_in s in_loop p exits t numbered around outside few short = absurd numbered
 
     items_in : (js : Items) (in_loop : Bool) (p : ℕ) (exits : Exits) (t : ℕ) → FitItems b types in_loop js → (in_loop ≡ true → exits.head + 2 < length r.code) → HasExits exits t → t + kept_by_items js + items_need js + spare_slots ≤ r.slots → p + length (items_code (starts_of types) js p exits t) < length r.code → AreIn (items_code (starts_of types) js p exits t)
@@ -856,6 +895,26 @@ module _ (program : PlainProgram) (r : Routine) (b : Numbering) (types : Types) 
         append front back (declaration_in n v p t within numbered (omega (arith, few)) (omega (arith, short, long)))
         (items_in js in_loop (p + length front) exits t rest around outside (omega (arith, few)) (omega (arith, short, long)))
     items_in js in_loop p exits t numbered around outside few short = absurd numbered
+
+    clauses_in : (cs : Clauses) (in_loop : Bool) (p out : ℕ) (exits : Exits) (t : ℕ) → FitClauses b types in_loop cs → (in_loop ≡ true → exits.head + 2 < length r.code) → HasExits exits t
+        → t + kept_by_clauses cs + clauses_need cs + spare_slots ≤ r.slots → out < length r.code → p + length (clauses_code (starts_of types) cs p out exits t) < length r.code → AreIn (clauses_code (starts_of types) cs p out exits t)
+    clauses_in NoClauses in_loop p out exits t numbered around outside few there short = ((omega (arith, few), omega (arith, few)), tt)
+    clauses_in (Default n js) in_loop p out exits t numbered around outside few there short = items_in js in_loop p exits t numbered around outside few short
+    clauses_in (Case tag x n js cs) in_loop p out exits t (word, caught_fits, numbered, rest) around outside few there short =
+        let caught = caught_code (starts_of types) x t in
+        let items = items_code (starts_of types) js (p + 1 + length caught) exits t in
+        let leave = instructions.Jump out ∷ [] in
+        let clause = clause_code tag t (caught ++ items) p out in
+        let later = clauses_code (starts_of types) cs (p + length clause) out exits t in
+        let long = length-append clause later in
+        let long_clause = length-append (caught ++ items) leave in
+        let long_inner = length-append caught items in
+        append clause later
+        ((omega (arith, few), tt, omega (arith, short, long, long_clause)),
+        append (caught ++ items) leave
+        (append caught items (caught_in x t caught_fits (omega (arith, few))) (items_in js in_loop (p + 1 + length caught) exits t numbered around outside (omega (arith, few)) (omega (arith, short, long, long_clause, long_inner))))
+        (there, tt))
+        (clauses_in cs in_loop (p + length clause) out exits t rest around outside (omega (arith, few)) there (omega (arith, short, long)))
 
 -- ---- functions
 
