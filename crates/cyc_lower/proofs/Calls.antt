@@ -39,9 +39,9 @@ use Rattle.cyc_objects.specs.Tables.{Variable, with_row, with_handle}
 use Rattle.cyc_objects.specs.Words.{Is}
 use Rattle.cyc_objects.proofs.Values.{Grows-row, Grows-handle, Is-grows}
 use Rattle.cyc_lower.proofs.Relation.{behind_records, in_place, IsIn, words_held, Holds, HoldsFrom, held, callers, homes, Shared, DataAt, DataIn, SharedAt, prints_only, gives_byte, StatementStack, LandsStack, PrintsStack, nowhere, behind_statement, Related, Matches, code_of, types_in, types_at, starts_at, parameters_in, parameters_at, bounds_in, bounds_at, called_at, returned_at, base_of, floor, HandlersStand, top}
-use Rattle.cyc_lower.proofs.Data.{words-reverse, Holds-rest, in_order, arguments_copied, data_declared, data_called, data_grows, HoldsFrom-grows}
+use Rattle.cyc_lower.proofs.Data.{words-reverse, Holds-rest, in_order, arguments_copied, data_declared, data_called, data_grows, HoldsFrom-grows, calls_counted}
 use Rattle.cyc_lower.proofs.Accesses.{IsWell, is_fitting, is_declared, home_there}
-use Rattle.cyc_lower.proofs.Matched.{IsMatched, above, below, matching, silently, by_one, by_two_known, shared_within, shared_way, steps_to, place_in, known, lands_depth}
+use Rattle.cyc_lower.proofs.Matched.{IsMatched, above, below, matching, silently, by_one, by_two_known, shared_within, shared_way, steps_to, place_in, known}
 use Rattle.cyc_lower.proofs.Evaluations.{IsStep, landed_word, lands_at}
 use Rattle.cyc_lower.proofs.Sharing.{shared_declared, row_declared, shared_opened}
 
@@ -280,7 +280,7 @@ module _ (source : Program) (pages calls : ℕ) where
           let does : step source (Running (Calling (callees.Function n) before) k e w) ≡ next =
           ap (λ (f : Option Function). called f (reverse before) (Caller e ∷ k) w) there
           ∙ ap (λ (b : Bool). if b then Running (Entering h (reverse before)) (Caller e ∷ k) no_locals w else wrong w) fits in
-          let waiting = lands_depth source g e.locals (called_at source g (callees.Function n)) into q c.frames k lands in
+          let waiting = calls_counted source g c.active.slots c.active.handlers c.frames k facts.1 in
           elim (cases_lt calls (suc (suc (length c.frames)))) [
             | inl past ↦
                 full k e w c (Calling (callees.Function n) before) next n d (words_held before) into does

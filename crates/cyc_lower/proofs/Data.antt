@@ -1,5 +1,5 @@
 -- What stays of the data in slots, variables and globals while a step changes some of it.
-use Rattle.std.proofs.Common.{◌≡◌, ◌≢◌, ℕ, zero, suc, ◌+◌, ◌≤◌, ◌<◌, Bool, List, [], ◌∷◌, ◌++◌, length, reverse, set, Option, None, Some, slice_get, refl, sym, ap, subst, ◌∙◌, arith, inl, inr, length-append}
+use Rattle.std.proofs.Common.{◌≡◌, ◌≢◌, ℕ, zero, suc, ◌+◌, ◌≤◌, ◌<◌, Bool, true, false, List, [], ◌∷◌, ◌++◌, length, reverse, set, Option, None, Some, slice_get, refl, sym, ap, subst, ◌∙◌, arith, inl, inr, length-append}
 use Rattle.std.specs.Prelude.{◌==◌, if◌then◌else◌}
 use Rattle.std.proofs.lemmas.Bool.{cases_eq, eq-eqb, eqb-true, false_from_ne_true}
 use Rattle.std.proofs.lemmas.List.{reverse-append}
@@ -12,7 +12,7 @@ use Rattle.cyc_plain.proofs.SlotLaws.{put-same, put-other, copied-inside}
 use Rattle.cyc_types.specs.declared.typed.Kind.{Kind}
 use Rattle.cyc_types.specs.declared.typed.Kind.TheVariants as kinds
 use Rattle.cyc_meaning.specs.Values.{Value, Int, Null, Thin, Handle, Key, Operand, words_of_kind}
-use Rattle.cyc_meaning.specs.State.{Object, Environment, with_local, Entry, Handler, Caller, Main, calls_in}
+use Rattle.cyc_meaning.specs.State.{Object, Environment, with_local, Entry, Handler, Caller, Main, calls_in, CloseLexical, EndLoan, Loop}
 use Rattle.cyc_meaning.specs.FrameCount.{words_of_all}
 use Rattle.cyc_lower.specs.Slots.{starts_of, slot_of, Types}
 use Rattle.cyc_lower.proofs.Widths.{words_in, HasRoom, Outside}
@@ -22,7 +22,7 @@ use Rattle.cyc_plain.specs.declared.instruction.Operand.TheVariants as operands
 use Rattle.cyc_objects.specs.Tables.{Variable, Tables, Grows}
 use Rattle.cyc_objects.specs.Words.{Points, Is}
 use Rattle.cyc_objects.proofs.Values.{Is-grows, Is-same as words_same}
-use Rattle.cyc_lower.proofs.Relation.{behind_records, floor, HandlersStand, callers, IsWord, IsIn, Waiting, AreOfVariables, words_held, height, Holds, HoldsFrom, content_of, contents, LocalsHold, GlobalsHold, FramesHold, DataAt, types_at, starts_at, base_of}
+use Rattle.cyc_lower.proofs.Relation.{behind_records, floor, HandlersStand, callers, IsWord, IsIn, Waiting, AreOfVariables, words_held, height, Holds, HoldsFrom, content_of, contents, LocalsHold, GlobalsHold, FramesHold, DataAt, types_at, starts_at, base_of, left_by}
 
 -- ---- values in slots
 
@@ -447,7 +447,7 @@ module _ (t : Tables) where
 -- temporaries begin behind the locals
 pub behind-least : (k : List Entry) (slot : ℕ) → slot ≤ behind_records k slot
 behind-least [] slot = omega arith
-behind-least (Handler clauses ∷ k) slot = omega (arith, behind-least k slot)
+behind-least (Handler handler ∷ k) slot = omega (arith, behind-least k slot)
 behind-least (Caller e ∷ k) slot = omega arith
 behind-least (Main ∷ k) slot = omega arith
 behind-least (entry ∷ k) slot = behind-least k slot
@@ -457,9 +457,9 @@ module _ (source : Program) where
   pub handlers_same : (g : ℕ) (slots other : Words) (handlers : List plain.Handler) (frames : List Frame) (k : List Entry)
       → ((n : ℕ) → base_of source g ≤ n → n < floor source g k → other n ≡ slots n) → HandlersStand source g slots handlers frames k → HandlersStand source g other handlers frames k
   handlers_same g slots other handlers frames [] same stand = absurd stand
-  handlers_same g slots other [] frames (Handler clauses ∷ k) same stand = absurd stand
-  handlers_same g slots other (plain.Caught ∷ handlers) frames (Handler clauses ∷ k) same stand = absurd stand
-  handlers_same g slots other (plain.Open index first contents ∷ handlers) frames (Handler clauses ∷ k) same (is, (zeroth, second, third, fourth), rest) =
+  handlers_same g slots other [] frames (Handler handler ∷ k) same stand = absurd stand
+  handlers_same g slots other (plain.Caught ∷ handlers) frames (Handler handler ∷ k) same stand = absurd stand
+  handlers_same g slots other (plain.Open index first contents ∷ handlers) frames (Handler handler ∷ k) same (is, (zeroth, second, third, fourth), catches, rest) =
       let least = behind-least k (base_of source g) in (
         is,
         (
@@ -468,10 +468,13 @@ module _ (source : Program) where
           same (first + 2) (omega (arith, is, least)) (omega (arith, is)) ∙ third,
           same (first + 3) (omega (arith, is, least)) (omega (arith, is)) ∙ fourth,
         ),
+        catches,
         handlers_same g slots other handlers frames k (λ n from to. same n from (omega (arith, to))) rest,
       )
   handlers_same g slots other handlers frames (Caller e ∷ k) same stand = stand
   handlers_same g slots other handlers frames (Main ∷ k) same stand = stand
+  handlers_same g slots other handlers frames (CloseLexical region ∷ k) same stand = absurd stand
+  handlers_same g slots other handlers frames (EndLoan lent ∷ k) same stand = absurd stand
   handlers_same g slots other handlers frames (entry ∷ k) same stand = handlers_same g slots other handlers frames k same stand
 
   -- a local is written
@@ -493,15 +496,26 @@ module _ (source : Program) where
   -- each frame is a call, and the running one is one more
   pub calls_counted : (g : ℕ) (slots : Words) (handlers : List plain.Handler) (frames : List Frame) (k : List Entry) → HandlersStand source g slots handlers frames k → calls_in k ≡ suc (length frames)
   calls_counted g slots handlers frames [] stand = absurd stand
-  calls_counted g slots [] frames (Handler clauses ∷ k) stand = absurd stand
-  calls_counted g slots (plain.Caught ∷ handlers) frames (Handler clauses ∷ k) stand = absurd stand
-  calls_counted g slots (plain.Open index first contents ∷ handlers) frames (Handler clauses ∷ k) (is, intact, rest) = calls_counted g slots handlers frames k rest
+  calls_counted g slots [] frames (Handler handler ∷ k) stand = absurd stand
+  calls_counted g slots (plain.Caught ∷ handlers) frames (Handler handler ∷ k) stand = absurd stand
+  calls_counted g slots (plain.Open index first contents ∷ handlers) frames (Handler handler ∷ k) (is, intact, catches, rest) = calls_counted g slots handlers frames k rest
   calls_counted g slots handlers [] (Caller e ∷ k) (none, rest) = absurd rest
   calls_counted g slots handlers (f ∷ frames) (Caller e ∷ k) (none, rest) = ap suc (calls_counted f.caller.function f.caller.slots f.caller.handlers frames k rest)
   calls_counted g slots handlers [] (Main ∷ []) (none, last) = refl
   calls_counted g slots handlers [] (Main ∷ entry ∷ k) (none, last) = absurd last
   calls_counted g slots handlers (f ∷ frames) (Main ∷ k) (none, last) = absurd last
+  calls_counted g slots handlers frames (CloseLexical region ∷ k) stand = absurd stand
+  calls_counted g slots handlers frames (EndLoan lent ∷ k) stand = absurd stand
   calls_counted g slots handlers frames (entry ∷ k) stand = calls_counted g slots handlers frames k stand
+
+-- as many calls are under way where entries of one are left
+pub calls_left : (loop : Bool) (k : List Entry) → calls_in (left_by loop k) ≡ calls_in k
+calls_left loop [] = refl
+calls_left true (Loop condition body ∷ k) = refl
+calls_left false (Loop condition body ∷ k) = calls_left false k
+calls_left loop (Caller e ∷ k) = refl
+calls_left loop (Main ∷ k) = refl
+calls_left loop (entry ∷ k) = calls_left loop k
 
 -- ---- tables that grow
 

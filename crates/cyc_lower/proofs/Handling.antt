@@ -2,17 +2,21 @@
 use Rattle.std.proofs.Common.{◌≡◌, ℕ, ◌+◌, ◌≤◌, ◌<◌, Bool, true, false, List, [], ◌∷◌, refl, sym, ap, subst, ◌∙◌, arith}
 use Rattle.std.specs.Prelude.{◌==◌, if◌then◌else◌}
 use Rattle.std.proofs.lemmas.Bool.{eq-eqb, eqb-true, and_from}
+use Rattle.cyc_words.specs.Word.{IsWord as IsNumber}
 use Rattle.cyc_types.specs.TypedTrees.{Program}
+use Rattle.cyc_plain.specs.declared.instruction.Operand.{Operand}
 use Rattle.cyc_plain.specs.declared.instruction.Instruction.TheVariants as instructions
 use Rattle.cyc_plain.specs.State as plain
-use Rattle.cyc_plain.specs.State.{Words, Frame, Configuration}
-use Rattle.cyc_plain.specs.Step.{advanced, is_intact, closes}
-use Rattle.cyc_meaning.specs.State.{World, Environment, Entry, Rest, Join, Loop, CloseRegion, Handler, Caller, Main, Focus, Running}
+use Rattle.cyc_plain.specs.State.{Words, Activation, Frame, Configuration}
+use Rattle.cyc_plain.specs.Step.{advanced, operand_word, is_intact, closes}
+use Rattle.cyc_plain.specs.Straight.{At}
+use Rattle.cyc_meaning.specs.State.{World, Environment, Entry, Rest, Join, Loop, CloseRegion, Handler, Caller, Main, Focus, Running, CloseLexical, EndLoan, Throwing}
 use Rattle.cyc_meaning.specs.Step.{step}
 use Rattle.cyc_lower.specs.declared.statements.Exits.{Exits}
 use Rattle.cyc_lower.proofs.Weights.{weight}
 use Rattle.cyc_lower.proofs.Stands.{LeaveBy, LeaveAt}
-use Rattle.cyc_lower.proofs.Relation.{behind_records, IsIntact, HandlersStand, left_by, SharedAt, StatementStack, Related, Matches, code_of, bounds_at, types_at, base_of, floor}
+use Rattle.cyc_lower.proofs.Relation.{behind_records, IsIntact, HandlersStand, left_by, SharedAt, StatementStack, Related, Matches, code_of, bounds_at, types_at, base_of, floor, Opened, CaughtBy, DataIn}
+use Rattle.cyc_lower.proofs.Data.{calls_counted}
 use Rattle.cyc_lower.proofs.Matched.{IsMatched, silently, by_one}
 
 -- entries that are left have no fewer records
@@ -48,6 +52,12 @@ closes_later c target index first contents handlers other =
     let done = plain.Running (advanced (record c { active = record c.active { handlers = handlers } })) in
     ap (λ (b : Bool). if b then (if is_intact c.active.slots target contents then done else plain.Stuck c.output c.input) else closes c target handlers) other
 
+pub newest_open : (handlers : List plain.Handler) (P : (index first : ℕ) → Words → List plain.Handler → Type 0) → Opened handlers P
+    → (index : ℕ) × (first : ℕ) × (contents : Words) × (later : List plain.Handler) × (handlers ≡ plain.Open index first contents ∷ later) × P index first contents later
+newest_open [] P is = absurd is
+newest_open (plain.Caught ∷ handlers) P is = absurd is
+newest_open (plain.Open index first contents ∷ handlers) P is = (index, first, contents, handlers, refl, is)
+
 module _ (source : Program) where
   -- what closes handlers knows where their records begin
   pub record_left : (g : ℕ) (exits : Exits) (p : ℕ) (frames : List Frame) (k : List Entry) → StatementStack source g exits p frames k
@@ -56,6 +66,7 @@ module _ (source : Program) where
   record_left g exits p frames (Join ∷ k) (q, at, stack) = record_left g exits q frames k stack
   record_left g exits p frames (Loop condition body ∷ k) (outer, q, (record_is, first_is, x, y, m, r, leave, at_a, jump, at_s, back, after), at, stack) = (record_is, first_is ∙ (record_left g outer q frames k stack).1)
   record_left g exits p frames (CloseRegion region home ∷ k) (q, at, stack) = record_left g exits q frames k stack
+  record_left g exits p frames (Handler handler ∷ k) (q, leave, jump, stack) = record_left g exits q frames k stack
   record_left g exits p frames (Caller e ∷ k) (s, at, outside, below) = outside
   record_left g exits p frames (Main ∷ k) (s, at, outside, last) = outside
   record_left g exits p frames k stack = absurd stack
@@ -69,6 +80,8 @@ module _ (source : Program) where
   none_left loop g slots handlers frames (Handler handler ∷ k) same stand = absurd (omega (arith, same, left-least loop k (base_of source g)))
   none_left loop g slots handlers frames (Caller e ∷ k) same stand = stand
   none_left loop g slots handlers frames (Main ∷ k) same stand = stand
+  none_left loop g slots handlers frames (CloseLexical region ∷ k) same stand = absurd stand
+  none_left loop g slots handlers frames (EndLoan lent ∷ k) same stand = absurd stand
   none_left loop g slots handlers frames (entry ∷ k) same stand = none_left loop g slots handlers frames k same stand
 
   -- the others are left by closing the outermost of them
@@ -85,7 +98,7 @@ module _ (source : Program) where
   left_closed false c handlers (Loop condition body ∷ k) other stand = left_closed false c handlers k other stand
   left_closed loop c [] (Handler handler ∷ k) other stand = absurd stand
   left_closed loop c (plain.Caught ∷ handlers) (Handler handler ∷ k) other stand = absurd stand
-  left_closed loop c (plain.Open index first contents ∷ handlers) (Handler handler ∷ k) other (is, same, rest) =
+  left_closed loop c (plain.Open index first contents ∷ handlers) (Handler handler ∷ k) other (is, same, catches, rest) =
       by (first == target) refl (λ apart. left_closed loop c handlers k apart rest)
     where
       target : ℕ
@@ -105,7 +118,13 @@ module _ (source : Program) where
           (others, closes_later c target index first contents handlers later ∙ closed, stand)
   left_closed loop c handlers (Caller e ∷ k) other stand = absurd (never (base_of source c.active.function) other)
   left_closed loop c handlers (Main ∷ k) other stand = absurd (never (base_of source c.active.function) other)
+  left_closed loop c handlers (CloseLexical region ∷ k) other stand = absurd stand
+  left_closed loop c handlers (EndLoan lent ∷ k) other stand = absurd stand
   left_closed loop c handlers (entry ∷ k) other stand = left_closed loop c handlers k other stand
+
+  pub caught_by : (a : Activation) (rest : List Frame) (k : List Entry) → HandlersStand source a.function a.slots a.handlers rest k → CaughtBy source a rest k
+  caught_by a rest [] stand = absurd stand
+  caught_by a rest (entry ∷ k) stand = stand
 
 module _ (source : Program) (pages calls : ℕ) where
   -- A step that leaves handlers: one instruction closes them, or there are none.
@@ -136,3 +155,23 @@ module _ (source : Program) (pages calls : ℕ) where
           by_one source pages calls does shared here
           (λ choice. subst (Matches source pages calls (Running next k e w)) (sym gone)
           (subst (λ n. Related source pages calls next k e w (record c { active = record c.active { next = n; handlers = later } })) (sym end) (goes later rest)))
+
+  -- an exception is raised by this instruction
+  pub raised : (tag value : ℕ) (k : List Entry) (e : Environment) (w : World) (c : Configuration) (x o : Operand) → IsNumber tag → (shared : SharedAt source pages calls k e w c) → DataIn source shared.tables c.active.slots k e w c
+      → At (code_of source c.active.function) c.active.next (instructions.Throw x o) → operand_word c.active.slots x ≡ tag → operand_word c.active.slots o ≡ value → Related source pages calls (Throwing tag value) k e w c
+  raised tag value k e w c x o word shared (facts, stand) here x_is o_is = (
+    shared,
+    omega (arith, calls_counted source c.active.function c.active.slots c.active.handlers c.frames k stand, shared.fits),
+    word,
+    x,
+    o,
+    here,
+    x_is,
+    o_is,
+    c.active,
+    c.frames,
+    omega arith,
+    refl,
+    facts,
+    caught_by source c.active c.frames k stand,
+  )

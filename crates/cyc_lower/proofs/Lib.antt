@@ -27,6 +27,7 @@ pub mod Branching
 pub mod Handlers
 pub mod Conditions
 pub mod Calls
+pub mod ExceptionSteps
 pub mod StatementSteps
 pub mod Keeping
 pub mod Whole

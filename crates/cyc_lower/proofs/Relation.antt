@@ -1,7 +1,7 @@
 -- What a state of the source and one of the plain program have in common while the one is matched by the other.
 use Rattle.std.proofs.Common.{◌≡◌, ℕ, suc, ◌+◌, ◌*◌, ◌≤◌, ◌<◌, Bool, true, false, List, [], ◌∷◌, ◌++◌, length, Option, None, Some, slice_get, ◌^◌}
 use Rattle.std.specs.Prelude.{if◌then◌else◌}
-use Rattle.cyc_words.specs.Word.{add_of}
+use Rattle.cyc_words.specs.Word.{IsWord as IsNumber, add_of}
 use Rattle.cyc_types.specs.declared.typed.Kind.{Kind}
 use Rattle.cyc_types.specs.declared.typed.Kind.TheVariants as kinds
 use Rattle.cyc_types.specs.declared.typed.Callee.{Callee}
@@ -9,7 +9,7 @@ use Rattle.cyc_types.specs.declared.typed.UnaryOperator.TheVariants as unary
 use Rattle.cyc_types.specs.declared.typed.Operator.{Operator}
 use Rattle.cyc_types.specs.declared.typed.Callee.TheVariants as callees
 use Rattle.cyc_types.specs.Types.{Ty}
-use Rattle.cyc_types.specs.TypedTrees.{Lvalue, Local, Global, Expression, NoArguments, NoOperations, Statement, Function, Program, Convert}
+use Rattle.cyc_types.specs.TypedTrees.{Lvalue, Local, Global, Expression, NoArguments, NoOperations, Statement, Function, Program, Convert, Clauses}
 use Rattle.cyc_types.specs.Numbered.{Numbering, argument_count, numbering_of, signatures_of}
 use Rattle.cyc_store.specs.State.{StoreState, demand}
 use Rattle.cyc_store.specs.declared.range.TheConstants.{HEAP}
@@ -25,22 +25,22 @@ use Rattle.cyc_plain.specs.declared.instruction.Instruction.{Instruction}
 use Rattle.cyc_plain.specs.declared.instruction.Instruction.TheVariants as instructions
 use Rattle.cyc_plain.specs.declared.limits.TheConstants.{RECORD_WORDS}
 use Rattle.cyc_plain.specs.Program.{routine_at}
-use Rattle.cyc_plain.specs.State.{Words, Frame, Configuration}
-use Rattle.cyc_plain.specs.Step.{operand_word}
+use Rattle.cyc_plain.specs.State.{Words, Activation, Frame, Configuration}
+use Rattle.cyc_plain.specs.Step.{operand_word, throws}
 use Rattle.cyc_plain.specs.State as plain
 use Rattle.cyc_plain.specs.Straight.{At}
 use Rattle.cyc_meaning.specs.Values.{Value, Null, Thin, Operand as Kinded, Cell, kinds_of, words_of_kind, is_thin}
 use Rattle.cyc_meaning.specs.Allocation.{writes_from, blanks_of}
-use Rattle.cyc_meaning.specs.State.{Owner, InRegion, Unique, Object, World, heap_number, globals_number, Environment, ConvertTo, Operate, Chain, Apply, ApplyPointer, Follow, LoadFrom, Decide, Store, Pass, MakePlain, MakeFields, Initialise, Choose, Test, Return, Entry, Needs, NeedsPlace, Discard, Rest, Join, Loop, CloseRegion, CloseLexical, EndLoan, Handler, Caller, Main, calls_in, Focus, Evaluating, Locating, Given, Executing, Proceeding, Calling, Entering, Binding, Writing, Breaking, Continuing, Returning, Throwing, State, Running, Ended, GivenPlace, FollowMember, TakeAddress, StoreTo, StoreCell}
+use Rattle.cyc_meaning.specs.State.{Owner, InRegion, Unique, Object, World, heap_number, globals_number, Environment, ConvertTo, Operate, Chain, Apply, ApplyPointer, Follow, LoadFrom, Decide, Store, Pass, MakePlain, MakeFields, Initialise, Choose, Test, Return, Entry, Needs, NeedsPlace, Discard, Rest, Join, Loop, CloseRegion, CloseLexical, EndLoan, Handler, Caller, Main, calls_in, Focus, Evaluating, Locating, Given, Executing, Proceeding, Calling, Entering, Binding, Writing, Breaking, Continuing, Returning, Throwing, State, Running, Ended, GivenPlace, FollowMember, TakeAddress, StoreTo, StoreCell, ThrowWith, Naming, Catching}
 use Rattle.cyc_meaning.specs.Step.{object_of}
 use Rattle.cyc_meaning.specs.Operators.{null_exception, is_zero}
 use Rattle.cyc_meaning.specs.FrameCount.{words_of_all}
 use Rattle.cyc_lower.specs.declared.statements.Exits.{Exits}
 use Rattle.cyc_meaning.specs.Pointers.{result_kind as operator_kind}
 use Rattle.cyc_lower.specs.Slots.{Types, Starts, starts_of, slot_of}
-use Rattle.cyc_lower.specs.Lowering.{unary_operator, failing_comparison, operand_of, move_of, low_byte, converts_there, all_passed, compared_of, break_target, continue_target, results_of, lower_program, outside_loops, slot_types}
+use Rattle.cyc_lower.specs.Lowering.{unary_operator, failing_comparison, operand_of, move_of, low_byte, converts_there, all_passed, compared_of, break_target, continue_target, results_of, lower_program, outside_loops, slot_types, tag_operand}
 use Rattle.cyc_lower.proofs.Widths.{kind_of_result, given, called_kind, HasRoom, Outside, chain_kind}
-use Rattle.cyc_lower.proofs.Stands.{LeaveAt, CheckAt, ConversionAt, PlaceAt, OperatorAt, TruthAt, CopyAt, ExpressionAt, ArgumentsAt, OperationsAt, ValueAt, ConditionAt, FailingAt, ComparesAt, DiscardedAt, StatementAt, ItemsAt, PointerAt, StoresAt, ObjectAt, AddressAt, ConvertedOperandAt}
+use Rattle.cyc_lower.proofs.Stands.{LeaveAt, CheckAt, ConversionAt, PlaceAt, OperatorAt, TruthAt, CopyAt, ExpressionAt, ArgumentsAt, OperationsAt, ValueAt, ConditionAt, FailingAt, ComparesAt, DiscardedAt, StatementAt, ItemsAt, PointerAt, StoresAt, ObjectAt, AddressAt, ConvertedOperandAt, ClausesAt}
 
 -- ---- values in slots
 
@@ -193,14 +193,6 @@ homes [] = []
 homes (CloseRegion region home ∷ k) = region ∷ home ∷ homes k
 homes (Caller e ∷ k) = e.home ∷ homes k
 homes (entry ∷ k) = homes k
-
--- nothing waits that catches an exception or is more than variables: no `try`, no region of a program
-abbrev pub IsPlainStack : List Entry → Type 0
-IsPlainStack [] = Unit {0}
-IsPlainStack (CloseLexical region ∷ k) = ⊥
-IsPlainStack (EndLoan lent ∷ k) = ⊥
-IsPlainStack (Handler handler ∷ k) = ⊥
-IsPlainStack (entry ∷ k) = IsPlainStack k
 
 -- ---- what is shared
 
@@ -449,6 +441,7 @@ module _ (source : Program) where
         (exits : Exits) × (q : ℕ) × (s : ℕ) × (r : ℕ) × (o ≡ operands.Slot s) × LeaveAt (code_of g) (bounds_at g) (types_at g) exits.first_record (floor g k) p r
         × At (code_of g) r (instructions.Finish s) × IsReturned g kind
         × StatementStack g exits q frames k
+    ValueStack g locals kind o p frames (Needs (ThrowWith tag) ∷ k) = IsNumber tag × At (code_of g) p (instructions.Throw (tag_operand tag) o)
     ValueStack g locals kind o p frames (Needs (Follow pointer target) ∷ k) =
         (q : ℕ) × (is_thin pointer ≡ true) × CheckAt (code_of g) (bounds_at g) (types_at g) null_exception o p q × PlaceStack g locals o 0 q frames k
     ValueStack g locals kind o p frames (Needs (FollowMember pointer fields field) ∷ k) =
@@ -507,6 +500,8 @@ module _ (source : Program) where
         (outer : Exits) × (q : ℕ) × LoopAt g (floor g k) condition body exits outer q × At (code_of g) p (instructions.Jump (continue_target exits.head))
         × StatementStack g outer q frames k
     StatementStack g exits p frames (CloseRegion region home ∷ k) = (q : ℕ) × Arrives (code_of g) p q × StatementStack g exits q frames k
+    StatementStack g exits p frames (Handler handler ∷ k) =
+        (q : ℕ) × At (code_of g) p (instructions.Leave (floor g k)) × At (code_of g) (p + 1) (instructions.Jump q) × StatementStack g exits q frames k
     StatementStack g exits p frames (Caller e ∷ k) =
         (s : ℕ) × At (code_of g) p (instructions.Finish s) × IsOutside exits (base_of g)
         × Below frames (λ f rest. Lands (base_of f.caller.function) (top f.caller.function k) f.result (words_of_kind (returned_at g))
@@ -591,6 +586,13 @@ module _ (source : Program) where
       × HoldsFrom t slots slot values × StoresAt (code_of g) (bounds_at g) (types_at g) (words_held values) address (4 * words_of_kinds done) slot p m
       × At (code_of g) m (instructions.Move d (operands.Slot address)) × (m + 1 ≡ q)
       × Holds t slots (floor g k) (held k) × LandsStack g locals kinds.NonNull d q frames k
+  FocusAt t (Naming number v items) k locals g p slots frames =
+      (exits : Exits) × (q : ℕ) × (o : Operand) × At (code_of g) p (move_of (words_of_kind v.kind) (slot_of (starts_at g) number) o) × IsIn t v slots o
+      × (number < length (types_at g).locals) × HasRoom (types_at g) number v.kind
+      × ItemsAt (code_of g) (bounds_at g) (types_at g) items exits (floor g k) (p + 1) q × StatementStack g exits q frames k
+  FocusAt t (Catching tag value handler) k locals g p slots frames =
+      (exits : Exits) × (out : ℕ) × (q : ℕ) × ClausesAt (code_of g) (bounds_at g) (types_at g) handler out exits (floor g k) p q × At (code_of g) out (instructions.Jump q)
+      × StatementStack g exits q frames k × IsNumber tag × (slots (floor g k) ≡ tag) × (slots (floor g k + 1) ≡ value)
   FocusAt t Breaking k locals g p slots frames =
       (exits : Exits) × (q : ℕ) × At (code_of g) p (instructions.Jump (break_target exits.head)) × StatementStack g exits q frames k
   FocusAt t Continuing k locals g p slots frames =
@@ -607,14 +609,22 @@ module _ (source : Program) where
   abbrev pub SharedAt : (pages calls : ℕ) → List Entry → Environment → World → Configuration → Type 0
   SharedAt pages calls k e w c = Shared pages calls w (e.home ∷ homes k) c.output c.input c.store (length c.frames)
 
+  -- what stands where a handler catches an exception: it was opened by this instruction, and its clauses end where all goes on
+  abbrev pub CatchesAt : (g : ℕ) → Clauses → (index : ℕ) → List Frame → List Entry → Type 0
+  CatchesAt g handler index frames k =
+      (exits : Exits) × (p : ℕ) × (out : ℕ) × (q : ℕ) × At (code_of g) index (instructions.Try (floor g k) p)
+      × ClausesAt (code_of g) (bounds_at g) (types_at g) handler out exits (floor g k) p q × At (code_of g) out (instructions.Jump q) × StatementStack g exits q frames k
+
   -- The handlers that the running call has open, and those of the calls that wait: one for each entry, with its record.
   abbrev pub HandlersStand : (g : ℕ) → Words → List plain.Handler → List Frame → List Entry → Type 0
   HandlersStand g slots handlers frames [] = ⊥
-  HandlersStand g slots handlers frames (Handler clauses ∷ k) =
-      Opened handlers (λ index first contents later. (first ≡ floor g k) × IsIntact slots first contents × HandlersStand g slots later frames k)
+  HandlersStand g slots handlers frames (Handler handler ∷ k) =
+      Opened handlers (λ index first contents later. (first ≡ floor g k) × IsIntact slots first contents × CatchesAt g handler index frames k × HandlersStand g slots later frames k)
   HandlersStand g slots handlers frames (Caller e ∷ k) =
       (handlers ≡ []) × Below frames (λ f rest. HandlersStand f.caller.function f.caller.slots f.caller.handlers rest k)
   HandlersStand g slots handlers frames (Main ∷ k) = (handlers ≡ []) × IsLast frames k
+  HandlersStand g slots handlers frames (CloseLexical region ∷ k) = ⊥
+  HandlersStand g slots handlers frames (EndLoan lent ∷ k) = ⊥
   HandlersStand g slots handlers frames (entry ∷ k) = HandlersStand g slots handlers frames k
 
   -- the data of the running call and of those that wait, where the running one has these slots, and the handlers of these entries
@@ -650,13 +660,20 @@ module _ (source : Program) where
   pub data ProceedingAt (t : Tables) (k : List Entry) (e : Environment) (w : World) (c : Configuration) : Type 0 where
     behind_statement : (exits : Exits) → DataIn t c.active.slots k e w c → StatementStack c.active.function exits c.active.next c.frames k → ProceedingAt t k e w c
     behind_call : (kind : Kind) → (o : Operand) → DataIn t c.active.slots k e w c → ValueStack c.active.function e.locals kind o c.active.next c.frames k → ProceedingAt t k e w c
-    behind_wrong : (kind : Kind) → (n : ℕ) → AheadStack c.active.function e.locals kind n c.active.next c.frames k → ProceedingAt t k e w c
+    behind_wrong : (kind : Kind) → (n : ℕ) → calls_in k ≡ suc (length c.frames) → AheadStack c.active.function e.locals kind n c.active.next c.frames k → ProceedingAt t k e w c
 
-  -- An exception that nothing catches ends the plain program at once, while the source leaves one entry after the other.
+  -- An exception comes to the newest handler at once, or ends the plain program, while the source leaves one entry after the other. So
+  -- the handlers are those of the call to which it has come, behind which no frame waits that has none open.
+  abbrev pub CaughtBy : Activation → List Frame → List Entry → Type 0
+  CaughtBy a rest [] = (a.handlers ≡ []) × (rest ≡ [])
+  CaughtBy a rest (entry ∷ k) = HandlersStand a.function a.slots a.handlers rest (entry ∷ k)
+
   abbrev pub Throws : (pages calls : ℕ) → (tag value : ℕ) → List Entry → Environment → World → Configuration → Type 0
   Throws pages calls tag value k e w c =
-      (shared : SharedAt pages calls k e w c) × (calls_in k ≤ calls) × IsPlainStack k
-      × (o : Operand) × At (code_of c.active.function) c.active.next (instructions.Uncaught tag o) × (operand_word c.active.slots o ≡ value)
+      (shared : SharedAt pages calls k e w c) × (calls_in k ≤ calls) × IsNumber tag
+      × (x : Operand) × (o : Operand) × At (code_of c.active.function) c.active.next (instructions.Throw x o) × (operand_word c.active.slots x ≡ tag) × (operand_word c.active.slots o ≡ value)
+      × (a : Activation) × (rest : List Frame) × (length rest ≤ length c.frames) × (throws c tag value c.active c.frames ≡ throws c tag value a rest)
+      × DataAt shared.tables a.function w.objects e.locals (callers k) a.slots c.globals rest × CaughtBy a rest k
 
   abbrev pub Related : (pages calls : ℕ) → Focus → List Entry → Environment → World → Configuration → Type 0
   Related pages calls (Throwing tag value) k e w c = Throws pages calls tag value k e w c

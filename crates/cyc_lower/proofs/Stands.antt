@@ -60,7 +60,7 @@ module _ (code : List Instruction) (bounds : Numbering) (types : Types) where
   OperandBy None computed slot o p q = (o ≡ operands.Slot slot) × computed
 
   abbrev pub CheckAt : (tag : ℕ) → Operand → (p q : ℕ) → Type 0
-  CheckAt tag o p q = At code p (jump_if_nonzero o q) × At code (p + 1) (instructions.Uncaught tag o) × (p + 2 ≡ q)
+  CheckAt tag o p q = At code p (jump_if_nonzero o q) × At code (p + 1) (instructions.Throw (operands.Word tag) o) × (p + 2 ≡ q)
 
   abbrev pub ConversionBy : (to : Kind) → Operand → (p q : ℕ) → Type 0
   ConversionBy kinds.NonNull o p q = CheckAt null_exception o p q

@@ -35,12 +35,13 @@ use Rattle.cyc_objects.specs.Words.{Is}
 use Rattle.cyc_objects.proofs.Values.{Grows-row, Grows-handle}
 use Rattle.cyc_lower.proofs.Sharing.{shared_declared, row_declared, shared_opened, shared_closed, shared_left}
 use Rattle.cyc_lower.proofs.Relation.{behind_records, by_jumps, HandlersStand, DataIn, Matches, types_in, types_at, starts_at, given_at, returned_at, Holds, held, callers, homes, Shared, DataAt, SharedAt, in_temporary, in_local, ValueStack, AheadStack, StatementStack, LandsStack, Related, EvaluatingAt, as_operand, into_slot, for_effect, as_condition, in_operand, ahead, behind_statement, behind_call, behind_wrong, Below, IsLast, Arrives, in_place, by_jump, code_of, bounds_in, bounds_at, base_of, floor, top}
-use Rattle.cyc_lower.proofs.Data.{behind-least, handlers_same, height-least, Holds-same, Holds-above, data_declared, data_returned, data_grows, held_by_caller}
+use Rattle.cyc_lower.proofs.Data.{behind-least, handlers_same, height-least, Holds-same, Holds-above, data_declared, data_returned, data_grows, held_by_caller, calls_counted}
 use Rattle.cyc_lower.proofs.Values.{int_at}
 use Rattle.cyc_lower.proofs.Accesses.{IsWell, is_declared, is_closed, home_there}
 use Rattle.cyc_lower.proofs.Weights.{weight}
 use Rattle.cyc_lower.proofs.Handling.{leaving, record_left}
 use Rattle.cyc_lower.proofs.Matched.{IsMatched, silently, by_one, by_two}
+use Rattle.cyc_lower.proofs.ExceptionSteps.{begins, ends, throws_none, throws_some}
 use Rattle.cyc_lower.proofs.Evaluations.{IsStep, sources}
 
 module _ (source : Program) (pages calls : ℕ) where
@@ -112,6 +113,9 @@ module _ (source : Program) (pages calls : ℕ) where
   executing Continue k e w c well (shared, facts, (exits, q, (m, leave, here), stack)) =
       leaving source pages calls true (Executing Continue) Continuing k k e w c exits.loop_record m refl shared (omega arith) (record_left source c.active.function exits q c.frames k stack).0 leave facts.1
       (λ handlers stand. (shared, (facts.0, stand), (exits, q, here, stack)))
+  executing (typed.Throw tag None) k e w c well related = throws_none source pages calls tag k e w c well related
+  executing (typed.Throw tag (Some a)) k e w c well related = throws_some source pages calls tag a k e w c well related
+  executing (typed.Try s handler) k e w c well related = begins source pages calls s handler k e w c well related
   executing s k e w c well (shared, facts, (exits, q, at, stack)) = absurd at
 
   -- ---- the end of a call
@@ -169,7 +173,7 @@ module _ (source : Program) (pages calls : ℕ) where
       let c : Configuration = record { active = active; frames = f ∷ frames; globals = globals; store = store; output = output; input = input } in
       by_one source pages calls does shared here
       (λ choice. finished (Running Proceeding k outer w) c s choice none
-      (shared_returned w (outer.home ∷ homes k) output input store e.home (length frames) shared, behind_wrong (returned_at source active.function) f.result stack))
+      (shared_returned w (outer.home ∷ homes k) output input store e.home (length frames) shared, behind_wrong (returned_at source active.function) f.result (calls_counted source f.caller.function f.caller.slots f.caller.handlers frames k stand) stack))
 
   -- with a value
   hands_back : (v : Kinded) (active : Activation) (frames : List Frame) (globals : Words) (store : StoreState) (output input : List ℕ) (k : List Entry) (e outer : Environment) (w : World) (s : ℕ)
@@ -326,6 +330,7 @@ module _ (source : Program) (pages calls : ℕ) where
       let found = is_closed Proceeding region home k e w well in
       arrives (CloseRegion region home ∷ k) k (record e { home = home }) e (closed w region found.region) w c exits q found.gives shared (omega arith)
       (shared_closed source pages calls k e w c region home found.region found.there shared) facts comes stack
+  after_statement (Handler handler ∷ k) e w c exits well shared facts stack = ends source pages calls handler k e w c exits shared facts stack
   after_statement (Caller outer ∷ k) e w c exits well shared facts (s, here, outside, below) =
       leaves_call Proceeding c.active c.frames c.globals c.store c.output c.input k e outer w s refl shared facts here below
   after_statement (Main ∷ k) e w c exits well shared facts stack = absurd (well refl)
@@ -349,7 +354,7 @@ module _ (source : Program) (pages calls : ℕ) where
   pub proceeding : (k : List Entry) (e : Environment) (w : World) (c : Configuration) → IsStep source pages calls Proceeding k e w c
   proceeding k e w c well (shared, behind_statement exits facts stack) = after_statement k e w c exits well shared facts stack
   proceeding k e w c well (shared, behind_call kind o facts stack) = after_call k e w c kind o well shared facts stack
-  proceeding k e w c well (shared, behind_wrong kind n stack) = after_wrong k e w c kind n well stack
+  proceeding k e w c well (shared, behind_wrong kind n counted stack) = after_wrong k e w c kind n well stack
 
   -- ---- breaks
 
@@ -380,7 +385,8 @@ module _ (source : Program) (pages calls : ℕ) where
   breaking (NeedsPlace a ∷ k) e w c well (shared, facts, (exits, q, here, stack)) = absurd stack
   breaking (CloseLexical region ∷ k) e w c well (shared, facts, (exits, q, here, stack)) = absurd stack
   breaking (EndLoan lent ∷ k) e w c well (shared, facts, (exits, q, here, stack)) = absurd stack
-  breaking (Handler handler ∷ k) e w c well (shared, facts, (exits, q, here, stack)) = absurd stack
+  breaking (Handler handler ∷ k) e w c well (shared, facts, (exits, q, here, (r, leave, over, stack))) =
+      silently source pages calls (Running Breaking (Handler handler ∷ k) e w) (Running Breaking k e w) (plain.Running c) refl (shared, facts, (exits, r, here, stack)) (omega arith)
   breaking (Main ∷ k) e w c well related = absurd (well refl)
 
   pub continuing : (k : List Entry) (e : Environment) (w : World) (c : Configuration) → IsStep source pages calls Continuing k e w c
@@ -403,7 +409,8 @@ module _ (source : Program) (pages calls : ℕ) where
   continuing (NeedsPlace a ∷ k) e w c well (shared, facts, (exits, q, here, stack)) = absurd stack
   continuing (CloseLexical region ∷ k) e w c well (shared, facts, (exits, q, here, stack)) = absurd stack
   continuing (EndLoan lent ∷ k) e w c well (shared, facts, (exits, q, here, stack)) = absurd stack
-  continuing (Handler handler ∷ k) e w c well (shared, facts, (exits, q, here, stack)) = absurd stack
+  continuing (Handler handler ∷ k) e w c well (shared, facts, (exits, q, here, (r, leave, over, stack))) =
+      silently source pages calls (Running Continuing (Handler handler ∷ k) e w) (Running Continuing k e w) (plain.Running c) refl (shared, facts, (exits, r, here, stack)) (omega arith)
   continuing (Main ∷ k) e w c well related = absurd (well refl)
 
   -- ---- returns
@@ -442,7 +449,8 @@ module _ (source : Program) (pages calls : ℕ) where
   returning_none (NeedsPlace a ∷ k) e w c well (shared, facts, (exits, q, s, here, stack)) = absurd stack
   returning_none (CloseLexical region ∷ k) e w c well (shared, facts, (exits, q, s, here, stack)) = absurd stack
   returning_none (EndLoan lent ∷ k) e w c well (shared, facts, (exits, q, s, here, stack)) = absurd stack
-  returning_none (Handler handler ∷ k) e w c well (shared, facts, (exits, q, s, here, stack)) = absurd stack
+  returning_none (Handler handler ∷ k) e w c well (shared, facts, (exits, q, s, here, (r, leave, over, stack))) =
+      silently source pages calls (Running (Returning None) (Handler handler ∷ k) e w) (Running (Returning None) k e w) (plain.Running c) refl (shared, facts, (exits, r, s, here, stack)) (omega arith)
   returning_none (Main ∷ k) e w c well related = absurd (well refl)
 
   returning_some : (v : Kinded) (k : List Entry) (e : Environment) (w : World) (c : Configuration) → IsStep source pages calls (Returning (Some v)) k e w c
@@ -466,40 +474,11 @@ module _ (source : Program) (pages calls : ℕ) where
   returning_some v (NeedsPlace a ∷ k) e w c well (shared, facts, (exits, q, s, here, is, single, stack)) = absurd stack
   returning_some v (CloseLexical region ∷ k) e w c well (shared, facts, (exits, q, s, here, is, single, stack)) = absurd stack
   returning_some v (EndLoan lent ∷ k) e w c well (shared, facts, (exits, q, s, here, is, single, stack)) = absurd stack
-  returning_some v (Handler handler ∷ k) e w c well (shared, facts, (exits, q, s, here, is, single, stack)) = absurd stack
+  returning_some v (Handler handler ∷ k) e w c well (shared, facts, (exits, q, s, here, is, single, (r, leave, over, stack))) =
+      silently source pages calls (Running (Returning (Some v)) (Handler handler ∷ k) e w) (Running (Returning (Some v)) k e w) (plain.Running c) refl (shared, facts, (exits, r, s, here, is, single, stack)) (omega arith)
   returning_some v (Main ∷ k) e w c well (shared, facts, (exits, q, s, here, is, single, (u, last, outside, none))) =
       ends_main v.kind v.value c.active c.frames c.globals c.store c.output c.input k e w s well shared facts.1.0 here is none
 
   pub returning : (v : Option Kinded) (k : List Entry) (e : Environment) (w : World) (c : Configuration) → IsStep source pages calls (Returning v) k e w c
   returning None k e w c well related = returning_none k e w c well related
   returning (Some v) k e w c well related = returning_some v k e w c well related
-
-  -- ---- exceptions
-
-  pub throwing : (tag value : ℕ) (k : List Entry) (e : Environment) (w : World) (c : Configuration) → IsStep source pages calls (Throwing tag value) k e w c
-  throwing tag value [] e w c well (shared, fits, plain_stack, s, here, is) =
-      by_one source pages calls refl shared here (λ choice. (ap (λ x. Uncaught tag (signed x)) is, shared.same_output))
-  throwing tag value (Needs a ∷ k) e w c well (shared, fits, plain_stack, s, here, is) =
-      silently source pages calls (Running (Throwing tag value) (Needs a ∷ k) e w) (Running (Throwing tag value) k e w) (plain.Running c) refl (shared, fits, plain_stack, s, here, is) (omega arith)
-  throwing tag value (Discard ∷ k) e w c well (shared, fits, plain_stack, s, here, is) =
-      silently source pages calls (Running (Throwing tag value) (Discard ∷ k) e w) (Running (Throwing tag value) k e w) (plain.Running c) refl (shared, fits, plain_stack, s, here, is) (omega arith)
-  throwing tag value (Rest js ∷ k) e w c well (shared, fits, plain_stack, s, here, is) =
-      silently source pages calls (Running (Throwing tag value) (Rest js ∷ k) e w) (Running (Throwing tag value) k e w) (plain.Running c) refl (shared, fits, plain_stack, s, here, is) (omega arith)
-  throwing tag value (Join ∷ k) e w c well (shared, fits, plain_stack, s, here, is) =
-      silently source pages calls (Running (Throwing tag value) (Join ∷ k) e w) (Running (Throwing tag value) k e w) (plain.Running c) refl (shared, fits, plain_stack, s, here, is) (omega arith)
-  throwing tag value (Loop a b ∷ k) e w c well (shared, fits, plain_stack, s, here, is) =
-      silently source pages calls (Running (Throwing tag value) (Loop a b ∷ k) e w) (Running (Throwing tag value) k e w) (plain.Running c) refl (shared, fits, plain_stack, s, here, is) (omega arith)
-  throwing tag value (CloseRegion region home ∷ k) e w c well (shared, fits, plain_stack, s, here, is) =
-      let found = is_closed (Throwing tag value) region home k e w well in
-      silently source pages calls (Running (Throwing tag value) (CloseRegion region home ∷ k) e w) (Running (Throwing tag value) k (record e { home = home }) (closed w region found.region)) (plain.Running c) found.gives
-      (shared_closed source pages calls k e w c region home found.region found.there shared, fits, plain_stack, s, here, is)
-      (omega arith)
-  throwing tag value (Caller outer ∷ k) e w c well (shared, fits, plain_stack, s, here, is) =
-      silently source pages calls (Running (Throwing tag value) (Caller outer ∷ k) e w) (Running (Throwing tag value) k outer w) (plain.Running c) refl (shared_left source pages calls k e outer w c shared, omega (arith, fits), plain_stack, s, here, is) (omega arith)
-  throwing tag value (NeedsPlace a ∷ k) e w c well (shared, fits, plain_stack, s, here, is) =
-      silently source pages calls (Running (Throwing tag value) (NeedsPlace a ∷ k) e w) (Running (Throwing tag value) k e w) (plain.Running c) refl (shared, fits, plain_stack, s, here, is) (omega arith)
-  throwing tag value (CloseLexical region ∷ k) e w c well (shared, fits, plain_stack, s, here, is) = absurd plain_stack
-  throwing tag value (EndLoan lent ∷ k) e w c well (shared, fits, plain_stack, s, here, is) = absurd plain_stack
-  throwing tag value (Handler handler ∷ k) e w c well (shared, fits, plain_stack, s, here, is) = absurd plain_stack
-  throwing tag value (Main ∷ k) e w c well (shared, fits, plain_stack, s, here, is) =
-      silently source pages calls (Running (Throwing tag value) (Main ∷ k) e w) (Running (Throwing tag value) k e w) (plain.Running c) refl (shared, omega (arith, fits), plain_stack, s, here, is) (omega arith)

@@ -1,6 +1,6 @@
 -- The steps that hand a value on.
 use Rattle.std.proofs.Common.{◌≡◌, ◌≢◌, ℕ, zero, suc, ◌+◌, ◌<◌, Bool, true, false, not, List, [], ◌∷◌, Option, None, Some, slice_get, refl, sym, ap, subst, ◌∙◌, arith, inl, inr, length}
-use Rattle.std.specs.Prelude.{ℤ, nat_lt, ◌==◌, ◌&&◌, ◌<ℤ◌, ◌≤ℤ◌, int_le, int_lt, if◌then◌else◌}
+use Rattle.std.specs.Prelude.{ℤ, nat_lt, ◌==◌, ◌&&◌, ◌<ℤ◌, ◌≤ℤ◌, int_le, int_lt, if◌then◌else◌, ◌%◌, ◌^◌}
 use Rattle.std.proofs.lemmas.Int.{ints}
 use Rattle.std.proofs.lemmas.Bool.{eqb-true, false_from_ne_true}
 use Rattle.std.proofs.lemmas.Option.{same_Some, none-some}
@@ -42,7 +42,7 @@ use Rattle.cyc_meaning.specs.Operators.{Result, Gives, Raises, Misfits, has_no_r
 use Rattle.cyc_meaning.specs.Pointers.{takes_kind, followed, result_kind as operator_kind}
 use Rattle.cyc_meaning.specs.Places.{arrives, member_of}
 use Rattle.cyc_meaning.specs.Conversion.{conversion}
-use Rattle.cyc_meaning.specs.State.{Region, World, Environment, with_local, made, variable, written, region_at, Awaiting, ConvertTo, Operate, Chain, Apply, ApplyPointer, Follow, Decide, Store, Pass, MakePlain, MakeFields, Initialise, Choose, Test, Return, Entry, Needs, Discard, Rest, Join, Loop, Focus, Evaluating, Given, GivenPlace, Executing, Proceeding, Calling, Returning, Throwing, State, Running, cell_at, FollowMember, StoreCell}
+use Rattle.cyc_meaning.specs.State.{Region, World, Environment, with_local, made, variable, written, region_at, Awaiting, ConvertTo, Operate, Chain, Apply, ApplyPointer, Follow, Decide, Store, Pass, MakePlain, MakeFields, Initialise, Choose, Test, Return, Entry, Needs, Discard, Rest, Join, Loop, Focus, Evaluating, Given, GivenPlace, Executing, Proceeding, Calling, Returning, Throwing, State, Running, cell_at, FollowMember, StoreCell, ThrowWith}
 use Rattle.cyc_meaning.specs.Step.{leads_to, wrong, object_of, computed, stored_at, declared, passes, tested, awaits_right, chosen, looped, step}
 use Rattle.cyc_meaning.specs.State.{status_of}
 use Rattle.cyc_meaning.specs.SourceMachine.{status_in}
@@ -51,7 +51,7 @@ use Rattle.cyc_lower.specs.Slots.{slot_of, Types}
 use Rattle.cyc_lower.proofs.Slots.{slot-room, room-inside}
 use Rattle.cyc_lower.proofs.Widths.{kind_positive, same_kind, HasRoom, Outside, chain_kind}
 use Rattle.cyc_lower.proofs.Moves.{moved_slots, moves, put_elsewhere, moved_elsewhere, moved_is}
-use Rattle.cyc_lower.specs.Lowering.{unary_operator, binary_operator, failing_comparison, operand_of, value_slot, next_slot, is_in, jump_if_zero, jump_if_nonzero, move_of, converts_there, break_target, lower_program}
+use Rattle.cyc_lower.specs.Lowering.{unary_operator, binary_operator, failing_comparison, operand_of, value_slot, next_slot, is_in, jump_if_zero, jump_if_nonzero, move_of, converts_there, break_target, lower_program, tag_operand}
 use Rattle.cyc_lower.proofs.Stands.{OperandBy, CopyBy, CopyAt, CheckAt, CheckedAt, OperatorAt, TruthAt, ExpressionAt, OperationsAt}
 use Rattle.cyc_objects.specs.Tables.{Tables}
 use Rattle.cyc_objects.specs.Words.{Points, Is}
@@ -66,8 +66,8 @@ use Rattle.cyc_lower.proofs.PlaceWords.{stays, member_there}
 use Rattle.cyc_lower.proofs.CellWrites.{cell_is_there, saves_there, shared_saved, data_saved}
 use Rattle.cyc_lower.proofs.Weights.{weight}
 use Rattle.cyc_lower.proofs.Relation.{StatementStack}
-use Rattle.cyc_lower.proofs.Handling.{leaving, record_left}
-use Rattle.cyc_lower.proofs.Matched.{IsMatched, silently, by_one, by_two, by_three, shared_way, shared_within, lands_depth, value_depth, place_depth, lands_plain, value_plain, place_plain, by_two_known, output_way}
+use Rattle.cyc_lower.proofs.Handling.{leaving, record_left, raised}
+use Rattle.cyc_lower.proofs.Matched.{IsMatched, silently, by_one, by_two, by_three, shared_way, shared_within, by_two_known, output_way}
 use Rattle.cyc_lower.proofs.PointerSteps.{applies_pointers, right_follows}
 use Rattle.cyc_lower.proofs.Allocations.{plain_made, fields_made}
 use Rattle.cyc_lower.proofs.Evaluations.{IsStep, landed_word, landed_moved, lands_at, passes_related, passes_weight, object_of_same, global_there}
@@ -322,14 +322,8 @@ module _ (source : Program) (pages calls : ℕ) where
   converted from kinds.NonNull target i Null o k e w c well does wide (shared, facts, is, holds) (q, (same, (jump, uncaught, end)), stack) =
       let zero_word = null_is shared.tables i c.active.slots o is in
       by_one source pages calls does shared jump
-      (λ choice. not_taken (Running (Throwing 1 0) k e w) c (not (operand_word c.active.slots o == 0)) q (ap (λ x. not (x == 0)) zero_word) (
-        shared,
-        omega (arith, value_depth source c.active.function e.locals kinds.NonNull o q c.frames k stack, shared.fits),
-        value_plain source c.active.function e.locals kinds.NonNull o q c.frames k stack,
-        o,
-        uncaught,
-        zero_word,
-      ))
+      (λ choice. not_taken (Running (Throwing 1 0) k e w) c (not (operand_word c.active.slots o == 0)) q (ap (λ x. not (x == 0)) zero_word)
+      (raised source pages calls 1 0 k e w (at c (c.active.next + 1)) (operands.Word 1) o (omega arith) shared facts uncaught refl zero_word))
   converted from kinds.Nullable target i (Thin object offset) o k e w c well does wide stands (q, (same, end), stack) = kept_value from kinds.Nullable target i (Thin object offset) o k e w c q refl does stands end stack
   converted from kinds.NonNull target i (Thin object offset) o k e w c well does wide (shared, facts, is, holds) (q, (same, (jump, uncaught, end)), stack) =
       by_one source pages calls does shared jump
@@ -462,7 +456,7 @@ module _ (source : Program) (pages calls : ℕ) where
       let b_is : b ≡ 0 = eqb-true b 0 zero_b in
       by_one source pages calls (ap (λ x. computed kinds.Int (if x then Raises 4 else Gives (Int (binary_word u a b))) k e w) (test b ∙ zero_b)) shared jump
       (λ choice. not_taken (Running (Throwing 4 0) k e w) c (not (operand_word c.active.slots r == 0)) m (ap (λ x. not (x == 0)) (is ∙ b_is))
-      (shared, omega (arith, lands_depth source c.active.function e.locals kinds.Int d q c.frames k lands, shared.fits), lands_plain source c.active.function e.locals kinds.Int d q c.frames k lands, r, uncaught, is ∙ b_is))
+      (raised source pages calls 4 0 k e w (at c (c.active.next + 1)) (operands.Word 4) r (omega arith) shared facts uncaught refl (is ∙ b_is)))
   tested_divides u i j a b false l r d k e w c m q plain_test test same zero_b shared facts is_left is holds (jump, uncaught, behind) here end lands =
       let nonzero : (operand_word c.active.slots r == 0) ≡ false = ap (λ x. x == 0) is ∙ zero_b in
       by_two source pages calls (at c m)
@@ -1029,6 +1023,16 @@ module _ (source : Program) (pages calls : ℕ) where
       by_one source pages calls (ap (λ (z : Option Bool). looped z a s k e w) fails) shared jump
       (λ choice. not_taken (Running (Executing s) (Loop a s ∷ k) e w) c _ _ told (shared, facts, (exits, m, at_s, (outer, q, around, back, stack))))
 
+  -- ---- exceptions
+
+  throws_with : (tag : ℕ) (i : Kind) (v : Value) (o : Operand) (k : List Entry) (e : Environment) (w : World) (c : Configuration) → IsWell (step source (Running (Given (of_kind i v)) (Needs (ThrowWith tag) ∷ k) e w))
+      → Stands (of_kind i v) o (Needs (ThrowWith tag) ∷ k) e w c → ValueStack source c.active.function e.locals i o c.active.next c.frames (Needs (ThrowWith tag) ∷ k) → GoesBehind (of_kind i v) (Needs (ThrowWith tag) ∷ k) e w c
+  throws_with tag i (Int a) o k e w c well (shared, facts, is, holds) (word, here) =
+      silently source pages calls (Running (Given (of_kind i (Int a))) (Needs (ThrowWith tag) ∷ k) e w) (Running (Throwing tag a) k e w) (plain.Running c) refl
+      (raised source pages calls tag a k e w c (tag_operand tag) o word shared facts here (let z : tag % 2 ^ 32 ≡ tag = omega (arith, word) in z) (int_is shared.tables i a c.active.slots o is))
+      (omega arith)
+  throws_with tag i v o k e w c well stands stack = absurd (well refl)
+
   -- ---- all that waits for a value
 
   -- an access through null raises an exception, and through another thin pointer its place is found
@@ -1040,14 +1044,8 @@ module _ (source : Program) (pages calls : ℕ) where
       let does : step source (Running (Given (of_kind i Null)) (Needs (Follow pointer target) ∷ k) e w) ≡ Running (Throwing 1 0) k e w
       = ap (λ (b : Bool). if b then Running (Throwing 1 0) k e w else wrong w) (is_fitting (is_kind i pointer && leads_to w target (followed Null)) (Running (Throwing 1 0) k e w) w well) in
       by_one source pages calls does shared jump
-      (λ choice. not_taken (Running (Throwing 1 0) k e w) c (not (operand_word c.active.slots o == 0)) q (ap (λ x. not (x == 0)) zero_word) (
-        shared,
-        omega (arith, place_depth source c.active.function e.locals o 0 q c.frames k place, shared.fits),
-        place_plain source c.active.function e.locals o 0 q c.frames k place,
-        o,
-        uncaught,
-        zero_word,
-      ))
+      (λ choice. not_taken (Running (Throwing 1 0) k e w) c (not (operand_word c.active.slots o == 0)) q (ap (λ x. not (x == 0)) zero_word)
+      (raised source pages calls 1 0 k e w (at c (c.active.next + 1)) (operands.Word 1) o (omega arith) shared facts uncaught refl zero_word))
   follows pointer target i (Thin object offset) o k e w c well (shared, facts, is, holds) (q, thin, (jump, uncaught, end), place) =
       let there = Running (GivenPlace (Thin object offset)) k e w in
       let does : step source (Running (Given (of_kind i (Thin object offset))) (Needs (Follow pointer target) ∷ k) e w) ≡ there
@@ -1075,14 +1073,8 @@ module _ (source : Program) (pages calls : ℕ) where
       let does : step source (Running (Given (of_kind i Null)) (Needs (FollowMember pointer fields field) ∷ k) e w) ≡ Running (Throwing 1 0) k e w
       = ap (λ (b : Bool). if b then Running (Throwing 1 0) k e w else wrong w) (is_fitting (is_kind i pointer) (Running (Throwing 1 0) k e w) w well) in
       by_one source pages calls does shared jump
-      (λ choice. not_taken (Running (Throwing 1 0) k e w) c (not (operand_word c.active.slots o == 0)) q (ap (λ x. not (x == 0)) zero_word) (
-        shared,
-        omega (arith, place_depth source c.active.function e.locals o offset q c.frames k place, shared.fits),
-        place_plain source c.active.function e.locals o offset q c.frames k place,
-        o,
-        uncaught,
-        zero_word,
-      ))
+      (λ choice. not_taken (Running (Throwing 1 0) k e w) c (not (operand_word c.active.slots o == 0)) q (ap (λ x. not (x == 0)) zero_word)
+      (raised source pages calls 1 0 k e w (at c (c.active.next + 1)) (operands.Word 1) o (omega arith) shared facts uncaught refl zero_word))
   follows_member pointer fields field i (Thin object start) o k e w c well (shared, facts, is, holds) (offset, q, thin, (jump, uncaught, end), inside, same, place) =
       let there = Running (GivenPlace (Thin object field)) k e w in
       let arrived = arrives (member_of w (followed (Thin object start)) fields field) k e w in
@@ -1128,6 +1120,7 @@ module _ (source : Program) (pages calls : ℕ) where
   stands_given v o (Needs Return ∷ k) e w c of_words words well (shared, facts, is, holds) (exits, q, s, r, there, leave, here, single, stack) =
       leaving source pages calls false (Given v) (Returning (Some v)) (Needs Return ∷ k) k e w c exits.first_record r refl shared (omega arith) (record_left source c.active.function exits q c.frames k stack).1 leave facts.1
       (λ handlers stand. (shared, (facts.0, stand), (exits, q, s, here, subst (IsIn shared.tables v c.active.slots) there is, single, stack)))
+  stands_given v o (Needs (ThrowWith tag) ∷ k) e w c of_words words well stands stack = throws_with tag v.kind v.value o k e w c well stands stack
   stands_given v o (Needs (Follow pointer target) ∷ k) e w c of_words words well stands stack = follows pointer target v.kind v.value o k e w c well stands stack
   stands_given v o (Needs (FollowMember pointer fields field) ∷ k) e w c of_words words well stands stack = follows_member pointer fields field v.kind v.value o k e w c well stands stack
   stands_given v o (Discard ∷ k) e w c of_words words well (shared, facts, is, holds) (exits, stack) =

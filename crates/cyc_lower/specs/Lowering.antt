@@ -160,7 +160,7 @@ jump_if_nonzero o target = instructions.Branch comparisons.NotEqual o (operands.
 
 -- where a word is 0, an exception is raised, which tells that 0
 abbrev pub check_code : (tag : ℕ) → Operand → (p : ℕ) → List Instruction
-check_code tag o p = jump_if_nonzero o (p + 2) ∷ instructions.Uncaught tag o ∷ []
+check_code tag o p = jump_if_nonzero o (p + 2) ∷ instructions.Throw (operands.Word tag) o ∷ []
 
 -- A value of so many words comes to a slot and those behind it. A number has one word: where there are more, it is that of a null
 -- pointer, whose others may be anything.
