@@ -16,6 +16,7 @@ use Rattle.cyc_plain.specs.declared.limits.TheConstants.{RECORD_WORDS}
 use Rattle.cyc_plain.specs.declared.instruction.UnaryOperator.TheVariants as plain_unary
 use Rattle.cyc_plain.specs.declared.instruction.BinaryOperator.TheVariants as plain_binary
 use Rattle.cyc_plain.specs.declared.instruction.Comparison.{Comparison}
+use Rattle.cyc_plain.specs.declared.instruction.Comparison.TheVariants as comparisons
 use Rattle.cyc_plain.specs.declared.instruction.Operand.{Operand}
 use Rattle.cyc_plain.specs.declared.instruction.Operand.TheVariants as operands
 use Rattle.cyc_plain.specs.declared.instruction.Request.TheVariants as requests
@@ -27,7 +28,7 @@ use Rattle.cyc_meaning.specs.Operators.{null_exception, division_by_zero}
 use Rattle.cyc_meaning.specs.Values.{is_thin, words_of_kind}
 use Rattle.cyc_lower.specs.declared.statements.Exits.{Exits}
 use Rattle.cyc_lower.specs.Slots.{Types, starts_of, slot_of, field_of}
-use Rattle.cyc_lower.specs.Lowering.{unary_operator, binary_operator, operand_of, source_of, source_slot, failing_comparison, left_with, left_of, value_slot, next_slot, slot_with, left_slot, is_in, jump_if_nonzero, move_of, test_jump, are_as_wide, converts_there, passed_words, all_passed, compared_of, low_byte, break_target, continue_target, results_of, behind_left, inside_loop, pointer_operator, tag_operand, other_jump, goes_on}
+use Rattle.cyc_lower.specs.Lowering.{unary_operator, binary_operator, operand_of, source_of, source_slot, failing_comparison, left_with, left_of, value_slot, next_slot, slot_with, left_slot, is_in, move_of, test_jump, are_as_wide, converts_there, passed_words, all_passed, compared_of, low_byte, break_target, continue_target, results_of, behind_left, inside_loop, pointer_operator, tag_operand, other_jump, goes_on, raising}
 use Rattle.cyc_lower.proofs.Widths.{kind_of_result, given, passed_kind, HasRoom, HasField}
 
 -- ---- expressions
@@ -59,8 +60,12 @@ module _ (code : List Instruction) (bounds : Numbering) (types : Types) where
   OperandBy (Some known) computed slot o p q = (o ≡ known) × (p ≡ q)
   OperandBy None computed slot o p q = (o ≡ operands.Slot slot) × computed
 
+  -- where a comparison holds, a jump leads to what raises an exception
+  abbrev pub GuardAt : (tag : ℕ) → Comparison → (l r : Operand) → (p q : ℕ) → Type 0
+  GuardAt tag failing l r p q = (s : ℕ) × At code p (instructions.Branch failing l r s) × At code s (raising tag) × (p + 1 ≡ q)
+
   abbrev pub CheckAt : (tag : ℕ) → Operand → (p q : ℕ) → Type 0
-  CheckAt tag o p q = At code p (jump_if_nonzero o q) × At code (p + 1) (instructions.Throw (operands.Word tag) o) × (p + 2 ≡ q)
+  CheckAt tag o p q = GuardAt tag comparisons.Equal o (operands.Word 0) p q
 
   abbrev pub ConversionBy : (to : Kind) → Operand → (p q : ℕ) → Type 0
   ConversionBy kinds.NonNull o p q = CheckAt null_exception o p q

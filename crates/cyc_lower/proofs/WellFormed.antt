@@ -17,6 +17,7 @@ use Rattle.cyc_types.specs.TypedTrees.{Load, New, OnHeap, AsUnique, ByHandle, In
 use Rattle.cyc_types.specs.typing.WellTyped.{signature_of}
 use Rattle.cyc_types.specs.Numbered.{Numbering, argument_count, signatures_of, numbering_of}
 use Rattle.cyc_plain.specs.declared.instruction.Comparison.{Comparison}
+use Rattle.cyc_plain.specs.declared.instruction.Comparison.TheVariants as comparisons
 use Rattle.cyc_plain.specs.declared.instruction.BinaryOperator.{BinaryOperator as PlainBinary}
 use Rattle.cyc_plain.specs.declared.instruction.Operand.{Operand}
 use Rattle.cyc_plain.specs.declared.instruction.Operand.TheVariants as operands
@@ -34,23 +35,24 @@ use Rattle.cyc_meaning.specs.FrameCount.{result_words, operand_words, converted_
 use Rattle.cyc_lower.specs.declared.statements.Exits.{Exits}
 use Rattle.cyc_meaning.specs.Pointers.{result_kind as operator_kind}
 use Rattle.cyc_lower.specs.Slots.{starts_of, slot_of, Types}
-use Rattle.cyc_lower.specs.Lowering.{types_of, spare_slots, are_as_wide, converts_there, passed_words, all_passed, source_of, source_slot, moved_by, move_of, unary_operator, binary_operator, operand_of, operand_or, code_unless, slot_or, code_unless_slot, left_with, left_of, value_slot, next_slot, slot_with, left_slot, value_operand, converted_operand, printed_operand, check_code, conversion_code, divisor_code, checked_code, operator_code, truth_code, load_code, low_byte, test_code, is_in, copy_code, expression_code, arguments_code, converted_code, converted_operand_code, printed_code, initial_code, assignment_code, operations_code, discarded_code, failing_comparison, compared_or, first_operand, first_code, second_code, pair_code, condition_code, condition_of, failing_jump, break_target, continue_target, return_code, declaration_code, statement_code, items_code, first_temporary, results_of, lower_function, lower_global, lower_program, pointer_operator, left_kind, behind_left, pointer_code, outside_loops, inside_loop, index_code, pointer_instructions, stores_code, object_code, made_code, leave_code, place_operand, place_offset, place_code, address_code, addressed_by, store_address_code, store_code, tag_operand, other_jump, goes_on, clause_code, thrown_code, thrown_operand, caught_code, clauses_code}
+use Rattle.cyc_lower.specs.Lowering.{types_of, spare_slots, are_as_wide, converts_there, passed_words, all_passed, source_of, source_slot, moved_by, move_of, unary_operator, binary_operator, operand_of, operand_or, code_unless, slot_or, code_unless_slot, left_with, left_of, value_slot, next_slot, slot_with, left_slot, value_operand, converted_operand, printed_operand, check_code, conversion_code, divisor_code, checked_code, operator_code, truth_code, load_code, low_byte, test_code, is_in, copy_code, expression_code, arguments_code, converted_code, converted_operand_code, printed_code, initial_code, assignment_code, operations_code, discarded_code, failing_comparison, compared_or, first_operand, first_code, second_code, pair_code, condition_code, condition_of, failing_jump, break_target, continue_target, return_code, declaration_code, statement_code, items_code, first_temporary, results_of, lower_function, lower_global, lower_program, pointer_operator, left_kind, behind_left, pointer_code, outside_loops, inside_loop, index_code, pointer_instructions, stores_code, object_code, made_code, leave_code, place_operand, place_offset, place_code, address_code, addressed_by, store_address_code, store_code, tag_operand, other_jump, goes_on, clause_code, thrown_code, thrown_operand, caught_code, clauses_code, guard_code, blocks}
 use Rattle.cyc_lower.proofs.Widths.{kind_positive, kind_few, type_words, kind_of_result, result_kind, given, passed_kind, words_in, chain_kind, made_kind}
 use Rattle.cyc_lower.proofs.Fitting.{FitsPlace, FitsStored, FitsCell, Fits, FitsConverted, FitArguments, FitOperations, FitsReturn, FitsInitial, FitsStatement, FitItems, AreFitting, IsFitting, FitsObject, FitsThrown, FitsCaught, FitClauses}
 use Rattle.cyc_lower.specs.Words.{AreOfWordsItems, AreOfWordsFunctions, IsOfWordsProgram}
 use Rattle.cyc_lower.proofs.WordLemmas.{all_append, all_of, no_return}
+use Rattle.cyc_lower.proofs.Lengths.{body_long}
 use Rattle.cyc_lower.proofs.Values.{as_wide}
 use Rattle.cyc_lower.proofs.Slots.{words_positive, slot-room, slot_types-many, slots-few}
 
 -- ---- lists
 
-last_of : {X : Type 0} (xs : List X) (x : X) → slice_get (xs ++ x ∷ []) (length (xs ++ x ∷ []) - 1) ≡ Some x
-last_of xs x =
-    ap (slice_get (xs ++ x ∷ [])) (let e : length (xs ++ x ∷ []) - 1 ≡ length xs = omega (arith, length-append xs (x ∷ [])) in e) ∙ at_end xs
+last_behind : {X : Type 0} (xs ys : List X) → 0 < length ys → slice_get (xs ++ ys) (length (xs ++ ys) - 1) ≡ slice_get ys (length ys - 1)
+last_behind xs ys some =
+    ap (slice_get (xs ++ ys)) (let e : length (xs ++ ys) - 1 ≡ length xs + (length ys - 1) = omega (arith, length-append xs ys, some) in e) ∙ behind_all xs (length ys - 1)
   where
-    at_end : (ys : _) → slice_get (ys ++ x ∷ []) (length ys) ≡ Some x
-    at_end [] = refl
-    at_end (y ∷ ys) = at_end ys
+    behind_all : (zs : _) (n : ℕ) → slice_get (zs ++ ys) (length zs + n) ≡ slice_get ys n
+    behind_all [] n = refl
+    behind_all (z ∷ zs) n = behind_all zs n
 
 -- ---- words
 
@@ -92,7 +94,7 @@ record IsKnown (program : PlainProgram) (n : ℕ) (s : Signature) : Type 0 where
   pub parameters : (routine_at program n).parameters ≡ words_of_all s.parameters
   pub results : (routine_at program n).results ≡ results_of s.result
 
-module _ (program : PlainProgram) (r : Routine) (b : Numbering) (types : Types) (locals : (n : ℕ) → n < b.locals → slot_of (starts_of types) n + words_in types.locals n ≤ r.slots) (globals : b.globals ≡ length program.globals) (known : (n : ℕ) (s : Signature) → slice_get b.functions n ≡ Some s → IsKnown program n s) (results : r.results ≡ results_of b.result) (no_return : All (λ i. is_return i ≡ false) r.code) where
+module _ (program : PlainProgram) (r : Routine) (b : Numbering) (types : Types) (locals : (n : ℕ) → n < b.locals → slot_of (starts_of types) n + words_in types.locals n ≤ r.slots) (globals : b.globals ≡ length program.globals) (known : (n : ℕ) (s : Signature) → slice_get b.functions n ≡ Some s → IsKnown program n s) (results : r.results ≡ results_of b.result) (behind : types.raises + 4 < length r.code) (no_return : All (λ i. is_return i ≡ false) r.code) where
   abbrev AreIn : List Instruction → Type 0
   AreIn code = AllByRecursion (IsInRange program r) code
 
@@ -296,28 +298,30 @@ module _ (program : PlainProgram) (r : Routine) (b : Numbering) (types : Types) 
   left_in a (ThenCompute o c os) ty d t numbered few room = left_with_in (operand_of (starts_of types) c) a t numbered room
   left_in a os ty d t numbered few room = omega (arith, room, kind_positive (kind_at a))
 
-  check_in : (tag : ℕ) (o : Operand) (p : ℕ) → IsOperand r o → p + 2 < length r.code → AreIn (check_code tag o p)
-  check_in tag o p inside short = ((inside, tt, short), (inside, tt))
+  guard_in : (tag : ℕ) (failing : Comparison) (o m : Operand) → tag ≤ 4 → IsOperand r o → IsOperand r m → AreIn (guard_code (starts_of types) tag failing o m)
+  guard_in tag failing o m few left right = ((left, right, omega (arith, few, behind)), tt)
 
-  conversion_in : (to : Kind) (o : Operand) (p : ℕ) → IsOperand r o → p + length (conversion_code to o p) < length r.code → AreIn (conversion_code to o p)
-  conversion_in kinds.NonNull o p inside short = check_in null_exception o p inside short
+  check_in : (tag : ℕ) (o : Operand) → tag ≤ 4 → IsOperand r o → AreIn (check_code (starts_of types) tag o)
+  check_in tag o few inside = guard_in tag comparisons.Equal o (operands.Word 0) few inside tt
+
+  conversion_in : (to : Kind) (o : Operand) (p : ℕ) → IsOperand r o → p + length (conversion_code (starts_of types) to o p) < length r.code → AreIn (conversion_code (starts_of types) to o p)
+  conversion_in kinds.NonNull o p inside short = check_in null_exception o (omega arith) inside
   conversion_in to o p inside short = tt
 
-  divisor_in : (o : Operand) (p : ℕ) → IsOperand r o → p + length (divisor_code o p) < length r.code → AreIn (divisor_code o p)
-  divisor_in (operands.Word (suc n)) p inside short = tt
-  divisor_in (operands.Word zero) p inside short = check_in division_by_zero (operands.Word zero) p inside short
-  divisor_in (operands.Slot n) p inside short = check_in division_by_zero (operands.Slot n) p inside short
+  divisor_in : (o : Operand) → IsOperand r o → AreIn (divisor_code (starts_of types) o)
+  divisor_in (operands.Word (suc n)) inside = tt
+  divisor_in (operands.Word zero) inside = check_in division_by_zero (operands.Word zero) (omega arith) inside
+  divisor_in (operands.Slot n) inside = check_in division_by_zero (operands.Slot n) (omega arith) inside
 
-  checked_in : (o : Operator) (l m : Operand) (p d : ℕ) → d < r.slots → IsOperand r l → IsOperand r m → p + length (checked_code o l m p d) < length r.code → AreIn (checked_code o l m p d)
-  checked_in o l m p d few left right short =
-      let front = divisor_code m p in
-      let back = instructions.Binary (binary_operator o) d l m ∷ [] in
-      append front back (divisor_in m p right (omega (arith, short, length-append front back))) ((few, left, right), tt)
+  checked_in : (o : Operator) (l m : Operand) (d : ℕ) → d < r.slots → IsOperand r l → IsOperand r m → AreIn (checked_code (starts_of types) o l m d)
+  checked_in o l m d few left right =
+      let front = divisor_code (starts_of types) m in
+      append front (instructions.Binary (binary_operator o) d l m ∷ []) (divisor_in m right) ((few, left, right), tt)
 
-  operator_in : (o : Operator) (l m : Operand) (p d : ℕ) → d < r.slots → IsOperand r l → IsOperand r m → p + length (operator_code o l m p d) < length r.code → AreIn (operator_code o l m p d)
-  operator_in operators.Divide l m p d few left right short = checked_in operators.Divide l m p d few left right short
-  operator_in operators.Remainder l m p d few left right short = checked_in operators.Remainder l m p d few left right short
-  operator_in o l m p d few left right short = ((few, left, right), tt)
+  operator_in : (o : Operator) (l m : Operand) (d : ℕ) → d < r.slots → IsOperand r l → IsOperand r m → AreIn (operator_code (starts_of types) o l m d)
+  operator_in operators.Divide l m d few left right = checked_in operators.Divide l m d few left right
+  operator_in operators.Remainder l m d few left right = checked_in operators.Remainder l m d few left right
+  operator_in o l m d few left right = ((few, left, right), tt)
 
   load_in : (l : Lvalue) (t : Ty) (d : ℕ) → FitsPlace b types l (kind_of t) → d + words_of_kind (kind_of t) ≤ r.slots → AreIn (load_code (starts_of types) (words_of t) l d)
   load_in (Local w n) t d (within, room) few =
@@ -425,8 +429,8 @@ module _ (program : PlainProgram) (r : Routine) (b : Numbering) (types : Types) 
 
   initial_by : (there : Bool) (from to : Kind) (a : Expression) (p d t : ℕ) → from ≡ kind_at a → are_as_wide from to ≡ true → Fits b types a → d + words_of_kind to ≤ r.slots → t + converted_words (Convert from to a) ≤ r.slots → converts_there from to ≡ there
       → ((slot : ℕ) → slot + words_of_kind (kind_at a) ≤ r.slots → p + length (expression_code (starts_of types) a p slot t) < length r.code → AreIn (expression_code (starts_of types) a p slot t))
-      → p + length (if there then expression_code (starts_of types) a p d t else moved_by (source_of (starts_of types) (Convert from to a)) (expression_code (starts_of types) a p (source_slot (starts_of types) (Convert from to a) t) t) to (converted_operand (starts_of types) (Convert from to a) t) p d) < length r.code
-      → AreIn (if there then expression_code (starts_of types) a p d t else moved_by (source_of (starts_of types) (Convert from to a)) (expression_code (starts_of types) a p (source_slot (starts_of types) (Convert from to a) t) t) to (converted_operand (starts_of types) (Convert from to a) t) p d)
+      → p + length (if there then expression_code (starts_of types) a p d t else moved_by (starts_of types) (source_of (starts_of types) (Convert from to a)) (expression_code (starts_of types) a p (source_slot (starts_of types) (Convert from to a) t) t) to (converted_operand (starts_of types) (Convert from to a) t) p d) < length r.code
+      → AreIn (if there then expression_code (starts_of types) a p d t else moved_by (starts_of types) (source_of (starts_of types) (Convert from to a)) (expression_code (starts_of types) a p (source_slot (starts_of types) (Convert from to a) t) t) to (converted_operand (starts_of types) (Convert from to a) t) p d)
   initial_by true from to a p d t kind wide numbered room free lands inside short = inside d (omega (arith, room, ap words_of_kind kind, as_wide from to lands)) short
   initial_by false from to a p d t kind wide numbered room free lands inside short =
       let c = Convert from to a in
@@ -435,7 +439,7 @@ module _ (program : PlainProgram) (r : Routine) (b : Numbering) (types : Types) 
       let inner = expression_code (starts_of types) a p slot t in
       let o = converted_operand (starts_of types) c t in
       let front = code_unless known inner in
-      let conversion = conversion_code to o (p + length front) in
+      let conversion = conversion_code (starts_of types) to o (p + length front) in
       let move = move_of (words_of_kind to) d o ∷ [] in
       let long = length-append (front ++ conversion) move in
       let long_front = length-append front conversion in
@@ -553,21 +557,21 @@ module _ (program : PlainProgram) (r : Routine) (b : Numbering) (types : Types) 
         let o = value_operand (starts_of types) a t in
         let inner = expression_code (starts_of types) a p slot t in
         let front = code_unless (operand_of (starts_of types) a) inner in
-        let check = check_code null_exception o (p + length front) in
+        let check = check_code (starts_of types) null_exception o in
         let long = length-append front check in
         let free : t + words_of_kind (kind_at a) ≤ r.slots = omega (arith, few, given_needs a numbered, some) in
         append front check (unless_in (operand_of (starts_of types) a) inner p (omega (arith, short, long)) (λ less. expression_in a p slot t numbered (slot_fits a t numbered free) (omega (arith, few)) less))
-        (check_in null_exception o (p + length front) (value_in a t numbered free) (omega (arith, short, long)))
+        (check_in null_exception o (omega arith) (value_in a t numbered free))
     place_in (Member k a s f ty) own p t (thin, single, there, numbered) some few short =
         let slot = value_slot (starts_of types) a t in
         let o = value_operand (starts_of types) a t in
         let inner = expression_code (starts_of types) a p slot t in
         let front = code_unless (operand_of (starts_of types) a) inner in
-        let check = check_code null_exception o (p + length front) in
+        let check = check_code (starts_of types) null_exception o in
         let long = length-append front check in
         let free : t + words_of_kind (kind_at a) ≤ r.slots = omega (arith, few, given_needs a numbered, some) in
         append front check (unless_in (operand_of (starts_of types) a) inner p (omega (arith, short, long)) (λ less. expression_in a p slot t numbered (slot_fits a t numbered free) (omega (arith, few)) less))
-        (check_in null_exception o (p + length front) (value_in a t numbered free) (omega (arith, short, long)))
+        (check_in null_exception o (omega arith) (value_in a t numbered free))
     place_in x own p t numbered some few short = absurd numbered
 
     initial_in : (c : Converted) (p d t : ℕ) → FitsConverted b types c → d + words_of_kind (passed_kind c) ≤ r.slots → t + converted_words c ≤ r.slots → t + converted_need c ≤ r.slots → p + length (initial_code (starts_of types) c p d t) < length r.code → AreIn (initial_code (starts_of types) c p d t)
@@ -577,7 +581,7 @@ module _ (program : PlainProgram) (r : Routine) (b : Numbering) (types : Types) 
     converted_in : (c : Converted) (p t : ℕ) → FitsConverted b types c → t + converted_words c ≤ r.slots → t + converted_need c ≤ r.slots → p + length (converted_code (starts_of types) c p t) < length r.code → AreIn (converted_code (starts_of types) c p t)
     converted_in (Convert from to a) p t (kind, wide, numbered) room few short =
         let front = expression_code (starts_of types) a p t t in
-        let back = conversion_code to (operands.Slot t) (p + length front) in
+        let back = conversion_code (starts_of types) to (operands.Slot t) (p + length front) in
         append front back (expression_in a p t t numbered (omega (arith, room, ap words_of_kind kind)) few (omega (arith, short, length-append front back)))
         (conversion_in to (operands.Slot t) (p + length front) (omega (arith, room, kind_positive to)) (omega (arith, short, length-append front back)))
 
@@ -588,7 +592,7 @@ module _ (program : PlainProgram) (r : Routine) (b : Numbering) (types : Types) 
         let o = converted_operand (starts_of types) (Convert from to a) t in
         let inner = expression_code (starts_of types) a p slot t in
         let front = code_unless known inner in
-        let back = conversion_code to o (p + length front) in
+        let back = conversion_code (starts_of types) to o (p + length front) in
         append front back
         (unless_in known inner p (omega (arith, short, length-append front back)) (λ less. expression_in a p slot t numbered (source_fits from to a t (kind, wide, numbered) room) few less))
         (conversion_in to o (p + length front) (converted_value_in (Convert from to a) t (kind, wide, numbered) room) (omega (arith, short, length-append front back)))
@@ -619,7 +623,7 @@ module _ (program : PlainProgram) (r : Routine) (b : Numbering) (types : Types) 
         let operand = code_unless (operand_of (starts_of types) a) inner in
         let next = next_slot os d t in
         let m = value_operand (starts_of types) a (suc t) in
-        let operator = operator_code o l m (p + length operand) next in
+        let operator = operator_code (starts_of types) o l m next in
         let front = operand ++ operator in
         let back = operations_code (starts_of types) os (p + length front) (operands.Slot next) d t in
         let long = length-append front back in
@@ -630,7 +634,7 @@ module _ (program : PlainProgram) (r : Routine) (b : Numbering) (types : Types) 
         append front back
         (append operand operator
         (unless_in (operand_of (starts_of types) a) inner p (omega (arith, short, long, long_front)) (λ less. expression_in a p (value_slot (starts_of types) a (suc t)) (suc t) numbered (slot_fits a (suc t) numbered free) (omega (arith, few, some)) less))
-        (operator_in o l m (p + length operand) next next_few inside (value_in a (suc t) numbered free) (omega (arith, short, long, long_front))))
+        (operator_in o l m next next_few inside (value_in a (suc t) numbered free)))
         (operations_in os ty kinds.Int (p + length front) (operands.Slot next) d t (words_of ty) rest room (next_left_in os ty d t (words_of ty) rest (omega (arith, few))) next_few (words_positive ty) (omega (arith, few)) (omega (arith, short, long)))
     operations_in (ThenTest o a os) ty kind p l d t left (numbered, rest) room all inside some few short =
         let operand = expression_code (starts_of types) a (p + 1) t t in
@@ -759,7 +763,7 @@ module _ (program : PlainProgram) (r : Routine) (b : Numbering) (types : Types) 
       let s = slot_or known t in
       let inner = expression_code (starts_of types) a p t t in
       let front = code_unless_slot known inner in
-      let conversion = conversion_code to (operands.Slot s) (p + length front) in
+      let conversion = conversion_code (starts_of types) to (operands.Slot s) (p + length front) in
       let leave = leave_code exits.first_record t in
       let back = instructions.Finish s ∷ [] in
       let long : length (((front ++ conversion) ++ leave) ++ back) ≡ length (front ++ conversion) + length leave + 1
@@ -947,8 +951,9 @@ module _ (source : Program) (is_fitting : IsFitting source) where
       let types = types_of source.structs h in
       let starts = starts_of types in
       let body = items_code starts h.body 0 (outside_loops d) d in
-      let end = instructions.Finish d ∷ [] in
+      let end = instructions.Finish d ∷ blocks in
       let long = length-append body end in
+      let placed = body_long source.structs h in
       let none : (first : ℕ) → first ≡ d → (first ≤ d) × ((first == d) ≡ false → first + RECORD_WORDS ≤ r.slots)
       = λ first is. (omega (arith, is), λ other. absurd (let f : true ≡ false = sym (eq-eqb first d is) ∙ other in cc)) in
       record {
@@ -957,10 +962,10 @@ module _ (source : Program) (is_fitting : IsFitting source) where
         frame = omega (arith, slots-few h);
         instructions = all_of (IsInRange (lower_program source) r) (body ++ end)
             (all_append (IsInRange (lower_program source) r) body end
-            (items_in (lower_program source) r b types (λ n within. omega (arith, slot-room types n (omega (arith, within, slot_types-many h)))) (globals_counted source.globals) known_functions refl (no_return source.structs h words)
+            (items_in (lower_program source) r b types (λ n within. omega (arith, slot-room types n (omega (arith, within, slot_types-many h)))) (globals_counted source.globals) known_functions refl (omega (arith, long, placed)) (no_return source.structs h words)
             h.body false 0 (outside_loops d) d numbered_body (λ inside. absurd (let f : false ≡ true = inside in cc)) (none d refl, none d refl) (omega arith) (omega (arith, long)))
-            (omega (arith, results_few h.result), tt));
-        last = subst (λ (o : Option Instruction). IsSomeAnd o (λ i. leaves i ≡ true)) (sym (last_of body (instructions.Finish d))) refl;
+            (omega (arith, results_few h.result), ((tt, tt), ((tt, tt), ((tt, tt), ((tt, tt), tt))))));
+        last = subst (λ (o : Option Instruction). IsSomeAnd o (λ i. leaves i ≡ true)) (sym (last_behind body end (omega arith))) refl;
       }
 
   functions_well : (hs : List Function) → AreOfWordsFunctions hs → AreFitting source.structs (length source.globals) (signatures_of source.functions) hs → AllByRecursion (IsRoutine (lower_program source)) (map (lower_function source.structs) hs)

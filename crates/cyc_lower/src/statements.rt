@@ -7,8 +7,9 @@ ghost use Rattle.cyc_lower.specs.Lowering.{leave_code, other_jump, goes_on, clau
 ghost use Rattle.cyc_lower.specs.Emission.{Appends, most_locals, throw_code, case_code, BeginClauses, item_code, kept_by_item, loop_code, view_starts};
 
 use crate::emitter::Emitter;
-use crate::locals::{Starts, slot_of};
+use crate::locals::slot_of;
 use crate::operators::{failing_jump, goes_on, other_jump, tag_operand};
+use crate::starts::Starts;
 use cyc_plain::{Instruction, Operand, RECORD_WORDS};
 use cyc_types::typed::{Body, Clause, Converted, Expr, Item, Stmt};
 use std::alloc::AllocError;
