@@ -10,7 +10,7 @@ use Rattle.cyc_types.specs.declared.typed.UnaryOperator.TheVariants as unary
 use Rattle.cyc_types.specs.declared.typed.Operator.TheVariants.{Equal, NotEqual, Less, Greater, Add, Subtract, Multiply, Divide, Remainder}
 use Rattle.cyc_types.specs.declared.typed.LogicalOperator.TheVariants.{AndThen, OrElse}
 use Rattle.cyc_types.specs.Types.{Ty, Int, Pointer, Value}
-use Rattle.cyc_types.specs.TypedTrees.{Local, Global, Expression, Number, Copy, Call, Unary, Binary, Assign, Converted, Convert, Arguments, NoArguments, MoreArguments, Operations, NoOperations, ThenCompute, ThenTest, Statement, Block, Empty, Evaluate, If, While, Return, Break, Continue, Items, NoItems, MoreItems, Execute, Declare, Word, Null, Function, Program}
+use Rattle.cyc_types.specs.TypedTrees.{Local, Global, Expression, Number, Copy, Call, Unary, Binary, Assign, Converted, Convert, Arguments, NoArguments, MoreArguments, Operations, NoOperations, ThenCompute, ThenTest, Statement, Block, Empty, Evaluate, If, While, Return, Break, Continue, Items, NoItems, MoreItems, Execute, Declare, Word, Null, Function, Program, Throw, Try, Case, Default, NoClauses}
 use Rattle.cyc_types.specs.declared.region.Region.TheVariants.{Heap}
 use Rattle.cyc_syntax.specs.declared.tree.PointerKind.TheVariants.{Nullable, NonNull, Fat}
 use Rattle.cyc_plain.specs.declared.instruction.Instruction.{Instruction}
@@ -239,6 +239,58 @@ source_copies = refl
 
 stops_at_line_feed : ends 100 (program copying []) (72 ∷ 10 ∷ 73 ∷ []) ≡ Ended (Returned (pos 1))
 stops_at_line_feed = refl
+
+-- ---- exceptions
+
+abbrev thrower : Function
+thrower = function (Int ∷ []) [] (all (Throw 5 (Some (local 0)) ∷ []))
+
+-- what a callee throws comes to the clause of its number, and a local there tells its int
+abbrev catching : Program
+catching =
+    program (all (
+    Try (returns (call (Calls 1) (Number 3 ∷ [])))
+    (Case 6 None 1 (all (returns (Number 1) ∷ []))
+    (Case 5 (Some 0) 2 (all (returns (two (local 0) (ThenCompute Add (Number 4) NoOperations)) ∷ [])) NoClauses))
+    ∷ [])) (thrower ∷ [])
+
+catches : ends 40 catching [] ≡ Ended (Returned (pos 7))
+catches = refl
+
+source_catches : source_ends 80 catching [] ≡ Ended (Returned (pos 7))
+source_catches = refl
+
+-- a loop whose body is a `try` is gone on with twice and then left, and no handler of it is open when the next exception comes
+abbrev leaving : Items
+leaving =
+    MoreItems (Declare 0 Int (Some (int (Number 0))))
+    (all (
+    Try (Block 1 (all (
+    While nowhere (Number 1) (Try (Block 2 (all (
+    Evaluate (sets 0 (two (local 0) (ThenCompute Add (Number 1) NoOperations)))
+    ∷ If (two (local 0) (ThenCompute Equal (Number 3) NoOperations)) Break Continue
+    ∷ []))) (Default 3 (all (returns (Number 9) ∷ []))))
+    ∷ Throw 5 None
+    ∷ [])))
+    (Case 5 None 4 NoItems NoClauses)
+    ∷ returns (local 0)
+    ∷ []))
+
+leaves : ends 90 (program leaving []) [] ≡ Ended (Returned (pos 3))
+leaves = refl
+
+source_leaves : source_ends 250 (program leaving []) [] ≡ Ended (Returned (pos 3))
+source_leaves = refl
+
+-- a division by zero is caught, and an exception that no clause catches ends the run
+division_is_caught : ends 20 (program (all (Try (returns (two (Number 9) (ThenCompute Divide (local 0) NoOperations))) (Case 4 None 1 (all (returns (Number 65) ∷ [])) NoClauses) ∷ [])) []) [] ≡ Ended (Returned (pos 65))
+division_is_caught = refl
+
+goes_on : ends 20 (program (all (Try (Throw 5 (Some (Number 8))) (Case 6 None 1 NoItems NoClauses) ∷ [])) []) [] ≡ Ended (Uncaught 5 (pos 8))
+goes_on = refl
+
+source_goes_on : source_ends 20 (program (all (Try (Throw 5 (Some (Number 8))) (Case 6 None 1 NoItems NoClauses) ∷ [])) []) [] ≡ Ended (Uncaught 5 (pos 8))
+source_goes_on = refl
 
 -- a null pointer that is converted to one that is never null
 abbrev converting : Program

@@ -4,7 +4,7 @@ use Rattle.std.specs.Prelude.{ℤ, nat_lt, ◌==◌, ◌&&◌, ◌<ℤ◌, ◌�
 use Rattle.std.proofs.lemmas.Int.{ints}
 use Rattle.std.proofs.lemmas.Bool.{eqb-true, false_from_ne_true}
 use Rattle.std.proofs.lemmas.Option.{same_Some, none-some}
-use Rattle.cyc_words.specs.Word.{signed, slt_of, add_of, IsWord as IsNumber}
+use Rattle.cyc_words.specs.Word.{signed, slt_of, add_of}
 use Rattle.cyc_words.specs.Word.{IsWord as IsMachineWord}
 use Rattle.cyc_words.proofs.WordLemmas.{slt_of_cases}
 use Rattle.cyc_types.specs.declared.typed.Kind.{Kind}
@@ -283,7 +283,7 @@ module _ (source : Program) (pages calls : ℕ) where
 
   -- where a check fails, its exception is raised
   pub guard_fails : {focus : Focus} {l : List Entry} (tag : ℕ) (failing : Comparison) (x y : Operand) (k : List Entry) (e : Environment) (w : World) (c : Configuration) (q : ℕ)
-      → step source (Running focus l e w) ≡ Running (Throwing tag 0) k e w → SharedAt source pages calls l e w c → (shared : SharedAt source pages calls k e w c) → IsNumber tag → DataIn source shared.tables c.active.slots k e w c
+      → step source (Running focus l e w) ≡ Running (Throwing tag 0) k e w → SharedAt source pages calls l e w c → (shared : SharedAt source pages calls k e w c) → IsMachineWord tag → DataIn source shared.tables c.active.slots k e w c
       → GuardAt (code_of source c.active.function) (bounds_at source c.active.function) (types_at source c.active.function) tag failing x y c.active.next q
       → compares failing (operand_word c.active.slots x) (operand_word c.active.slots y) ≡ true → IsMatched source pages calls (Running focus l e w) (plain.Running c)
   guard_fails tag failing x y k e w c q does shared shared_there word facts (s, jump, raising_it, end) fails =
