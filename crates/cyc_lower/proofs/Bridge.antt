@@ -778,7 +778,7 @@ module _ (source : Program) where
       let code = body ++ end in
       let has = has_whole code in
       let (here, raising_all) = has_back code 0 body end has in
-      let raised = blocks_stand code types.raises (subst (λ n. HasAt code (n + 1) blocks) (body_long source.structs h) raising_all) in
+      let raised = blocks_stand code types.raises (subst (λ n. HasAt code (n + 1) blocks) (let e : 0 + length body ≡ types.raises = omega (arith, body_long source.structs h) in e) raising_all) in
       (0 + length body, items_stand code (bounds_in source (Some h)) types raised h.body false (outside_loops d) d 0 (0 + length body) numbered refl (has_front code 0 body end has), here)
 
   pub functions_stand : (pages calls : ℕ) → IsFitting source → FunctionsStand source pages calls

@@ -16,10 +16,11 @@ use Rattle.cyc_plain.specs.declared.instruction.Operand.{Operand}
 use Rattle.cyc_plain.specs.declared.instruction.Operand.TheVariants as operands
 use Rattle.cyc_plain.specs.declared.instruction.Instruction.{Instruction}
 use Rattle.cyc_store.specs.declared.range.TheConstants.{HEAP}
+use Rattle.cyc_plain.specs.declared.instruction.Instruction.TheVariants as instructions
 use Rattle.cyc_plain.specs.declared.limits.TheConstants.{RECORD_WORDS}
 use Rattle.cyc_lower.specs.declared.statements.Exits.{Exits}
 use Rattle.cyc_lower.specs.Slots.{Starts, starts_of, slot_of}
-use Rattle.cyc_lower.specs.Lowering.{types_with, types_of, raises_of, body_code, first_temporary, outside_loops, are_as_wide, converts_there, passed_words, operand_of, operand_or, code_unless, code_unless_slot, left_with, left_of, value_slot, slot_with, left_slot, value_operand, next_slot, source_of, source_slot, converted_operand, converted_by, moved_by, conversion_code, divisor_code, operator_code, pointer_instructions, first_two, load_code, copy_code, address_code, object_code, place_operand, place_offset, expression_code, place_code, made_code, arguments_code, converted_code, converted_operand_code, printed_code, initial_code, operations_code, assignment_code, discarded_code, first_code, second_code, pair_code, condition_code, return_code, declaration_code, statement_code, items_code, behind_left, thrown_code, caught_code, clauses_code, leave_code}
+use Rattle.cyc_lower.specs.Lowering.{types_with, types_of, raises_of, body_code, first_temporary, outside_loops, are_as_wide, converts_there, passed_words, operand_of, operand_or, code_unless, code_unless_slot, left_with, left_of, value_slot, slot_with, left_slot, value_operand, next_slot, source_of, source_slot, converted_operand, converted_by, moved_by, conversion_code, divisor_code, operator_code, pointer_instructions, first_two, load_code, copy_code, address_code, object_code, place_operand, place_offset, expression_code, place_code, made_code, arguments_code, converted_code, converted_operand_code, printed_code, initial_code, operations_code, assignment_code, discarded_code, first_code, second_code, pair_code, condition_code, return_code, declaration_code, statement_code, items_code, behind_left, thrown_code, caught_code, clauses_code, leave_code, if_code, while_code, condition_of, failing_jump, compared_of, inside_loop, try_code, clause_code, break_target, continue_target}
 
 -- ---- lists
 
@@ -50,6 +51,20 @@ pointer_long pointers.NullIs l m r s d e left same = refl
 pointer_long pointers.NullIsNot l m r s d e left same = refl
 pointer_long pointers.EqualThin l m r s d e left same = refl
 pointer_long pointers.NotEqualThin l m r s d e left same = refl
+
+if_long : (a b c x y z : List Instruction) (jump same : ℕ → Instruction) (p q : ℕ) → length a ≡ length x → length b ≡ length y → length c ≡ length z → length (if_code a jump b c p) ≡ length (if_code x same y z q)
+if_long a b c x y z jump same p q first second third =
+    joined (a ++ _ ∷ b) (_ ∷ c) (x ++ _ ∷ y) (_ ∷ z) (joined a (_ ∷ b) x (_ ∷ y) first (ap suc second)) (ap suc third)
+
+while_long : (a b x y : List Instruction) (jump same : ℕ → Instruction) (p q : ℕ) → length a ≡ length x → length b ≡ length y → length (while_code a jump b p) ≡ length (while_code x same y q)
+while_long a b x y jump same p q first second =
+    ap (λ n. suc (suc n)) (joined (a ++ _ ∷ b) (_ ∷ []) (x ++ _ ∷ y) (_ ∷ []) (joined a (_ ∷ b) x (_ ∷ y) first (ap suc second)) refl)
+
+try_long : (a b x y : List Instruction) (t p q : ℕ) → length a ≡ length x → length b ≡ length y → length (try_code t a b p) ≡ length (try_code t x y q)
+try_long a b x y t p q first second = ap suc (joined a (_ ∷ b) x (_ ∷ y) first (ap suc second))
+
+clause_long : (a x : List Instruction) (tag t p q out aim : ℕ) → length a ≡ length x → length (clause_code tag t a p out) ≡ length (clause_code tag t x q aim)
+clause_long a x tag t p q out aim same = ap suc (joined a (_ ∷ []) x (_ ∷ []) same refl)
 
 -- ---- code that begins at any two places, with the blocks at any two
 
@@ -128,6 +143,11 @@ module _ (starts : Starts) (raises : ℕ) where
       → length (converted_by starts known a to o p) ≡ length (converted_by other same x to r q)
   converted_by_long known same a x to o r p q is long = joined _ _ _ _ (unless_long known same a x is long) (conversion_long to o r _ _)
 
+  -- an expression that is an operand
+  operand_by : (a : Expression) (p q t : ℕ) → length (expression_code starts a p (value_slot starts a t) t) ≡ length (expression_code other a q (value_slot other a t) t)
+      → length (code_unless (operand_of starts a) (expression_code starts a p (value_slot starts a t) t)) ≡ length (code_unless (operand_of other a) (expression_code other a q (value_slot other a t) t))
+  operand_by a p q t long = unless_long _ _ _ _ (same_operand a) long
+
   mutual
     expression_long : (a : Expression) (p q d e t : ℕ) → d ≡ e → length (expression_code starts a p d t) ≡ length (expression_code other a q e t)
     expression_long (Copy l ty) p q d e t same = load_long (words_of ty) l d e
@@ -136,7 +156,7 @@ module _ (starts : Starts) (raises : ℕ) where
     expression_long (Call callees.Putchar cs ty) p q d e t same = joined _ _ _ _ (printed_long cs p q t) refl
     expression_long (Call callees.Getchar cs ty) p q d e t same = joined _ _ _ _ (arguments_long cs p q t) refl
     expression_long (Call (callees.Function n) cs ty) p q d e t same = joined _ _ _ _ (arguments_long cs p q t) refl
-    expression_long (Unary o a) p q d e t same = joined _ _ _ _ (operand_long a p q t) refl
+    expression_long (Unary o a) p q d e t same = joined _ _ _ _ (operand_by a p q t (expression_long a p q _ _ t (same_slot a t))) refl
     expression_long (Binary a os ty) p q d e t same =
         joined _ _ _ _ (unless_long _ _ _ _ (same_left a os) (expression_long a p q _ _ t (same_left_slot a os d e t same)))
         (operations_long os _ _ _ _ d e t (λ i. operand_or (same_left a os i) (same_left_slot a os d e t same i)) same)
@@ -153,13 +173,9 @@ module _ (starts : Starts) (raises : ℕ) where
     expression_long (New OnHeap x ty) p q d e t same = made_long x HEAP p q d e t same
     expression_long a p q d e t same = refl
 
-    -- an expression that is an operand
-    operand_long : (a : Expression) (p q t : ℕ) → length (code_unless (operand_of starts a) (expression_code starts a p (value_slot starts a t) t)) ≡ length (code_unless (operand_of other a) (expression_code other a q (value_slot other a t) t))
-    operand_long a p q t = unless_long _ _ _ _ (same_operand a) (expression_long a p q _ _ t (same_slot a t))
-
     place_long : (x : Dereference) (p q t : ℕ) → length (place_code starts x p t) ≡ length (place_code other x q t)
-    place_long (Target k a ty) p q t = joined _ _ _ _ (operand_long a p q t) refl
-    place_long (Member k a s f ty) p q t = joined _ _ _ _ (operand_long a p q t) refl
+    place_long (Target k a ty) p q t = joined _ _ _ _ (operand_by a p q t (expression_long a p q _ _ t (same_slot a t))) refl
+    place_long (Member k a s f ty) p q t = joined _ _ _ _ (operand_by a p q t (expression_long a p q _ _ t (same_slot a t))) refl
     place_long (Element a x ty) p q t = refl
 
     made_long : (x : Initial) (handle p q d e t : ℕ) → d ≡ e → length (made_code starts x handle p d t) ≡ length (made_code other x handle q e t)
@@ -190,16 +206,17 @@ module _ (starts : Starts) (raises : ℕ) where
     operations_long : (os : Operations) (p q : ℕ) (l m : Operand) (d e t : ℕ) → l ≡ m → d ≡ e → length (operations_code starts os p l d t) ≡ length (operations_code other os q m e t)
     operations_long NoOperations p q l m d e t left same = refl
     operations_long (ThenCompute o a os) p q l m d e t left same =
-        joined _ _ _ _ (joined _ _ _ _ (operand_long a p q (suc t)) (operator_long o l m _ _ _ _ (same_value a (suc t))))
+        joined _ _ _ _ (joined _ _ _ _ (operand_by a p q (suc t) (expression_long a p q _ _ (suc t) (same_slot a (suc t)))) (operator_long o l m _ _ _ _ (same_value a (suc t))))
         (operations_long os _ _ _ _ d e t (λ i. operands.Slot (next_slot os (same i) t)) same)
     operations_long (ThenTest o a os) p q l m d e t left same =
-        joined _ _ _ _ (ap suc (joined _ _ _ _ (expression_long a (p + 1) (q + 1) t t t refl) refl))
-        (operations_long os _ _ _ _ d e t (λ i. operands.Slot (next_slot os (same i) t)) same)
+        ap suc
+        (joined _ _ _ _ (joined _ _ _ _ (expression_long a (p + 1) (q + 1) t t t refl) refl)
+        (operations_long os _ _ _ _ d e t (λ i. operands.Slot (next_slot os (same i) t)) same))
     operations_long (ThenPointer o a os) p q l m d e t left same =
-        joined _ _ _ _ (joined _ _ _ _ (operand_long a p q (behind_left o t)) (pointer_long o l m _ _ _ _ left (λ i. next_slot os (same i) t)))
+        joined _ _ _ _ (joined _ _ _ _ (operand_by a p q (behind_left o t) (expression_long a p q _ _ (behind_left o t) (same_slot a (behind_left o t)))) (pointer_long o l m _ _ _ _ left (λ i. next_slot os (same i) t)))
         (operations_long os _ _ _ _ d e t (λ i. operands.Slot (next_slot os (same i) t)) same)
     operations_long (ThenPointerPeek n o a os) p q l m d e t left same =
-        joined _ _ _ _ (joined _ _ _ _ (operand_long a p q (behind_left o t)) (pointer_long o l m _ _ _ _ left (λ i. next_slot os (same i) t)))
+        joined _ _ _ _ (joined _ _ _ _ (operand_by a p q (behind_left o t) (expression_long a p q _ _ (behind_left o t) (same_slot a (behind_left o t)))) (pointer_long o l m _ _ _ _ left (λ i. next_slot os (same i) t)))
         (operations_long os _ _ _ _ d e t (λ i. operands.Slot (next_slot os (same i) t)) same)
 
   assignment_long : (l : Lvalue) (c : Converted) (p q t : ℕ) → length (assignment_code starts l c p t) ≡ length (assignment_code other l c q t)
@@ -211,13 +228,13 @@ module _ (starts : Starts) (raises : ℕ) where
   discarded_long (Assign l c ty) p q t = assignment_long l c p q t
   discarded_long (Store x c ty) p q t =
       joined _ _ _ _ (joined _ _ _ _ (place_long x p q t) (λ i. length (address_code (same_place x t i) (same_offset x i) t))) (joined _ _ _ _ (converted_operand_long c _ _ (t + 1)) refl)
-  discarded_long a p q t = unless_long _ _ _ _ (same_operand a) (expression_long a p q t t t refl)
+  discarded_long a p q t = unless_long (operand_of starts a) (operand_of other a) (expression_code starts a p t t) (expression_code other a q t t) (same_operand a) (expression_long a p q t t t refl)
 
   condition_long : (a b : Expression) (p q t : ℕ) → length (pair_code starts a b p t) ≡ length (pair_code other a b q t)
   condition_long a b p q t =
       joined _ _ _ _
       (unless_long _ _ _ _ (λ i. left_with (same_operand b i) (same_operand a i)) (expression_long a p q _ _ t (same_with (operand_of starts b) (operand_of other b) a t (same_operand b))))
-      (operand_long b _ _ (suc t))
+      (operand_by b _ _ (suc t) (expression_long b _ _ _ _ (suc t) (same_slot b (suc t))))
 
   return_long : (v : Option Converted) (p q head : ℕ) (exits : Exits) (t : ℕ) → length (return_code starts v p exits t) ≡ length (return_code other v q (record exits { head = head }) t)
   return_long None p q head exits t = refl
@@ -230,7 +247,7 @@ module _ (starts : Starts) (raises : ℕ) where
 
   thrown_long : (v : Option Expression) (p q t : ℕ) → length (thrown_code starts v p t) ≡ length (thrown_code other v q t)
   thrown_long None p q t = refl
-  thrown_long (Some a) p q t = operand_long a p q t
+  thrown_long (Some a) p q t = operand_by a p q t (expression_long a p q _ _ t (same_slot a t))
 
   caught_long : (x : Option ℕ) (t : ℕ) → length (caught_code starts x t) ≡ length (caught_code other x t)
   caught_long None t = refl
@@ -242,15 +259,36 @@ module _ (starts : Starts) (raises : ℕ) where
     statement_long (Block r js) p q head exits t = items_long js p q head exits t
     statement_long (Evaluate a) p q head exits t = discarded_long a p q t
     statement_long (If a s u) p q head exits t =
-        joined _ _ _ _ (joined _ _ _ _ (condition_long _ _ p q t) (ap suc (statement_long s _ _ head exits t))) (ap suc (statement_long u _ _ head exits t))
+        let others = record exits { head = head } in
+        let m = p + length (condition_code starts a p t) in
+        let n = q + length (condition_code other a q t) in
+        let first = statement_code starts s (m + 1) exits t in
+        let same_first = statement_code other s (n + 1) others t in
+        let second = statement_code starts u (m + 1 + length first + 1) exits t in
+        let same_second = statement_code other u (n + 1 + length same_first + 1) others t in
+        if_long (condition_code starts a p t) first second (condition_code other a q t) same_first same_second (failing_jump (condition_of starts a t)) (failing_jump (condition_of other a t)) p q
+        (condition_long (compared_of a).left (compared_of a).right p q t) (statement_long s (m + 1) (n + 1) head exits t) (statement_long u (m + 1 + length first + 1) (n + 1 + length same_first + 1) head exits t)
     statement_long (While w a s) p q head exits t =
-        ap (λ n. suc (suc n)) (joined _ _ _ _ (joined _ _ _ _ (condition_long _ _ (p + 2) (q + 2) t) (ap suc (statement_long s _ _ q (record exits { head = p; loop_record = t }) t))) refl)
+        let m = p + 2 + length (condition_code starts a (p + 2) t) in
+        let n = q + 2 + length (condition_code other a (q + 2) t) in
+        let around = inside_loop p t exits in
+        while_long (condition_code starts a (p + 2) t) (statement_code starts s (m + 1) around t) (condition_code other a (q + 2) t) (statement_code other s (n + 1) (record around { head = q }) t)
+        (failing_jump (condition_of starts a t)) (failing_jump (condition_of other a t)) p q
+        (condition_long (compared_of a).left (compared_of a).right (p + 2) (q + 2) t) (statement_long s (m + 1) (n + 1) q around t)
     statement_long (Return v) p q head exits t = return_long v p q head exits t
-    statement_long Break p q head exits t = joined _ _ _ _ refl refl
-    statement_long Continue p q head exits t = joined _ _ _ _ refl refl
+    statement_long Break p q head exits t =
+        joined (leave_code exits.loop_record t) (instructions.Jump (break_target exits.head) ∷ []) (leave_code exits.loop_record t) (instructions.Jump (break_target head) ∷ []) refl refl
+    statement_long Continue p q head exits t =
+        joined (leave_code exits.loop_record t) (instructions.Jump (continue_target exits.head) ∷ []) (leave_code exits.loop_record t) (instructions.Jump (continue_target head) ∷ []) refl refl
     statement_long (Throw tag v) p q head exits t = joined _ _ _ _ (thrown_long v p q t) refl
     statement_long (Try s cs) p q head exits t =
-        ap suc (joined _ _ _ _ (joined _ _ _ _ (statement_long s _ _ head exits (t + RECORD_WORDS)) refl) (ap suc (clauses_long cs _ _ _ _ head exits t)))
+        let close = instructions.Leave t ∷ [] in
+        let a = statement_code starts s (p + 1) exits (t + RECORD_WORDS) in
+        let x = statement_code other s (q + 1) (record exits { head = head }) (t + RECORD_WORDS) in
+        let out = p + 1 + length (a ++ close) in
+        let aim = q + 1 + length (x ++ close) in
+        try_long (a ++ close) (clauses_code starts cs (out + 1) out exits t) (x ++ close) (clauses_code other cs (aim + 1) aim (record exits { head = head }) t) t p q
+        (joined a close x close (statement_long s (p + 1) (q + 1) head exits (t + RECORD_WORDS)) refl) (clauses_long cs (out + 1) (aim + 1) out aim head exits t)
     statement_long s p q head exits t = refl
 
     items_long : (js : Items) (p q head : ℕ) (exits : Exits) (t : ℕ) → length (items_code starts js p exits t) ≡ length (items_code other js q (record exits { head = head }) t)
@@ -263,7 +301,16 @@ module _ (starts : Starts) (raises : ℕ) where
     clauses_long NoClauses p q out aim head exits t = refl
     clauses_long (Default r js) p q out aim head exits t = items_long js p q head exits t
     clauses_long (Case tag x r js cs) p q out aim head exits t =
-        joined _ _ _ _ (ap suc (joined _ _ _ _ (joined _ _ _ _ (caught_long x t) (items_long js _ _ head exits t)) refl)) (clauses_long cs _ _ _ _ head exits t)
+        let others = record exits { head = head } in
+        let a = caught_code starts x t ++ items_code starts js (p + 1 + length (caught_code starts x t)) exits t in
+        let b = caught_code other x t ++ items_code other js (q + 1 + length (caught_code other x t)) others t in
+        let m = p + length (clause_code tag t a p out) in
+        let n = q + length (clause_code tag t b q aim) in
+        joined (clause_code tag t a p out) (clauses_code starts cs m out exits t) (clause_code tag t b q aim) (clauses_code other cs n aim others t)
+        (clause_long a b tag t p q out aim
+        (joined (caught_code starts x t) (items_code starts js (p + 1 + length (caught_code starts x t)) exits t) (caught_code other x t) (items_code other js (q + 1 + length (caught_code other x t)) others t)
+        (caught_long x t) (items_long js (p + 1 + length (caught_code starts x t)) (q + 1 + length (caught_code other x t)) head exits t)))
+        (clauses_long cs m n out aim head exits t)
 
 -- so the blocks stand behind the place that the checks are told
 pub body_long : (structs : List StructType) (h : Function) → length (body_code (types_of structs h) h) ≡ raises_of structs h

@@ -47,12 +47,12 @@ use Rattle.cyc_lower.proofs.Slots.{words_positive, slot-room, slot_types-many, s
 -- ---- lists
 
 last_behind : {X : Type 0} (xs ys : List X) → 0 < length ys → slice_get (xs ++ ys) (length (xs ++ ys) - 1) ≡ slice_get ys (length ys - 1)
-last_behind xs ys some =
-    ap (slice_get (xs ++ ys)) (let e : length (xs ++ ys) - 1 ≡ length xs + (length ys - 1) = omega (arith, length-append xs ys, some) in e) ∙ behind_all xs (length ys - 1)
+last_behind xs ys some = behind_all xs (length ys - 1) (length (xs ++ ys) - 1) (omega (arith, length-append xs ys, some))
   where
-    behind_all : (zs : _) (n : ℕ) → slice_get (zs ++ ys) (length zs + n) ≡ slice_get ys n
-    behind_all [] n = refl
-    behind_all (z ∷ zs) n = behind_all zs n
+    behind_all : (zs : _) (n m : ℕ) → m ≡ length zs + n → slice_get (zs ++ ys) m ≡ slice_get ys n
+    behind_all [] n m is = ap (slice_get ys) (omega (arith, is))
+    behind_all (z ∷ zs) n zero is = absurd (omega (arith, is))
+    behind_all (z ∷ zs) n (suc m) is = behind_all zs n m (omega (arith, is))
 
 -- ---- words
 
