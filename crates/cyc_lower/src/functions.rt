@@ -1,12 +1,12 @@
 //! The plain functions and globals of a typed tree.
-ghost use Rattle.std.specs.Prelude.{◌≡◌, ◌≤◌, map, option_map, IfOk};
+ghost use Rattle.std.specs.Prelude.{◌≡◌, ◌+◌, ◌≤◌, map, option_map, IfOk};
 ghost use Rattle.cyc_syntax.specs.TokenRule.{max_tokens};
 ghost use Rattle.cyc_types.specs.TypeView.{view_ty};
-ghost use Rattle.cyc_types.specs.TypedTreeView.{view_constant, view_global, view_struct, view_function, view_program};
+ghost use Rattle.cyc_types.specs.TypedTreeView.{items_of, view_constant, view_global, view_struct, view_function, view_program};
 ghost use Rattle.cyc_types.specs.typing.WellTyped.{IsWellTypedProgram};
 ghost use Rattle.cyc_types.specs.Weight.{program_weight};
 ghost use Rattle.cyc_plain.specs.Program.{routine_of};
-ghost use Rattle.cyc_meaning.specs.FrameCount.{frame_count};
+ghost use Rattle.cyc_meaning.specs.FrameCount.{frame_count, kept_by_items};
 ghost use Rattle.cyc_lower.specs.Lowering.{items_code, outside_loops, results_of, initial_word, lower_function, lower_global, lower_program};
 ghost use Rattle.cyc_lower.specs.Emission.{most_frame_count, most_locals, view_starts, HaveFewWords};
 ghost use Rattle.cyc_lower.specs.Lowered.{CanBeLowered};
