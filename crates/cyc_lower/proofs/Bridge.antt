@@ -12,8 +12,9 @@ use Rattle.cyc_types.specs.declared.typed.Operator.TheVariants as operators
 use Rattle.cyc_types.specs.declared.typed.PointerOperator.{PointerOperator}
 use Rattle.cyc_types.specs.declared.typed.PointerOperator.TheVariants as pointers
 use Rattle.cyc_types.specs.Types.{Ty, words_of}
-use Rattle.cyc_types.specs.TypedTrees.{Load, New, OnHeap, AsUnique, ByHandle, Initial, Plain, Fields, Dereference, Target, Lvalue, Local, Global, Expression, Number, NullPointer, Copy, Call, Unary, Binary, Assign, Converted, Convert, Arguments, NoArguments, MoreArguments, Operations, NoOperations, ThenCompute, ThenTest, ThenPointer, Statement, Block, Empty, Evaluate, If, While, Return, Break, Continue, Items, NoItems, MoreItems, Execute, Declare, Signature, StructType, Function, Program, Move, Peek, ThenPointerPeek, type_of, AddressOfCell, Store, Member, type_of_place, FreeUnique, Side, VariableSide, CellSide, Swap}
+use Rattle.cyc_types.specs.TypedTrees.{Load, New, OnHeap, AsUnique, ByHandle, Initial, Plain, Fields, Dereference, Target, Lvalue, Local, Global, Expression, Number, NullPointer, Copy, Call, Unary, Binary, Assign, Converted, Convert, Arguments, NoArguments, MoreArguments, Operations, NoOperations, ThenCompute, ThenTest, ThenPointer, Statement, Block, Empty, Evaluate, If, While, Return, Break, Continue, Items, NoItems, MoreItems, Execute, Declare, Signature, StructType, Function, Program, Move, Peek, ThenPointerPeek, type_of, AddressOfCell, Store, Member, type_of_place, FreeUnique, Side, VariableSide, CellSide, Swap, Throw, Try, Clauses, NoClauses, Default, Case}
 use Rattle.cyc_types.specs.Numbered.{Numbering, argument_count, numbering_of, signatures_of}
+use Rattle.cyc_plain.specs.declared.limits.TheConstants.{RECORD_WORDS}
 use Rattle.cyc_plain.specs.declared.instruction.Comparison.{Comparison}
 use Rattle.cyc_plain.specs.declared.instruction.Comparison.TheVariants as comparisons
 use Rattle.cyc_plain.specs.declared.instruction.Operand.{Operand}
@@ -27,14 +28,14 @@ use Rattle.cyc_store.specs.declared.range.TheConstants.{MOST_BLOCK_WORDS, HEAP, 
 use Rattle.cyc_meaning.specs.Values.{kind_of, words_of_kind}
 use Rattle.cyc_meaning.specs.FrameCount.{words_of_all, operand_words}
 use Rattle.cyc_lower.specs.Slots.{Types, starts_of, slot_of}
-use Rattle.cyc_lower.specs.Lowering.{types_of, are_as_wide, converts_there, passed_words, source_of, source_slot, moved_by, move_of, operand_of, operand_or, code_unless, slot_or, code_unless_slot, left_with, left_of, value_slot, next_slot, slot_with, left_slot, value_operand, converted_operand, printed_operand, jump_if_nonzero, check_code, conversion_code, divisor_code, checked_code, operator_code, truth_code, load_code, low_byte, test_code, is_in, copy_code, expression_code, arguments_code, converted_code, converted_operand_code, printed_code, initial_code, assignment_code, assigned_operand, operations_code, discarded_code, failing_comparison, compared_or, compared_of, first_operand, first_code, second_code, pair_code, condition_code, condition_of, failing_jump, break_target, continue_target, return_code, declaration_code, statement_code, items_code, function_code, first_temporary, results_of, lower_function, lower_program, behind_left, pointer_code, outside_loops, inside_loop, pointer_operator, index_code, pointer_instructions, stores_code, object_code, made_code, place_operand, place_offset, place_code, address_code, raising, blocks, guard_code, body_code, free_code, jump_if_zero, right_slot, side_code, read_side, write_side, exchange_code, swap_code}
+use Rattle.cyc_lower.specs.Lowering.{types_of, are_as_wide, converts_there, passed_words, source_of, source_slot, moved_by, move_of, operand_of, operand_or, code_unless, slot_or, code_unless_slot, left_with, left_of, value_slot, next_slot, slot_with, left_slot, value_operand, converted_operand, printed_operand, jump_if_nonzero, check_code, conversion_code, divisor_code, checked_code, operator_code, truth_code, load_code, low_byte, test_code, is_in, copy_code, expression_code, arguments_code, converted_code, converted_operand_code, printed_code, initial_code, assignment_code, assigned_operand, operations_code, discarded_code, failing_comparison, compared_or, compared_of, first_operand, first_code, second_code, pair_code, condition_code, condition_of, failing_jump, break_target, continue_target, return_code, declaration_code, statement_code, items_code, function_code, first_temporary, results_of, lower_function, lower_program, behind_left, pointer_code, outside_loops, inside_loop, pointer_operator, index_code, pointer_instructions, stores_code, object_code, made_code, place_operand, place_offset, place_code, address_code, raising, blocks, guard_code, body_code, free_code, jump_if_zero, right_slot, side_code, read_side, write_side, exchange_code, swap_code, leave_code, tag_operand, other_jump, goes_on, clause_code, thrown_code, thrown_operand, caught_code, clauses_code}
 use Rattle.cyc_lower.specs.declared.statements.Exits.{Exits}
-use Rattle.cyc_lower.proofs.Stands.{OperandBy, CheckAt, ConversionBy, ConversionAt, DivisorAt, CheckedAt, OperatorAt, LoadAt, CopyBy, ExpressionAt, InitialAt, InitialBy, ConvertedAt, ConvertedOperandAt, PrintedAt, ArgumentsAt, OperationsAt, PairAt, ConditionAt, AssignmentAt, DiscardedAt, ReturnedAt, ReturnAt, DeclarationAt, StatementAt, ItemsAt, FirstTwoAt, IndexAt, PointerAt, StoresAt, ObjectAt, MadeAt, AddressAt, PlaceAt, GuardAt, FreedAt, HasSide, SideAt, ReadAt, WriteAt, SwapAt}
+use Rattle.cyc_lower.proofs.Stands.{OperandBy, CheckAt, ConversionBy, ConversionAt, DivisorAt, CheckedAt, OperatorAt, LoadAt, CopyBy, ExpressionAt, InitialAt, InitialBy, ConvertedAt, ConvertedOperandAt, PrintedAt, ArgumentsAt, OperationsAt, PairAt, ConditionAt, AssignmentAt, DiscardedAt, ReturnedAt, ReturnAt, DeclarationAt, StatementAt, ItemsAt, FirstTwoAt, IndexAt, PointerAt, StoresAt, ObjectAt, MadeAt, AddressAt, PlaceAt, GuardAt, FreedAt, HasSide, SideAt, ReadAt, WriteAt, SwapAt, LeaveBy, LeaveAt, ThrownAt, CaughtAt, ClausesAt}
 use Rattle.cyc_lower.proofs.Lengths.{body_long}
 use Rattle.cyc_types.specs.typing.Expressions.{type_of_side}
 use Rattle.cyc_lower.specs.Lowerable.{may_wait}
 use Rattle.cyc_lower.proofs.Widths.{kind_of_result, given, passed_kind, type_words}
-use Rattle.cyc_lower.proofs.Fitting.{FitsPlace, FitsStored, FitsCell, FitsObject, Fits, FitsConverted, FitArguments, FitOperations, FitsReturn, FitsInitial, FitsStatement, FitItems, AreFitting, IsFitting, FitsSide}
+use Rattle.cyc_lower.proofs.Fitting.{FitsPlace, FitsStored, FitsCell, FitsObject, Fits, FitsConverted, FitArguments, FitOperations, FitsReturn, FitsInitial, FitsStatement, FitItems, AreFitting, IsFitting, FitsSide, FitsThrown, FitsCaught, FitClauses}
 use Rattle.cyc_lower.proofs.Values.{as_wide}
 use Rattle.cyc_lower.proofs.Relation.{bounds_in, types_in}
 use Rattle.cyc_lower.proofs.Calls.{FunctionsStand}
@@ -568,9 +569,20 @@ module _ (code : List Instruction) (b : Numbering) (types : Types) (raised : Blo
   returns_numbered None c numbered = absurd numbered
   returns_numbered (Some t) c (kind, numbered) = numbered
 
-  return_stands : (v : Option Converted) (t p q : ℕ) → FitsReturn b types b.result v → p + length (return_code (starts_of types) v p t) ≡ q → HasAt code p (return_code (starts_of types) v p t) → ReturnAt code b types v t p
-  return_stands None t p q numbered end (here, none) = (t, here)
-  return_stands (Some (Convert from to a)) t p q numbered end has =
+  leave_by : (none : Bool) (first p q : ℕ) → p + length (if none then [] else instructions.Leave first ∷ []) ≡ q → HasAt code p (if none then [] else instructions.Leave first ∷ []) → LeaveBy code b types none first p q
+  leave_by true first p q end has = omega (arith, end)
+  leave_by false first p q end (here, none) = (here, end)
+
+  leave_stands : (first t p q : ℕ) → p + length (leave_code first t) ≡ q → HasAt code p (leave_code first t) → LeaveAt code b types first t p q
+  leave_stands first t p q end has = leave_by (first == t) first p q end has
+
+  return_stands : (v : Option Converted) (exits : Exits) (t p q : ℕ) → FitsReturn b types b.result v → p + length (return_code (starts_of types) v p exits t) ≡ q → HasAt code p (return_code (starts_of types) v p exits t)
+      → ReturnAt code b types v exits t p
+  return_stands None exits t p q numbered end has =
+      let leave = leave_code exits.first_record t in
+      let (here, none) = has_back code p leave _ has in
+      (t, p + length leave, leave_stands exits.first_record t p (p + length leave) refl (has_front code p leave _ has), here)
+  return_stands (Some (Convert from to a)) exits t p q numbered end has =
       let known = source_of (starts_of types) (Convert from to a) in
       let inner = expression_code (starts_of types) a p t t in
       let front = code_unless_slot known inner in
@@ -579,15 +591,20 @@ module _ (code : List Instruction) (b : Numbering) (types : Types) (raised : Blo
       let conversion = conversion_code (starts_of types) to (operands.Slot s) m in
       let both = front ++ conversion in
       let r = p + length both in
-      let has_both = has_front code p both _ has in
-      let (here, none) = has_back code p both _ has in
+      let leave = leave_code exits.first_record t in
+      let u = p + length (both ++ leave) in
+      let has_left = has_front code p (both ++ leave) _ has in
+      let has_both = has_front code p both leave has_left in
+      let (here, none) = has_back code p (both ++ leave) _ has in
       let (from_is, wide, fitting) = returns_numbered b.result (Convert from to a) numbered in
       let (words, kind) = returns_kind b.result (Convert from to a) numbered in (
         s,
         m,
         r,
+        u,
         returned_by known _ inner t p m refl (has_front code p front conversion has_both) (λ e h. expression_stands a t t p m fitting e h),
         conversion_stands from to (operands.Slot s) m r wide (cut p r front conversion refl) (has_back code p front conversion has_both),
+        leave_stands exits.first_record t r u (cut p u both leave refl) (has_back code p both leave has_left),
         here,
         words,
         kind,
@@ -652,6 +669,17 @@ module _ (code : List Instruction) (b : Numbering) (types : Types) (raised : Blo
         ),
       )
 
+  thrown_stands : (v : Option Expression) (t p q : ℕ) → FitsThrown b types v → p + length (thrown_code (starts_of types) v p t) ≡ q → HasAt code p (thrown_code (starts_of types) v p t)
+      → ThrownAt code b types v (thrown_operand (starts_of types) v t) t p q
+  thrown_stands None t p q numbered end has = (refl, omega (arith, end))
+  thrown_stands (Some a) t p q numbered end has =
+      let slot = value_slot (starts_of types) a t in
+      operand_by (operand_of (starts_of types) a) _ (expression_code (starts_of types) a p slot t) slot p q end has (λ e h. expression_stands a slot t p q numbered e h)
+
+  caught_stands : (x : Option ℕ) (t p q : ℕ) → FitsCaught b types x → p + length (caught_code (starts_of types) x t) ≡ q → HasAt code p (caught_code (starts_of types) x t) → CaughtAt code b types x t p q
+  caught_stands None t p q numbered end has = omega (arith, end)
+  caught_stands (Some n) t p q (few, room) end (here, none) = (few, room, here, end)
+
   mutual
     statement_stands : (s : Statement) (in_loop : Bool) (exits : Exits) (d p q : ℕ) → FitsStatement b types in_loop s → p + length (statement_code (starts_of types) s p exits d) ≡ q → HasAt code p (statement_code (starts_of types) s p exits d) → StatementAt code b types s exits d p q
     statement_stands (Block r js) in_loop exits d p q numbered end has = items_stand js in_loop exits d p q numbered end has
@@ -709,9 +737,40 @@ module _ (code : List Instruction) (b : Numbering) (types : Types) (raised : Blo
           end_is,
           omega (arith, end_is),
         )
-    statement_stands (Return v) in_loop exits d p q numbered end has = return_stands v d p q numbered end has
-    statement_stands Break in_loop exits d p q numbered end (here, none) = here
-    statement_stands Continue in_loop exits d p q numbered end (here, none) = here
+    statement_stands (Return v) in_loop exits d p q numbered end has = return_stands v exits d p q numbered end has
+    statement_stands Break in_loop exits d p q numbered end has =
+        let leave = leave_code exits.loop_record d in
+        let (here, none) = has_back code p leave (instructions.Jump (break_target exits.head) ∷ []) has in
+        (p + length leave, leave_stands exits.loop_record d p (p + length leave) refl (has_front code p leave (instructions.Jump (break_target exits.head) ∷ []) has), here)
+    statement_stands Continue in_loop exits d p q numbered end has =
+        let leave = leave_code exits.loop_record d in
+        let (here, none) = has_back code p leave (instructions.Jump (continue_target exits.head) ∷ []) has in
+        (p + length leave, leave_stands exits.loop_record d p (p + length leave) refl (has_front code p leave (instructions.Jump (continue_target exits.head) ∷ []) has), here)
+    statement_stands (Throw tag v) in_loop exits t p q (word, numbered) end has =
+        let front = thrown_code (starts_of types) v p t in
+        let (here, none) = has_back code p front _ has in
+        (word, thrown_operand (starts_of types) v t, p + length front, thrown_stands v t p (p + length front) numbered refl (has_front code p front _ has), here)
+    statement_stands (Try s cs) in_loop exits t p q (numbered_s, numbered) end (opening, has) =
+        let body = statement_code (starts_of types) s (p + 1) exits (t + RECORD_WORDS) in
+        let close = instructions.Leave t ∷ [] in
+        let m = p + 1 + length body in
+        let out = p + 1 + length (body ++ close) in
+        let long : length (body ++ close) ≡ length body + 1 = length-append body close in
+        let out_is : out ≡ m + 1 = omega (arith, long) in
+        let clauses = clauses_code (starts_of types) cs (out + 1) out exits t in
+        let over = instructions.Jump (out + 1 + length clauses) in
+        let all : length ((body ++ close) ++ over ∷ clauses) ≡ length (body ++ close) + suc (length clauses) = length-append (body ++ close) (over ∷ clauses) in
+        let end_is : out + 1 + length clauses ≡ q = omega (arith, end, all) in
+        let has_front_part = has_front code (p + 1) (body ++ close) (over ∷ clauses) has in
+        let (jump, has_clauses) = has_back code (p + 1) (body ++ close) (over ∷ clauses) has in
+        let (leave, none) = has_back code (p + 1) body close has_front_part in (
+          m,
+          subst (λ n. At code p (instructions.Try t (n + 1))) out_is opening,
+          statement_stands s in_loop exits (t + RECORD_WORDS) (p + 1) m numbered_s refl (has_front code (p + 1) body close has_front_part),
+          leave,
+          subst (λ n. At code n (instructions.Jump q)) out_is (subst (λ n. At code out (instructions.Jump n)) end_is jump),
+          subst (λ n. ClausesAt code b types cs n exits t (n + 1) q) out_is (clauses_stand cs in_loop out exits t (out + 1) q (omega arith) numbered end_is has_clauses),
+        )
     statement_stands s in_loop exits d p q numbered end has = absurd numbered
 
     items_stand : (js : Items) (in_loop : Bool) (exits : Exits) (d p q : ℕ) → FitItems b types in_loop js → p + length (items_code (starts_of types) js p exits d) ≡ q → HasAt code p (items_code (starts_of types) js p exits d) → ItemsAt code b types js exits d p q
@@ -725,6 +784,38 @@ module _ (code : List Instruction) (b : Numbering) (types : Types) (raised : Blo
         let back = items_code (starts_of types) js (p + length front) exits d in
         (p + length front, declaration_stands n v d p (p + length front) few numbered refl (has_front code p front back has), items_stand js in_loop exits d (p + length front) q rest (cut p q front back end) (has_back code p front back has))
     items_stand js in_loop exits d p q numbered end has = absurd numbered
+
+    clauses_stand : (cs : Clauses) (in_loop : Bool) (out : ℕ) (exits : Exits) (t p q : ℕ) → out < p → FitClauses b types in_loop cs → p + length (clauses_code (starts_of types) cs p out exits t) ≡ q
+        → HasAt code p (clauses_code (starts_of types) cs p out exits t) → ClausesAt code b types cs out exits t p q
+    clauses_stand NoClauses in_loop out exits t p q behind numbered end (here, none) = here
+    clauses_stand (Default r js) in_loop out exits t p q behind numbered end has = items_stand js in_loop exits t p q numbered end has
+    clauses_stand (Case tag x r js cs) in_loop out exits t p q behind (word, caught_fits, numbered, rest) end has =
+        let caught = caught_code (starts_of types) x t in
+        let m = p + 1 + length caught in
+        let items = items_code (starts_of types) js m exits t in
+        let u = m + length items in
+        let leave = instructions.Jump out ∷ [] in
+        let clause = clause_code tag t (caught ++ items) p out in
+        let later = clauses_code (starts_of types) cs (p + length clause) out exits t in
+        let inner : length (caught ++ items) ≡ length caught + length items = length-append caught items in
+        let long : length ((caught ++ items) ++ leave) ≡ length (caught ++ items) + 1 = length-append (caught ++ items) leave in
+        let next : p + length clause ≡ u + 1 = omega (arith, inner, long) in
+        let over : p + 1 + length (caught ++ items) + 1 ≡ u + 1 = omega (arith, inner) in
+        let (jump, has_clause) = has_front code p clause later has in
+        let has_inner = has_front code (p + 1) (caught ++ items) leave has_clause in
+        let (out_jump, none) = has_back code (p + 1) (caught ++ items) leave has_clause in (
+          m,
+          u,
+          word,
+          subst (λ n. At code p (other_jump tag t n)) over jump,
+          caught_stands x t (p + 1) m caught_fits refl (has_front code (p + 1) caught items has_inner),
+          items_stand js in_loop exits t m u numbered refl (has_back code (p + 1) caught items has_inner),
+          subst (λ n. At code n (instructions.Jump out)) (let e : p + 1 + length (caught ++ items) ≡ u = omega (arith, inner) in e) out_jump,
+          omega (arith, behind),
+          clauses_stand cs in_loop out exits t (u + 1) q (omega (arith, behind)) rest
+              (subst (λ n. n + length (clauses_code (starts_of types) cs n out exits t) ≡ q) next (cut p q clause later end))
+              (subst (λ n. HasAt code n (clauses_code (starts_of types) cs n out exits t)) next (has_back code p clause later has)),
+        )
 
 -- ---- functions
 
@@ -744,14 +835,14 @@ module _ (source : Program) where
   abbrev BodyStands : Function → List Instruction → Option Function → Type 0
   BodyStands h code o =
       (m : ℕ) × ItemsAt code (bounds_in source o) (types_in source o) h.body (outside_loops (words_of_all (types_in source o).locals)) (words_of_all (types_in source o).locals) 0 m
-      × At code m (instructions.Return (words_of_all (types_in source o).locals))
+      × At code m (instructions.Finish (words_of_all (types_in source o).locals))
 
   body_stands : (h : Function) → FitItems (bounds_in source (Some h)) (types_of source.structs h) false h.body → BodyStands h (function_code source.structs h) (Some h)
   body_stands h numbered =
       let d = first_temporary h in
       let types = types_of source.structs h in
       let body = body_code types h in
-      let end = instructions.Return d ∷ blocks in
+      let end = instructions.Finish d ∷ blocks in
       let code = body ++ end in
       let has = has_whole code in
       let (here, raising_all) = has_back code 0 body end has in

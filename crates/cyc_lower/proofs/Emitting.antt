@@ -69,10 +69,10 @@ pub record Lowers {X S : Type 0} (all : List X → ℕ → S → List Instructio
 abbrev pub Remains : {X S : Type 0} → (all : List X → ℕ → S → List Instruction) → (old : List Instruction) → (xs : List X) → (first : S) → (i : ℕ) → (code : List Instruction) → S → Type 0
 Remains all old xs first i code s = code ++ all (drop i xs) (length code) s ≡ old ++ all xs (length old) first
 
-module _ {X S : Type 0} (all : List X → ℕ → S → List Instruction) (one : X → List X → ℕ → S → List Instruction) (next : X → List X → S → S) (lowers : Lowers all one next) where
-  pub goes_on : (old : List Instruction) (xs : List X) (first : S) (i : ℕ) (code new : List Instruction) (s : S) (x : X) → i < length xs → x ≡ get_or xs i x
+module _ {X S : Type 0} (all : List X → ℕ → S → List Instruction) (one : X → List X → ℕ → S → List Instruction) (next : X → List X → S → S) (more : (x : X) (xs : List X) (p : ℕ) (s : S) → all (x ∷ xs) p s ≡ one x xs p s ++ all xs (p + length (one x xs p s)) (next x xs s)) where
+  pub goes_on_by : (old : List Instruction) (xs : List X) (first : S) (i : ℕ) (code new : List Instruction) (s : S) (x : X) → i < length xs → x ≡ get_or xs i x
       → new ≡ code ++ one x (drop (i + 1) xs) (length code) s → Remains all old xs first i code s → Remains all old xs first (i + 1) new (next x (drop (i + 1) xs) s)
-  goes_on old xs first i code new s x inside at is r =
+  goes_on_by old xs first i code new s x inside at is r =
       let rest = drop (i + 1) xs in
       let here : drop i xs ≡ x ∷ rest = drop_more xs i x inside ∙ ap (λ (y : X). y ∷ rest) (sym at) in
       let added = one x rest (length code) s in
@@ -81,9 +81,14 @@ module _ {X S : Type 0} (all : List X → ℕ → S → List Instruction) (one :
       ap (λ (n : ℕ). new ++ all rest n after) long
       ∙ ap (λ (l : List Instruction). l ++ all rest (length code + length added) after) is
       ∙ append_assoc code added (all rest (length code + length added) after)
-      ∙ ap (λ (l : List Instruction). code ++ l) (sym (lowers.more x rest (length code) s))
+      ∙ ap (λ (l : List Instruction). code ++ l) (sym (more x rest (length code) s))
       ∙ ap (λ (ys : List X). code ++ all ys (length code) s) (sym here)
       ∙ r
+
+module _ {X S : Type 0} (all : List X → ℕ → S → List Instruction) (one : X → List X → ℕ → S → List Instruction) (next : X → List X → S → S) (lowers : Lowers all one next) where
+  pub goes_on : (old : List Instruction) (xs : List X) (first : S) (i : ℕ) (code new : List Instruction) (s : S) (x : X) → i < length xs → x ≡ get_or xs i x
+      → new ≡ code ++ one x (drop (i + 1) xs) (length code) s → Remains all old xs first i code s → Remains all old xs first (i + 1) new (next x (drop (i + 1) xs) s)
+  goes_on = goes_on_by all one next lowers.more
 
   pub all_made : (old : List Instruction) (xs : List X) (first : S) (i : ℕ) (code : List Instruction) (s : S) → length xs ≤ i → Remains all old xs first i code s → code ≡ old ++ all xs (length old) first
   all_made old xs first i code s done r =

@@ -27,8 +27,8 @@ use Rattle.cyc_objects.proofs.Cells.{found-alive, cell-live, cell-read}
 use Rattle.cyc_lower.specs.Lowering.{is_in, move_of, source_of, source_slot, lower_program, right_slot}
 use Rattle.cyc_lower.proofs.Widths.{kind_positive, same_kind}
 use Rattle.cyc_lower.proofs.Moves.{put_elsewhere}
-use Rattle.cyc_lower.proofs.Relation.{Matches, held, callers, types_at, starts_at, Holds, DataIn, SharedAt, LandsStack, HandsOnStack, Related, code_of, bounds_at, base_of, top}
-use Rattle.cyc_lower.proofs.Data.{Is-same, height-least, Holds-same, data_above}
+use Rattle.cyc_lower.proofs.Relation.{Matches, held, callers, types_at, starts_at, Holds, DataIn, SharedAt, LandsStack, HandsOnStack, Related, code_of, bounds_at, base_of, floor, top}
+use Rattle.cyc_lower.proofs.Data.{Is-same, height-least, Holds-same, data_written}
 use Rattle.cyc_lower.proofs.Stands.{CopyBy, AddressAt, OperandBy, ExpressionAt, ConvertedOperandAt}
 use Rattle.cyc_lower.proofs.CellReads.{word_read}
 use Rattle.cyc_lower.proofs.AddressSteps.{Brought, in_slot, by_word, brought}
@@ -65,7 +65,7 @@ module _ (source : Program) (pages calls : ℕ) where
   -- ---- the address of a cell is a value
 
   takes_address : (object offset more : ℕ) (o : Operand) (d q : ℕ) (k : List Entry) (e : Environment) (w : World) (c : Configuration)
-      → (shared : SharedAt source pages calls (NeedsPlace TakeAddress ∷ k) e w c) → DataIn source shared.tables c.active.slots k e w c → Holds shared.tables c.active.slots (base_of source c.active.function) (held k)
+      → (shared : SharedAt source pages calls (NeedsPlace TakeAddress ∷ k) e w c) → DataIn source shared.tables c.active.slots k e w c → Holds shared.tables c.active.slots (floor source c.active.function k) (held k)
       → Brought source shared.tables object offset d q c → LandsStack source c.active.function e.locals kinds.NonNull d q c.frames k
       → IsMatched source pages calls (Running (GivenPlace (Thin object offset)) (NeedsPlace TakeAddress ∷ k) e w) (plain.Running c)
   takes_address object offset more o d q k e w c shared facts holds (in_slot end points) lands =
@@ -93,7 +93,7 @@ module _ (source : Program) (pages calls : ℕ) where
   right_side from to a peek place k = Needs (ConvertTo from to (target_by a)) ∷ Needs (StoreCell peek place) ∷ k
 
   right_begins : (from to : Kind) (a : Expression) (peek : Option ℕ) (object offset : ℕ) (k : List Entry) (e : Environment) (w : World) (c : Configuration) (s : ℕ)
-      → (shared : SharedAt source pages calls k e w c) → DataIn source shared.tables c.active.slots k e w c → Holds shared.tables c.active.slots (base_of source c.active.function) (held k)
+      → (shared : SharedAt source pages calls k e w c) → DataIn source shared.tables c.active.slots k e w c → Holds shared.tables c.active.slots (floor source c.active.function k) (held k)
       → Points shared.tables object offset (c.active.slots (top source c.active.function k)) → c.active.next ≡ s → StoresBehind from to a k e c s
       → Related source pages calls (Evaluating a) (right_side from to a peek (Thin object offset) k) e w c
   right_begins from to a peek object offset k e w c s shared facts holds points start (x, u, (m, at_a, at_to), store, single, hands) =
@@ -111,7 +111,7 @@ module _ (source : Program) (pages calls : ℕ) where
       )
 
   stores_to : (from to : Kind) (a : Expression) (peek : Option ℕ) (object offset : ℕ) (k : List Entry) (e : Environment) (w : World) (c : Configuration) (s : ℕ)
-      → (shared : SharedAt source pages calls k e w c) → DataIn source shared.tables c.active.slots k e w c → Holds shared.tables c.active.slots (base_of source c.active.function) (held k)
+      → (shared : SharedAt source pages calls k e w c) → DataIn source shared.tables c.active.slots k e w c → Holds shared.tables c.active.slots (floor source c.active.function k) (held k)
       → Brought source shared.tables object offset (top source c.active.function k) s c → StoresBehind from to a k e c s
       → IsMatched source pages calls (Running (GivenPlace (Thin object offset)) (NeedsPlace (StoreTo peek (Convert from to a)) ∷ k) e w) (plain.Running c)
   stores_to from to a peek object offset k e w c s shared facts holds (in_slot end points) behind =
@@ -120,13 +120,13 @@ module _ (source : Program) (pages calls : ℕ) where
       (omega arith)
   stores_to from to a peek object offset k e w c s shared facts holds (by_word i word here goes end points) behind =
       let g = c.active.function in
-      let base = base_of source g in
+      let base = floor source g k in
       let free = top source g k in
       let after = put c.active.slots free word in
       by_one source pages calls refl shared here
       (λ choice. subst (Matches source pages calls (Running (Evaluating a) (right_side from to a peek (Thin object offset) k) e w)) (sym (goes choice))
       (right_begins from to a peek object offset k e w (advanced (with_slots c after)) s shared
-      (data_above shared.tables source g w.objects e.locals (callers k) c.active.slots after c.globals c.frames free 1 (height-least base (held k)) (λ m out. put_elsewhere c.active.slots free word 1 m (omega arith) out) facts)
+      (data_written source shared.tables g w.objects e.locals k c.active.slots after c.active.handlers c.globals c.frames free 1 (height-least base (held k)) (λ m out. put_elsewhere c.active.slots free word 1 m (omega arith) out) facts)
       (Holds-same shared.tables c.active.slots after base (held k) (λ m below. put_elsewhere c.active.slots free word 1 m (omega arith) (inl below)) holds)
       (subst (Points shared.tables object offset) (sym (put-same c.active.slots free word)) points) end behind))
 
