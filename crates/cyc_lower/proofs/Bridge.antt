@@ -771,7 +771,6 @@ module _ (code : List Instruction) (b : Numbering) (types : Types) (raised : Blo
           subst (λ n. At code n (instructions.Jump q)) out_is (subst (λ n. At code out (instructions.Jump n)) end_is jump),
           subst (λ n. ClausesAt code b types cs n exits t (n + 1) q) out_is (clauses_stand cs in_loop out exits t (out + 1) q (omega arith) numbered end_is has_clauses),
         )
-    statement_stands s in_loop exits d p q numbered end has = absurd numbered
 
     items_stand : (js : Items) (in_loop : Bool) (exits : Exits) (d p q : ℕ) → FitItems b types in_loop js → p + length (items_code (starts_of types) js p exits d) ≡ q → HasAt code p (items_code (starts_of types) js p exits d) → ItemsAt code b types js exits d p q
     items_stand NoItems in_loop exits d p q numbered end has = omega (arith, end)

@@ -129,7 +129,6 @@ module _ (b : Numbering) (types : Types) where
     FitsStatement l Continue = l ≡ true
     FitsStatement l (Throw tag v) = IsWord tag × FitsThrown v
     FitsStatement l (Try s cs) = FitsStatement l s × FitClauses l cs
-    FitsStatement l s = ⊥
 
     pub FitItems : Bool → Items → Type 0
     FitItems l NoItems = Unit {0}
@@ -541,7 +540,6 @@ module _ (b : Numbering) (types : Types) where
     fits_statement Continue l c suits numbered well = numbered
     fits_statement (Throw tag v) l c suits (word, numbered) (has, known, well) = (word, fits_thrown v has c suits numbered well)
     fits_statement (Try s cs) l c suits (numbered_s, numbered) (well_s, well) = (fits_statement s l c suits numbered_s well_s, fit_clauses cs l (behind c s) (suits_behind s c suits) numbered well)
-    fits_statement s l c suits numbered well = absurd numbered
 
     fit_items : (js : Items) (l : Bool) (c : Context) → Suits c → AreLowerableItems b l js → WellTypedItems c js → FitItems b types l js
     fit_items NoItems l c suits numbered well = tt

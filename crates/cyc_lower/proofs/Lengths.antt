@@ -269,6 +269,7 @@ module _ (starts : Starts) (raises : ℕ) where
   mutual
     statement_long : (s : Statement) (p q head : ℕ) (exits : Exits) (t : ℕ) → length (statement_code starts s p exits t) ≡ length (statement_code other s q (record exits { head = head }) t)
     statement_long (Block r js) p q head exits t = items_long js p q head exits t
+    statement_long Empty p q head exits t = refl
     statement_long (Evaluate a) p q head exits t = discarded_long a p q t
     statement_long (If a s u) p q head exits t =
         let others = record exits { head = head } in
@@ -302,7 +303,6 @@ module _ (starts : Starts) (raises : ℕ) where
         try_long (a ++ close) (clauses_code starts cs (out + 1) out exits t) (x ++ close) (clauses_code other cs (aim + 1) aim (record exits { head = head }) t) t p q
         (joined a close x close (statement_long s (p + 1) (q + 1) head exits (t + RECORD_WORDS)) refl) (clauses_long cs (out + 1) (aim + 1) out aim head exits t)
     statement_long (Swap x y) p q head exits t = swap_long x y p q t
-    statement_long s p q head exits t = refl
 
     items_long : (js : Items) (p q head : ℕ) (exits : Exits) (t : ℕ) → length (items_code starts js p exits t) ≡ length (items_code other js q (record exits { head = head }) t)
     items_long NoItems p q head exits t = refl

@@ -149,10 +149,10 @@ module _ (source : Program) (pages calls : ℕ) where
       stores_to from to a peek object offset k e w c s shared facts holds (brought source shared.tables object offset more o (top source c.active.function k) s c small points address)
       (x, u, at_a, store, single, hands)
   given_place (Thin object offset) (NeedsPlace (SwapLeft kind peek right) ∷ k) e w c well (shared, facts, (o, more, small, points, holds, (exits, x, m, r, q, single, has, waits, address, at_right, exchange, stack))) =
-      left_found source pages calls object offset kind peek right k e w c well shared facts (brought source shared.tables object offset more o (base_of source c.active.function) m c small points address)
+      left_found source pages calls object offset kind peek right k e w c well shared facts (brought source shared.tables object offset more o (floor source c.active.function k) m c small points address)
       (exits, x, r, q, single, has, waits, at_right, exchange, stack)
   given_place (Thin object offset) (NeedsPlace (SwapRight kind peek left) ∷ k) e w c well (shared, facts, (o, more, small, points, holds, (exits, a, y, m, q, single, has, is_left, address, exchange, stack))) =
-      right_found source pages calls object offset kind peek left a k e w c shared facts holds (brought source shared.tables object offset more o (right_slot a (base_of source c.active.function)) m c small points address)
+      right_found source pages calls object offset kind peek left a k e w c shared facts holds (brought source shared.tables object offset more o (right_slot a (floor source c.active.function k)) m c small points address)
       is_left (exits, y, q, single, has, exchange, stack)
   given_place (Thin object offset) k e w c well (shared, facts, (o, more, small, points, holds, place)) = absurd place
   given_place place k e w c well (shared, facts, at) = absurd at

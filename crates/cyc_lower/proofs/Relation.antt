@@ -503,12 +503,12 @@ module _ (source : Program) where
         (λ d r. Lands (base_of g) (top g k) d (words_of_kind to) (ValueStack g locals to (operands.Slot d) r frames k) (AheadStack g locals to d r frames k))
     PlaceStack g locals o c p frames (NeedsPlace (SwapLeft kind peek right) ∷ k) =
         (exits : Exits) × (x : Dereference) × (m : ℕ) × (r : ℕ) × (q : ℕ) × (words_of_kind kind ≡ 1) × HasSide (code_of g) (bounds_at g) (types_at g) right kind
-        × (waits_for peek right ≡ true) × AddressAt (code_of g) o c (base_of g) p m × SideAt (code_of g) (bounds_at g) (types_at g) right (base_of g + 1) m r
-        × ExchangeAt (code_of g) (bounds_at g) (types_at g) (CellSide x) right (base_of g) r q × StatementStack g exits q frames k
+        × (waits_for peek right ≡ true) × AddressAt (code_of g) o c (floor g k) p m × SideAt (code_of g) (bounds_at g) (types_at g) right (floor g k + 1) m r
+        × ExchangeAt (code_of g) (bounds_at g) (types_at g) (CellSide x) right (floor g k) r q × StatementStack g exits q frames k
     PlaceStack g locals o c p frames (NeedsPlace (SwapRight kind peek left) ∷ k) =
         (exits : Exits) × (a : Side) × (y : Dereference) × (m : ℕ) × (q : ℕ) × (words_of_kind kind ≡ 1) × HasSide (code_of g) (bounds_at g) (types_at g) a kind
-        × IsLeft locals peek a left × AddressAt (code_of g) o c (right_slot a (base_of g)) p m
-        × ExchangeAt (code_of g) (bounds_at g) (types_at g) a (CellSide y) (base_of g) m q × StatementStack g exits q frames k
+        × IsLeft locals peek a left × AddressAt (code_of g) o c (right_slot a (floor g k)) p m
+        × ExchangeAt (code_of g) (bounds_at g) (types_at g) a (CellSide y) (floor g k) m q × StatementStack g exits q frames k
     PlaceStack g locals o c p frames k = ⊥
 
     -- the same for a condition, which fails where this comparison holds

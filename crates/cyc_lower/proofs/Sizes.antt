@@ -543,7 +543,6 @@ module _ (starts : Starts) where
           statement_size s (p + 1) exits (t + RECORD_WORDS),
           clauses_size cs (out + 1) out exits t,
         )
-    statement_size s p exits d = omega arith
 
     items_size : (js : Items) (p : ℕ) (exits : Exits) (d : ℕ) → code_size (items_code starts js p exits d) ≤ size_per_weight * items_weight js
     items_size NoItems p exits d = omega arith

@@ -377,7 +377,6 @@ module _ (code : List Instruction) (bounds : Numbering) (types : Types) where
     StatementAt (Try s cs) exits t p q =
         (m : ℕ) × At code p (instructions.Try t (m + 1 + 1)) × StatementAt s exits (t + RECORD_WORDS) (p + 1) m × At code m (instructions.Leave t)
         × At code (m + 1) (instructions.Jump q) × ClausesAt cs (m + 1) exits t (m + 1 + 1) q
-    StatementAt s exits t p q = ⊥
 
     pub ItemsAt : Items → Exits → (t p q : ℕ) → Type 0
     ItemsAt NoItems exits t p q = p ≡ q

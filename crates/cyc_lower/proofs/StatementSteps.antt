@@ -118,7 +118,6 @@ module _ (source : Program) (pages calls : ℕ) where
   executing (typed.Throw tag None) k e w c well related = throws_none source pages calls tag k e w c well related
   executing (typed.Throw tag (Some a)) k e w c well related = throws_some source pages calls tag a k e w c well related
   executing (typed.Try s handler) k e w c well related = begins source pages calls s handler k e w c well related
-  executing s k e w c well (shared, facts, (exits, q, at, stack)) = absurd at
 
   -- ---- the end of a call
 

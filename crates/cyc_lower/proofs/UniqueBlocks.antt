@@ -35,7 +35,7 @@ use Rattle.cyc_objects.proofs.Services.{refusal-free, freed-unique}
 use Rattle.cyc_lower.specs.Lowering.{lower_program}
 use Rattle.cyc_lower.proofs.Stands.{FreedAt}
 use Rattle.cyc_lower.proofs.Relation.{IsIn, content_of, callers, in_temporary, in_local, behind_call, behind_wrong, ProceedingAt, DataIn, SharedAt, LandsStack, ValueStack, Matches, code_of, bounds_at, types_at}
-use Rattle.cyc_lower.proofs.Data.{in_words, get_set_other, null_is, points_in}
+use Rattle.cyc_lower.proofs.Data.{calls_counted, in_words, get_set_other, null_is, points_in}
 use Rattle.cyc_lower.proofs.Accesses.{IsWell, is_fitting}
 use Rattle.cyc_lower.proofs.CellWrites.{SameVariables, data_beside}
 use Rattle.cyc_lower.proofs.Matched.{IsMatched, by_places, by_one, executes, shared_way, shared_within, place_in, known, apart, Executes}
@@ -120,7 +120,7 @@ module _ (source : Program) (pages calls : ℕ) where
   proceeds : (t : Tables) (d : ℕ) (k : List Entry) (e : Environment) (w : World) (c : Configuration) → DataIn source t c.active.slots k e w c
       → LandsStack source c.active.function e.locals kinds.Int d c.active.next c.frames k → ProceedingAt source t k e w c
   proceeds t d k e w c facts (in_temporary least stack) = behind_call kinds.Int (operands.Slot d) facts stack
-  proceeds t d k e w c facts (in_local below stack) = behind_wrong kinds.Int d stack
+  proceeds t d k e w c facts (in_local below stack) = behind_wrong kinds.Int d (calls_counted source c.active.function c.active.slots c.active.handlers c.frames k facts.1) stack
 
   module _ (k : List Entry) (e : Environment) (w : World) (c : Configuration) (shared : SharedAt source pages calls k e w c) (facts : DataIn source shared.tables c.active.slots k e w c)
       (number word : ℕ) (x : Object) (ks : List Kind) (there : slice_get w.objects number ≡ Some x) (owned : x.owner ≡ Unique true) (row : slice_get shared.tables.rows number ≡ Some (Placed word ks))
@@ -147,7 +147,7 @@ module _ (source : Program) (pages calls : ℕ) where
     pub data_freed : DataIn source shared.tables c.active.slots k e (freed w number x) after
     data_freed =
         let many : length (set w.objects number gone) ≡ length w.objects = length-set w.objects number gone in
-        data_beside shared.tables source c.active.function w.objects (set w.objects number gone) e.locals (callers k) c.active.slots c.globals c.frames (omega (arith, many)) beside facts
+        (data_beside shared.tables source c.active.function w.objects (set w.objects number gone) e.locals (callers k) c.active.slots c.globals c.frames (omega (arith, many)) beside facts.0, facts.1)
       where
         beside : SameVariables shared.tables w.objects (set w.objects number gone)
         beside o variable = ap content_of (get_set_other w.objects number o gone (λ same. not-placed (sym (ap (slice_get shared.tables.rows) same) ∙ variable) row))

@@ -943,7 +943,6 @@ module _ (program : PlainProgram) (r : Routine) (b : Numbering) (types : Types) 
               (append body close (statement_in s in_loop (p + 1) exits (t + RECORD_WORDS) numbered_s around (exits_inside exits t outside room) (omega (arith, few)) (omega (arith, short, long, long_body))) (room, tt))
               (omega (arith, short, long), clauses_in cs in_loop (out + 1) out exits t numbered around outside (omega (arith, few)) (omega (arith, short, long)) (omega (arith, short, long))),
         )
-    statement_in s in_loop p exits t numbered around outside few short = absurd numbered
 
     items_in : (js : Items) (in_loop : Bool) (p : ℕ) (exits : Exits) (t : ℕ) → FitItems b types in_loop js → (in_loop ≡ true → exits.head + 2 < length r.code) → HasExits exits t → t + kept_by_items js + items_need js + spare_slots ≤ r.slots → p + length (items_code (starts_of types) js p exits t) < length r.code → AreIn (items_code (starts_of types) js p exits t)
     items_in NoItems in_loop p exits t numbered around outside few short = tt

@@ -443,12 +443,12 @@ module _ (starts : Starts) where
   side_words (VariableSide l ty) p t words = tt
   side_words (CellSide x) p t words = address_of_words x p t t words
 
-  read_words : (a : Side) (s d : ℕ) → HasWord (read_side starts a s d)
+  read_words : (a : Side) (s d : ℕ) → IsMade (read_side starts a s d)
   read_words (VariableSide (Local w n) ty) s d = tt
   read_words (VariableSide (Global n) ty) s d = tt
   read_words (CellSide x) s d = (tt, omega arith)
 
-  write_words : (a : Side) (s v : ℕ) → HasWord (write_side starts a s v)
+  write_words : (a : Side) (s v : ℕ) → IsMade (write_side starts a s v)
   write_words (VariableSide (Local w n) ty) s v = tt
   write_words (VariableSide (Global n) ty) s v = tt
   write_words (CellSide x) s v = (tt, omega arith, tt)
@@ -501,7 +501,6 @@ module _ (starts : Starts) where
         let close = instructions.Leave t ∷ [] in
         let out = p + 1 + length (body ++ close) in
         (tt, append (body ++ close) (_ ∷ clauses_code starts cs (out + 1) out exits t) (append body close (statement_words s (p + 1) exits (t + RECORD_WORDS) first) (tt, tt)) (tt, clauses_words cs (out + 1) out exits t rest))
-    statement_words s p exits t words = absurd words
 
     items_words : (js : Items) (p : ℕ) (exits : Exits) (t : ℕ) → AreOfWordsItems js → HaveWords (items_code starts js p exits t)
     items_words NoItems p exits t words = tt

@@ -131,7 +131,6 @@ abbrev mutual
   IsLowerableStatement b l Continue = l ≡ true
   IsLowerableStatement b l (Throw tag v) = IsWord tag × IsLowerableThrown b v
   IsLowerableStatement b l (Try s cs) = IsLowerableStatement b l s × AreLowerableClauses b l cs
-  IsLowerableStatement b l s = ⊥
 
   pub AreLowerableItems : Numbering → Bool → Items → Type 0
   AreLowerableItems b l NoItems = Unit {0}

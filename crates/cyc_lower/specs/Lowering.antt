@@ -706,7 +706,6 @@ module _ (starts : Starts) where
         (clauses_code cs (p + 1 + length (statement_code s (p + 1) exits (t + RECORD_WORDS) ++ instructions.Leave t ∷ []) + 1)
         (p + 1 + length (statement_code s (p + 1) exits (t + RECORD_WORDS) ++ instructions.Leave t ∷ [])) exits t)
         p
-    statement_code s p exits t = []
 
     pub items_code : Items → (p : ℕ) → Exits → (t : ℕ) → List Instruction
     items_code NoItems p exits t = []

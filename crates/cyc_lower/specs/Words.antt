@@ -75,7 +75,6 @@ abbrev mutual
   IsOfWordsStatement Continue = Unit {0}
   IsOfWordsStatement (Throw tag v) = IsOfWordsThrown v
   IsOfWordsStatement (Try s cs) = IsOfWordsStatement s × AreOfWordsClauses cs
-  IsOfWordsStatement s = ⊥
 
   pub AreOfWordsItems : Items → Type 0
   AreOfWordsItems NoItems = Unit {0}
