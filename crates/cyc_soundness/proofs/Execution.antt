@@ -28,7 +28,7 @@ use Rattle.cyc_meaning.specs.Nesting.{ends_of, IsNested}
 use Rattle.cyc_meaning.specs.Step.{step_executing, returns, continues_with}
 use Rattle.cyc_soundness.specs.Lives.{Life, Value, Reading, AsHeap, ByScope}
 use Rattle.cyc_soundness.specs.Worlds.{IsNumber, Typing, IsTyped}
-use Rattle.cyc_soundness.specs.Frames.{IsAmong, InScope, Names, Home, life_named, lives_in, read, read_value, IsBound, AreVariables, LiveIn, Within, itself, older, IsSet, Holds, Implies, LoopExit, Exits, loop_of, around, lending, AreBreaks, is_loop, AreLent, IsContext, KnowsProgram}
+use Rattle.cyc_soundness.specs.Frames.{IsAmong, InScope, Names, Home, life_named, lives_in, read, read_value, IsBound, AreVariables, LiveIn, Within, itself, older, IsSet, Holds, Implies, LoopExit, Exits, loop_of, around, lending, relying, AreBreaks, is_loop, AreLent, IsContext, KnowsProgram}
 use Rattle.cyc_soundness.specs.Classes.{HasScopes, IsDeclarable, InStatement, InItems, InValue, InThrown, Source}
 use Rattle.cyc_soundness.specs.Stacks.{Evaluates, Executes, Continues, Catches, IsLoop, Val, Go, IsReturn, IsStack, IsFocus, IsWell}
 use Rattle.cyc_soundness.specs.Stacks as stacks
@@ -41,6 +41,7 @@ use Rattle.cyc_soundness.proofs.WorldLemmas.{opened_typed}
 use Rattle.cyc_soundness.proofs.Cells.{running}
 use Rattle.cyc_soundness.proofs.Evaluation.{from_local}
 use Rattle.cyc_soundness.proofs.Loans.{among_added, type_known, keys_on}
+use Rattle.cyc_soundness.proofs.Touched.{relied_body}
 use Rattle.cyc_soundness.proofs.Supply.{declares_blank}
 use Rattle.cyc_soundness.proofs.Swapping.{kept_both, swap_on}
 use Rattle.cyc_types.specs.flow.Touched.{touched_statement}
@@ -59,6 +60,24 @@ context_behind p x bs c locals regions stands = record {
   below = below_more c.next_local (c.next_local + locals) bs (let le : c.next_local ≤ c.next_local + locals = omega arith in le) stands.below;
   counters = stands.counters;
   known = known_behind p.reading c.next_region (c.next_region + regions) c.regions c.locals c.result (let le : c.next_region ≤ c.next_region + regions = omega arith in le) stands.known;
+  regions = stands.regions;
+  home = stands.home;
+  lent = stands.lent;
+}
+
+-- in the body of a `try`
+context_relying : (p : Source) (x : Exits) (bs : List InScope) (c : Context) (f : flow.State) → IsContext p x bs c → IsContext p (relying x f) bs c
+context_relying p x bs c f stands = record {
+  globals = stands.globals;
+  functions = stands.functions;
+  structs = stands.structs;
+  result = stands.result;
+  gives = stands.gives;
+  loop = stands.loop;
+  scope = stands.scope;
+  below = stands.below;
+  counters = stands.counters;
+  known = stands.known;
   regions = stands.regions;
   home = stands.home;
   lent = stands.lent;
@@ -97,7 +116,7 @@ module _ (p : Source) (g : Typing) (x : Exits) (bs : List InScope) (e : Environm
   return_none (Some t) c is = absurd is
 
   return_on : (a : Expression) (from to : Kind) (k : List Entry) (c : Context) (f h : flow.State) (o : Option Ty) → LiveIn k bs → IsContext p x bs c → Holds g f bs → o ≡ x.result → o ≡ c.result
-      → IsReturned c o (Some (Convert from to a)) → Derives (statements.rule_value (Some (Convert from to a)) f) h → InValue p.reading (Some (Convert from to a)) → IsStack p g x bs (Go Unreached) k
+      → IsReturned c o (Some (Convert from to a)) → Derives (statements.rule_value (Some (Convert from to a)) f) h → InValue p.reading x.relied (Some (Convert from to a)) → IsStack p g x bs (Go Unreached) k
       → IsWell p (returns (Some (Convert from to a)) k e w)
   return_on a from to k c f h None live stands holds result same is flows kept stack = absurd is
   return_on a from to k c f h (Some t) live stands holds result same (s, well, conv, from_is, to_is) flows kept stack =
@@ -128,7 +147,7 @@ module _ (p : Source) (g : Typing) (x : Exits) (bs : List InScope) (e : Environm
       on Continuing k live (l, h, same, holds_implied g left l.head bs (at_least_implies left l.head kept.0) (lent_holds g e x.locks f bs bound variables lent holds), stack)
 
   thrown : (has : Bool) (tag : ℕ) (a : Expression) (k : List Entry) (c : Context) (f h i : flow.State) → LiveIn k bs → IsContext p x bs c → Holds g f bs → IsThrown c has (Some a)
-      → Derives (statements.rule_thrown (Some a) f) h → InThrown p.reading (Some a) → IsStack p g x bs (Go i) k → IsWell p (throws tag (Some a) k e w)
+      → Derives (statements.rule_thrown (Some a) f) h → InThrown p.reading x.relied (Some a) → IsStack p g x bs (Go i) k → IsWell p (throws tag (Some a) k e w)
   thrown true tag a k c f h i live stands holds well flows kept stack =
       on (Evaluating a) (Needs (ThrowWith tag) ∷ k) live (
         c,
@@ -158,7 +177,7 @@ module _ (p : Source) (g : Typing) (x : Exits) (bs : List InScope) (e : Environm
   -- ---- statements
 
   pub execute : (s : Statement) (k : List Entry) (c : Context) (f h before behind' : flow.State) → LiveIn k bs → IsContext p x bs c → Holds g f bs → WellTypedStatement c s
-      → Derives (rule_statement (around x) s (record { now = f; breaks = before })) (record { now = h; breaks = behind' }) → AreBreaks x.loop behind' → InStatement p.reading c.next_region s → IsStack p g x bs (Go h) k
+      → Derives (rule_statement (around x) s (record { now = f; breaks = before })) (record { now = h; breaks = behind' }) → AreBreaks x.loop behind' → InStatement p.reading x.relied c.next_region s → IsStack p g x bs (Go h) k
       → IsWell p (step_executing s k e w)
   execute (Block r js) k c f h before behind' live stands holds (number, well) (l, d, (u, known)) are kept stack =
       let now : h ≡ with_each Full (locks_of js) l.now = ap (λ (z : Known). z.now) known in
@@ -235,7 +254,7 @@ module _ (p : Source) (g : Typing) (x : Exits) (bs : List InScope) (e : Environm
   execute (While place a s) k c f h before behind' live stands holds ((v, well, tested), ws) (f1, d, (l, ds, (demands, known))) are (ka, ks) stack =
       let now : h ≡ meet f1 l.breaks = ap (λ (z : Known). z.now) known in
       let exit : LoopExit = record { place = place; head = f; breaks = l.breaks } in
-      let first : Evaluates p.reading c a f v f1 = record { waiting = []; typed = well; flows = d; kept = ka } in
+      let first : Evaluates p.reading x.relied c a f v f1 = record { waiting = []; typed = well; flows = d; kept = ka } in
       let loop : IsLoop p x bs exit a s v f1 h = record {
         context = c;
         now = l.now;
@@ -259,19 +278,22 @@ module _ (p : Source) (g : Typing) (x : Exits) (bs : List InScope) (e : Environm
   execute (Throw tag (Some a)) k c f h before behind' live stands holds (has, is, well) (f1, d, (u, known)) are kept stack = thrown has tag a k c f f1 h live stands holds well d kept stack
   execute (Try s cs) k c f h before behind' live stands holds (ws, wcs) (l, ds, dcs) are (ks, kcs) stack =
       let sooner : AreBreaks x.loop l.breaks = breaks_before x.loop l.breaks behind' (breaks_clauses (around x) (caught f s) cs l (record { now = h; breaks = behind' }) dcs) are in
-      let one : Executes p.reading x c s f l.now = record { before = before; behind = l.breaks; typed = ws; flows = ds; breaks = sooner; kept = ks } in
+      let y : Exits = relying x (caught f s) in
+      let one : Executes p.reading y c s f l.now = record { before = before; behind = l.breaks; typed = ws; flows = ds; breaks = sooner; kept = relied_body p.reading x.relied c.next_region s f ks } in
       let catches : Catches p.reading x (behind c s) (caught f s) cs l.now h = record { before = l.breaks; behind = behind'; typed = wcs; flows = dcs; breaks = are; kept = kcs } in
-      on (Executing s) (Handler cs ∷ k) live (
+      running p g y bs e w typed' globals bound variables (Executing s) (Handler cs ∷ k) live (
         c,
         f,
         l.now,
-        stands,
+        context_relying p x bs c (caught f s) stands,
         holds,
         one,
         (
+          x,
           behind c s,
           caught f s,
           h,
+          refl,
           context_after p x bs c s stands,
           holds_implied g f (caught f s) bs (emptied_implied (touched_statement s []) f) holds,
           catches,
@@ -284,7 +306,7 @@ module _ (p : Source) (g : Typing) (x : Exits) (bs : List InScope) (e : Environm
 
   -- what is left of a block behind an item that lends this
   lent_rest : (lent : ℕ) (js : Items) (c : Context) (f h before behind' ending : flow.State) (locked : List ℕ) → WellTypedItems c js
-      → Derives (rule_items (around (lending x lent)) js (record { now = f; breaks = before })) (record { now = ending; breaks = behind' }) → AreBreaks x.loop behind' → InItems p.reading c.next_region js
+      → Derives (rule_items (around (lending x lent)) js (record { now = f; breaks = before })) (record { now = ending; breaks = behind' }) → AreBreaks x.loop behind' → InItems p.reading x.relied c.next_region js
       → ((n : ℕ) → IsAmong n locked → IsAmong n x.locks) → Implies (with_each Full (locked ++ lent ∷ locks_of js) ending) h → Continues p.reading (lending x lent) c js f h
   lent_rest lent js c f h before behind' ending locked well flows are kept among ends = record {
     before = before;
@@ -300,7 +322,7 @@ module _ (p : Source) (g : Typing) (x : Exits) (bs : List InScope) (e : Environm
   }
 
   pub continue_with : (js : Items) (k : List Entry) (cs : List InScope) (c : Context) (f h before behind' ending : flow.State) (locked : List ℕ) → IsNested k e w → LiveIn k bs → Within cs bs → IsContext p x bs c → Holds g f bs
-      → WellTypedItems c js → Derives (rule_items (around x) js (record { now = f; breaks = before })) (record { now = ending; breaks = behind' }) → AreBreaks x.loop behind' → InItems p.reading c.next_region js
+      → WellTypedItems c js → Derives (rule_items (around x) js (record { now = f; breaks = before })) (record { now = ending; breaks = behind' }) → AreBreaks x.loop behind' → InItems p.reading x.relied c.next_region js
       → ((n : ℕ) → IsAmong n locked → IsAmong n x.locks) → Implies (with_each Full (locked ++ locks_of js) ending) h
       → IsStack p g x cs (Go h) k → IsWell p (continues_with js k e w)
   continue_with NoItems k cs c f h before behind' ending locked nests live within stands holds well (u, known) are kept among ends stack =
@@ -375,7 +397,7 @@ module _ (p : Source) (g : Typing) (x : Exits) (bs : List InScope) (e : Environm
         rest,
         (h, implies_self h, within_live k cs bs within live, stack),
       )
-  continue_with (MoreItems (OpenRegion r n place key) js) k cs c f h before behind' ending locked nests live within stands holds (((home, has), there), (number, variable, alive), wjs) (l, (f1, (demands, known1), (u, known2)), djs) are (loans, kjs) among ends stack =
+  continue_with (MoreItems (OpenRegion r n place key) js) k cs c f h before behind' ending locked nests live within stands holds (((home, has), there), (number, variable, alive), wjs) (l, (f1, (demands, known1), (u, known2)), djs) are (loans, spared, kjs) among ends stack =
       let t : Ty = types.Key (regions.Variable r) in
       let now : l ≡ record { now = with_fullness Full (with_fullness Locked f key) n; breaks = before } = known2 ∙ ap (λ z. record { now = z; breaks = before }) known1 in
       let (b, bound_among, number_of, of_type) = bound_of p.reading (lives_in bs) c.locals bs key t home stands.scope has in
@@ -390,7 +412,7 @@ module _ (p : Source) (g : Typing) (x : Exits) (bs : List InScope) (e : Environm
         tt,
         stack,
       )
-  continue_with (MoreItems (DeclareAlias r n t place source) js) k cs c f h before behind' ending locked nests live within stands holds ((region, less), (v, ((home, has), there), unique, of_type), (number, variable, alive), wjs) (l, (f1, (demands, known1), (u, known2)), djs) are (loans, kjs) among ends stack =
+  continue_with (MoreItems (DeclareAlias r n t place source) js) k cs c f h before behind' ending locked nests live within stands holds ((region, less), (v, ((home, has), there), unique, of_type), (number, variable, alive), wjs) (l, (f1, (demands, known1), (u, known2)), djs) are (loans, spared, kjs) among ends stack =
       let now : l ≡ record { now = with_fullness Full (with_fullness Locked f source) n; breaks = before } = known2 ∙ ap (λ z. record { now = z; breaks = before }) known1 in
       let (b, bound_among, number_of, of_bound) = bound_of p.reading (lives_in bs) c.locals bs source v home stands.scope has in
       let set : IsSet f source = not_vacant (is_vacant (flow.fullness f source)) demands.0 in

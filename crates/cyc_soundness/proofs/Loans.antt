@@ -36,11 +36,11 @@ use Rattle.cyc_soundness.proofs.Cells.{running}
 
 -- ---- lists
 
-before_last : (n m : ℕ) (ks : List ℕ) → IsAmong n ks → IsAmong n (ks ++ m ∷ [])
+pub before_last : (n m : ℕ) (ks : List ℕ) → IsAmong n ks → IsAmong n (ks ++ m ∷ [])
 before_last n m ks (first js) = first (js ++ m ∷ [])
 before_last n m ks (later k js among) = later k (js ++ m ∷ []) (before_last n m js among)
 
-at_last : (n m : ℕ) (ks : List ℕ) → n ≡ m → IsAmong n (ks ++ m ∷ [])
+pub at_last : (n m : ℕ) (ks : List ℕ) → n ≡ m → IsAmong n (ks ++ m ∷ [])
 at_last n m [] same = subst (λ i. IsAmong i (m ∷ [])) (sym same) (first [])
 at_last n m (k ∷ ks) same = later k (ks ++ m ∷ []) (at_last n m ks same)
 

@@ -19,7 +19,7 @@ use Rattle.cyc_soundness.specs.Lives.{Life, OfRegion, OfObject, Never, Kept, hea
 use Rattle.cyc_soundness.specs.Lives as lives
 use Rattle.cyc_soundness.specs.Worlds.{ObjectType, Typing, IsKnownLife, IsTyped, IsFull, variable_type, IsEndOf, whole, behind, Outlasts, alike, heap as for_ever, globals as with_globals, stays, encloses, IsOpenLife, Grows}
 use Rattle.cyc_soundness.specs.Frames.{IsAmong, first, later, Bound, InScope, Variable, Level, Home, Lent, lives_in, read, home_of, IsHomed, IsScope, AreBelow, IsBound, AreVariables, IsLasting, AreLiveIn, home_in, LiveIn, IsInner, Within, itself, older, IsSet, AreSet, Holds, Exits, AreLent}
-use Rattle.cyc_soundness.specs.Classes.{InOperations, Source}
+use Rattle.cyc_soundness.specs.Classes.{Relied, InOperations, Source}
 use Rattle.cyc_soundness.specs.Stacks.{IsAccepted, Want, Nothing, Val, PlaceOf, Go, held, Waits, IsArrayOf, Keeps, IsSpot, of_local, of_global, of_cell, KeepsPlace, AreSwapped, IsStack}
 use Rattle.cyc_soundness.specs.Stacks as stacks
 use Rattle.cyc_soundness.proofs.Numbers.{same_or_other}
@@ -68,8 +68,8 @@ module _ (p : Source) (g h : Typing) (grows : Grows g h) where
   stack_grown x bs (Go f) (CloseRegion region home ∷ k) (cs, number, l, alive, end, same, i, live, rest) = (cs, number, l, alive, end, same, i, live, stack_grown x cs (Go end) k rest)
   stack_grown x bs (Go f) (CloseLexical region ∷ k) (end, i, live, rest) = (end, i, live, stack_grown x bs (Go end) k rest)
   stack_grown x bs (Go f) (EndLoan lent ∷ k) (y, same, rest) = (y, same, stack_grown y bs (Go f) k rest)
-  stack_grown x bs (Go f) (Handler cs ∷ k) (c, start, end, stands, holds, catches, i, rest) =
-      (c, start, end, stands, holds_grown g h grows start bs holds, catches, i, stack_grown x bs (Go end) k rest)
+  stack_grown x bs (Go f) (Handler cs ∷ k) (y, c, start, end, same, stands, holds, catches, i, rest) =
+      (y, c, start, end, same, stands, holds_grown g h grows start bs holds, catches, i, stack_grown y bs (Go end) k rest)
   stack_grown x bs (Go f) (Caller e ∷ k) (y, cs, end, loop, blocked, gives, bound, variables, live, holds, rest) = (
     y,
     cs,
@@ -131,12 +131,12 @@ pointer_right n (fat_there k t r fat) e = null_void e
 pointer_right n (null_is k t r) e = value_void e
 pointer_right n (null_is_not k t r) e = value_void e
 
-void_chain : (m : Reading) (c : Context) (os : Operations) (t : Ty) → IsChain c types.Void os t → InOperations m os → ⊥
-void_chain m c NoOperations t e kept = absurd (let k : types.Void ≡ types.Value t = e in cc)
-void_chain m c (ThenCompute o a os) t (e, well, chain) kept = absurd (let k : types.Void ≡ types.Value types.Int = e in cc)
-void_chain m c (ThenTest o a os) t (e, well, chain) kept = absurd (let k : false ≡ true = e in cc)
-void_chain m c (ThenPointer o a os) t (v, w, well, op, chain) kept = pointer_left op refl
-void_chain m c (ThenPointerPeek n o a os) t (v, w, well, op, chain) kept = pointer_left op refl
+void_chain : (m : Reading) (q : Relied) (c : Context) (os : Operations) (t : Ty) → IsChain c types.Void os t → InOperations m q os → ⊥
+void_chain m q c NoOperations t e kept = absurd (let k : types.Void ≡ types.Value t = e in cc)
+void_chain m q c (ThenCompute o a os) t (e, well, chain) kept = absurd (let k : types.Void ≡ types.Value types.Int = e in cc)
+void_chain m q c (ThenTest o a os) t (e, well, chain) kept = absurd (let k : false ≡ true = e in cc)
+void_chain m q c (ThenPointer o a os) t (v, w, well, op, chain) kept = pointer_left op refl
+void_chain m q c (ThenPointerPeek n o a os) t (v, w, well, op, chain) kept = pointer_left op refl
 
 void_tested : (n : Lives) (v : ValueType) → value_at n v ≡ Void → is_tested v ≡ true → ⊥
 void_tested n v e tested = let k : false ≡ true = subst (λ z. is_tested z ≡ true) (void_read n v e) tested in absurd (cc)
@@ -146,7 +146,7 @@ void_waits {bs = bs} (stacks.converts c v t f agrees conv from to target) e = vo
 void_waits (stacks.negates f) e = value_void e
 void_waits (stacks.complements f) e = value_void e
 void_waits {bs = bs} (stacks.denies v f tested) e = void_tested (lives_in bs) v e tested
-void_waits {p} {bs = bs} (stacks.chains {os} c v t f h stands computes) e = void_chain p.reading c os t (subst (λ z. IsChain c z os t) (void_read (lives_in bs) v e) computes.typed) computes.kept
+void_waits {p} {x} {bs} (stacks.chains {os} c v t f h stands computes) e = void_chain p.reading x.relied c os t (subst (λ z. IsChain c z os t) (void_read (lives_in bs) v e) computes.typed) computes.kept
 void_waits (stacks.applies f) e = value_void e
 void_waits {bs = bs} (stacks.decides v f h tested i) e = void_tested (lives_in bs) v e tested
 void_waits (stacks.stores_local b t f among same) e = value_void e

@@ -214,7 +214,7 @@ module _ (p : Source) (g : Typing) (x : Exits) (bs : List InScope) (e : Environm
 
   -- by a handle
   placed_by : (i : Initial) (v : values.Value) (k : List Entry) (c : Context) (m : PointerKind) (t : Ty) (r : Region) (f h : flow.State) (q : List ℕ) → AreOpen w.regions (ends_of k) → LiveIn k bs → IsContext p x bs c → Holds g f bs
-      → IsThere bs r → IsMade c i m t → Derives (rule_initial q i f) h → InInitial p.reading i → HasType g (lives.Handle (lives_in bs r)) v
+      → IsThere bs r → IsMade c i m t → Derives (rule_initial q i f) h → InInitial p.reading x.relied i → HasType g (lives.Handle (lives_in bs r)) v
       → IsStack p g x bs (Val (Value (lives.Pointer m (read bs t) (lives_in bs r))) h) k → IsWell p (makes_by i v k e w)
   placed_by i (values.Handle region) k c m t r f h q opens live stands holds alive made flows kept has stack =
       makes_on p g x bs e w typed globals bound variables i (InRegion region) k c m t r f h q opens live stands holds alive (owner_is (lives_in bs r) region has) made flows kept stack
@@ -222,7 +222,7 @@ module _ (p : Source) (g : Typing) (x : Exits) (bs : List InScope) (e : Environm
 
   -- the next element of an array has its value, and the counter is out of scope
   filled_on : (object count index level : ℕ) (kind : Kind) (element : Expression) (v : Operand) (k : List Entry) (cs : List InScope) (c : Context) (t : Ty) (r : Region) (f h : flow.State) → bs ≡ Level level ∷ cs
-      → AreOpen w.regions (ends_of k) → LiveIn k bs → IsThere cs r → IsContext p x cs c → Holds g h bs → Repeats p.reading c level kind element t f → Implies h f → index < count
+      → AreOpen w.regions (ends_of k) → LiveIn k bs → IsThere cs r → IsContext p x cs c → Holds g h bs → Repeats p.reading x.relied c level kind element t f → Implies h f → index < count
       → IsArray g (read cs t) (lives_in cs r) object count index → IsResult g (Value (read cs t)) v → IsStack p g x cs (Val (Value (lives.Pointer marks.Fat (read cs t) (lives_in cs r))) f) k
       → IsWell p (fills_element object count index level kind element v k e w)
   filled_on object count index level kind element v k cs c t r f h same opens live alive stands holds repeats back less array is stack =

@@ -72,7 +72,8 @@ module _ (p : Source) (g : Typing) (e : Environment) (w : World) (typed : IsType
         closes Proceeding region home number l alive k cs same nests outer (h, holds_implied g f h cs i (outside_holds f region number l alive cs same holds), stack)
     proceed (CloseLexical region ∷ k) f nests live holds (h, i, outer, stack) = closes_lexical Proceeding region k nests outer (h, holds_implied g f h bs i holds, stack)
     proceed (EndLoan lent ∷ k) f nests live holds (y, same, stack) = running p g y bs e w typed globals bound variables Proceeding k live (f, holds, stack)
-    proceed (Handler cs ∷ k) f nests live holds (c, start, h, stands, known, catches, i, stack) = on Proceeding k live (h, holds_implied g f h bs i holds, stack)
+    proceed (Handler cs ∷ k) f nests live holds (y, c, start, h, same, stands, known, catches, i, stack) =
+        running p g y bs e w typed globals bound variables Proceeding k live (h, holds_implied g f h bs i holds, stack)
     proceed (Caller outer ∷ k) f nests live holds (y, cs, h, loop, blocked, gives, bound', variables', live', holds', stack) = go x.result refl
       where
         go : (o : Option Ty) → x.result ≡ o → IsWell p (Running Proceeding k outer w)
@@ -98,7 +99,8 @@ module _ (p : Source) (g : Typing) (e : Environment) (w : World) (typed : IsType
     breaks (CloseLexical region ∷ k) l f nests live same holds (h, i, outer, stack) = closes_lexical Breaking region k nests outer (l, h, same, holds, stack)
     breaks (EndLoan lent ∷ k) l f nests live same holds (y, lent_is, stack) =
         running p g y bs e w typed globals bound variables Breaking k live (l, f, sym (ap (λ (z : Exits). z.loop) lent_is) ∙ same, holds, stack)
-    breaks (Handler cs ∷ k) l f nests live same holds (c, start, h, stands, known, catches, i, stack) = on Breaking k live (l, h, same, holds, stack)
+    breaks (Handler cs ∷ k) l f nests live same holds (y, c, start, h, relies, stands, known, catches, i, stack) =
+        running p g y bs e w typed globals bound variables Breaking k live (l, h, sym (ap (λ (z : Exits). z.loop) relies) ∙ same, holds, stack)
     breaks (Caller outer ∷ k) l f nests live same holds (y, cs, h, loop, blocked, gives, bound', variables', live', holds', stack) = absurd (never_loop x.loop l loop same)
     breaks (Main ∷ k) l f nests live same holds (loop, int, gives, blocked, stack) = absurd (never_loop x.loop l loop same)
     breaks k l f nests live same holds stack = absurd stack
@@ -117,7 +119,8 @@ module _ (p : Source) (g : Typing) (e : Environment) (w : World) (typed : IsType
     continues (CloseLexical region ∷ k) l f nests live same holds (h, i, outer, stack) = closes_lexical Continuing region k nests outer (l, h, same, holds, stack)
     continues (EndLoan lent ∷ k) l f nests live same holds (y, lent_is, stack) =
         running p g y bs e w typed globals bound variables Continuing k live (l, f, sym (ap (λ (z : Exits). z.loop) lent_is) ∙ same, holds, stack)
-    continues (Handler cs ∷ k) l f nests live same holds (c, start, h, stands, known, catches, i, stack) = on Continuing k live (l, h, same, holds, stack)
+    continues (Handler cs ∷ k) l f nests live same holds (y, c, start, h, relies, stands, known, catches, i, stack) =
+        running p g y bs e w typed globals bound variables Continuing k live (l, h, sym (ap (λ (z : Exits). z.loop) relies) ∙ same, holds, stack)
     continues (Caller outer ∷ k) l f nests live same holds (y, cs, h, loop, blocked, gives, bound', variables', live', holds', stack) = absurd (never_loop x.loop l loop same)
     continues (Main ∷ k) l f nests live same holds (loop, int, gives, blocked, stack) = absurd (never_loop x.loop l loop same)
     continues k l f nests live same holds stack = absurd stack
@@ -143,7 +146,8 @@ module _ (p : Source) (g : Typing) (e : Environment) (w : World) (typed : IsType
     returns_on (CloseLexical region ∷ k) v f nests live is (h, i, outer, stack) = closes_lexical (Returning v) region k nests outer (h, is, stack)
     returns_on (EndLoan lent ∷ k) v f nests live is (y, lent_is, stack) =
         running p g y bs e w typed globals bound variables (Returning v) k live (f, subst (λ (z : Exits). IsReturn g z.result z.gives v) lent_is is, stack)
-    returns_on (Handler cs ∷ k) v f nests live is (c, start, h, stands, known, catches, i, stack) = on (Returning v) k live (h, is, stack)
+    returns_on (Handler cs ∷ k) v f nests live is (y, c, start, h, relies, stands, known, catches, i, stack) =
+        running p g y bs e w typed globals bound variables (Returning v) k live (h, subst (λ (z : Exits). IsReturn g z.result z.gives v) relies is, stack)
     returns_on (Caller outer ∷ k) v f nests live is (y, cs, h, loop, blocked, gives, bound', variables', live', holds', stack) = go x.result v refl is
       where
         go : (o : Option Ty) (v : Option Operand) → x.result ≡ o → IsReturn g o x.gives v → IsWell p (returned v k outer w)
@@ -174,7 +178,8 @@ module _ (p : Source) (g : Typing) (e : Environment) (w : World) (typed : IsType
     throws_on (CloseRegion region home ∷ k) tag value (Go f) nests live (cs, number, l, alive, h, same, i, outer, stack) = closes (Throwing tag value) region home number l alive k cs same nests outer (Go h, stack)
     throws_on (CloseLexical region ∷ k) tag value (Go f) nests live (h, i, outer, stack) = closes_lexical (Throwing tag value) region k nests outer (Go h, stack)
     throws_on (EndLoan lent ∷ k) tag value (Go f) nests live (y, lent_is, stack) = running p g y bs e w typed globals bound variables (Throwing tag value) k live (Go f, stack)
-    throws_on (Handler cs ∷ k) tag value (Go f) nests live (c, start, h, stands, known, catches, i, stack) = on (Catching tag value cs) k live (c, start, f, h, stands, known, catches, stack)
+    throws_on (Handler cs ∷ k) tag value (Go f) nests live (y, c, start, h, relies, stands, known, catches, i, stack) =
+        running p g y bs e w typed globals bound variables (Catching tag value cs) k live (c, start, f, h, stands, known, catches, stack)
     throws_on (Caller outer ∷ k) tag value (Go f) nests live (y, cs, h, loop, blocked, gives, bound', variables', live', holds', stack) =
         running p g y cs outer w typed globals bound' variables' (Throwing tag value) k live' (Val x.gives h, stack)
     throws_on (Main ∷ k) tag value (Go f) nests live (loop, int, gives, blocked, stack) = on (Throwing tag value) k live (Nothing, stack)

@@ -222,7 +222,7 @@ well_start p input accepted well (in_functions, in_globals, in_structs) =
     let w = first_world p.program input in
     let g = globals_typed p.program.structs p.program.globals in
     let bs : List InScope = Instance (λ n. heap_life) (λ n. true) ∷ [] in
-    let x : Exits = record { loop = None; result = h.result; gives = read_value bs (result_type h.result); locks = [] } in
+    let x : Exits = record { loop = None; result = h.result; gives = read_value bs (result_type h.result); locks = []; relied = [] } in
     let objects : IsTyped g w.regions w.objects = record {
       count = mapped_length global_object global_of p.program.globals;
       counts = mapped_length global_object (λ (v : GlobalVariable). 1) p.program.globals;
@@ -244,7 +244,7 @@ well_start p input accepted well (in_functions, in_globals, in_structs) =
       (λ n. heap_life),
       (λ n. true),
       ok,
-      (refl, refl, refl, refl),
+      (refl, refl, refl, refl, refl),
       refl,
       stand_first p.reading (regions_at_call h),
       subst (λ ts. AreOperands g (map (read bs) ts) []) (sym none) tt,

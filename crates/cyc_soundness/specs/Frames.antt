@@ -16,7 +16,7 @@ use Rattle.cyc_meaning.specs.Nesting.{ends_of}
 use Rattle.cyc_soundness.specs.Lives.{Life, OfRegion, Kept, RunTy, RunValue, Void, Lives, at, value_at, heap_life, lives_of, as_heap, Reading, AsHeap, ByScope, AllIn, AllInValue, IsKnown}
 pub use Rattle.cyc_soundness.specs.Worlds.{IsAmong, first, later}
 use Rattle.cyc_soundness.specs.Worlds.{Typing, IsKnownLife, IsFull, variable_type, global_type, IsEndOf, Outlasts, IsNumber}
-use Rattle.cyc_soundness.specs.Classes.{IsDeclarable, Source}
+use Rattle.cyc_soundness.specs.Classes.{Relied, IsDeclarable, Source}
 
 -- a local in scope, with its object and how long this is there
 pub record Bound : Type 0 where
@@ -217,6 +217,8 @@ pub record Exits : Type 0 where
   pub gives : RunValue
   -- the locals that the items around have lent since the loop's body began
   pub locks : List ℕ
+  -- what the clauses around rely on, the innermost first
+  pub relied : Relied
 
 -- where there is no result, nothing is given
 abbrev pub HasResult : Option Ty → RunValue → Type 0
@@ -233,6 +235,10 @@ around x = record { loop = loop_of x.loop; locks = x.locks }
 -- where one more is lent
 abbrev pub lending : Exits → ℕ → Exits
 lending x n = record x { locks = x.locks ++ n ∷ [] }
+
+-- in the body of a `try` whose clauses begin with this known
+abbrev pub relying : Exits → flow.State → Exits
+relying x f = record x { relied = f ∷ x.relied }
 
 -- these locals are lent here
 abbrev pub AreLent : List ℕ → List InScope → Type 0
