@@ -29,14 +29,14 @@ use Rattle.cyc_meaning.specs.Step.{called, values_of, prints, reads, step_callin
 use Rattle.cyc_soundness.specs.Lives.{Life, RunTy, RunValue, Value, Lives, at, value_at, lives_of, Reading, AsHeap, ByScope}
 use Rattle.cyc_soundness.specs.Lives as lives
 use Rattle.cyc_soundness.specs.Worlds.{Typing, IsKnownLife, HasType, AreOperands, IsTyped, Grows}
-use Rattle.cyc_soundness.specs.Frames.{InScope, Variable, Names, Instance, Home, lives_in, read, IsScope, AreBelow, IsBound, AreVariables, IsLasting, LiveIn, Within, itself, older, AreSet, Holds, Implies, Exits, HasResult, loop_of, around, AreBreaks, AreLent, Stand, IsHome, IsContext, KnowsProgram}
+use Rattle.cyc_soundness.specs.Frames.{InScope, Variable, Names, Instance, Home, lives_in, read, IsScope, AreBelow, IsBound, AreVariables, IsLasting, LiveIn, Within, itself, older, AreSet, Holds, Implies, Exits, HasResult, loop_of, around, AreBreaks, Stand, IsHome, IsContext, KnowsProgram}
 use Rattle.cyc_soundness.specs.Classes.{IsDeclarable, InItems, InClauses, Source}
 use Rattle.cyc_soundness.specs.Stacks.{regions_at_call, IsInstance, Continues, Catches, IsAccepted, Val, Go, turned, IsCalled, IsBlocked, AreFull, IsBody, IsStack, IsWell}
 use Rattle.cyc_soundness.proofs.TypeLemmas.{is_kind_same, kind_meant}
 use Rattle.cyc_soundness.proofs.FlowLemmas.{implies_self, implies_after, meet_second, each_full_implies}
 use Rattle.cyc_soundness.proofs.RuleLemmas.{breaks_clauses, clauses_implied}
 use Rattle.cyc_soundness.proofs.WorldLemmas.{type_grown, operands_grown, opened_typed}
-use Rattle.cyc_soundness.proofs.StackLemmas.{AreAccepted, stack_grown, below_more, none_among}
+use Rattle.cyc_soundness.proofs.StackLemmas.{AreAccepted, stack_grown, below_more}
 use Rattle.cyc_soundness.proofs.RegionLemmas.{region_known, opened_known, live_more, there_lasting, opened_life, opened_lasting, stand_opened, new_home, context_inside, other_same, named_function, known_body}
 use Rattle.cyc_soundness.proofs.Cells.{running}
 use Rattle.cyc_soundness.proofs.Objects.{operands_reversed}
@@ -190,12 +190,10 @@ module _ (p : Source) (accepted : AreAccepted p) where
           before = Unreached;
           behind = ok.breaks;
           ending = end;
-          locked = [];
           typed = ok.typed.body;
           flows = flows;
           breaks = subst (λ o. AreBreaks o ok.breaks) (sym loop) tt;
           kept = subst (λ q. InItems p.reading q (suc h.variables) h.body) (sym relied) ok.kept;
-          among = λ n is. none_among is;
           ends = each_full_implies (locks_of h.body) end;
         } in
         let last : number ≤ length h.parameters = omega (arith, count) in
@@ -212,7 +210,6 @@ module _ (p : Source) (accepted : AreAccepted p) where
           known = known_body p.reading p.program h ok.typed;
           regions = stand;
           home = at_home;
-          lent = subst (λ ns. AreLent ns bs) (sym locks) tt;
         } in
         subst (λ z. IsWell p (Running Proceeding (Rest z ∷ k) e w)) (sym body)
         (running p g x bs e w typed globals bound variables Proceeding (Rest h.body ∷ k) live
@@ -266,12 +263,10 @@ module _ (p : Source) (accepted : AreAccepted p) where
           before = before;
           behind = l.breaks;
           ending = l.now;
-          locked = [];
           typed = well;
           flows = flows;
           breaks = are;
           kept = kept;
-          among = λ n is. none_among is;
           ends = implies;
         } in
         running p g x (scope c k) (inside e w) (opened w) (opened_typed g w.regions (new_region Stack ∷ []) w.objects typed) globals (tt, (tt, bound)) (tt, (opened_known g p.reading (length w.regions) (ends_of k), variables)) Proceeding (Rest js ∷ region_end e w ∷ k)
@@ -299,12 +294,10 @@ module _ (p : Source) (accepted : AreAccepted p) where
           before = before;
           behind = l.breaks;
           ending = l.now;
-          locked = [];
           typed = well;
           flows = flows;
           breaks = are;
           kept = kept;
-          among = λ n is. none_among is;
           ends = implies;
         } in
         running p g x (scope c k) (inside e w) (opened w) (opened_typed g w.regions (new_region Stack ∷ []) w.objects typed) globals (tt, (tt, bound)) (tt, (opened_known g p.reading (length w.regions) (ends_of k), variables))

@@ -37,7 +37,7 @@ use Rattle.cyc_soundness.proofs.FlowLemmas.{at_least_implies, holds_implied}
 use Rattle.cyc_soundness.proofs.TypeLemmas.{target_typed, is_kind_same, kind_read}
 use Rattle.cyc_soundness.proofs.WorldLemmas.{life_grown, operands_grown, variables_grown, holds_grown, globals_grown, with_object, object_grows, object_typed, typed_beside, open_region, risen, with_filled}
 use Rattle.cyc_soundness.proofs.StackLemmas.{stack_grown, kept_open, lasting_open}
-use Rattle.cyc_soundness.proofs.RegionLemmas.{lent_more, region_known, agrees_of, there_lasting, mapped_count, fields_mean}
+use Rattle.cyc_soundness.proofs.RegionLemmas.{region_known, agrees_of, there_lasting, mapped_count, fields_mean}
 use Rattle.cyc_soundness.proofs.Cells.{running, part_at, writes}
 
 -- ---- lists of operands
@@ -145,7 +145,6 @@ context_counted p x bs c stands = record {
   known = stands.known;
   regions = stands.regions;
   home = stands.home;
-  lent = lent_more (Level c.counters) bs x.locks stands.lent;
 }
   where
     below : (l n : ℕ) → l < suc n → l ≢ n → l < n

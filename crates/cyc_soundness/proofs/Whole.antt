@@ -86,8 +86,8 @@ module _ (p : Source) (accepted : AreAccepted p) (e : Environment) (w : World) (
       begin_array p g x bs e w objects globals bound variables owner count level kind element k c t r f nests.0 live stands holds alive owned repeats stack
   step_well (Repeating object count index level kind element) k nests live (c, t, r, f, stands, holds, alive, repeats, array, stack) =
       repeat_on p g x bs e w objects globals bound variables object count index level kind element k c t r f nests.0 live stands holds alive repeats array stack
-  step_well Breaking k nests live (l, f, same, holds, stack) = breaks p g e w objects globals x bs bound variables k l f nests live same holds stack
-  step_well Continuing k nests live (l, f, same, holds, stack) = continues p g e w objects globals x bs bound variables k l f nests live same holds stack
+  step_well Breaking k nests live (l, f, h, same, holds, left, stack) = breaks p g e w objects globals x bs bound variables k l f h nests live same holds left stack
+  step_well Continuing k nests live (l, f, h, same, holds, left, stack) = continues p g e w objects globals x bs bound variables k l f h nests live same holds left stack
   step_well (Returning v) k nests live (f, is, stack) = returns_on p g e w objects globals x bs bound variables k v f nests live is stack
   step_well (Throwing tag value) k nests live (want, stack) = throws_on p g e w objects globals x bs bound variables k tag value want nests live stack
   step_well (Catching tag value cs) k nests live (c, start', f, h, stands, holds, catches, stack) =

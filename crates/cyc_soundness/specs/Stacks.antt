@@ -36,7 +36,7 @@ use Rattle.cyc_soundness.specs.Lives.{Life, RunTy, RunValue, Value, at, value_at
 use Rattle.cyc_soundness.specs.Lives as lives
 use Rattle.cyc_soundness.specs.Worlds.{ObjectType, Typing, AgreesWith, IsFilled, IsFull, HasType, IsResult, AreOperands, IsOwner, IsTyped}
 use Rattle.cyc_soundness.specs.Classes.{Relied, HasLoans, InExpression, InPlace, InSide, InInitial, InArguments, InOperations, InStatement, InItems, InClauses, IsDeclarable, Source}
-use Rattle.cyc_soundness.specs.Frames.{IsAmong, Bound, InScope, Variable, Level, Names, Instance, Home, life_named, lives_in, read, read_value, IsThere, IsScope, AreBelow, IsBound, AreVariables, LiveIn, Within, IsSet, Holds, Implies, LoopExit, Exits, HasResult, around, lending, relying, AreBreaks, is_loop, Stand, IsHome, IsContext, lives_among, KnowsProgram}
+use Rattle.cyc_soundness.specs.Frames.{IsAmong, Bound, InScope, Variable, Level, Names, Instance, Home, life_named, lives_in, read, read_value, IsThere, IsScope, AreBelow, IsBound, AreVariables, LiveIn, Within, IsSet, Holds, Implies, LoopExit, Exits, HasResult, around, lending, relying, AreFullAt, AreBreaks, is_loop, Stand, IsHome, IsContext, lives_among, KnowsProgram}
 
 -- ---- trees, with what is known before and behind them
 
@@ -90,19 +90,16 @@ pub record Executes (m : Reading) (x : Exits) (c : Context) (s : Statement) (f h
   pub breaks : AreBreaks x.loop behind
   pub kept : InStatement m x.relied c.next_region s
 
--- what is left of a block: at its end, what its items have locked is full again
+-- what is left of a block: at its end, what these items have locked is full again
 pub record Continues (m : Reading) (x : Exits) (c : Context) (js : Items) (f h : flow.State) : Type 0 where
   pub before : flow.State
   pub behind : flow.State
   pub ending : flow.State
-  -- what the items before these have locked
-  pub locked : List ℕ
   pub typed : WellTypedItems c js
   pub flows : Derives (rule_items (around x) js (record { now = f; breaks = before })) (record { now = ending; breaks = behind })
   pub breaks : AreBreaks x.loop behind
   pub kept : InItems m x.relied c.next_region js
-  pub among : (n : ℕ) → IsAmong n locked → IsAmong n x.locks
-  pub ends : Implies (with_each Full (locked ++ locks_of js) ending) h
+  pub ends : Implies (with_each Full (locks_of js) ending) h
 
 -- clauses that begin with this known
 pub record Catches (m : Reading) (x : Exits) (c : Context) (start : flow.State) (cs : Clauses) (f h : flow.State) : Type 0 where
@@ -257,14 +254,14 @@ pub data Waits (p : Source) (x : Exits) (bs : List InScope) : Awaiting → List 
   returns : (t : Ty) (u : RunTy) (f h : flow.State) → x.result ≡ Some t → Value u ≡ x.gives → Waits p x bs Return [] (Value u) f bs (Go h)
   throws : {tag : ℕ} (f h : flow.State) → Waits p x bs (ThrowWith tag) [] (Value lives.Int) f bs (Go h)
 
-  opens_by : {number lent : ℕ} {js : Items} (cs : List InScope) (c : Context) (b : Bound) (r : ℕ) (f h : flow.State) → HasLoans p.reading → Within cs bs → IsContext p x bs c → IsAmong (Variable b) bs → b.number ≡ lent → IsSet f lent
+  opens_by : {number lent : ℕ} {js : Items} (cs : List InScope) (c : Context) (b : Bound) (r : ℕ) (f h i : flow.State) → HasLoans p.reading → Within cs bs → IsContext p x bs c → IsAmong (Variable b) bs → b.number ≡ lent → IsSet f lent
       → r < c.next_region → IsLive c (regions.Variable c.region) → number ≡ c.next_local
       → Continues p.reading (lending x lent) (with_local false (types.Handle (regions.Variable r)) (with_key_opened r c)) js (with_fullness Full (with_fullness Locked f lent) number) h
-      → Waits p x bs (OpenBy number lent js) [] (Value (lives.Key (life_named bs r))) f cs (Go h)
-  aliases : {number lent : ℕ} {js : Items} (cs : List InScope) (c : Context) (b : Bound) (u t : Ty) (f h : flow.State) → HasLoans p.reading → Within cs bs → IsContext p x bs c → IsAmong (Variable b) bs → b.number ≡ lent → IsSet f lent
+      → Implies (with_fullness Full h lent) i → Waits p x bs (OpenBy number lent js) [] (Value (lives.Key (life_named bs r))) f cs (Go i)
+  aliases : {number lent : ℕ} {js : Items} (cs : List InScope) (c : Context) (b : Bound) (u t : Ty) (f h i : flow.State) → HasLoans p.reading → Within cs bs → IsContext p x bs c → IsAmong (Variable b) bs → b.number ≡ lent → IsSet f lent
       → is_unique u ≡ true → AllIn (IsKnown c.next_region) u → t ≡ with_region_of (regions.Variable c.next_region) u → IsLive c (regions.Variable c.region) → number ≡ c.next_local
       → Continues p.reading (lending x lent) (with_local true t (with_opened scopes.Alias c)) js (with_fullness Full (with_fullness Locked f lent) number) h
-      → Waits p x bs (AliasOf number lent js) [] (Value (read bs u)) f cs (Go h)
+      → Implies (with_fullness Full h lent) i → Waits p x bs (AliasOf number lent js) [] (Value (read bs u)) f cs (Go i)
 
 -- what waits for a place, of this type and there so long, and what goes on then
 pub data WaitsPlace (p : Source) (x : Exits) (bs : List InScope) : AwaitingPlace → RunTy → Life → flow.State → Want → Type 0 where
@@ -346,7 +343,8 @@ IsStack p g x bs (Go f) (CloseRegion region home ∷ k) =
     (cs : List InScope) × (number : ℕ) × (l : Life) × (live : Bool) × (h : flow.State) × (bs ≡ Home region ∷ Names number l live ∷ cs) × Implies f h × LiveIn k cs × IsStack p g x cs (Go h) k
 IsStack p g x bs (Go f) (CloseLexical region ∷ k) = (h : flow.State) × Implies f h × LiveIn k bs × IsStack p g x bs (Go h) k
 -- what was lent is not so any more
-IsStack p g x bs (Go f) (EndLoan lent ∷ k) = (y : Exits) × (x ≡ lending y lent) × IsStack p g y bs (Go f) k
+IsStack p g x bs (Go f) (EndLoan lent ∷ k) =
+    (y : Exits) × (h : flow.State) × (x ≡ lending y lent) × Implies (with_fullness Full f lent) h × AreFullAt g lent bs × IsStack p g y bs (Go h) k
 IsStack p g x bs (Go f) (Handler cs ∷ k) =
     (y : Exits) × (c : Context) × (start h : flow.State) × (x ≡ relying y start) × IsContext p y bs c × Holds g start bs × Catches p.reading y c start cs f h × Implies f h × IsStack p g y bs (Go h) k
 -- the caller's locals are as they were, and hold what they held
@@ -439,8 +437,8 @@ IsFocus p g x bs (Binding number ts arguments body) k =
 IsFocus p g x bs (Naming number v js) k =
     (c : Context) × (is_place : Bool) × (t : Ty) × (cs : List InScope) × (f h : flow.State) × Within cs bs × IsContext p x bs c × Holds g f bs × IsNew p.reading c t × (number ≡ c.next_local)
     × IsResult g (Value (read bs t)) v × Continues p.reading x (with_local is_place t c) js (with_fullness Full f number) h × IsStack p g x cs (Go h) k
-IsFocus p g x bs Breaking k = (l : LoopExit) × (f : flow.State) × (x.loop ≡ Some l) × Holds g l.breaks bs × IsStack p g x bs (Go f) k
-IsFocus p g x bs Continuing k = (l : LoopExit) × (f : flow.State) × (x.loop ≡ Some l) × Holds g l.head bs × IsStack p g x bs (Go f) k
+IsFocus p g x bs Breaking k = (l : LoopExit) × (f h : flow.State) × (x.loop ≡ Some l) × Holds g f bs × Implies (with_each Full x.locks f) l.breaks × IsStack p g x bs (Go h) k
+IsFocus p g x bs Continuing k = (l : LoopExit) × (f h : flow.State) × (x.loop ≡ Some l) × Holds g f bs × Implies (with_each Full x.locks f) l.head × IsStack p g x bs (Go h) k
 IsFocus p g x bs (Returning v) k = (f : flow.State) × IsReturn g x.result x.gives v × IsStack p g x bs (Go f) k
 IsFocus p g x bs (Throwing tag value) k = (w : Want) × IsStack p g x bs w k
 IsFocus p g x bs (Catching tag value cs) k =
