@@ -395,7 +395,7 @@ module _ (p : Source) (g : Typing) (x : Exits) (bs : List InScope) (e : Environm
       let (b, bound_among, number_of, of_type) = bound_of p.reading (lives_in bs) c.locals bs key t home stands.scope has in
       let set : IsSet f key = not_vacant (is_vacant (flow.fullness f key)) demands.0 in
       let rest = lent_rest key js (with_local false (types.Handle (regions.Variable r)) (with_key_opened r c)) (with_fullness Full (with_fullness Locked f key) n) before behind' ending wjs
-          (subst (λ (z : Known). Derives (rule_items (around (lending x key)) js z) (record { now = ending; breaks = behind' })) now djs) are kjs in
+      (subst (λ (z : Known). Derives (rule_items (around (lending x key)) js z) (record { now = ending; breaks = behind' })) now djs) are kjs in
       from_local p g x bs e w typed' globals bound variables (Needs (OpenBy n key js) ∷ k) c key t (types.Value t) f f nests.0 live stands holds (home, has) set (implies_self f) refl (
         [],
         cs,
@@ -409,7 +409,7 @@ module _ (p : Source) (g : Typing) (x : Exits) (bs : List InScope) (e : Environm
       let (b, bound_among, number_of, of_bound) = bound_of p.reading (lives_in bs) c.locals bs source v home stands.scope has in
       let set : IsSet f source = not_vacant (is_vacant (flow.fullness f source)) demands.0 in
       let rest = lent_rest source js (with_local true t (with_opened scopes.Alias c)) (with_fullness Full (with_fullness Locked f source) n) before behind' ending wjs
-          (subst (λ (z : Known). Derives (rule_items (around (lending x source)) js z) (record { now = ending; breaks = behind' })) now djs) are kjs in
+      (subst (λ (z : Known). Derives (rule_items (around (lending x source)) js z) (record { now = ending; breaks = behind' })) now djs) are kjs in
       subst (λ kind. IsWell p (loaded_from kind (e.locals source) (Needs (AliasOf n source js) ∷ k) e w)) (sym (ap values.kind_of of_type ∙ alias_kind (regions.Variable r) v))
       (from_local p g x bs e w typed' globals bound variables (Needs (AliasOf n source js) ∷ k) c source v (types.Value v) f f nests.0 live stands holds (home, has) set (implies_self f) refl (
         [],

@@ -1,7 +1,6 @@
 -- WHAT IS LENT to the end of a block: dynamic regions that their keys open, and what a unique pointer leads to, by an alias.
-use Rattle.std.proofs.Common.{◌≡◌, ◌⊎◌, inl, inr, ℕ, zero, suc, ◌≤◌, ◌<◌, Bool, true, false, List, [], ◌∷◌, ◌++◌, length, Option, Some, None, slice_get, refl, sym, ap, subst, ◌∙◌, arith}
+use Rattle.std.proofs.Common.{◌≡◌, inl, inr, ℕ, suc, ◌≤◌, ◌<◌, Bool, true, false, List, [], ◌∷◌, ◌++◌, length, Option, Some, None, slice_get, refl, sym, ap, subst, ◌∙◌, arith}
 use Rattle.std.specs.Prelude.{if◌then◌else◌}
-use Rattle.cyc_types.specs.declared.region.Region.{Region}
 use Rattle.cyc_types.specs.declared.region.Region.TheVariants as regions
 use Rattle.cyc_types.specs.declared.scope.ScopeKind.TheVariants as scopes
 use Rattle.cyc_types.specs.declared.typed.Kind.TheVariants as kinds
@@ -26,7 +25,7 @@ use Rattle.cyc_soundness.specs.Lives as lives
 use Rattle.cyc_soundness.specs.Worlds.{Typing, IsKnownLife, IsNumber, IsKeyOf, HasType, IsResult, IsTyped, IsDynamic}
 use Rattle.cyc_soundness.specs.Classes.{HasLoans, IsDeclarable, Source}
 use Rattle.cyc_soundness.specs.Frames.{IsAmong, first, later, Bound, InScope, Variable, Names, life_named, lives_in, read, IsBound, AreVariables, IsLasting, LiveIn, Within, older, IsSet, Holds, Implies, Exits, lending, AreKnownLocals, AreKnown, IsContext, KnowsProgram}
-use Rattle.cyc_soundness.specs.Stacks.{Continues, Go, IsStack, IsFocus, IsWell}
+use Rattle.cyc_soundness.specs.Stacks.{Continues, Go, IsStack, IsWell}
 use Rattle.cyc_soundness.proofs.TypeLemmas.{all_in, read_alike}
 use Rattle.cyc_soundness.proofs.FlowLemmas.{reached_with}
 use Rattle.cyc_soundness.proofs.RegionLemmas.{contains_more, name_known, same_name, known_other, known_more, other_life, context_key, context_alias, context_again}
@@ -79,7 +78,7 @@ alias_read : (bs : List InScope) (n : ℕ) (u : Ty) → is_unique u ≡ true →
 alias_read bs n (types.Pointer k t regions.Unique) unique (known, one) =
     let inner : List InScope = Names n heap_life true ∷ bs in
     let same : read inner t ≡ read bs t = sym (read_alike (lives_in bs) (lives_in inner) t
-        (all_in (IsKnown n) (λ r. lives_in bs r ≡ lives_in inner r) (λ r is. other_life n heap_life true bs r (known_other n r is)) t known)) in
+    (all_in (IsKnown n) (λ r. lives_in bs r ≡ lives_in inner r) (λ r is. other_life n heap_life true bs r (known_other n r is)) t known)) in
     ap (λ z. lives.Pointer k z (life_named inner n)) same ∙ ap (λ l. lives.Pointer k (read bs t) l) (same_name n heap_life (life_named bs n))
 alias_read bs n (types.Pointer k t regions.Heap) unique known = absurd (let z : false ≡ true = unique in cc)
 alias_read bs n (types.Pointer k t (regions.Variable m)) unique known = absurd (let z : false ≡ true = unique in cc)

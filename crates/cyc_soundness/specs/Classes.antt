@@ -13,10 +13,6 @@ HasScopes AsHeap = ⊥
 HasScopes (ByScope lends) = Unit {0}
 
 -- a form that makes or uses what is lent to the end of a block
-abbrev pub is_full : Fullness → Bool
-is_full Full = true
-is_full a = false
-
 abbrev pub HasLoans : Reading → Type 0
 HasLoans AsHeap = ⊥
 HasLoans (ByScope lends) = lends ≡ true
@@ -30,6 +26,11 @@ IsDeclarable (ByScope lends) n t = AllIn (IsKnown n) t
 abbrev pub Relied : Type 0
 Relied = List flow.State
 
+-- whether a local holds a value that is not lent
+abbrev pub is_full : Fullness → Bool
+is_full Full = true
+is_full a = false
+
 -- a local does not have to be full there
 abbrev pub IsSparedBy : flow.State → ℕ → Type 0
 IsSparedBy Unreached n = Unit {0}
@@ -41,7 +42,8 @@ IsSpared (f ∷ q) n = IsSparedBy f n × IsSpared q n
 
 -- Programs that give nothing back. All else is there: all types, objects in the heap, unique ones and those of regions, places behind
 -- pointers, swaps, functions with regions, conversions between all marks, loops and exceptions. Only where things are lent do they have
--- dynamic regions, keys and aliases. Read as the heap, they have no lexical regions, and take the address of no local.
+-- dynamic regions, keys and aliases. Read as the heap, they have no lexical regions, and take the address of no local. What is consumed
+-- or lent is nothing that the clauses around rely on: at the start of a function there are none, and of the body of a `try` that is shown.
 abbrev mutual
   pub InExpression : Reading → Relied → Expression → Type 0
   InExpression m q (Number n) = Unit {0}
