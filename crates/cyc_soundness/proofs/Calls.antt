@@ -29,14 +29,14 @@ use Rattle.cyc_meaning.specs.Step.{called, values_of, prints, reads, step_callin
 use Rattle.cyc_soundness.specs.Lives.{Life, RunTy, RunValue, Value, Lives, at, value_at, lives_of, Reading, AsHeap, ByScope}
 use Rattle.cyc_soundness.specs.Lives as lives
 use Rattle.cyc_soundness.specs.Worlds.{Typing, IsKnownLife, HasType, AreOperands, IsTyped, Grows}
-use Rattle.cyc_soundness.specs.Frames.{InScope, Variable, Names, Instance, Home, lives_in, read, IsScope, AreBelow, IsBound, AreVariables, IsLasting, LiveIn, Within, itself, older, AreSet, Holds, Implies, Exits, HasResult, loop_of, around, AreBreaks, AreLent, Stand, IsHome, IsContext, KnowsProgram}
+use Rattle.cyc_soundness.specs.Frames.{InScope, Variable, Names, Instance, Home, lives_in, read, IsScope, AreBelow, IsBound, AreVariables, IsLasting, LiveIn, Within, itself, older, AreSet, Holds, Implies, Exits, HasResult, loop_of, around, AreBreaks, Stand, IsHome, IsContext, KnowsProgram}
 use Rattle.cyc_soundness.specs.Classes.{IsDeclarable, InItems, InClauses, Source}
 use Rattle.cyc_soundness.specs.Stacks.{regions_at_call, IsInstance, Continues, Catches, IsAccepted, Val, Go, turned, IsCalled, IsBlocked, AreFull, IsBody, IsStack, IsWell}
 use Rattle.cyc_soundness.proofs.TypeLemmas.{is_kind_same, kind_meant}
 use Rattle.cyc_soundness.proofs.FlowLemmas.{implies_self, implies_after, meet_second, each_full_implies}
 use Rattle.cyc_soundness.proofs.RuleLemmas.{breaks_clauses, clauses_implied}
 use Rattle.cyc_soundness.proofs.WorldLemmas.{type_grown, operands_grown, opened_typed}
-use Rattle.cyc_soundness.proofs.StackLemmas.{AreAccepted, stack_grown, below_more, none_among}
+use Rattle.cyc_soundness.proofs.StackLemmas.{AreAccepted, stack_grown, below_more}
 use Rattle.cyc_soundness.proofs.RegionLemmas.{region_known, opened_known, live_more, there_lasting, opened_life, opened_lasting, stand_opened, new_home, context_inside, other_same, named_function, known_body}
 use Rattle.cyc_soundness.proofs.Cells.{running}
 use Rattle.cyc_soundness.proofs.Objects.{operands_reversed}
@@ -130,7 +130,7 @@ module _ (p : Source) (accepted : AreAccepted p) where
         let (end, ok) = accepted n h there in
         let arguments : AreOperands g (map (at (lives_of these)) h.parameters) (reverse vs) = subst (λ us. AreOperands g us (reverse vs)) types_is (operands_reversed g ts vs are) in
         let given : RunValue = value_at (lives_of these) (result_type h.result) in
-        let y : Exits = record { loop = None; result = h.result; gives = given; locks = [] } in
+        let y : Exits = record { loop = None; result = h.result; gives = given; locks = []; relied = [] } in
         let cs : List InScope = Instance these alive ∷ [] in
         subst (λ o. IsWell p (called o (reverse vs) (Caller e ∷ k) w)) (sym there)
         (subst (λ (b : Bool). IsWell p (if b then Running (Entering h (reverse vs)) (Caller e ∷ k) no_locals w else wrong w))
@@ -140,7 +140,7 @@ module _ (p : Source) (accepted : AreAccepted p) where
           these,
           alive,
           ok,
-          (refl, refl, refl, refl),
+          (refl, refl, refl, refl, refl),
           refl,
           instance.stand,
           arguments,
@@ -167,7 +167,7 @@ module _ (p : Source) (accepted : AreAccepted p) where
           cs,
           itself cs,
           ok,
-          (body.0, body.1, body.2, sym (named.result (lives_in bs) (lives_in cs) same) ∙ body.3),
+          (body.0, body.1, body.2, body.3, sym (named.result (lives_in bs) (lives_in cs) same) ∙ body.4),
           refl,
           refl,
           count,
@@ -183,19 +183,17 @@ module _ (p : Source) (accepted : AreAccepted p) where
     begin : (h : Function) (number : ℕ) (js : Items) (k : List Entry) (end : flow.State) (vs : List LocalInScope) (cs : List InScope) → LiveIn k bs → Within cs bs → IsAccepted p h end → IsBody x bs h → js ≡ h.body
         → vs ≡ parameters_in_scope h.parameters 0 [] → number + 0 ≡ length h.parameters → IsScope p.reading (lives_in bs) vs bs → AreBelow number bs → AreFull g bs
         → Stand p.reading (body_context p.program h).regions bs → IsHome p.reading 0 bs → IsStack p g x cs (Go end) k → IsWell p (Running Proceeding (Rest js ∷ k) e w)
-    begin h number js k end vs cs live within ok (loop, locks, result, gives) body scope_is count scope below full stand at_home stack =
+    begin h number js k end vs cs live within ok (loop, locks, relied, result, gives) body scope_is count scope below full stand at_home stack =
         let flows = subst (λ o. Derives (rule_items (record { loop = loop_of o; locks = x.locks }) h.body (record { now = start_of h; breaks = Unreached })) (record { now = end; breaks = ok.breaks })) (sym loop)
-            (subst (λ ns. Derives (rule_items (record { loop = None; locks = ns }) h.body (record { now = start_of h; breaks = Unreached })) (record { now = end; breaks = ok.breaks })) (sym locks) ok.flows) in
+        (subst (λ ns. Derives (rule_items (record { loop = None; locks = ns }) h.body (record { now = start_of h; breaks = Unreached })) (record { now = end; breaks = ok.breaks })) (sym locks) ok.flows) in
         let rest : Continues p.reading x (body_context p.program h) h.body (start_of h) end = record {
           before = Unreached;
           behind = ok.breaks;
           ending = end;
-          locked = [];
           typed = ok.typed.body;
           flows = flows;
           breaks = subst (λ o. AreBreaks o ok.breaks) (sym loop) tt;
-          kept = ok.kept;
-          among = λ n is. none_among is;
+          kept = subst (λ q. InItems p.reading q (suc h.variables) h.body) (sym relied) ok.kept;
           ends = each_full_implies (locks_of h.body) end;
         } in
         let last : number ≤ length h.parameters = omega (arith, count) in
@@ -212,7 +210,6 @@ module _ (p : Source) (accepted : AreAccepted p) where
           known = known_body p.reading p.program h ok.typed;
           regions = stand;
           home = at_home;
-          lent = subst (λ ns. AreLent ns bs) (sym locks) tt;
         } in
         subst (λ z. IsWell p (Running Proceeding (Rest z ∷ k) e w)) (sym body)
         (running p g x bs e w typed globals bound variables Proceeding (Rest h.body ∷ k) live
@@ -259,19 +256,17 @@ module _ (p : Source) (accepted : AreAccepted p) where
     scope c k = block_scope p g x bs e w typed globals bound variables c k
 
     begin_clause : (js : Items) (k : List Entry) (c : Context) (start h before : flow.State) (l : Known) → LiveIn k bs → IsContext p x bs c → Holds g start bs → WellTypedItems (in_block c) js
-        → Derives (rule_items (around x) js (record { now = start; breaks = before })) l → AreBreaks x.loop l.breaks → InItems p.reading (suc c.next_region) js → Implies (with_each Full (locks_of js) l.now) h → IsStack p g x bs (Go h) k
+        → Derives (rule_items (around x) js (record { now = start; breaks = before })) l → AreBreaks x.loop l.breaks → InItems p.reading x.relied (suc c.next_region) js → Implies (with_each Full (locks_of js) l.now) h → IsStack p g x bs (Go h) k
         → IsWell p (Running Proceeding (Rest js ∷ region_end e w ∷ k) (inside e w) (opened w))
     begin_clause js k c start h before l live stands holds well flows are kept implies stack =
         let rest : Continues p.reading x (in_block c) js start h = record {
           before = before;
           behind = l.breaks;
           ending = l.now;
-          locked = [];
           typed = well;
           flows = flows;
           breaks = are;
           kept = kept;
-          among = λ n is. none_among is;
           ends = implies;
         } in
         running p g x (scope c k) (inside e w) (opened w) (opened_typed g w.regions (new_region Stack ∷ []) w.objects typed) globals (tt, (tt, bound)) (tt, (opened_known g p.reading (length w.regions) (ends_of k), variables)) Proceeding (Rest js ∷ region_end e w ∷ k)
@@ -290,7 +285,7 @@ module _ (p : Source) (accepted : AreAccepted p) where
         )
 
     caught : (value : ℕ) (v : Option ℕ) (js : Items) (k : List Entry) (c : Context) (start h before : flow.State) (has : Bool) (l : Known) → LiveIn k bs → IsContext p x bs c → Holds g start bs → IsCaught c has v
-        → WellTypedItems (with_caught v (in_block c)) js → Derives (rule_items (around x) js (record { now = statements.with_caught v start; breaks = before })) l → AreBreaks x.loop l.breaks → InItems p.reading (suc c.next_region) js → Implies (with_each Full (locks_of js) l.now) h
+        → WellTypedItems (with_caught v (in_block c)) js → Derives (rule_items (around x) js (record { now = statements.with_caught v start; breaks = before })) l → AreBreaks x.loop l.breaks → InItems p.reading x.relied (suc c.next_region) js → Implies (with_each Full (locks_of js) l.now) h
         → IsStack p g x bs (Go h) k → IsWell p (catches value v js k e w)
     caught value None js k c start h before has l live stands holds is well flows are kept implies stack = begin_clause js k c start h before l live stands holds well flows are kept implies stack
     caught value (Some n) js k c start h before false l live stands holds is well flows are kept implies stack = absurd is
@@ -299,12 +294,10 @@ module _ (p : Source) (accepted : AreAccepted p) where
           before = before;
           behind = l.breaks;
           ending = l.now;
-          locked = [];
           typed = well;
           flows = flows;
           breaks = are;
           kept = kept;
-          among = λ n is. none_among is;
           ends = implies;
         } in
         running p g x (scope c k) (inside e w) (opened w) (opened_typed g w.regions (new_region Stack ∷ []) w.objects typed) globals (tt, (tt, bound)) (tt, (opened_known g p.reading (length w.regions) (ends_of k), variables))
@@ -326,7 +319,7 @@ module _ (p : Source) (accepted : AreAccepted p) where
         )
 
     pub catch : (tag value : ℕ) (ds : Clauses) (k : List Entry) (c : Context) (start f h before behind : flow.State) → LiveIn k bs → IsContext p x bs c → Holds g start bs → WellTypedClauses c ds
-        → Derives (rule_clauses (around x) start ds (record { now = f; breaks = before })) (record { now = h; breaks = behind }) → AreBreaks x.loop behind → InClauses p.reading c.next_region ds → IsStack p g x bs (Go h) k
+        → Derives (rule_clauses (around x) start ds (record { now = f; breaks = before })) (record { now = h; breaks = behind }) → AreBreaks x.loop behind → InClauses p.reading x.relied c.next_region ds → IsStack p g x bs (Go h) k
         → IsWell p (step_catching tag value ds k e w)
     catch tag value NoClauses k c start f h before behind live stands holds well flows are kept stack = running p g x bs e w typed globals bound variables (Throwing tag value) k live (Go h, stack)
     catch tag value (Default r js) k c start f h before behind live stands holds (number, well) (l, d, (u, known)) are kept stack =

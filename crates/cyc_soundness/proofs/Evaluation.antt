@@ -35,7 +35,7 @@ use Rattle.cyc_soundness.specs.Lives.{Life, heap_life, as_heap, Reading, Lives, 
 use Rattle.cyc_soundness.specs.Lives as lives
 use Rattle.cyc_soundness.specs.Worlds.{Typing, IsFull, variable_type, global_type, Outlasts, alike, globals as with_globals, AgreesWith, IsResult, AreOperands, IsTyped, IsOpenLife}
 use Rattle.cyc_soundness.specs.Frames.{IsAmong, Bound, InScope, Variable, IsBound, AreVariables, IsHomed, LiveIn, IsSet, Holds, Implies, Exits, IsContext, KnowsProgram, lives_in, read, read_value}
-use Rattle.cyc_soundness.specs.Classes.{HasScopes, InExpression, InArguments, InOperations, Source}
+use Rattle.cyc_soundness.specs.Classes.{Relied, HasScopes, InExpression, InArguments, InOperations, Source}
 use Rattle.cyc_soundness.specs.Stacks.{Evaluates, Val, turned, IsCalled, null, IsStack, IsFocus, IsWell}
 use Rattle.cyc_soundness.specs.Stacks as stacks
 use Rattle.cyc_soundness.proofs.Numbers.{some_same, both}
@@ -58,12 +58,12 @@ of_map f [] i y found = absurd (let e : None ≡ Some y = found in cc)
 of_map f (x ∷ xs) zero y found = (x, refl, some_same (f x) y found)
 of_map f (x ∷ xs) (suc i) y found = of_map f xs i y found
 
-left_typed : (m : Reading) (well : Type 0) (c : Context) (a : Expression) (v : ValueType) (os : Operations) → InOperations m os → IsLeft well c a v os → well ⊎ IsPeek c a v
-left_typed m well c a v NoOperations kept is = inl is
-left_typed m well c a v (ThenCompute o b os) kept is = inl is
-left_typed m well c a v (ThenTest o b os) kept is = is
-left_typed m well c a v (ThenPointer o b os) kept is = inl is
-left_typed m well c a v (ThenPointerPeek n o b os) kept is = inr is.0
+left_typed : (m : Reading) (q : Relied) (well : Type 0) (c : Context) (a : Expression) (v : ValueType) (os : Operations) → InOperations m q os → IsLeft well c a v os → well ⊎ IsPeek c a v
+left_typed m q well c a v NoOperations kept is = inl is
+left_typed m q well c a v (ThenCompute o b os) kept is = inl is
+left_typed m q well c a v (ThenTest o b os) kept is = is
+left_typed m q well c a v (ThenPointer o b os) kept is = inl is
+left_typed m q well c a v (ThenPointerPeek n o b os) kept is = inr is.0
 
 -- a local whose address is taken is there as long as the region of its block
 homed : (m : Reading) (these : Lives) (region : ℕ) (l : Life) → HasScopes m → IsHomed m these region l → l ≡ these (regions.Variable region)
@@ -134,7 +134,7 @@ module _ (p : Source) where
     -- ---- arguments
 
     pub pass_on : (k : List Entry) (callee : Callee) (before : List Operand) (done : List RunTy) (as' : Arguments) (ts : List Ty) (c : Context) (r : ValueType) (f h : flow.State) (q : List ℕ)
-        → LiveIn k bs → IsContext p x bs c → Holds g f bs → ArePassed c ts as' → Derives (rule_arguments q as' f) h → InArguments p.reading as' → AreOperands g done before
+        → LiveIn k bs → IsContext p x bs c → Holds g f bs → ArePassed c ts as' → Derives (rule_arguments q as' f) h → InArguments p.reading x.relied as' → AreOperands g done before
         → IsCalled p bs callee (turned done (map (read bs) ts)) (read_value bs r) → IsStack p g x bs (Val (read_value bs r) h) k → IsWell p (passes callee before as' k e w)
     pass_on k callee before done NoArguments [] c r f h q live stands holds passed (u, same) kept operands called stack =
         on (Calling callee before) k live (done, read_value bs r, h, subst (λ z. Holds g z bs) (sym same) holds, called, operands, stack)
@@ -162,7 +162,7 @@ module _ (p : Source) where
     -- ---- expressions
 
     pub evaluate : (a : Expression) (k : List Entry) (c : Context) (t : ValueType) (f h : flow.State) (q : List ℕ) → AreOpen w.regions (ends_of k) → LiveIn k bs → IsContext p x bs c → Holds g f bs
-        → WellTyped c a t ⊎ IsPeek c a t → Derives (rule q a f) h → InExpression p.reading a → IsStack p g x bs (Val (read_value bs t) h) k → IsWell p (step_evaluating a k e w)
+        → WellTyped c a t ⊎ IsPeek c a t → Derives (rule q a f) h → InExpression p.reading x.relied a → IsStack p g x bs (Val (read_value bs t) h) k → IsWell p (step_evaluating a k e w)
     evaluate (Number n) k c t f h q opens live stands holds (inl is) (u, same) kept stack =
         hands k (read_value bs t) (Value lives.Int) (record { kind = kinds.Int; value = values.Int n }) f h live holds same (ap (read_value bs) is) (refl, tt) stack
     evaluate NullPointer k c t f h q opens live stands holds (inl is) (u, same) kept stack =
@@ -225,7 +225,7 @@ module _ (p : Source) where
           f1,
           stands,
           holds,
-          record { waiting = q; typed = left_typed p.reading (WellTyped c a v) c a v os kept left; flows = d; kept = one },
+          record { waiting = q; typed = left_typed p.reading x.relied (WellTyped c a v) c a v os kept left; flows = d; kept = one },
           (
             [],
             bs,
@@ -403,7 +403,7 @@ module _ (p : Source) where
 
     -- a right operand of pointers
     null_on : {o : PointerOperator} (peek : Option ℕ) (q : List ℕ) (kind : Kind) (value : values.Value) (b : Expression) (os : Operations) (k : List Entry) (c : Context) (v w' : ValueType) (f f1 : flow.State) → LiveIn k bs
-        → kind ≡ kinds.Nullable → value ≡ values.Null → IsContext p x bs c → Holds g f bs → PointerOperation c o types.Null v w' → Evaluates p.reading c b f v f1
+        → kind ≡ kinds.Nullable → value ≡ values.Null → IsContext p x bs c → Holds g f bs → PointerOperation c o types.Null v w' → Evaluates p.reading x.relied c b f v f1
         → IsStack p g x bs (Val (read_value bs w') f1) (Needs (Chain os) ∷ k) → IsWell p (Running (Evaluating b) (Needs (ApplyPointer peek o (record { kind = kind; value = value })) ∷ Needs (Chain os) ∷ k) e w)
     null_on {o} peek q kind value b os k c v w' f f1 live kind_is value_is stands holds op evaluates stack =
         subst (λ z. IsWell p (Running (Evaluating b) (Needs (ApplyPointer peek o (record { kind = z; value = value })) ∷ Needs (Chain os) ∷ k) e w)) (sym kind_is)
@@ -412,7 +412,7 @@ module _ (p : Source) where
         (c, v, f, f1, stands, holds, evaluates, (lives.Pointer marks.Nullable lives.Int heap_life ∷ [], bs, Val (read_value bs w') f1, stacks.null_points c v w' f1 op, ((refl, tt), tt), stack))))
 
     pointed : (o : PointerOperator) (peek : Option ℕ) (q : List ℕ) (left : Operand) (b : Expression) (os : Operations) (k : List Entry) (c : Context) (s v w' : ValueType) (f f1 : flow.State) → LiveIn k bs → IsContext p x bs c → Holds g f bs
-        → IsResult g (read_value bs s) left → PointerOperation c o s v w' → Evaluates p.reading c b f v f1 → IsStack p g x bs (Val (read_value bs w') f1) (Needs (Chain os) ∷ k)
+        → IsResult g (read_value bs s) left → PointerOperation c o s v w' → Evaluates p.reading x.relied c b f v f1 → IsStack p g x bs (Val (read_value bs w') f1) (Needs (Chain os) ∷ k)
         → IsWell p (awaits_right (takes_kind o left.kind) (ApplyPointer peek o left) b os k e w)
     pointed o peek q left b os k c s v w' f f1 live stands holds is op evaluates stack =
         subst (λ z. IsWell p (awaits_right z (ApplyPointer peek o left) b os k e w)) (sym (takes (lives_in bs) g left op is)) (go s is op)
@@ -425,7 +425,7 @@ module _ (p : Source) where
 
     -- a left operand stands before what is left of its chain
     pub chain_on : (os : Operations) (v : Operand) (k : List Entry) (c : Context) (s : ValueType) (u : Ty) (f h : flow.State) (q : List ℕ) → LiveIn k bs → IsContext p x bs c → Holds g f bs
-        → IsResult g (read_value bs s) v → IsChain c s os u → Derives (rule_operations q os f) h → InOperations p.reading os → IsStack p g x bs (Val (Value (read bs u)) h) k → IsWell p (chained os v k e w)
+        → IsResult g (read_value bs s) v → IsChain c s os u → Derives (rule_operations q os f) h → InOperations p.reading x.relied os → IsStack p g x bs (Val (Value (read bs u)) h) k → IsWell p (chained os v k e w)
     chain_on NoOperations v k c s u f h q live stands holds is chain (unit, same) kept stack =
         hands k (Value (read bs u)) (read_value bs s) v f h live holds same (ap (read_value bs) (sym chain)) is stack
     chain_on (ThenCompute o b os) v k c s u f h q live stands holds is (int, well, chain) (f1, d, ds) (one, kept) stack =

@@ -260,7 +260,7 @@ opened_twice : EndsWithLoans (check_of texts (
     (block (opened (assigned (Variable (named 2 9)) (RegionNew (at 10) (Variable (named 9 11)) (Plain (Number (at 12) 4))) NoItems))
     (block (opened (returned (behind 2))) NoItems))))
     ∷ [])) (HasEnded (Returned (pos 4)))
-opened_twice = (refl, (((refl, ((tt, less 1), tt, ((refl, ((tt, tt), tt)), ((refl, (tt, tt)), tt)))), tt), tt, tt), refl)
+opened_twice = (refl, (((refl, ((tt, less 1), tt, ((refl, tt, ((tt, tt), tt)), ((refl, tt, (tt, tt)), tt)))), tt), tt, tt), refl)
 
 -- int main(){ int @`U p = rnew(unique_region) 5; { let alias <`r> int @`r x = p; *x = *x + 1; } return *p; }
 shared : EndsWithLoans (check_of texts (
@@ -269,7 +269,7 @@ shared : EndsWithLoans (check_of texts (
     (block (MoreItems (Alias (named 8 9) (into 8) (named 3 10) (named 2 11)) (assigned (behind 3) (plus (behind 3) (Number (at 12) 1)) NoItems))
     (returned (behind 2))))
     ∷ [])) (HasEnded (Returned (pos 6)))
-shared = (refl, ((((tt, tt), (tt, tt), ((refl, ((tt, (tt, (tt, tt))), tt)), (tt, tt))), tt), tt, tt), refl)
+shared = (refl, ((((tt, tt), (tt, tt), ((refl, tt, ((tt, (tt, (tt, tt))), tt)), (tt, tt))), tt), tt, tt), refl)
 
 -- int main(){ let NewDynamicRegion{<`r> i} = new_ukey(); while (1) { region<`r> h = open(i); break; } { region<`r> h = open(i); int @`r p = rnew(h) 3; return *p; } }
 left_by_break : EndsWithLoans (check_of texts (
@@ -278,7 +278,7 @@ left_by_break : EndsWithLoans (check_of texts (
     MoreItems (Execute (While (at 7) (Number (at 8) 1) (Block (Braces (at 9) (opened (MoreItems (Execute (Break (at 10))) NoItems)) (at 11)))))
     (block (opened (MoreItems (Local (into 8) (named 2 12) (Some (RegionNew (at 13) (Variable (named 9 14)) (Plain (Number (at 15) 3))))) (returned (behind 2)))) NoItems)))
     ∷ [])) (HasEnded (Returned (pos 3)))
-left_by_break = (refl, (((refl, ((tt, (refl, (tt, tt))), ((refl, ((tt, (let few : 1 < 4 = omega arith in few)), (tt, tt), (tt, tt))), tt))), tt), tt, tt), refl)
+left_by_break = (refl, (((refl, ((tt, (refl, tt, (tt, tt))), ((refl, tt, ((tt, (let few : 1 < 4 = omega arith in few)), (tt, tt), (tt, tt))), tt))), tt), tt, tt), refl)
 
 -- int f(region_key_t<`r> i){ region<`r> h = open(i); int *p = NULL; return *p; } int main(){ let NewDynamicRegion{<`r> i} = new_ukey(); try return f(i); catch { default: return 8; } }
 left_by_exception_in_a_call : EndsWithLoans (check_of texts (
@@ -286,4 +286,4 @@ left_by_exception_in_a_call : EndsWithLoans (check_of texts (
     opened (MoreItems (Local (written Int (marks.Nullable ∷ [])) (named 2 5) (Some (Null (at 6)))) (returned (behind 2)))) (at 12))
     ∷ main (with_key (MoreItems (Execute (Try (at 13) (Return (at 14) (Some (Call (named 7 15) (MoreExpressions (Variable (named 5 16)) NoExpressions)))) (Default (returned (Number (at 17) 8))))) NoItems))
     ∷ [])) (HasEnded (Returned (pos 8)))
-left_by_exception_in_a_call = (refl, (((refl, ((tt, tt), tt, (tt, tt))), ((refl, (((tt, tt), (tt, tt)), tt)), tt)), tt, tt), refl)
+left_by_exception_in_a_call = (refl, (((refl, tt, ((tt, tt), tt, (tt, tt))), ((refl, (((tt, tt), (tt, tt)), tt)), tt)), tt, tt), refl)

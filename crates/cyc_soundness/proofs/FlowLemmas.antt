@@ -1,20 +1,21 @@
 -- What is known of locals: what implies what, and what the rules only lower.
-use Rattle.std.proofs.Common.{◌≡◌, ℕ, zero, suc, Bool, true, false, not, List, [], ◌∷◌, refl, sym, subst, ◌∙◌}
+use Rattle.std.proofs.Common.{◌≡◌, ℕ, zero, suc, Bool, true, false, not, List, [], ◌∷◌, ◌++◌, refl, sym, ap, subst, ◌∙◌}
 use Rattle.std.specs.Prelude.{◌≢◌, get_or, slice_set, if◌then◌else◌}
 use Rattle.std.proofs.lemmas.List.{get_or-set_other}
 use Rattle.cyc_types.specs.flow.States.{Fullness, Vacant, Locked, Full, State, Unreached, Reached, lower, lower_each, meet, is_as_full, are_as_full, is_at_least, is_reached, fullness, with_fullness, with_each, is_vacant, is_locked, emptied}
 use Rattle.cyc_soundness.specs.Worlds.{Typing}
+use Rattle.cyc_soundness.specs.Classes.{is_full}
 use Rattle.cyc_soundness.specs.Frames.{InScope, Variable, HoldsIts, IsSet, AreSet, Holds, Implies}
 use Rattle.cyc_soundness.proofs.Numbers.{both_true}
 
 pub implies_self : (f : State) → Implies f f
-implies_self f = record { reached = λ h. h; set = λ n h. h }
+implies_self f = record { reached = λ h. h; set = λ n s. s; full = λ n s. s }
 
 pub implies_after : (f g h : State) → Implies f g → Implies g h → Implies f h
-implies_after f g h a b = record { reached = λ r. b.reached (a.reached r); set = λ n s. a.set n (b.set n s) }
+implies_after f g h a b = record { reached = λ r. b.reached (a.reached r); set = λ n s. a.set n (b.set n s); full = λ n s. a.full n (b.full n s) }
 
 pub unreached_implies : (f : State) → Implies Unreached f
-unreached_implies f = record { reached = λ e. (let k : false ≡ true = e in absurd (cc)); set = λ n s. refl }
+unreached_implies f = record { reached = λ e. (let k : false ≡ true = e in absurd (cc)); set = λ n s. refl; full = λ n s. refl }
 
 -- ---- meets
 
@@ -31,15 +32,28 @@ each_set (a ∷ as') [] n e = absurd (let k : true ≡ false = e in cc)
 each_set (a ∷ as') (b ∷ bs) zero e = lower_set a b e
 each_set (a ∷ as') (b ∷ bs) (suc n) e = each_set as' bs n e
 
+lower_full : (a b : Fullness) → is_full (lower a b) ≡ true → (is_full a ≡ true) × (is_full b ≡ true)
+lower_full Vacant b e = absurd (let k : false ≡ true = e in cc)
+lower_full Locked Vacant e = absurd (let k : false ≡ true = e in cc)
+lower_full Locked Locked e = absurd (let k : false ≡ true = e in cc)
+lower_full Locked Full e = absurd (let k : false ≡ true = e in cc)
+lower_full Full b e = (refl, e)
+
+each_full : (as' bs : List Fullness) (n : ℕ) → is_full (get_or (lower_each as' bs) n Vacant) ≡ true → (is_full (get_or as' n Vacant) ≡ true) × (is_full (get_or bs n Vacant) ≡ true)
+each_full [] bs n e = absurd (let k : false ≡ true = e in cc)
+each_full (a ∷ as') [] n e = absurd (let k : false ≡ true = e in cc)
+each_full (a ∷ as') (b ∷ bs) zero e = lower_full a b e
+each_full (a ∷ as') (b ∷ bs) (suc n) e = each_full as' bs n e
+
 pub meet_first : (f g : State) → Implies f (meet f g)
 meet_first Unreached g = unreached_implies g
 meet_first (Reached as') Unreached = implies_self (Reached as')
-meet_first (Reached as') (Reached bs) = record { reached = λ h. refl; set = λ n s. (each_set as' bs n s).0 }
+meet_first (Reached as') (Reached bs) = record { reached = λ h. refl; set = λ n s. (each_set as' bs n s).0; full = λ n s. (each_full as' bs n s).0 }
 
 pub meet_second : (f g : State) → Implies g (meet f g)
 meet_second Unreached g = implies_self g
 meet_second (Reached as') Unreached = unreached_implies (Reached as')
-meet_second (Reached as') (Reached bs) = record { reached = λ h. refl; set = λ n s. (each_set as' bs n s).1 }
+meet_second (Reached as') (Reached bs) = record { reached = λ h. refl; set = λ n s. (each_set as' bs n s).1; full = λ n s. (each_full as' bs n s).1 }
 
 -- ---- the heads of loops
 
@@ -57,10 +71,24 @@ all_full_set (a ∷ as') [] n e s = absurd (let k : false ≡ true = e in cc)
 all_full_set (a ∷ as') (b ∷ bs) zero e s = as_full_set a b (both_true (is_as_full a b) (are_as_full as' bs) e).0 s
 all_full_set (a ∷ as') (b ∷ bs) (suc n) e s = all_full_set as' bs n (both_true (is_as_full a b) (are_as_full as' bs) e).1 s
 
+as_full_too : (a b : Fullness) → is_as_full a b ≡ true → is_full b ≡ true → is_full a ≡ true
+as_full_too a Vacant e s = absurd (let k : false ≡ true = s in cc)
+as_full_too a Locked e s = absurd (let k : false ≡ true = s in cc)
+as_full_too Vacant Full e s = absurd (let k : false ≡ true = e in cc)
+as_full_too Locked Full e s = absurd (let k : false ≡ true = e in cc)
+as_full_too Full Full e s = refl
+
+all_full_too : (as' bs : List Fullness) (n : ℕ) → are_as_full as' bs ≡ true → is_full (get_or bs n Vacant) ≡ true → is_full (get_or as' n Vacant) ≡ true
+all_full_too [] [] n e s = s
+all_full_too [] (b ∷ bs) n e s = absurd (let k : false ≡ true = e in cc)
+all_full_too (a ∷ as') [] n e s = absurd (let k : false ≡ true = e in cc)
+all_full_too (a ∷ as') (b ∷ bs) zero e s = as_full_too a b (both_true (is_as_full a b) (are_as_full as' bs) e).0 s
+all_full_too (a ∷ as') (b ∷ bs) (suc n) e s = all_full_too as' bs n (both_true (is_as_full a b) (are_as_full as' bs) e).1 s
+
 pub at_least_implies : (f g : State) → is_at_least f g ≡ true → Implies f g
 at_least_implies Unreached g e = unreached_implies g
 at_least_implies (Reached as') Unreached e = absurd (let k : false ≡ true = e in cc)
-at_least_implies (Reached as') (Reached bs) e = record { reached = λ h. refl; set = λ n s. all_full_set as' bs n e s }
+at_least_implies (Reached as') (Reached bs) e = record { reached = λ h. refl; set = λ n s. all_full_set as' bs n e s; full = λ n s. all_full_too as' bs n e s }
 
 -- ---- one local
 
@@ -83,10 +111,17 @@ vacated (a ∷ as') zero (suc m) s = s
 vacated (a ∷ as') (suc n) zero s = s
 vacated (a ∷ as') (suc n) (suc m) s = vacated as' n m s
 
+vacated_full : (as' : List Fullness) (n m : ℕ) → is_full (get_or (slice_set as' n Vacant) m Vacant) ≡ true → is_full (get_or as' m Vacant) ≡ true
+vacated_full [] n m s = s
+vacated_full (a ∷ as') zero zero s = absurd (let k : false ≡ true = s in cc)
+vacated_full (a ∷ as') zero (suc m) s = s
+vacated_full (a ∷ as') (suc n) zero s = s
+vacated_full (a ∷ as') (suc n) (suc m) s = vacated_full as' n m s
+
 -- a local that holds nothing any more
 pub vacant_implied : (f : State) (n : ℕ) → Implies f (with_fullness Vacant f n)
 vacant_implied Unreached n = unreached_implies Unreached
-vacant_implied (Reached as') n = record { reached = λ h. refl; set = λ m s. vacated as' n m s }
+vacant_implied (Reached as') n = record { reached = λ h. refl; set = λ m s. vacated as' n m s; full = λ m s. vacated_full as' n m s }
 
 either_implied : (b : Bool) (f : State) (n : ℕ) → Implies f (if b then f else with_fullness Vacant f n)
 either_implied true f n = implies_self f
@@ -130,14 +165,41 @@ filled_still (a ∷ as') zero (suc m) s = s
 filled_still (a ∷ as') (suc n) zero s = s
 filled_still (a ∷ as') (suc n) (suc m) s = filled_still as' n m s
 
+filled_full : (as' : List Fullness) (n m : ℕ) → is_full (get_or as' m Vacant) ≡ true → is_full (get_or (slice_set as' n Full) m Vacant) ≡ true
+filled_full [] n m s = s
+filled_full (a ∷ as') zero zero s = refl
+filled_full (a ∷ as') zero (suc m) s = s
+filled_full (a ∷ as') (suc n) zero s = s
+filled_full (a ∷ as') (suc n) (suc m) s = filled_full as' n m s
+
 full_implies : (f : State) (n : ℕ) → Implies (with_fullness Full f n) f
 full_implies Unreached n = unreached_implies Unreached
-full_implies (Reached as') n = record { reached = λ h. refl; set = λ m s. filled_still as' n m s }
+full_implies (Reached as') n = record { reached = λ h. refl; set = λ m s. filled_still as' n m s; full = λ m s. filled_full as' n m s }
 
 -- more is known where locals are full again
 pub each_full_implies : (ns : List ℕ) (f : State) → Implies (with_each Full ns f) f
 each_full_implies [] f = implies_self f
 each_full_implies (n ∷ ns) f = implies_after (with_each Full ns (with_fullness Full f n)) (with_fullness Full f n) f (each_full_implies ns (with_fullness Full f n)) (full_implies f n)
+
+filled_both : (as' : List Fullness) (n m : ℕ) → slice_set (slice_set as' n Full) m Full ≡ slice_set (slice_set as' m Full) n Full
+filled_both [] n m = refl
+filled_both (a ∷ as') zero zero = refl
+filled_both (a ∷ as') zero (suc m) = refl
+filled_both (a ∷ as') (suc n) zero = refl
+filled_both (a ∷ as') (suc n) (suc m) = ap (λ bs. a ∷ bs) (filled_both as' n m)
+
+full_both : (f : State) (n m : ℕ) → with_fullness Full (with_fullness Full f n) m ≡ with_fullness Full (with_fullness Full f m) n
+full_both Unreached n m = refl
+full_both (Reached as') n m = ap Reached (filled_both as' n m)
+
+-- in whichever order they are
+pub full_last : (n : ℕ) (ns : List ℕ) (f : State) → with_fullness Full (with_each Full ns f) n ≡ with_each Full ns (with_fullness Full f n)
+full_last n [] f = refl
+full_last n (m ∷ ns) f = full_last n ns (with_fullness Full f m) ∙ ap (λ g. with_each Full ns g) (full_both f m n)
+
+pub full_added : (n : ℕ) (ns : List ℕ) (f : State) → with_each Full (ns ++ n ∷ []) f ≡ with_each Full ns (with_fullness Full f n)
+full_added n [] f = refl
+full_added n (m ∷ ns) f = full_added n ns (with_fullness Full f m) ∙ ap (λ g. with_each Full ns g) (full_both f m n)
 
 -- what a rule asks of a local that is used
 pub not_vacant : (b : Bool) → not b ≡ true → b ≡ false

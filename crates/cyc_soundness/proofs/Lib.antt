@@ -13,6 +13,7 @@ mod Swapping
 mod Places
 mod Evaluation
 mod Loans
+mod Touched
 mod Supply
 mod Execution
 mod Calls

@@ -37,7 +37,7 @@ use Rattle.cyc_soundness.proofs.FlowLemmas.{at_least_implies, holds_implied}
 use Rattle.cyc_soundness.proofs.TypeLemmas.{target_typed, is_kind_same, kind_read}
 use Rattle.cyc_soundness.proofs.WorldLemmas.{life_grown, operands_grown, variables_grown, holds_grown, globals_grown, with_object, object_grows, object_typed, typed_beside, open_region, risen, with_filled}
 use Rattle.cyc_soundness.proofs.StackLemmas.{stack_grown, kept_open, lasting_open}
-use Rattle.cyc_soundness.proofs.RegionLemmas.{lent_more, region_known, agrees_of, there_lasting, mapped_count, fields_mean}
+use Rattle.cyc_soundness.proofs.RegionLemmas.{region_known, agrees_of, there_lasting, mapped_count, fields_mean}
 use Rattle.cyc_soundness.proofs.Cells.{running, part_at, writes}
 
 -- ---- lists of operands
@@ -145,7 +145,6 @@ context_counted p x bs c stands = record {
   known = stands.known;
   regions = stands.regions;
   home = stands.home;
-  lent = lent_more (Level c.counters) bs x.locks stands.lent;
 }
   where
     below : (l n : ℕ) → l < suc n → l ≢ n → l < n
@@ -274,7 +273,7 @@ module _ (p : Source) (g : Typing) (x : Exits) (bs : List InScope) (e : Environm
 
   pub begin_array : (owner : Owner) (count level : ℕ) (kind : Kind) (element : Expression) (k : List Entry) (c : Context) (t : Ty) (r : Region') (f : flow.State) → AreOpen w.regions (ends_of k) → LiveIn k bs
       → IsContext p x bs c → Holds g f bs → IsThere bs r → IsOwner (lives_in bs r) owner
-      → Repeats p.reading c level kind element t f → IsStack p g x bs (Val (Value (Pointer marks.Fat (read bs t) (lives_in bs r))) f) k → IsWell p (step_beginning owner count level kind element k e w)
+      → Repeats p.reading x.relied c level kind element t f → IsStack p g x bs (Val (Value (Pointer marks.Fat (read bs t) (lives_in bs r))) f) k → IsWell p (step_beginning owner count level kind element k e w)
   begin_array owner count level kind element k c t r f all_open live stands holds alive owned repeats stack =
       let l = lives_in bs r in
       let (new, found, objects_are, opens) = created_there owner (blanks count kind) l owned (open_life r k all_open live alive) in
@@ -308,7 +307,7 @@ module _ (p : Source) (g : Typing) (x : Exits) (bs : List InScope) (e : Environm
       (y, there, shown, subst (λ m. Outlasts m l) (sym life) (alike l), part_at g w typed object y t i there (cells i less) (subst (λ m. IsOpenLife w.regions m) (sym life) opens) some)
 
   pub repeat_on : (object count index level : ℕ) (kind : Kind) (element : Expression) (k : List Entry) (c : Context) (t : Ty) (r : Region') (f : flow.State) → AreOpen w.regions (ends_of k) → LiveIn k bs → IsContext p x bs c
-      → Holds g f bs → IsThere bs r → Repeats p.reading c level kind element t f → IsArray g (read bs t) (lives_in bs r) object count index → IsStack p g x bs (Val (Value (Pointer marks.Fat (read bs t) (lives_in bs r))) f) k
+      → Holds g f bs → IsThere bs r → Repeats p.reading x.relied c level kind element t f → IsArray g (read bs t) (lives_in bs r) object count index → IsStack p g x bs (Val (Value (Pointer marks.Fat (read bs t) (lives_in bs r))) f) k
       → IsWell p (step_repeating object count index level kind element k e w)
   repeat_on object count index level kind element k c t r f all_open live stands holds alive repeats array stack = go (index == count) refl
     where
@@ -344,7 +343,7 @@ module _ (p : Source) (g : Typing) (x : Exits) (bs : List InScope) (e : Environm
           )
 
   pub array_on : (owner : Owner) (level : ℕ) (kind : Kind) (element : Expression) (v : values.Value) (k : List Entry) (c : Context) (t : Ty) (r : Region') (f : flow.State) → LiveIn k bs → IsContext p x bs c → Holds g f bs → IsThere bs r
-      → IsOwner (lives_in bs r) owner → Repeats p.reading c level kind element t f → HasType g Int v → IsStack p g x bs (Val (Value (Pointer marks.Fat (read bs t) (lives_in bs r))) f) k → IsWell p (makes_array owner level kind element v k e w)
+      → IsOwner (lives_in bs r) owner → Repeats p.reading x.relied c level kind element t f → HasType g Int v → IsStack p g x bs (Val (Value (Pointer marks.Fat (read bs t) (lives_in bs r))) f) k → IsWell p (makes_array owner level kind element v k e w)
   array_on owner level kind element (values.Int count) k c t r f live stands holds alive owned repeats is stack = go (nat_le (count * values.words_of_kind kind) most_words)
     where
       go : (b : Bool) → IsWell p (if b then Running (Beginning owner count level kind element) k e w else Running (Throwing array_size 0) k e w)
@@ -354,7 +353,7 @@ module _ (p : Source) (g : Typing) (x : Exits) (bs : List InScope) (e : Environm
 
   -- the next element gets its value, and the counter is out of scope
   pub fill_on : (object count index level : ℕ) (kind : Kind) (element : Expression) (v : Operand) (k : List Entry) (c : Context) (t : Ty) (r : Region') (f h : flow.State) → AreOpen w.regions (ends_of k) → LiveIn k bs → IsThere bs r
-      → IsContext p x bs c → Holds g h bs → Repeats p.reading c level kind element t f → Implies h f → index < count → IsArray g (read bs t) (lives_in bs r) object count index → IsResult g (Value (read bs t)) v
+      → IsContext p x bs c → Holds g h bs → Repeats p.reading x.relied c level kind element t f → Implies h f → index < count → IsArray g (read bs t) (lives_in bs r) object count index → IsResult g (Value (read bs t)) v
       → IsStack p g x bs (Val (Value (Pointer marks.Fat (read bs t) (lives_in bs r))) f) k
       → IsWell p (fills_element object count index level kind element v k e w)
   fill_on object count index level kind element v k c t r f h all_open live alive stands holds repeats back less (y, there, shown, life, cells, (m, flag, enough), few) is stack =
@@ -435,7 +434,7 @@ module _ (p : Source) (g : Typing) (x : Exits) (bs : List InScope) (e : Environm
       (makes_these owner (read bs t ∷ []) (v ∷ []) (read bs t) r k f all_open live holds alive owned (is, tt) (whole_of g (lives_in bs r) (read bs t) v.value is.1) stack)
 
   pub fields_on : (k : List Entry) (owner : Owner) (before : List Operand) (done : List RunTy) (as' : Arguments) (ts : List Ty) (c : Context) (n : ℕ) (ls : List Life) (r : Region') (f h : flow.State) (q : List ℕ)
-      → AreOpen w.regions (ends_of k) → LiveIn k bs → IsContext p x bs c → Holds g f bs → IsThere bs r → IsOwner (lives_in bs r) owner → ArePassed c ts as' → Derives (rule_arguments q as' f) h → InArguments p.reading as' → AreOperands g done before
+      → AreOpen w.regions (ends_of k) → LiveIn k bs → IsContext p x bs c → Holds g f bs → IsThere bs r → IsOwner (lives_in bs r) owner → ArePassed c ts as' → Derives (rule_arguments q as' f) h → InArguments p.reading x.relied as' → AreOperands g done before
       → AreFields p n ls (turned done (map (read bs) ts)) → IsStack p g x bs (Val (Value (Pointer marks.NonNull (Struct n ls) (lives_in bs r))) h) k → IsWell p (makes_fields owner before as' k e w)
   fields_on k owner before done NoArguments [] c n ls r f h q all_open live stands holds alive owned passed (u, same) kept operands (s, at, count, fields) stack =
       makes_these owner (turned done []) (reverse before) (Struct n ls) r k h all_open live (subst (λ z. Holds g z bs) (sym same) holds) alive owned (operands_reversed g done before operands)
@@ -469,7 +468,7 @@ module _ (p : Source) (g : Typing) (x : Exits) (bs : List InScope) (e : Environm
       )
 
   pub makes_on : (i : Initial) (owner : Owner) (k : List Entry) (c : Context) (m : PointerKind) (t : Ty) (r : Region') (f h : flow.State) (q : List ℕ) → AreOpen w.regions (ends_of k) → LiveIn k bs → IsContext p x bs c → Holds g f bs → IsThere bs r
-      → IsOwner (lives_in bs r) owner → IsMade c i m t → Derives (rule_initial q i f) h → InInitial p.reading i → IsStack p g x bs (Val (Value (Pointer m (read bs t) (lives_in bs r))) h) k → IsWell p (makes owner i k e w)
+      → IsOwner (lives_in bs r) owner → IsMade c i m t → Derives (rule_initial q i f) h → InInitial p.reading x.relied i → IsStack p g x bs (Val (Value (Pointer m (read bs t) (lives_in bs r))) h) k → IsWell p (makes owner i k e w)
   makes_on (Plain kind a) owner k c m t r f h q all_open live stands holds alive owned (well, keyless, kind_is, mark) flows kept stack =
       running p g x bs e w typed globals bound variables (Evaluating a) (Needs (MakePlain owner kind) ∷ k) live (
         c,
@@ -496,7 +495,7 @@ module _ (p : Source) (g : Typing) (x : Exits) (bs : List InScope) (e : Environm
       (s, there, enough, fields_mean p x bs c stands rs s count (λ field u found. globals.fields n s there field u found))
       (subst (λ z. IsStack p g x bs (Val (Value (Pointer z (Struct n ls) (lives_in bs r))) h) k) mark (subst (λ z. IsStack p g x bs (Val (Value (Pointer m (read bs z) (lives_in bs r))) h) k) t_is stack))
   makes_on (Array place level count kind element) owner k c m t r f h q all_open live stands holds alive owned (level_is, well, each, keyless, kind_is, mark) (f1, d, (f2, de, (demands, known))) (kn, ke) stack =
-      let repeats : Repeats p.reading c level kind element t f1 = record {
+      let repeats : Repeats p.reading x.relied c level kind element t f1 = record {
         now = f2;
         level_is = level_is;
         kind_is = kind_is;

@@ -191,7 +191,7 @@ module _ (p : Source) (g : Typing) (x : Exits) (bs : List InScope) (e : Environm
 
   -- ---- a place is found
 
-  pub locate : (d : Dereference) (k : List Entry) (c : Context) (t : Ty) (f h : flow.State) (q : List ℕ) (r : Named) → LiveIn k bs → IsContext p x bs c → Holds g f bs → IsCell c d t r → Derives (rule_place q d f) h → InPlace p.reading d
+  pub locate : (d : Dereference) (k : List Entry) (c : Context) (t : Ty) (f h : flow.State) (q : List ℕ) (r : Named) → LiveIn k bs → IsContext p x bs c → Holds g f bs → IsCell c d t r → Derives (rule_place q d f) h → InPlace p.reading x.relied d
       → IsStack p g x bs (PlaceOf (read bs t) (lives_in bs r) h) k → IsWell p (step_locating p.program d k e w)
   locate (Target pk a u) k c t f h q r live stands holds (m, well, alive, kind, same) flows kept stack =
       on (Evaluating a) (Needs (Follow pk (target_of u)) ∷ k) live (
@@ -320,7 +320,7 @@ module _ (p : Source) (g : Typing) (x : Exits) (bs : List InScope) (e : Environm
 
   -- ---- elements
 
-  pub index_on : (peek : Option ℕ) (target : Option Kind) (index : Expression) (c : Context) (t : Ty) (r : Named) (base : Operand) (k : List Entry) (f h : flow.State) → LiveIn k bs → Holds g f bs → IsContext p x bs c → Evaluates p.reading c index f (types.Value types.Int) h
+  pub index_on : (peek : Option ℕ) (target : Option Kind) (index : Expression) (c : Context) (t : Ty) (r : Named) (base : Operand) (k : List Entry) (f h : flow.State) → LiveIn k bs → Holds g f bs → IsContext p x bs c → Evaluates p.reading x.relied c index f (types.Value types.Int) h
       → target ≡ target_of t → IsThere bs r → IsResult g (Value (lives.Pointer marks.Fat (read bs t) (lives_in bs r))) base → IsStack p g x bs (PlaceOf (read bs t) (lives_in bs r) h) k → IsWell p (indexes peek target index base k e w)
   index_on peek target index c t r base k f h live holds stands evaluates same alive is stack =
       subst (λ (b : Bool). IsWell p (if b then Running (Evaluating index) (Needs (Advance peek target base) ∷ k) e w else wrong w)) (sym (is_kind_same base.kind kinds.Fat is.0))

@@ -1,5 +1,5 @@
 -- What region variables stand for: where more of them are named, where a region is opened, and where a function is called.
-use Rattle.std.proofs.Common.{◌≡◌, ◌≢◌, ◌⊎◌, inl, inr, ℕ, zero, suc, ◌≤◌, ◌<◌, Bool, true, false, List, [], ◌∷◌, ◌++◌, length, map, Some, slice_get, eqb, refl, sym, ap, subst, ◌∙◌, arith}
+use Rattle.std.proofs.Common.{◌≡◌, ◌≢◌, ◌⊎◌, inl, inr, ℕ, zero, suc, ◌≤◌, ◌<◌, Bool, true, false, List, [], ◌∷◌, length, map, Some, slice_get, eqb, refl, sym, ap, subst, ◌∙◌, arith}
 use Rattle.std.specs.Prelude.{Option, None, option_map, if◌then◌else◌, ◌==◌, Contains, slice_index_or}
 use Rattle.std.proofs.lemmas.Bool.{eqb-true, eq-eqb, false_from_ne_true}
 use Rattle.cyc_types.specs.declared.region.Region.{Region}
@@ -17,7 +17,7 @@ use Rattle.cyc_types.specs.typing.WellTyped.{LocalInScope, Context, IsLive, AreL
 use Rattle.cyc_soundness.specs.Lives.{Life, OfRegion, OfObject, Never, Kept, Lives, at, value_at, heap_life, lives_of, as_heap, Reading, AsHeap, ByScope, AllOf, AllIn, AllInValue, IsKnown, IsOther}
 use Rattle.cyc_soundness.specs.Worlds.{Typing, IsKnownLife, Outlasts, heap as for_ever, stays, encloses, whole, behind, AgreesWith, IsNumber}
 use Rattle.cyc_soundness.specs.Classes.{HasLoans, IsDeclarable, Source}
-use Rattle.cyc_soundness.specs.Frames.{first as newest, later, InScope, Variable, Level, Names, Instance, Home, Lent, life_named, is_live_named, lives_in, read, read_value, home_of, AreVariables, lives_among, IsThereBy, IsThere, IsHomed, IsScope, IsLasting, IsLiveIn, AreLiveIn, Exits, AreNamed, StandBy, Stand, IsHome, AreKnownLocals, AreKnown, lending, AreLent, IsContext}
+use Rattle.cyc_soundness.specs.Frames.{later, InScope, Variable, Level, Names, Instance, Home, life_named, is_live_named, lives_in, read, read_value, home_of, AreVariables, lives_among, IsThereBy, IsThere, IsHomed, IsScope, IsLasting, IsLiveIn, AreLiveIn, Exits, AreNamed, StandBy, Stand, IsHome, AreKnownLocals, AreKnown, IsContext}
 use Rattle.cyc_soundness.specs.Stacks.{IsNew, regions_at_call, IsInstance}
 use Rattle.cyc_soundness.proofs.TypeLemmas.{all_in, every_in, read_alike, value_alike, lives_by, instance_by, result_by}
 use Rattle.cyc_soundness.proofs.ValueLemmas.{given_agree}
@@ -63,7 +63,6 @@ named_lasting ns [] k are live = inl refl
 named_lasting ns (Variable b ∷ bs) k (is, are) live = named_lasting ns bs k are live
 named_lasting ns (Level l ∷ bs) k (is, are) live = named_lasting ns bs k are live
 named_lasting ns (Home region ∷ bs) k (is, are) live = named_lasting ns bs k are live
-named_lasting ns (Lent number object ∷ bs) k (is, are) live = named_lasting ns bs k are live
 named_lasting ns (Instance these lives ∷ bs) k (is, are) live = is k live
 named_lasting ns (Names number l alive ∷ bs) k (is, are) live = named_either (k == number) ns l (life_named bs k) alive (is_live_named bs k) is (λ e. named_lasting ns bs k are e) live
 
@@ -76,7 +75,6 @@ name_known g [] k are = tt
 name_known g (Variable b ∷ bs) k (is, are) = name_known g bs k are
 name_known g (Level l ∷ bs) k (is, are) = name_known g bs k are
 name_known g (Home region ∷ bs) k (is, are) = name_known g bs k are
-name_known g (Lent number object ∷ bs) k (is, are) = name_known g bs k are
 name_known g (Instance these lives ∷ bs) k (is, are) = is k
 name_known g (Names number l alive ∷ bs) k (is, are) = named_both g (k == number) l (life_named bs k) is (name_known g bs k are)
 
@@ -98,11 +96,6 @@ lasts_around ns n (OfRegion m ms) (inr end) = encloses m n ms ns end
 lasts_around ns n (OfObject o) is = absurd is
 lasts_around ns n Never is = absurd is
 lasts_around ns n (Kept region) is = stays region (OfRegion n ns)
-
--- what is lent is so further inside
-pub lent_more : (b : InScope) (bs : List InScope) (ns : List ℕ) → AreLent ns bs → AreLent ns (b ∷ bs)
-lent_more b bs [] are = tt
-lent_more b bs (n ∷ ns) ((object, among), are) = ((object, later b bs among), lent_more b bs ns are)
 
 -- ---- names
 
@@ -451,7 +444,6 @@ module _ (p : Source) (x : Exits) (bs : List InScope) (c : Context) (stands : Is
       known = known_opened p.reading c.next_region scopes.Block c.regions c.locals c.result stands.known;
       regions = stand_here scopes.Block refl;
       home = new_home p.reading c.next_region region ns bs;
-      lent = lent_more (Home region) here x.locks (lent_more (Names c.next_region (opened_life p.reading region ns) true) bs x.locks stands.lent);
     }
 
     -- behind a lexical region
@@ -469,32 +461,9 @@ module _ (p : Source) (x : Exits) (bs : List InScope) (c : Context) (stands : Is
       known = known_opened p.reading c.next_region scopes.Lexical c.regions c.locals c.result stands.known;
       regions = stand_here scopes.Lexical refl;
       home = same_home p.reading c.next_region region ns c bs stands.known refl alive stands.home;
-      lent = lent_more (Names c.next_region (opened_life p.reading region ns) true) bs x.locks stands.lent;
     }
 
 -- ---- what is lent
-
-lent_added : (ns : List ℕ) (n object : ℕ) (bs : List InScope) → AreLent ns bs → AreLent (ns ++ n ∷ []) (Lent n object ∷ bs)
-lent_added [] n object bs are = ((object, newest bs), tt)
-lent_added (m ∷ ns) n object bs ((other, among), are) = ((other, later (Lent n object) bs among), lent_added ns n object bs are)
-
--- where the local of this number is lent
-pub context_lent : (p : Source) (x : Exits) (bs : List InScope) (c : Context) → IsContext p x bs c → (n object : ℕ) → n < c.next_local → IsContext p (lending x n) (Lent n object ∷ bs) c
-context_lent p x bs c stands n object less = record {
-  globals = stands.globals;
-  functions = stands.functions;
-  structs = stands.structs;
-  result = stands.result;
-  gives = stands.gives;
-  loop = stands.loop;
-  scope = (c.locals, refl, stands.scope);
-  below = (less, stands.below);
-  counters = λ l few. later (Lent n object) bs (stands.counters l few);
-  known = stands.known;
-  regions = stands.regions;
-  home = stands.home;
-  lent = lent_added x.locks n object bs stands.lent;
-}
 
 -- the name of a new region
 name_same : (m : Reading) → HasLoans m → (number : ℕ) (l : Life) (alive : Bool) (bs : List InScope) (r : Region) → IsOtherBy m number r → lives_in bs r ≡ lives_in (Names number l alive ∷ bs) r
@@ -559,7 +528,6 @@ module _ (p : Source) (x : Exits) (bs : List InScope) (c : Context) (stands : Is
         known = known;
         regions = stand;
         home = at_home;
-        lent = lent_more (Names number l live) bs x.locks stands.lent;
       }
 
   stand_new : (l : Life) (live : Bool) → Stand p.reading c.regions (Names c.next_region l live ∷ bs)

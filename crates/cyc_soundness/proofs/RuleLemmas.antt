@@ -1,5 +1,5 @@
 -- What the flow rules only lower: what is known at breaks, and what is known behind a `try`.
-use Rattle.std.proofs.Common.{◌≡◌, [], ◌++◌, refl, sym, subst, append-nil}
+use Rattle.std.proofs.Common.{◌≡◌, [], ◌++◌, sym, subst, append-nil}
 use Rattle.cyc_types.specs.TypedTrees.{Statement, Block, Empty, Evaluate, Swap, If, While, Return, Break, Continue, Throw, Try, Items, NoItems, MoreItems, Item, Execute, Declare, DeclareRegion, OpenRegion, DeclareAlias, DeclareKey, Clauses, NoClauses, Default, Case}
 use Rattle.cyc_types.specs.Rules.{Derives}
 use Rattle.cyc_types.specs.flow.States.{State, Unreached, Full, meet, with_each}

@@ -10,7 +10,7 @@ use Rattle.cyc_types.specs.TypedTrees.{Operations, NoOperations, ThenCompute, Th
 use Rattle.cyc_types.specs.typing.Tests.{is_tested, is_moved}
 use Rattle.cyc_types.specs.typing.WellTyped.{LocalInScope, Context, HasLocal, HasPlace, Converts, PointerOperation, adds, subtracts, equals, differs, thin_null, thin_there, fat_null, fat_there, null_is, null_is_not, IsChain}
 use Rattle.cyc_types.specs.flow.States as flow
-use Rattle.cyc_types.specs.flow.States.{Full, with_fullness, with_each, is_reached}
+use Rattle.cyc_types.specs.flow.States.{Full, with_fullness}
 use Rattle.cyc_meaning.specs.Values as values
 use Rattle.cyc_meaning.specs.State.{Object, Region, Access, Found, Closed, Missing, found_region, is_open, heap_number, globals_number, World, FillElement, AwaitingPlace, SwapRight, Write, Environment, with_local, Awaiting, Entry, Needs, NeedsPlace, Discard, Rest, Join, Loop, CloseRegion, CloseLexical, EndLoan, Handler, Caller, Main}
 use Rattle.cyc_meaning.specs.Nesting.{ends_of, IsFound, AreOpen, IsHome, IsNested}
@@ -18,8 +18,8 @@ use Rattle.cyc_meaning.specs.Nesting as nesting
 use Rattle.cyc_soundness.specs.Lives.{Life, OfRegion, OfObject, Never, Kept, heap_life, RunTy, RunValue, Void, Null, Value, Lives, at, value_at, Reading}
 use Rattle.cyc_soundness.specs.Lives as lives
 use Rattle.cyc_soundness.specs.Worlds.{ObjectType, Typing, IsKnownLife, IsTyped, IsFull, variable_type, IsEndOf, whole, behind, Outlasts, alike, heap as for_ever, globals as with_globals, stays, encloses, IsOpenLife, Grows}
-use Rattle.cyc_soundness.specs.Frames.{IsAmong, first, later, Bound, InScope, Variable, Level, Home, Lent, lives_in, read, home_of, IsHomed, IsScope, AreBelow, IsBound, AreVariables, IsLasting, AreLiveIn, home_in, LiveIn, IsInner, Within, itself, older, IsSet, AreSet, Holds, Exits, AreLent}
-use Rattle.cyc_soundness.specs.Classes.{InOperations, Source}
+use Rattle.cyc_soundness.specs.Frames.{IsAmong, first, later, Bound, InScope, Variable, Level, Home, lives_in, read, home_of, IsHomed, IsScope, AreBelow, IsBound, AreVariables, IsLasting, AreLiveIn, home_in, LiveIn, IsInner, Within, itself, older, IsSet, AreSet, Holds, IsFullAt, AreFullAt, Exits}
+use Rattle.cyc_soundness.specs.Classes.{Relied, InOperations, Source}
 use Rattle.cyc_soundness.specs.Stacks.{IsAccepted, Want, Nothing, Val, PlaceOf, Go, held, Waits, IsArrayOf, Keeps, IsSpot, of_local, of_global, of_cell, KeepsPlace, AreSwapped, IsStack}
 use Rattle.cyc_soundness.specs.Stacks as stacks
 use Rattle.cyc_soundness.proofs.Numbers.{same_or_other}
@@ -56,6 +56,14 @@ module _ (p : Source) (g h : Typing) (grows : Grows g h) where
   swapped_grown bs f [] are = tt
   swapped_grown bs f (w ∷ ws) ((t, plain, spot, is), are) = ((t, plain, spot_grown bs t f w.place spot, result_grown g h grows (Value (read bs t)) w.operand is), swapped_grown bs f ws are)
 
+  one_at_grown : (n : ℕ) (b : InScope) → IsFullAt g n b → IsFullAt h n b
+  one_at_grown n (Variable b) is = λ same. grows.filled b.object 1 (is same)
+  one_at_grown n b is = tt
+
+  full_at_grown : (n : ℕ) (bs : List InScope) → AreFullAt g n bs → AreFullAt h n bs
+  full_at_grown n [] are = tt
+  full_at_grown n (b ∷ bs) (is, are) = (one_at_grown n b is, full_at_grown n bs are)
+
   pub stack_grown : (x : Exits) (bs : List InScope) (w : Want) (k : List Entry) → IsStack p g x bs w k → IsStack p h x bs w k
   stack_grown x bs Nothing [] is = tt
   stack_grown x bs (Val r f) (Needs a ∷ k) (ts, cs, next, waits, are, rest) = (ts, cs, next, waits, keeps_grown a ts are, stack_grown x cs next k rest)
@@ -67,9 +75,9 @@ module _ (p : Source) (g h : Typing) (grows : Grows g h) where
   stack_grown x bs (Go f) (Loop condition body ∷ k) (y, l, v, u, end, same, loop, i, rest) = (y, l, v, u, end, same, loop, i, stack_grown y bs (Go end) k rest)
   stack_grown x bs (Go f) (CloseRegion region home ∷ k) (cs, number, l, alive, end, same, i, live, rest) = (cs, number, l, alive, end, same, i, live, stack_grown x cs (Go end) k rest)
   stack_grown x bs (Go f) (CloseLexical region ∷ k) (end, i, live, rest) = (end, i, live, stack_grown x bs (Go end) k rest)
-  stack_grown x bs (Go f) (EndLoan lent ∷ k) (y, same, rest) = (y, same, stack_grown y bs (Go f) k rest)
-  stack_grown x bs (Go f) (Handler cs ∷ k) (c, start, end, stands, holds, catches, i, rest) =
-      (c, start, end, stands, holds_grown g h grows start bs holds, catches, i, stack_grown x bs (Go end) k rest)
+  stack_grown x bs (Go f) (EndLoan lent ∷ k) (y, end, same, i, full, rest) = (y, end, same, i, full_at_grown lent bs full, stack_grown y bs (Go end) k rest)
+  stack_grown x bs (Go f) (Handler cs ∷ k) (y, c, start, end, same, stands, holds, catches, i, rest) =
+      (y, c, start, end, same, stands, holds_grown g h grows start bs holds, catches, i, stack_grown y bs (Go end) k rest)
   stack_grown x bs (Go f) (Caller e ∷ k) (y, cs, end, loop, blocked, gives, bound, variables, live, holds, rest) = (
     y,
     cs,
@@ -131,12 +139,12 @@ pointer_right n (fat_there k t r fat) e = null_void e
 pointer_right n (null_is k t r) e = value_void e
 pointer_right n (null_is_not k t r) e = value_void e
 
-void_chain : (m : Reading) (c : Context) (os : Operations) (t : Ty) → IsChain c types.Void os t → InOperations m os → ⊥
-void_chain m c NoOperations t e kept = absurd (let k : types.Void ≡ types.Value t = e in cc)
-void_chain m c (ThenCompute o a os) t (e, well, chain) kept = absurd (let k : types.Void ≡ types.Value types.Int = e in cc)
-void_chain m c (ThenTest o a os) t (e, well, chain) kept = absurd (let k : false ≡ true = e in cc)
-void_chain m c (ThenPointer o a os) t (v, w, well, op, chain) kept = pointer_left op refl
-void_chain m c (ThenPointerPeek n o a os) t (v, w, well, op, chain) kept = pointer_left op refl
+void_chain : (m : Reading) (q : Relied) (c : Context) (os : Operations) (t : Ty) → IsChain c types.Void os t → InOperations m q os → ⊥
+void_chain m q c NoOperations t e kept = absurd (let k : types.Void ≡ types.Value t = e in cc)
+void_chain m q c (ThenCompute o a os) t (e, well, chain) kept = absurd (let k : types.Void ≡ types.Value types.Int = e in cc)
+void_chain m q c (ThenTest o a os) t (e, well, chain) kept = absurd (let k : false ≡ true = e in cc)
+void_chain m q c (ThenPointer o a os) t (v, w, well, op, chain) kept = pointer_left op refl
+void_chain m q c (ThenPointerPeek n o a os) t (v, w, well, op, chain) kept = pointer_left op refl
 
 void_tested : (n : Lives) (v : ValueType) → value_at n v ≡ Void → is_tested v ≡ true → ⊥
 void_tested n v e tested = let k : false ≡ true = subst (λ z. is_tested z ≡ true) (void_read n v e) tested in absurd (cc)
@@ -146,7 +154,7 @@ void_waits {bs = bs} (stacks.converts c v t f agrees conv from to target) e = vo
 void_waits (stacks.negates f) e = value_void e
 void_waits (stacks.complements f) e = value_void e
 void_waits {bs = bs} (stacks.denies v f tested) e = void_tested (lives_in bs) v e tested
-void_waits {p} {bs = bs} (stacks.chains {os} c v t f h stands computes) e = void_chain p.reading c os t (subst (λ z. IsChain c z os t) (void_read (lives_in bs) v e) computes.typed) computes.kept
+void_waits {p} {x} {bs} (stacks.chains {os} c v t f h stands computes) e = void_chain p.reading x.relied c os t (subst (λ z. IsChain c z os t) (void_read (lives_in bs) v e) computes.typed) computes.kept
 void_waits (stacks.applies f) e = value_void e
 void_waits {bs = bs} (stacks.decides v f h tested i) e = void_tested (lives_in bs) v e tested
 void_waits (stacks.stores_local b t f among same) e = value_void e
@@ -170,8 +178,8 @@ void_waits {bs = bs} (stacks.chooses c d v f g h i tested first_stands second_st
 void_waits {bs = bs} (stacks.tests l v f h loop) e = void_tested (lives_in bs) v e loop.tested
 void_waits (stacks.returns t u f h result gives) e = value_void e
 void_waits (stacks.throws f h) e = value_void e
-void_waits (stacks.opens_by cs c b r f h loans within stands among number set less alive next continues) e = value_void e
-void_waits (stacks.aliases cs c b u t f h loans within stands among number set unique known of_type alive next continues) e = value_void e
+void_waits (stacks.opens_by cs c b r f h i loans within stands among number set less alive next continues again) e = value_void e
+void_waits (stacks.aliases cs c b u t f h i loans within stands among number set unique known of_type alive next continues again) e = value_void e
 
 pub void_goes : (p : Source) (g : Typing) (x : Exits) (bs : List InScope) (f : flow.State) (r : RunValue) (k : List Entry) → r ≡ Void → IsStack p g x bs (Val r f) k → IsStack p g x bs (Go f) k
 void_goes p g x bs f r (Needs a ∷ k) e (ts, cs, next, waits, are, rest) = absurd (void_waits waits e)
@@ -270,7 +278,6 @@ within_holds g f cs bs within (reached, are) = (reached, within_set g f cs bs wi
 pub below_more : (n m : ℕ) (bs : List InScope) → n ≤ m → AreBelow n bs → AreBelow m bs
 below_more n m [] less are = tt
 below_more n m (Variable b ∷ bs) less (is, are) = (omega (arith, less, is), below_more n m bs less are)
-below_more n m (Lent k object ∷ bs) less (is, are) = (omega (arith, less, is), below_more n m bs less are)
 below_more n m (b ∷ bs) less (is, are) = (tt, below_more n m bs less are)
 
 -- ---- a local more, and one that is stored
@@ -286,8 +293,6 @@ pub bound_more : (e : Environment) (number object : ℕ) (bs : List InScope) →
 bound_more e number object [] below are = tt
 bound_more e number object (Variable b ∷ bs) (less, below) (is, are) =
     (local_other e number b.number object (λ e. (let k : b.number ≡ number = e in absurd (omega (arith, less, k)))) ∙ is, bound_more e number object bs below are)
-bound_more e number object (Lent n o ∷ bs) (less, below) (is, are) =
-    (local_other e number n object (λ e. (let k : n ≡ number = e in absurd (omega (arith, less, k)))) ∙ is, bound_more e number object bs below are)
 bound_more e number object (b ∷ bs) (less, below) (is, are) = (is, bound_more e number object bs below are)
 
 pub set_more : (g : Typing) (a : flow.Fullness) (f : flow.State) (number : ℕ) (bs : List InScope) → AreBelow number bs → AreSet g f bs → AreSet g (with_fullness a f number) bs
@@ -313,35 +318,28 @@ set_stored g e a f number object (b ∷ bs) (here, bound) there full (is, are) =
 pub none_among : {A B : Type 0} {a : A} → IsAmong a [] → B
 none_among among = elim among [ ]
 
-among_lent : {n object : ℕ} {bs : List InScope} (e : Environment) → IsAmong (Lent n object) bs → IsBound e.locals e.counters bs → e.locals n ≡ Some object
-among_lent e (first cs) (is, are) = is
-among_lent e (later c cs among) (is, are) = among_lent e among are
+-- what this local has is in one object
+pub full_here : (g : Typing) (e : Environment) (n object : ℕ) (bs : List InScope) → IsBound e.locals e.counters bs → e.locals n ≡ Some object → IsFull g object → AreFullAt g n bs
+full_here g e n object [] bound there full = tt
+full_here g e n object (Variable b ∷ bs) (here, bound) there full =
+    ((λ same. (let k : Some object ≡ Some b.object = sym there ∙ ap e.locals (sym same) ∙ here in let one : object ≡ b.object = cc in subst (λ o. IsFull g o) one full)), full_here g e n object bs bound there full)
+full_here g e n object (b ∷ bs) (here, bound) there full = (tt, full_here g e n object bs bound there full)
 
-lent_full : {n object : ℕ} {bs : List InScope} (g : Typing) → IsAmong (Lent n object) bs → AreVariables g bs → IsFull g object
-lent_full g (first cs) (is, are) = is
-lent_full g (later c cs among) (is, are) = lent_full g among are
+pub within_full_at : (g : Typing) (n : ℕ) (cs bs : List InScope) → Within cs bs → AreFullAt g n bs → AreFullAt g n cs
+within_full_at g n cs bs (itself _) are = are
+within_full_at g n cs bs (older b _ ds inner within) (is, are) = within_full_at g n cs ds within are
 
-lent_one : (n : ℕ) (ns : List ℕ) (bs : List InScope) → IsAmong n ns → AreLent ns bs → (object : ℕ) × IsAmong (Lent n object) bs
-lent_one n ns bs (first ms) (is, are) = is
-lent_one n ns bs (later m ms among) (is, are) = lent_one n ms bs among are
+refilled_set : (g : Typing) (f : flow.State) (n : ℕ) (bs : List InScope) → AreFullAt g n bs → AreSet g f bs → AreSet g (with_fullness Full f n) bs
+refilled_set g f n [] at are = tt
+refilled_set g f n (Variable b ∷ bs) (here, at) (is, are) = (go, refilled_set g f n bs at are)
+  where
+    go : IsSet (with_fullness Full f n) b.number → IsFull g b.object
+    go s = elim (same_or_other b.number n) [ inl same ↦ here same | inr apart ↦ is (other_set Full f n b.number apart s) ]
+refilled_set g f n (b ∷ bs) (here, at) (is, are) = (tt, refilled_set g f n bs at are)
 
--- some of what is lent
-pub lent_among : (ms ns : List ℕ) (bs : List InScope) → ((n : ℕ) → IsAmong n ms → IsAmong n ns) → AreLent ns bs → AreLent ms bs
-lent_among [] ns bs among are = tt
-lent_among (m ∷ ms) ns bs among are = (lent_one m ns bs (among m (first ms)) are, lent_among ms ns bs (λ n is. among n (later m ms is)) are)
-
-lent_set : (g : Typing) (e : Environment) (ns : List ℕ) (f : flow.State) (bs : List InScope) → IsBound e.locals e.counters bs → AreVariables g bs → AreLent ns bs → AreSet g f bs → AreSet g (with_each Full ns f) bs
-lent_set g e [] f bs bound variables lent are = are
-lent_set g e (n ∷ ns) f bs bound variables ((object, among), lent) are =
-    lent_set g e ns (with_fullness Full f n) bs bound variables lent (set_stored g e Full f n object bs bound (among_lent e among bound) (lent_full g among variables) are)
-
-each_reached : (a : flow.Fullness) (ns : List ℕ) (f : flow.State) → is_reached f ≡ true → is_reached (with_each a ns f) ≡ true
-each_reached a [] f reached = reached
-each_reached a (n ∷ ns) f reached = each_reached a ns (with_fullness a f n) (reached_with a f n reached)
-
--- what is lent holds something, and so is full where it is given back
-pub lent_holds : (g : Typing) (e : Environment) (ns : List ℕ) (f : flow.State) (bs : List InScope) → IsBound e.locals e.counters bs → AreVariables g bs → AreLent ns bs → Holds g f bs → Holds g (with_each Full ns f) bs
-lent_holds g e ns f bs bound variables lent (reached, are) = (each_reached Full ns f reached, lent_set g e ns f bs bound variables lent are)
+-- what was lent is full where it is given back
+pub given_back : (g : Typing) (f : flow.State) (n : ℕ) (bs : List InScope) → AreFullAt g n bs → Holds g f bs → Holds g (with_fullness Full f n) bs
+given_back g f n bs at (reached, are) = (reached_with Full f n reached, refilled_set g f n bs at are)
 
 -- ---- regions that will end
 
@@ -470,5 +468,5 @@ waits_within {bs = bs} (stacks.chooses c d v f g h i tested first_stands second_
 waits_within {bs = bs} (stacks.tests l v f h loop) = itself bs
 waits_within {bs = bs} (stacks.returns t u f h result gives) = itself bs
 waits_within {bs = bs} (stacks.throws f h) = itself bs
-waits_within (stacks.opens_by cs c b r f h loans within stands among number set less alive next continues) = within
-waits_within (stacks.aliases cs c b u t f h loans within stands among number set unique known of_type alive next continues) = within
+waits_within (stacks.opens_by cs c b r f h i loans within stands among number set less alive next continues again) = within
+waits_within (stacks.aliases cs c b u t f h i loans within stands among number set unique known of_type alive next continues again) = within

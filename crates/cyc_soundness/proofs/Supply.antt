@@ -39,7 +39,7 @@ use Rattle.cyc_soundness.proofs.TypeLemmas.{is_kind_same, kind_read}
 use Rattle.cyc_soundness.proofs.FlowLemmas.{holds_implied, reached_with, vacant_now}
 use Rattle.cyc_soundness.proofs.WorldLemmas.{life_grown, type_grown, with_object, object_grows, object_typed, globals_grown, variables_grown, set_grown}
 use Rattle.cyc_soundness.proofs.StackLemmas.{stack_grown, below_more, local_new, bound_more, set_more, home_is, home_lasting, found_is, within_bound, within_variables, within_live, within_holds}
-use Rattle.cyc_soundness.proofs.RegionLemmas.{lent_more, region_known, there_lasting, known_local}
+use Rattle.cyc_soundness.proofs.RegionLemmas.{region_known, there_lasting, known_local}
 use Rattle.cyc_soundness.proofs.ValueLemmas.{negated, complemented, combined, zero_is}
 use Rattle.cyc_soundness.specs.Classes.{InInitial, Source}
 use Rattle.cyc_soundness.proofs.Cells.{running}
@@ -64,7 +64,6 @@ context_more p x bs c is_place t b stands new number of_type hidden life = recor
   known = known_local p.reading c is_place t stands.known new;
   regions = stands.regions;
   home = stands.home;
-  lent = lent_more (Variable b) bs x.locks stands.lent;
 }
 
 -- how long the next local is there: as long as the block that it stands in
@@ -201,7 +200,6 @@ module _ (p : Source) (g : Typing) (x : Exits) (bs : List InScope) (e : Environm
           known = loop.stands.known;
           regions = loop.stands.regions;
           home = loop.stands.home;
-          lent = tt;
         },
         holds,
         loop.again,
@@ -214,7 +212,7 @@ module _ (p : Source) (g : Typing) (x : Exits) (bs : List InScope) (e : Environm
 
   -- by a handle
   placed_by : (i : Initial) (v : values.Value) (k : List Entry) (c : Context) (m : PointerKind) (t : Ty) (r : Region) (f h : flow.State) (q : List ℕ) → AreOpen w.regions (ends_of k) → LiveIn k bs → IsContext p x bs c → Holds g f bs
-      → IsThere bs r → IsMade c i m t → Derives (rule_initial q i f) h → InInitial p.reading i → HasType g (lives.Handle (lives_in bs r)) v
+      → IsThere bs r → IsMade c i m t → Derives (rule_initial q i f) h → InInitial p.reading x.relied i → HasType g (lives.Handle (lives_in bs r)) v
       → IsStack p g x bs (Val (Value (lives.Pointer m (read bs t) (lives_in bs r))) h) k → IsWell p (makes_by i v k e w)
   placed_by i (values.Handle region) k c m t r f h q opens live stands holds alive made flows kept has stack =
       makes_on p g x bs e w typed globals bound variables i (InRegion region) k c m t r f h q opens live stands holds alive (owner_is (lives_in bs r) region has) made flows kept stack
@@ -222,7 +220,7 @@ module _ (p : Source) (g : Typing) (x : Exits) (bs : List InScope) (e : Environm
 
   -- the next element of an array has its value, and the counter is out of scope
   filled_on : (object count index level : ℕ) (kind : Kind) (element : Expression) (v : Operand) (k : List Entry) (cs : List InScope) (c : Context) (t : Ty) (r : Region) (f h : flow.State) → bs ≡ Level level ∷ cs
-      → AreOpen w.regions (ends_of k) → LiveIn k bs → IsThere cs r → IsContext p x cs c → Holds g h bs → Repeats p.reading c level kind element t f → Implies h f → index < count
+      → AreOpen w.regions (ends_of k) → LiveIn k bs → IsThere cs r → IsContext p x cs c → Holds g h bs → Repeats p.reading x.relied c level kind element t f → Implies h f → index < count
       → IsArray g (read cs t) (lives_in cs r) object count index → IsResult g (Value (read cs t)) v → IsStack p g x cs (Val (Value (lives.Pointer marks.Fat (read cs t) (lives_in cs r))) f) k
       → IsWell p (fills_element object count index level kind element v k e w)
   filled_on object count index level kind element v k cs c t r f h same opens live alive stands holds repeats back less array is stack =
@@ -285,7 +283,7 @@ module _ (p : Source) (g : Typing) (x : Exits) (bs : List InScope) (e : Environm
   given v k nests live holds is (stacks.returns t u f h result gives) are stack =
       on (Returning (Some v)) k live (h, subst (λ z. IsReturn g z x.gives (Some v)) (sym result) (subst (λ z. IsResult g z v) gives is), stack)
   given v k nests live holds is (stacks.throws {tag} f h) are stack = thrown_on tag v.value k h live is.1 stack
-  given v k nests live holds is (stacks.opens_by {number} {lent} {js} cs c b r f h loans within stands among number_of set less alive number_is continues) are stack =
-      opens_on p g x bs e w typed globals bound variables number lent js v.value k cs c b r f h live holds loans within stands among number_of set less alive number_is continues is.1 stack
-  given v k nests live holds is (stacks.aliases {number} {lent} {js} cs c b u t f h loans within stands among number_of set unique known of_type alive number_is continues) are stack =
-      aliases_on p g x bs e w typed globals bound variables number lent js v k cs c b u t f h live holds loans within stands among number_of set unique known of_type alive number_is continues is stack
+  given v k nests live holds is (stacks.opens_by {number} {lent} {js} cs c b r f h i loans within stands among number_of set less alive number_is continues again) are stack =
+      opens_on p g x bs e w typed globals bound variables number lent js v.value k cs c b r f h i live holds loans within stands among number_of set less alive number_is continues again is.1 stack
+  given v k nests live holds is (stacks.aliases {number} {lent} {js} cs c b u t f h i loans within stands among number_of set unique known of_type alive number_is continues again) are stack =
+      aliases_on p g x bs e w typed globals bound variables number lent js v k cs c b u t f h i live holds loans within stands among number_of set unique known of_type alive number_is continues again is stack

@@ -96,7 +96,7 @@ module _ (p : Source) (g : Typing) (x : Exits) (bs : List InScope) (e : Environm
       of_global n found (global_means p.reading c.regions bs t stands.regions closed)
 
   pub finds_right_on : (kind : Kind) (peek : Option ℕ) (left : values.Value) (right : Side) (c : Context) (t : Ty) (k : List Entry) (f h : flow.State) (q : List ℕ) → LiveIn k bs → IsContext p x bs c → Holds g f bs
-      → kind ≡ values.kind_of t → is_struct t ≡ false → (Unit {0} → IsSpot p g bs t h left) → IsSide c right t → Derives (rule_side q right f) h → AllKept (side_demanded q right h) → InSide p.reading right
+      → kind ≡ values.kind_of t → is_struct t ≡ false → (Unit {0} → IsSpot p g bs t h left) → IsSide c right t → Derives (rule_side q right f) h → AllKept (side_demanded q right h) → InSide p.reading x.relied right
       → IsStack p g x bs (Go h) k → IsWell p (finds_right kind peek left right k e w)
   finds_right_on kind peek left (VariableSide (Local place n) u) c t k f h q live stands holds kind_is plain here (r, (m, has, region, there), same) (unit, known) used kept stack =
       let (b, among, number, of_type) = bound_of p.reading (lives_in bs) c.locals bs n u m stands.scope (place_local c.locals n u m has) in
@@ -121,7 +121,7 @@ module _ (p : Source) (g : Typing) (x : Exits) (bs : List InScope) (e : Environm
       )
 
   pub swap_on : (y z : Side) (c : Context) (t : Ty) (k : List Entry) (f f1 h : flow.State) (q : List ℕ) → LiveIn k bs → IsContext p x bs c → Holds g f bs → is_struct t ≡ false
-      → IsSide c y t → Derives (rule_side [] y f) f1 → AllKept (side_demanded [] y h) → InSide p.reading y → Finds p.reading c z f1 t h → IsStack p g x bs (Go h) k → IsWell p (swaps y z k e w)
+      → IsSide c y t → Derives (rule_side [] y f) f1 → AllKept (side_demanded [] y h) → InSide p.reading x.relied y → Finds p.reading x.relied c z f1 t h → IsStack p g x bs (Go h) k → IsWell p (swaps y z k e w)
   swap_on (VariableSide (Local place n) u) z c t k f f1 h q live stands holds plain (r, (m, has, region, there), same) (unit, known) used kept finds stack =
       let (b, among, number, of_type) = bound_of p.reading (lives_in bs) c.locals bs n u m stands.scope (place_local c.locals n u m has) in
       let at : e.locals n ≡ Some b.object = ap e.locals (sym number) ∙ among_bound e among bound in

@@ -4,7 +4,7 @@ use Rattle.cyc_types.specs.Types.{Ty, ValueType, result_type}
 use Rattle.cyc_types.specs.Types as types
 use Rattle.cyc_types.specs.TypedTrees.{Expression, Statement}
 use Rattle.cyc_types.specs.flow.States as flow
-use Rattle.cyc_types.specs.flow.States.{is_reached}
+use Rattle.cyc_types.specs.flow.States.{Full, is_reached, with_fullness, with_each}
 use Rattle.cyc_meaning.specs.Values.{Operand}
 use Rattle.cyc_meaning.specs.Values as values
 use Rattle.cyc_meaning.specs.State.{World, closed, region_at, Environment, Test, Entry, Needs, NeedsPlace, Discard, Rest, Join, Loop, CloseRegion, CloseLexical, EndLoan, Handler, Caller, Main, Focus, Evaluating, Given, Proceeding, Breaking, Continuing, Returning, Throwing, Catching, Running}
@@ -15,12 +15,12 @@ use Rattle.cyc_meaning.specs.Step.{step_proceeding, step_breaking, step_continui
 use Rattle.cyc_soundness.specs.Lives.{Life, Value}
 use Rattle.cyc_soundness.specs.Lives as lives
 use Rattle.cyc_soundness.specs.Worlds.{Typing, HasType, IsTyped}
-use Rattle.cyc_soundness.specs.Frames.{InScope, Names, Home, IsBound, AreVariables, LiveIn, Holds, LoopExit, Exits, HasResult, is_loop, KnowsProgram}
+use Rattle.cyc_soundness.specs.Frames.{InScope, Names, Home, IsBound, AreVariables, LiveIn, Holds, Implies, LoopExit, Exits, HasResult, is_loop, KnowsProgram}
 use Rattle.cyc_soundness.specs.Stacks.{IsLoop, Want, Nothing, Val, PlaceOf, Go, IsBlocked, IsReturn, IsStack, IsFocus, IsWell}
 use Rattle.cyc_soundness.specs.Stacks as stacks
 use Rattle.cyc_soundness.proofs.Numbers.{some_same}
-use Rattle.cyc_soundness.proofs.FlowLemmas.{holds_implied}
-use Rattle.cyc_soundness.proofs.StackLemmas.{void_goes, not_heap, lexical_not_heap, within_bound, within_variables, within_live, within_holds, found_is, waits_within}
+use Rattle.cyc_soundness.proofs.FlowLemmas.{holds_implied, full_added}
+use Rattle.cyc_soundness.proofs.StackLemmas.{void_goes, given_back, not_heap, lexical_not_heap, within_bound, within_variables, within_live, within_holds, found_is, waits_within}
 use Rattle.cyc_soundness.proofs.WorldLemmas.{closed_typed}
 use Rattle.cyc_soundness.proofs.Cells.{running}
 use Rattle.cyc_soundness.proofs.Execution.{continue_with}
@@ -65,14 +65,16 @@ module _ (p : Source) (g : Typing) (e : Environment) (w : World) (typed : IsType
     pub proceed : (k : List Entry) (f : flow.State) → IsNested k e w → LiveIn k bs → Holds g f bs → IsStack p g x bs (Go f) k → IsWell p (step_proceeding k e w)
     proceed (Discard ∷ k) f nests live holds stack = on Proceeding k live (f, holds, stack)
     proceed (Rest js ∷ k) f nests live holds (cs, c, h, within, stands, rest, stack) =
-        continue_with p g x bs e w typed globals bound variables js k cs c f h rest.before rest.behind rest.ending rest.locked nests live within stands holds rest.typed rest.flows rest.breaks rest.kept rest.among rest.ends stack
+        continue_with p g x bs e w typed globals bound variables js k cs c f h rest.before rest.behind rest.ending nests live within stands holds rest.typed rest.flows rest.breaks rest.kept rest.ends stack
     proceed (Join ∷ k) f nests live holds (h, i, stack) = on Proceeding k live (h, holds_implied g f h bs i holds, stack)
     proceed (Loop condition body ∷ k) f nests live holds (y, l, v, u, h, same, loop, i, stack) = tests_again condition body k y l v u h live loop (holds_implied g f l.head bs i holds) stack
     proceed (CloseRegion region home ∷ k) f nests live holds (cs, number, l, alive, h, same, i, outer, stack) =
         closes Proceeding region home number l alive k cs same nests outer (h, holds_implied g f h cs i (outside_holds f region number l alive cs same holds), stack)
     proceed (CloseLexical region ∷ k) f nests live holds (h, i, outer, stack) = closes_lexical Proceeding region k nests outer (h, holds_implied g f h bs i holds, stack)
-    proceed (EndLoan lent ∷ k) f nests live holds (y, same, stack) = running p g y bs e w typed globals bound variables Proceeding k live (f, holds, stack)
-    proceed (Handler cs ∷ k) f nests live holds (c, start, h, stands, known, catches, i, stack) = on Proceeding k live (h, holds_implied g f h bs i holds, stack)
+    proceed (EndLoan lent ∷ k) f nests live holds (y, h, same, i, full, stack) =
+        running p g y bs e w typed globals bound variables Proceeding k live (h, holds_implied g (with_fullness Full f lent) h bs i (given_back g f lent bs full holds), stack)
+    proceed (Handler cs ∷ k) f nests live holds (y, c, start, h, same, stands, known, catches, i, stack) =
+        running p g y bs e w typed globals bound variables Proceeding k live (h, holds_implied g f h bs i holds, stack)
     proceed (Caller outer ∷ k) f nests live holds (y, cs, h, loop, blocked, gives, bound', variables', live', holds', stack) = go x.result refl
       where
         go : (o : Option Ty) → x.result ≡ o → IsWell p (Running Proceeding k outer w)
@@ -84,43 +86,55 @@ module _ (p : Source) (g : Typing) (e : Environment) (w : World) (typed : IsType
 
     -- ---- to the loop around
 
-    pub breaks : (k : List Entry) (l : LoopExit) (f : flow.State) → IsNested k e w → LiveIn k bs → x.loop ≡ Some l → Holds g l.breaks bs → IsStack p g x bs (Go f) k → IsWell p (step_breaking k e w)
-    breaks (Discard ∷ k) l f nests live same holds stack = on Breaking k live (l, f, same, holds, stack)
-    breaks (Rest js ∷ k) l f nests live same holds (cs, c, h, within, stands, rest, stack) =
+    pub breaks : (k : List Entry) (l : LoopExit) (f h : flow.State) → IsNested k e w → LiveIn k bs → x.loop ≡ Some l → Holds g f bs → Implies (with_each Full x.locks f) l.breaks → IsStack p g x bs (Go h) k → IsWell p (step_breaking k e w)
+    breaks (Discard ∷ k) l f h nests live same holds left stack = on Breaking k live (l, f, h, same, holds, left, stack)
+    breaks (Rest js ∷ k) l f h nests live same holds left (cs, c, i, within, stands, rest, stack) =
         running p g x cs e w typed globals (within_bound e cs bs within bound) (within_variables g cs bs within variables) Breaking k (within_live k cs bs within live)
-        (l, h, same, within_holds g l.breaks cs bs within holds, stack)
-    breaks (Join ∷ k) l f nests live same holds (h, i, stack) = on Breaking k live (l, h, same, holds, stack)
-    breaks (Loop condition body ∷ k) l f nests live same holds (y, m, v, u, h, around_is, loop, i, stack) =
+        (l, f, i, same, within_holds g f cs bs within holds, left, stack)
+    breaks (Join ∷ k) l f h nests live same holds left (i, implies, stack) = on Breaking k live (l, f, i, same, holds, left, stack)
+    breaks (Loop condition body ∷ k) l f h nests live same holds left (y, m, v, u, i, around_is, loop, implies, stack) =
         let one : m ≡ l = some_same m l (sym (ap (λ (z : Exits). z.loop) around_is) ∙ same) in
-        running p g y bs e w typed globals bound variables Proceeding k live (h, holds_implied g m.breaks h bs loop.left (subst (λ (z : LoopExit). Holds g z.breaks bs) (sym one) holds), stack)
-    breaks (CloseRegion region home ∷ k) l f nests live same holds (cs, number, m, alive, h, bs_are, i, outer, stack) =
-        closes Breaking region home number m alive k cs bs_are nests outer (l, h, same, outside_holds l.breaks region number m alive cs bs_are holds, stack)
-    breaks (CloseLexical region ∷ k) l f nests live same holds (h, i, outer, stack) = closes_lexical Breaking region k nests outer (l, h, same, holds, stack)
-    breaks (EndLoan lent ∷ k) l f nests live same holds (y, lent_is, stack) =
-        running p g y bs e w typed globals bound variables Breaking k live (l, f, sym (ap (λ (z : Exits). z.loop) lent_is) ∙ same, holds, stack)
-    breaks (Handler cs ∷ k) l f nests live same holds (c, start, h, stands, known, catches, i, stack) = on Breaking k live (l, h, same, holds, stack)
-    breaks (Caller outer ∷ k) l f nests live same holds (y, cs, h, loop, blocked, gives, bound', variables', live', holds', stack) = absurd (never_loop x.loop l loop same)
-    breaks (Main ∷ k) l f nests live same holds (loop, int, gives, blocked, stack) = absurd (never_loop x.loop l loop same)
-    breaks k l f nests live same holds stack = absurd stack
+        let none : Implies f l.breaks = subst (λ ns. Implies (with_each Full ns f) l.breaks) (ap (λ (z : Exits). z.locks) around_is) left in
+        let now : Holds g m.breaks bs = subst (λ (z : LoopExit). Holds g z.breaks bs) (sym one) (holds_implied g f l.breaks bs none holds) in
+        running p g y bs e w typed globals bound variables Proceeding k live (i, holds_implied g m.breaks i bs loop.left now, stack)
+    breaks (CloseRegion region home ∷ k) l f h nests live same holds left (cs, number, m, alive, i, bs_are, implies, outer, stack) =
+        closes Breaking region home number m alive k cs bs_are nests outer (l, f, i, same, outside_holds f region number m alive cs bs_are holds, left, stack)
+    breaks (CloseLexical region ∷ k) l f h nests live same holds left (i, implies, outer, stack) = closes_lexical Breaking region k nests outer (l, f, i, same, holds, left, stack)
+    breaks (EndLoan lent ∷ k) l f h nests live same holds left (y, i, lent_is, implies, full, stack) =
+        let locks : with_each Full x.locks f ≡ with_each Full y.locks (with_fullness Full f lent) = ap (λ (z : Exits). with_each Full z.locks f) lent_is ∙ full_added lent y.locks f in
+        running p g y bs e w typed globals bound variables Breaking k live
+        (l, with_fullness Full f lent, i, sym (ap (λ (z : Exits). z.loop) lent_is) ∙ same, given_back g f lent bs full holds, subst (λ z. Implies z l.breaks) locks left, stack)
+    breaks (Handler cs ∷ k) l f h nests live same holds left (y, c, start, i, relies, stands, known, catches, implies, stack) =
+        running p g y bs e w typed globals bound variables Breaking k live
+        (l, f, i, sym (ap (λ (z : Exits). z.loop) relies) ∙ same, holds, subst (λ ns. Implies (with_each Full ns f) l.breaks) (ap (λ (z : Exits). z.locks) relies) left, stack)
+    breaks (Caller outer ∷ k) l f h nests live same holds left (y, cs, i, loop, blocked, gives, bound', variables', live', holds', stack) = absurd (never_loop x.loop l loop same)
+    breaks (Main ∷ k) l f h nests live same holds left (loop, int, gives, blocked, stack) = absurd (never_loop x.loop l loop same)
+    breaks k l f h nests live same holds left stack = absurd stack
 
-    pub continues : (k : List Entry) (l : LoopExit) (f : flow.State) → IsNested k e w → LiveIn k bs → x.loop ≡ Some l → Holds g l.head bs → IsStack p g x bs (Go f) k → IsWell p (step_continuing k e w)
-    continues (Discard ∷ k) l f nests live same holds stack = on Continuing k live (l, f, same, holds, stack)
-    continues (Rest js ∷ k) l f nests live same holds (cs, c, h, within, stands, rest, stack) =
+    pub continues : (k : List Entry) (l : LoopExit) (f h : flow.State) → IsNested k e w → LiveIn k bs → x.loop ≡ Some l → Holds g f bs → Implies (with_each Full x.locks f) l.head → IsStack p g x bs (Go h) k → IsWell p (step_continuing k e w)
+    continues (Discard ∷ k) l f h nests live same holds left stack = on Continuing k live (l, f, h, same, holds, left, stack)
+    continues (Rest js ∷ k) l f h nests live same holds left (cs, c, i, within, stands, rest, stack) =
         running p g x cs e w typed globals (within_bound e cs bs within bound) (within_variables g cs bs within variables) Continuing k (within_live k cs bs within live)
-        (l, h, same, within_holds g l.head cs bs within holds, stack)
-    continues (Join ∷ k) l f nests live same holds (h, i, stack) = on Continuing k live (l, h, same, holds, stack)
-    continues (Loop condition body ∷ k) l f nests live same holds (y, m, v, u, h, around_is, loop, i, stack) =
+        (l, f, i, same, within_holds g f cs bs within holds, left, stack)
+    continues (Join ∷ k) l f h nests live same holds left (i, implies, stack) = on Continuing k live (l, f, i, same, holds, left, stack)
+    continues (Loop condition body ∷ k) l f h nests live same holds left (y, m, v, u, i, around_is, loop, implies, stack) =
         let one : m ≡ l = some_same m l (sym (ap (λ (z : Exits). z.loop) around_is) ∙ same) in
-        tests_again condition body k y m v u h live loop (subst (λ (z : LoopExit). Holds g z.head bs) (sym one) holds) stack
-    continues (CloseRegion region home ∷ k) l f nests live same holds (cs, number, m, alive, h, bs_are, i, outer, stack) =
-        closes Continuing region home number m alive k cs bs_are nests outer (l, h, same, outside_holds l.head region number m alive cs bs_are holds, stack)
-    continues (CloseLexical region ∷ k) l f nests live same holds (h, i, outer, stack) = closes_lexical Continuing region k nests outer (l, h, same, holds, stack)
-    continues (EndLoan lent ∷ k) l f nests live same holds (y, lent_is, stack) =
-        running p g y bs e w typed globals bound variables Continuing k live (l, f, sym (ap (λ (z : Exits). z.loop) lent_is) ∙ same, holds, stack)
-    continues (Handler cs ∷ k) l f nests live same holds (c, start, h, stands, known, catches, i, stack) = on Continuing k live (l, h, same, holds, stack)
-    continues (Caller outer ∷ k) l f nests live same holds (y, cs, h, loop, blocked, gives, bound', variables', live', holds', stack) = absurd (never_loop x.loop l loop same)
-    continues (Main ∷ k) l f nests live same holds (loop, int, gives, blocked, stack) = absurd (never_loop x.loop l loop same)
-    continues k l f nests live same holds stack = absurd stack
+        let none : Implies f l.head = subst (λ ns. Implies (with_each Full ns f) l.head) (ap (λ (z : Exits). z.locks) around_is) left in
+        let now : Holds g m.head bs = subst (λ (z : LoopExit). Holds g z.head bs) (sym one) (holds_implied g f l.head bs none holds) in
+        tests_again condition body k y m v u i live loop now stack
+    continues (CloseRegion region home ∷ k) l f h nests live same holds left (cs, number, m, alive, i, bs_are, implies, outer, stack) =
+        closes Continuing region home number m alive k cs bs_are nests outer (l, f, i, same, outside_holds f region number m alive cs bs_are holds, left, stack)
+    continues (CloseLexical region ∷ k) l f h nests live same holds left (i, implies, outer, stack) = closes_lexical Continuing region k nests outer (l, f, i, same, holds, left, stack)
+    continues (EndLoan lent ∷ k) l f h nests live same holds left (y, i, lent_is, implies, full, stack) =
+        let locks : with_each Full x.locks f ≡ with_each Full y.locks (with_fullness Full f lent) = ap (λ (z : Exits). with_each Full z.locks f) lent_is ∙ full_added lent y.locks f in
+        running p g y bs e w typed globals bound variables Continuing k live
+        (l, with_fullness Full f lent, i, sym (ap (λ (z : Exits). z.loop) lent_is) ∙ same, given_back g f lent bs full holds, subst (λ z. Implies z l.head) locks left, stack)
+    continues (Handler cs ∷ k) l f h nests live same holds left (y, c, start, i, relies, stands, known, catches, implies, stack) =
+        running p g y bs e w typed globals bound variables Continuing k live
+        (l, f, i, sym (ap (λ (z : Exits). z.loop) relies) ∙ same, holds, subst (λ ns. Implies (with_each Full ns f) l.head) (ap (λ (z : Exits). z.locks) relies) left, stack)
+    continues (Caller outer ∷ k) l f h nests live same holds left (y, cs, i, loop, blocked, gives, bound', variables', live', holds', stack) = absurd (never_loop x.loop l loop same)
+    continues (Main ∷ k) l f h nests live same holds left (loop, int, gives, blocked, stack) = absurd (never_loop x.loop l loop same)
+    continues k l f h nests live same holds left stack = absurd stack
 
     -- ---- to the caller
 
@@ -141,9 +155,10 @@ module _ (p : Source) (g : Typing) (e : Environment) (w : World) (typed : IsType
         running p g y bs e w typed globals bound variables (Returning v) k live (h, subst (λ (z : Exits). IsReturn g z.result z.gives v) around_is is, stack)
     returns_on (CloseRegion region home ∷ k) v f nests live is (cs, number, l, alive, h, same, i, outer, stack) = closes (Returning v) region home number l alive k cs same nests outer (h, is, stack)
     returns_on (CloseLexical region ∷ k) v f nests live is (h, i, outer, stack) = closes_lexical (Returning v) region k nests outer (h, is, stack)
-    returns_on (EndLoan lent ∷ k) v f nests live is (y, lent_is, stack) =
-        running p g y bs e w typed globals bound variables (Returning v) k live (f, subst (λ (z : Exits). IsReturn g z.result z.gives v) lent_is is, stack)
-    returns_on (Handler cs ∷ k) v f nests live is (c, start, h, stands, known, catches, i, stack) = on (Returning v) k live (h, is, stack)
+    returns_on (EndLoan lent ∷ k) v f nests live is (y, h, lent_is, i, full, stack) =
+        running p g y bs e w typed globals bound variables (Returning v) k live (h, subst (λ (z : Exits). IsReturn g z.result z.gives v) lent_is is, stack)
+    returns_on (Handler cs ∷ k) v f nests live is (y, c, start, h, relies, stands, known, catches, i, stack) =
+        running p g y bs e w typed globals bound variables (Returning v) k live (h, subst (λ (z : Exits). IsReturn g z.result z.gives v) relies is, stack)
     returns_on (Caller outer ∷ k) v f nests live is (y, cs, h, loop, blocked, gives, bound', variables', live', holds', stack) = go x.result v refl is
       where
         go : (o : Option Ty) (v : Option Operand) → x.result ≡ o → IsReturn g o x.gives v → IsWell p (returned v k outer w)
@@ -173,8 +188,9 @@ module _ (p : Source) (g : Typing) (e : Environment) (w : World) (typed : IsType
         running p g y bs e w typed globals bound variables (Throwing tag value) k live (Go h, stack)
     throws_on (CloseRegion region home ∷ k) tag value (Go f) nests live (cs, number, l, alive, h, same, i, outer, stack) = closes (Throwing tag value) region home number l alive k cs same nests outer (Go h, stack)
     throws_on (CloseLexical region ∷ k) tag value (Go f) nests live (h, i, outer, stack) = closes_lexical (Throwing tag value) region k nests outer (Go h, stack)
-    throws_on (EndLoan lent ∷ k) tag value (Go f) nests live (y, lent_is, stack) = running p g y bs e w typed globals bound variables (Throwing tag value) k live (Go f, stack)
-    throws_on (Handler cs ∷ k) tag value (Go f) nests live (c, start, h, stands, known, catches, i, stack) = on (Catching tag value cs) k live (c, start, f, h, stands, known, catches, stack)
+    throws_on (EndLoan lent ∷ k) tag value (Go f) nests live (y, h, lent_is, i, full, stack) = running p g y bs e w typed globals bound variables (Throwing tag value) k live (Go h, stack)
+    throws_on (Handler cs ∷ k) tag value (Go f) nests live (y, c, start, h, relies, stands, known, catches, i, stack) =
+        running p g y bs e w typed globals bound variables (Catching tag value cs) k live (c, start, f, h, stands, known, catches, stack)
     throws_on (Caller outer ∷ k) tag value (Go f) nests live (y, cs, h, loop, blocked, gives, bound', variables', live', holds', stack) =
         running p g y cs outer w typed globals bound' variables' (Throwing tag value) k live' (Val x.gives h, stack)
     throws_on (Main ∷ k) tag value (Go f) nests live (loop, int, gives, blocked, stack) = on (Throwing tag value) k live (Nothing, stack)

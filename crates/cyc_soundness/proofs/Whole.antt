@@ -86,8 +86,8 @@ module _ (p : Source) (accepted : AreAccepted p) (e : Environment) (w : World) (
       begin_array p g x bs e w objects globals bound variables owner count level kind element k c t r f nests.0 live stands holds alive owned repeats stack
   step_well (Repeating object count index level kind element) k nests live (c, t, r, f, stands, holds, alive, repeats, array, stack) =
       repeat_on p g x bs e w objects globals bound variables object count index level kind element k c t r f nests.0 live stands holds alive repeats array stack
-  step_well Breaking k nests live (l, f, same, holds, stack) = breaks p g e w objects globals x bs bound variables k l f nests live same holds stack
-  step_well Continuing k nests live (l, f, same, holds, stack) = continues p g e w objects globals x bs bound variables k l f nests live same holds stack
+  step_well Breaking k nests live (l, f, h, same, holds, left, stack) = breaks p g e w objects globals x bs bound variables k l f h nests live same holds left stack
+  step_well Continuing k nests live (l, f, h, same, holds, left, stack) = continues p g e w objects globals x bs bound variables k l f h nests live same holds left stack
   step_well (Returning v) k nests live (f, is, stack) = returns_on p g e w objects globals x bs bound variables k v f nests live is stack
   step_well (Throwing tag value) k nests live (want, stack) = throws_on p g e w objects globals x bs bound variables k tag value want nests live stack
   step_well (Catching tag value cs) k nests live (c, start', f, h, stands, holds, catches, stack) =
@@ -222,7 +222,7 @@ well_start p input accepted well (in_functions, in_globals, in_structs) =
     let w = first_world p.program input in
     let g = globals_typed p.program.structs p.program.globals in
     let bs : List InScope = Instance (λ n. heap_life) (λ n. true) ∷ [] in
-    let x : Exits = record { loop = None; result = h.result; gives = read_value bs (result_type h.result); locks = [] } in
+    let x : Exits = record { loop = None; result = h.result; gives = read_value bs (result_type h.result); locks = []; relied = [] } in
     let objects : IsTyped g w.regions w.objects = record {
       count = mapped_length global_object global_of p.program.globals;
       counts = mapped_length global_object (λ (v : GlobalVariable). 1) p.program.globals;
@@ -244,7 +244,7 @@ well_start p input accepted well (in_functions, in_globals, in_structs) =
       (λ n. heap_life),
       (λ n. true),
       ok,
-      (refl, refl, refl, refl),
+      (refl, refl, refl, refl, refl),
       refl,
       stand_first p.reading (regions_at_call h),
       subst (λ ts. AreOperands g (map (read bs) ts) []) (sym none) tt,

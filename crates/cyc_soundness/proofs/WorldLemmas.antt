@@ -10,7 +10,7 @@ use Rattle.cyc_meaning.specs.Nesting.{IsScoped, IsFound}
 use Rattle.cyc_meaning.proofs.ListLemmas.{slice_get-append, slice_get-end, slice_get-set_other}
 use Rattle.cyc_soundness.specs.Lives.{Life, OfRegion, OfObject, Never, Kept, RunTy, Int, Pointer, Handle, Key, Struct, RunValue, Void, Null, Value, kind_at, at}
 use Rattle.cyc_soundness.specs.Worlds.{IsAmong, first as newest, later as behind, ObjectType, Typing, IsKnownLife, IsDynamic, IsFilled, IsPart, IsTarget, HasType, IsResult, AreOperands, IsContent, AreCells, IsOwner, IsObject, IsTyped, IsOpenLife, Grows}
-use Rattle.cyc_soundness.specs.Frames.{InScope, Variable, Names, Instance, Lent, lives_among, IsOfVariable, HoldsIts, AreVariables, AreSet, Holds, KnowsProgram}
+use Rattle.cyc_soundness.specs.Frames.{InScope, Variable, Names, Instance, lives_among, IsOfVariable, HoldsIts, AreVariables, AreSet, Holds, KnowsProgram}
 use Rattle.cyc_soundness.specs.Classes.{Source}
 use Rattle.cyc_types.specs.flow.States as flow
 use Rattle.cyc_soundness.proofs.Numbers.{same_or_other, slice_get-set_same, appended, some_same}
@@ -74,7 +74,6 @@ module _ (g h : Typing) (grows : Grows g h) where
   variable_grown (Variable b) is = grows.objects b.object _ is
   variable_grown (Names number life live) is = life_grown life is
   variable_grown (Instance these live) is = λ n. life_grown (these n) (is n)
-  variable_grown (Lent number object) is = grows.filled object 1 is
   variable_grown b is = tt
 
   pub variables_grown : (bs : List InScope) → AreVariables g bs → AreVariables h bs

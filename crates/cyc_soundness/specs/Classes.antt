@@ -1,8 +1,10 @@
 -- CLASSES OF PROGRAMS that a theorem speaks of. Each is a predicate on typed trees, empty for the nodes that are not in it yet.
-use Rattle.std.specs.Prelude.{◌≡◌, ℕ, suc, ◌+◌, true, false, List, [], ◌∷◌, Option, Some, None}
+use Rattle.std.specs.Prelude.{◌≡◌, ℕ, suc, ◌+◌, Bool, true, false, List, [], ◌∷◌, Option, Some, None, get_or}
 use Rattle.cyc_types.specs.Types.{Ty}
 use Rattle.cyc_types.specs.Declarations.{declared_regions, item_regions}
 use Rattle.cyc_types.specs.TypedTrees.{Local, Global, Expression, Number, NullPointer, HeapRegion, Counter, Copy, Move, Peek, Load, AddressOf, AddressOfCell, NumberOfElements, Call, Unary, Binary, Assign, Store, New, Dereference, Target, Member, Element, Placement, OnHeap, AsUnique, ByHandle, Initial, Plain, Fields, Array, Converted, Convert, Arguments, NoArguments, MoreArguments, Operations, NoOperations, ThenCompute, ThenTest, ThenPointer, ThenPointerPeek, Side, VariableSide, CellSide, Statement, Block, Empty, Evaluate, Swap, If, While, Return, Break, Continue, Throw, Try, Items, NoItems, MoreItems, Execute, Declare, DeclareRegion, OpenRegion, DeclareAlias, DeclareKey, Clauses, NoClauses, Default, Case, StructType, GlobalVariable, Function, Program}
+use Rattle.cyc_types.specs.flow.States as flow
+use Rattle.cyc_types.specs.flow.States.{Fullness, Vacant, Locked, Full, Unreached, Reached}
 use Rattle.cyc_soundness.specs.Lives.{Reading, AsHeap, ByScope, AllIn, IsKnown}
 
 -- a form that makes what ends with a scope
@@ -20,104 +22,123 @@ abbrev pub IsDeclarable : Reading → ℕ → Ty → Type 0
 IsDeclarable AsHeap n t = Unit {0}
 IsDeclarable (ByScope lends) n t = AllIn (IsKnown n) t
 
+-- What is known where the clauses begin of each `try` around: they rely on it.
+abbrev pub Relied : Type 0
+Relied = List flow.State
+
+-- whether a local holds a value that is not lent
+abbrev pub is_full : Fullness → Bool
+is_full Full = true
+is_full a = false
+
+-- a local does not have to be full there
+abbrev pub IsSparedBy : flow.State → ℕ → Type 0
+IsSparedBy Unreached n = Unit {0}
+IsSparedBy (Reached as') n = is_full (get_or as' n Vacant) ≡ false
+
+abbrev pub IsSpared : Relied → ℕ → Type 0
+IsSpared [] n = Unit {0}
+IsSpared (f ∷ q) n = IsSparedBy f n × IsSpared q n
+
 -- Programs that give nothing back. All else is there: all types, objects in the heap, unique ones and those of regions, places behind
 -- pointers, swaps, functions with regions, conversions between all marks, loops and exceptions. Only where things are lent do they have
--- dynamic regions, keys and aliases. Read as the heap, they have no lexical regions, and take the address of no local.
+-- dynamic regions, keys and aliases. Read as the heap, they have no lexical regions, and take the address of no local. What is consumed
+-- or lent is nothing that the clauses around rely on: at the start of a function there are none, and of the body of a `try` that is shown.
 abbrev mutual
-  pub InExpression : Reading → Expression → Type 0
-  InExpression m (Number n) = Unit {0}
-  InExpression m NullPointer = Unit {0}
-  InExpression m HeapRegion = Unit {0}
-  InExpression m (Counter l) = Unit {0}
-  InExpression m (Copy l t) = Unit {0}
-  InExpression m (Move p n t) = Unit {0}
-  InExpression m (Peek p n t) = Unit {0}
-  InExpression m (Load d) = InPlace m d
-  InExpression m (AddressOf (Global n) t) = Unit {0}
-  InExpression m (AddressOf (Local p n) t) = HasScopes m
-  InExpression m (AddressOfCell d t) = InPlace m d
-  InExpression m (NumberOfElements a) = InExpression m a
-  InExpression m (Call f as' t) = InArguments m as'
-  InExpression m (Unary o a) = InExpression m a
-  InExpression m (Binary a os t) = InExpression m a × InOperations m os
-  InExpression m (Assign l c t) = InConverted m c
-  InExpression m (Store d c t) = InPlace m d × InConverted m c
-  InExpression m (New w i t) = InPlacement m w × InInitial m i
-  InExpression m a = ⊥
+  pub InExpression : Reading → Relied → Expression → Type 0
+  InExpression m q (Number n) = Unit {0}
+  InExpression m q NullPointer = Unit {0}
+  InExpression m q HeapRegion = Unit {0}
+  InExpression m q (Counter l) = Unit {0}
+  InExpression m q (Copy l t) = Unit {0}
+  InExpression m q (Move p n t) = IsSpared q n
+  InExpression m q (Peek p n t) = Unit {0}
+  InExpression m q (Load d) = InPlace m q d
+  InExpression m q (AddressOf (Global n) t) = Unit {0}
+  InExpression m q (AddressOf (Local p n) t) = HasScopes m
+  InExpression m q (AddressOfCell d t) = InPlace m q d
+  InExpression m q (NumberOfElements a) = InExpression m q a
+  InExpression m q (Call f as' t) = InArguments m q as'
+  InExpression m q (Unary o a) = InExpression m q a
+  InExpression m q (Binary a os t) = InExpression m q a × InOperations m q os
+  InExpression m q (Assign l c t) = InConverted m q c
+  InExpression m q (Store d c t) = InPlace m q d × InConverted m q c
+  InExpression m q (New w i t) = InPlacement m q w × InInitial m q i
+  InExpression m q a = ⊥
 
-  pub InPlace : Reading → Dereference → Type 0
-  InPlace m (Target k a t) = InExpression m a
-  InPlace m (Member k a s f t) = InExpression m a
-  InPlace m (Element a i t) = InExpression m a × InExpression m i
+  pub InPlace : Reading → Relied → Dereference → Type 0
+  InPlace m q (Target k a t) = InExpression m q a
+  InPlace m q (Member k a s f t) = InExpression m q a
+  InPlace m q (Element a i t) = InExpression m q a × InExpression m q i
 
-  pub InPlacement : Reading → Placement → Type 0
-  InPlacement m OnHeap = Unit {0}
-  InPlacement m AsUnique = Unit {0}
-  InPlacement m (ByHandle a) = InExpression m a
+  pub InPlacement : Reading → Relied → Placement → Type 0
+  InPlacement m q OnHeap = Unit {0}
+  InPlacement m q AsUnique = Unit {0}
+  InPlacement m q (ByHandle a) = InExpression m q a
 
-  pub InInitial : Reading → Initial → Type 0
-  InInitial m (Plain k a) = InExpression m a
-  InInitial m (Fields as') = InArguments m as'
-  InInitial m (Array p l n k a) = InExpression m n × InExpression m a
+  pub InInitial : Reading → Relied → Initial → Type 0
+  InInitial m q (Plain k a) = InExpression m q a
+  InInitial m q (Fields as') = InArguments m q as'
+  InInitial m q (Array p l n k a) = InExpression m q n × InExpression m q a
 
-  pub InConverted : Reading → Converted → Type 0
-  InConverted m (Convert from to a) = InExpression m a
+  pub InConverted : Reading → Relied → Converted → Type 0
+  InConverted m q (Convert from to a) = InExpression m q a
 
-  pub InArguments : Reading → Arguments → Type 0
-  InArguments m NoArguments = Unit {0}
-  InArguments m (MoreArguments c as') = InConverted m c × InArguments m as'
+  pub InArguments : Reading → Relied → Arguments → Type 0
+  InArguments m q NoArguments = Unit {0}
+  InArguments m q (MoreArguments c as') = InConverted m q c × InArguments m q as'
 
-  pub InOperations : Reading → Operations → Type 0
-  InOperations m NoOperations = Unit {0}
-  InOperations m (ThenCompute o a os) = InExpression m a × InOperations m os
-  InOperations m (ThenTest o a os) = InExpression m a × InOperations m os
-  InOperations m (ThenPointer o a os) = InExpression m a × InOperations m os
-  InOperations m (ThenPointerPeek n o a os) = InExpression m a × InOperations m os
+  pub InOperations : Reading → Relied → Operations → Type 0
+  InOperations m q NoOperations = Unit {0}
+  InOperations m q (ThenCompute o a os) = InExpression m q a × InOperations m q os
+  InOperations m q (ThenTest o a os) = InExpression m q a × InOperations m q os
+  InOperations m q (ThenPointer o a os) = InExpression m q a × InOperations m q os
+  InOperations m q (ThenPointerPeek n o a os) = InExpression m q a × InOperations m q os
 
-abbrev pub InValue : Reading → Option Converted → Type 0
-InValue m None = Unit {0}
-InValue m (Some c) = InConverted m c
+abbrev pub InValue : Reading → Relied → Option Converted → Type 0
+InValue m q None = Unit {0}
+InValue m q (Some c) = InConverted m q c
 
-abbrev pub InThrown : Reading → Option Expression → Type 0
-InThrown m None = Unit {0}
-InThrown m (Some a) = InExpression m a
+abbrev pub InThrown : Reading → Relied → Option Expression → Type 0
+InThrown m q None = Unit {0}
+InThrown m q (Some a) = InExpression m q a
 
-abbrev pub InSide : Reading → Side → Type 0
-InSide m (VariableSide l t) = Unit {0}
-InSide m (CellSide d) = InPlace m d
+abbrev pub InSide : Reading → Relied → Side → Type 0
+InSide m q (VariableSide l t) = Unit {0}
+InSide m q (CellSide d) = InPlace m q d
 
 -- Statements where the next region gets this number: the types of locals name only regions that are declared before them.
 abbrev mutual
-  pub InStatement : Reading → ℕ → Statement → Type 0
-  InStatement m n (Block r js) = InItems m (suc n) js
-  InStatement m n Empty = Unit {0}
-  InStatement m n (Evaluate a) = InExpression m a
-  InStatement m n (Swap x y) = InSide m x × InSide m y
-  InStatement m n (If a s t) = InExpression m a × InStatement m n s × InStatement m (n + declared_regions s) t
-  InStatement m n (While p a s) = InExpression m a × InStatement m n s
-  InStatement m n (Return v) = InValue m v
-  InStatement m n Break = Unit {0}
-  InStatement m n Continue = Unit {0}
-  InStatement m n (Throw e v) = InThrown m v
-  InStatement m n (Try s cs) = InStatement m n s × InClauses m (n + declared_regions s) cs
+  pub InStatement : Reading → Relied → ℕ → Statement → Type 0
+  InStatement m q n (Block r js) = InItems m q (suc n) js
+  InStatement m q n Empty = Unit {0}
+  InStatement m q n (Evaluate a) = InExpression m q a
+  InStatement m q n (Swap x y) = InSide m q x × InSide m q y
+  InStatement m q n (If a s t) = InExpression m q a × InStatement m q n s × InStatement m q (n + declared_regions s) t
+  InStatement m q n (While p a s) = InExpression m q a × InStatement m q n s
+  InStatement m q n (Return v) = InValue m q v
+  InStatement m q n Break = Unit {0}
+  InStatement m q n Continue = Unit {0}
+  InStatement m q n (Throw e v) = InThrown m q v
+  InStatement m q n (Try s cs) = InStatement m q n s × InClauses m q (n + declared_regions s) cs
 
-  pub InItems : Reading → ℕ → Items → Type 0
-  InItems m n NoItems = Unit {0}
-  InItems m n (MoreItems (Execute s) js) = InStatement m n s × InItems m (n + declared_regions s) js
-  InItems m n (MoreItems (Declare l t v) js) = IsDeclarable m n t × InValue m v × InItems m n js
-  InItems m n (MoreItems (DeclareRegion r l) js) = HasScopes m × InItems m (suc n) js
-  InItems m n (MoreItems (OpenRegion r l p k) js) = HasLoans m × InItems m n js
-  InItems m n (MoreItems (DeclareAlias r l t p s) js) = HasLoans m × InItems m (suc n) js
-  InItems m n (MoreItems (DeclareKey r l) js) = HasLoans m × InItems m (suc n) js
+  pub InItems : Reading → Relied → ℕ → Items → Type 0
+  InItems m q n NoItems = Unit {0}
+  InItems m q n (MoreItems (Execute s) js) = InStatement m q n s × InItems m q (n + declared_regions s) js
+  InItems m q n (MoreItems (Declare l t v) js) = IsDeclarable m n t × InValue m q v × InItems m q n js
+  InItems m q n (MoreItems (DeclareRegion r l) js) = HasScopes m × InItems m q (suc n) js
+  InItems m q n (MoreItems (OpenRegion r l p k) js) = HasLoans m × IsSpared q k × InItems m q n js
+  InItems m q n (MoreItems (DeclareAlias r l t p s) js) = HasLoans m × IsSpared q s × InItems m q (suc n) js
+  InItems m q n (MoreItems (DeclareKey r l) js) = HasLoans m × InItems m q (suc n) js
 
-  pub InClauses : Reading → ℕ → Clauses → Type 0
-  InClauses m n NoClauses = Unit {0}
-  InClauses m n (Default r js) = InItems m (suc n) js
-  InClauses m n (Case e v r js cs) = InItems m (suc n) js × InClauses m (n + suc (item_regions js)) cs
+  pub InClauses : Reading → Relied → ℕ → Clauses → Type 0
+  InClauses m q n NoClauses = Unit {0}
+  InClauses m q n (Default r js) = InItems m q (suc n) js
+  InClauses m q n (Case e v r js cs) = InItems m q (suc n) js × InClauses m q (n + suc (item_regions js)) cs
 
 abbrev pub InFunctions : Reading → List Function → Type 0
 InFunctions m [] = Unit {0}
-InFunctions m (h ∷ hs) = InItems m (suc h.variables) h.body × InFunctions m hs
+InFunctions m (h ∷ hs) = InItems m [] (suc h.variables) h.body × InFunctions m hs
 
 -- the types of globals name no region variable
 abbrev pub InGlobals : Reading → List GlobalVariable → Type 0

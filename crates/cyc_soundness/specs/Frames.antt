@@ -16,7 +16,7 @@ use Rattle.cyc_meaning.specs.Nesting.{ends_of}
 use Rattle.cyc_soundness.specs.Lives.{Life, OfRegion, Kept, RunTy, RunValue, Void, Lives, at, value_at, heap_life, lives_of, as_heap, Reading, AsHeap, ByScope, AllIn, AllInValue, IsKnown}
 pub use Rattle.cyc_soundness.specs.Worlds.{IsAmong, first, later}
 use Rattle.cyc_soundness.specs.Worlds.{Typing, IsKnownLife, IsFull, variable_type, global_type, IsEndOf, Outlasts, IsNumber}
-use Rattle.cyc_soundness.specs.Classes.{IsDeclarable, Source}
+use Rattle.cyc_soundness.specs.Classes.{is_full, Relied, IsDeclarable, Source}
 
 -- a local in scope, with its object and how long this is there
 pub record Bound : Type 0 where
@@ -38,8 +38,6 @@ pub data InScope : Type 0 where
   Instance : (ℕ → Life) → (ℕ → Bool) → InScope
   -- the region in which the variables of the innermost block live
   Home : (region : ℕ) → InScope
-  -- what the local of this number holds, whose object this is, is lent
-  Lent : (number object : ℕ) → InScope
 
 -- ---- regions
 
@@ -51,7 +49,6 @@ life_named (Level l ∷ bs) k = life_named bs k
 life_named (Names number life live ∷ bs) k = if k == number then life else life_named bs k
 life_named (Instance these live ∷ bs) k = these k
 life_named (Home region ∷ bs) k = life_named bs k
-life_named (Lent number object ∷ bs) k = life_named bs k
 
 abbrev pub is_live_named : List InScope → ℕ → Bool
 is_live_named [] k = true
@@ -60,7 +57,6 @@ is_live_named (Level l ∷ bs) k = is_live_named bs k
 is_live_named (Names number life live ∷ bs) k = if k == number then live else is_live_named bs k
 is_live_named (Instance these live ∷ bs) k = live k
 is_live_named (Home region ∷ bs) k = is_live_named bs k
-is_live_named (Lent number object ∷ bs) k = is_live_named bs k
 
 -- what the regions of the function stand for here
 abbrev pub lives_in : List InScope → Lives
@@ -110,7 +106,6 @@ IsScope r m vs (b ∷ bs) = (rest : List LocalInScope) × IsNewest r m vs b rest
 -- the numbers of locals in scope were given out before this one
 abbrev pub IsBelow : ℕ → InScope → Type 0
 IsBelow n (Variable b) = b.number < n
-IsBelow n (Lent number object) = number < n
 IsBelow n b = Unit {0}
 
 abbrev pub AreBelow : ℕ → List InScope → Type 0
@@ -121,19 +116,17 @@ AreBelow n (b ∷ bs) = IsBelow n b × AreBelow n bs
 abbrev pub HasMeaning : (locals counters : ℕ → Option ℕ) → InScope → Type 0
 HasMeaning locals counters (Variable b) = locals b.number ≡ Some b.object
 HasMeaning locals counters (Level l) = (index : ℕ) × (counters l ≡ Some index)
-HasMeaning locals counters (Lent number object) = locals number ≡ Some object
 HasMeaning locals counters b = Unit {0}
 
 abbrev pub IsBound : (locals counters : ℕ → Option ℕ) → List InScope → Type 0
 IsBound locals counters [] = Unit {0}
 IsBound locals counters (b ∷ bs) = HasMeaning locals counters b × IsBound locals counters bs
 
--- the objects of locals are variables of their types, what regions stand for is known, and what is lent is there
+-- the objects of locals are variables of their types, and what regions stand for is known
 abbrev pub IsOfVariable : Typing → InScope → Type 0
 IsOfVariable g (Variable b) = slice_get g.objects b.object ≡ Some (variable_type b.of_type b.life b.is_hidden)
 IsOfVariable g (Names number life live) = IsKnownLife g life
 IsOfVariable g (Instance these live) = (n : ℕ) → IsKnownLife g (these n)
-IsOfVariable g (Lent number object) = IsFull g object
 IsOfVariable g b = Unit {0}
 
 abbrev pub AreVariables : Typing → List InScope → Type 0
@@ -196,10 +189,15 @@ AreSet g f (b ∷ bs) = HoldsIts g f b × AreSet g f bs
 abbrev pub Holds : Typing → flow.State → List InScope → Type 0
 Holds g f bs = (is_reached f ≡ true) × AreSet g f bs
 
+-- and is not lent
+abbrev pub IsFullIn : flow.State → ℕ → Type 0
+IsFullIn f n = is_full (fullness f n) ≡ true
+
 -- where the first holds, so does the second
 pub record Implies (f h : flow.State) : Type 0 where
   pub reached : is_reached f ≡ true → is_reached h ≡ true
   pub set : (n : ℕ) → IsSet h n → IsSet f n
+  pub full : (n : ℕ) → IsFullIn h n → IsFullIn f n
 
 -- ---- where control may go
 
@@ -217,6 +215,8 @@ pub record Exits : Type 0 where
   pub gives : RunValue
   -- the locals that the items around have lent since the loop's body began
   pub locks : List ℕ
+  -- what the clauses around rely on, the innermost first
+  pub relied : Relied
 
 -- where there is no result, nothing is given
 abbrev pub HasResult : Option Ty → RunValue → Type 0
@@ -234,10 +234,18 @@ around x = record { loop = loop_of x.loop; locks = x.locks }
 abbrev pub lending : Exits → ℕ → Exits
 lending x n = record x { locks = x.locks ++ n ∷ [] }
 
--- these locals are lent here
-abbrev pub AreLent : List ℕ → List InScope → Type 0
-AreLent [] bs = Unit {0}
-AreLent (n ∷ ns) bs = ((object : ℕ) × IsAmong (Lent n object) bs) × AreLent ns bs
+-- in the body of a `try` whose clauses begin with this known
+abbrev pub relying : Exits → flow.State → Exits
+relying x f = record x { relied = f ∷ x.relied }
+
+-- a local of this number holds something
+abbrev pub IsFullAt : Typing → ℕ → InScope → Type 0
+IsFullAt g n (Variable b) = b.number ≡ n → IsFull g b.object
+IsFullAt g n b = Unit {0}
+
+abbrev pub AreFullAt : Typing → ℕ → List InScope → Type 0
+AreFullAt g n [] = Unit {0}
+AreFullAt g n (b ∷ bs) = IsFullAt g n b × AreFullAt g n bs
 
 -- what is known at breaks so far holds behind the loop
 abbrev pub AreBreaks : Option LoopExit → flow.State → Type 0
@@ -300,7 +308,6 @@ pub record IsContext (p : Source) (x : Exits) (bs : List InScope) (c : Context) 
   pub known : AreKnown p.reading c.next_region c.regions c.locals c.result
   pub regions : Stand p.reading c.regions bs
   pub home : IsHome p.reading c.region bs
-  pub lent : AreLent x.locks bs
 
 -- ---- programs
 

@@ -1,6 +1,6 @@
 -- THE TYPING OF STATES. Each entry of the control stack is typed from what it awaits to what it hands on. Typed trees on it keep their
 -- judgements, types and flow in one; the locals in scope are an index, of which an entry may forget the newest.
-use Rattle.std.specs.Prelude.{◌≡◌, ◌⊎◌, ℕ, zero, suc, ◌+◌, ◌<◌, ◌≤◌, Bool, true, false, List, [], ◌∷◌, ◌++◌, length, map, Option, Some, None, slice_get}
+use Rattle.std.specs.Prelude.{◌≡◌, ◌⊎◌, ℕ, zero, suc, ◌+◌, ◌<◌, ◌≤◌, Bool, true, false, List, [], ◌∷◌, length, map, Option, Some, None, slice_get}
 use Rattle.cyc_syntax.specs.declared.tree.PointerKind.{PointerKind}
 use Rattle.cyc_syntax.specs.declared.tree.PointerKind.TheVariants as marks
 use Rattle.cyc_types.specs.declared.region.Region.{Region}
@@ -35,51 +35,51 @@ use Rattle.cyc_meaning.specs.Parts.{target_of, target_of_value}
 use Rattle.cyc_soundness.specs.Lives.{Life, RunTy, RunValue, Value, at, value_at, heap_life, lives_of, as_heap, Reading, AllIn, IsKnown}
 use Rattle.cyc_soundness.specs.Lives as lives
 use Rattle.cyc_soundness.specs.Worlds.{ObjectType, Typing, AgreesWith, IsFilled, IsFull, HasType, IsResult, AreOperands, IsOwner, IsTyped}
-use Rattle.cyc_soundness.specs.Classes.{HasLoans, InExpression, InPlace, InSide, InInitial, InArguments, InOperations, InStatement, InItems, InClauses, IsDeclarable, Source}
-use Rattle.cyc_soundness.specs.Frames.{IsAmong, Bound, InScope, Variable, Level, Names, Instance, Home, life_named, lives_in, read, read_value, IsThere, IsScope, AreBelow, IsBound, AreVariables, LiveIn, Within, IsSet, Holds, Implies, LoopExit, Exits, HasResult, around, lending, AreBreaks, is_loop, Stand, IsHome, IsContext, lives_among, KnowsProgram}
+use Rattle.cyc_soundness.specs.Classes.{Relied, HasLoans, InExpression, InPlace, InSide, InInitial, InArguments, InOperations, InStatement, InItems, InClauses, IsDeclarable, Source}
+use Rattle.cyc_soundness.specs.Frames.{IsAmong, Bound, InScope, Variable, Level, Names, Instance, Home, life_named, lives_in, read, read_value, IsThere, IsScope, AreBelow, IsBound, AreVariables, LiveIn, Within, IsSet, Holds, Implies, LoopExit, Exits, HasResult, around, lending, relying, AreFullAt, AreBreaks, is_loop, Stand, IsHome, IsContext, lives_among, KnowsProgram}
 
 -- ---- trees, with what is known before and behind them
 
 -- an expression, which may be a peek
-pub record Evaluates (m : Reading) (c : Context) (a : Expression) (f : flow.State) (t : ValueType) (h : flow.State) : Type 0 where
+pub record Evaluates (m : Reading) (q : Relied) (c : Context) (a : Expression) (f : flow.State) (t : ValueType) (h : flow.State) : Type 0 where
   pub waiting : List ℕ
   pub typed : WellTyped c a t ⊎ IsPeek c a t
   pub flows : Derives (rule waiting a f) h
-  pub kept : InExpression m a
+  pub kept : InExpression m q a
 
-pub record Computes (m : Reading) (c : Context) (left : ValueType) (os : Operations) (f : flow.State) (t : Ty) (h : flow.State) : Type 0 where
+pub record Computes (m : Reading) (q : Relied) (c : Context) (left : ValueType) (os : Operations) (f : flow.State) (t : Ty) (h : flow.State) : Type 0 where
   pub waiting : List ℕ
   pub typed : IsChain c left os t
   pub flows : Derives (rule_operations waiting os f) h
-  pub kept : InOperations m os
+  pub kept : InOperations m q os
 
-pub record Passes (m : Reading) (c : Context) (ts : List Ty) (as' : Arguments) (f h : flow.State) : Type 0 where
+pub record Passes (m : Reading) (q : Relied) (c : Context) (ts : List Ty) (as' : Arguments) (f h : flow.State) : Type 0 where
   pub waiting : List ℕ
   pub typed : ArePassed c ts as'
   pub flows : Derives (rule_arguments waiting as' f) h
-  pub kept : InArguments m as'
+  pub kept : InArguments m q as'
 
 -- a place that a pointer into this region leads to, of this type
-pub record Locates (m : Reading) (c : Context) (d : Dereference) (f : flow.State) (t : Ty) (r : Region) (h : flow.State) : Type 0 where
+pub record Locates (m : Reading) (q : Relied) (c : Context) (d : Dereference) (f : flow.State) (t : Ty) (r : Region) (h : flow.State) : Type 0 where
   pub waiting : List ℕ
   pub typed : IsCell c d t r
   pub flows : Derives (rule_place waiting d f) h
-  pub kept : InPlace m d
+  pub kept : InPlace m q d
 
 -- what a new object holds, of this type, to which the pointer has this mark
-pub record Makes (m : Reading) (c : Context) (i : Initial) (k : PointerKind) (t : Ty) (f h : flow.State) : Type 0 where
+pub record Makes (m : Reading) (q : Relied) (c : Context) (i : Initial) (k : PointerKind) (t : Ty) (f h : flow.State) : Type 0 where
   pub waiting : List ℕ
   pub typed : IsMade c i k t
   pub flows : Derives (rule_initial waiting i f) h
-  pub kept : InInitial m i
+  pub kept : InInitial m q i
 
 -- a side of a swap, of this type; what is known is what is known once both places are found
-pub record Finds (m : Reading) (c : Context) (y : Side) (f : flow.State) (t : Ty) (h : flow.State) : Type 0 where
+pub record Finds (m : Reading) (q : Relied) (c : Context) (y : Side) (f : flow.State) (t : Ty) (h : flow.State) : Type 0 where
   pub waiting : List ℕ
   pub typed : IsSide c y t
   pub flows : Derives (rule_side waiting y f) h
   pub used : AllKept (side_demanded waiting y h)
-  pub kept : InSide m y
+  pub kept : InSide m q y
 
 -- behind a statement this is known, which is what the breaks in it leave to the loop around
 pub record Executes (m : Reading) (x : Exits) (c : Context) (s : Statement) (f h : flow.State) : Type 0 where
@@ -88,21 +88,18 @@ pub record Executes (m : Reading) (x : Exits) (c : Context) (s : Statement) (f h
   pub typed : WellTypedStatement c s
   pub flows : Derives (rule_statement (around x) s (record { now = f; breaks = before })) (record { now = h; breaks = behind })
   pub breaks : AreBreaks x.loop behind
-  pub kept : InStatement m c.next_region s
+  pub kept : InStatement m x.relied c.next_region s
 
--- what is left of a block: at its end, what its items have locked is full again
+-- what is left of a block: at its end, what these items have locked is full again
 pub record Continues (m : Reading) (x : Exits) (c : Context) (js : Items) (f h : flow.State) : Type 0 where
   pub before : flow.State
   pub behind : flow.State
   pub ending : flow.State
-  -- what the items before these have locked
-  pub locked : List ℕ
   pub typed : WellTypedItems c js
   pub flows : Derives (rule_items (around x) js (record { now = f; breaks = before })) (record { now = ending; breaks = behind })
   pub breaks : AreBreaks x.loop behind
-  pub kept : InItems m c.next_region js
-  pub among : (n : ℕ) → IsAmong n locked → IsAmong n x.locks
-  pub ends : Implies (with_each Full (locked ++ locks_of js) ending) h
+  pub kept : InItems m x.relied c.next_region js
+  pub ends : Implies (with_each Full (locks_of js) ending) h
 
 -- clauses that begin with this known
 pub record Catches (m : Reading) (x : Exits) (c : Context) (start : flow.State) (cs : Clauses) (f h : flow.State) : Type 0 where
@@ -111,7 +108,7 @@ pub record Catches (m : Reading) (x : Exits) (c : Context) (start : flow.State) 
   pub typed : WellTypedClauses c cs
   pub flows : Derives (rule_clauses (around x) start cs (record { now = f; breaks = before })) (record { now = h; breaks = behind })
   pub breaks : AreBreaks x.loop behind
-  pub kept : InClauses m c.next_region cs
+  pub kept : InClauses m x.relied c.next_region cs
 
 -- a function that is accepted, behind whose body this is known
 pub record IsAccepted (p : Source) (h : Function) (end : flow.State) : Type 0 where
@@ -119,7 +116,7 @@ pub record IsAccepted (p : Source) (h : Function) (end : flow.State) : Type 0 wh
   pub breaks : flow.State
   pub flows : Derives (rule_items in_function h.body (record { now = start_of h; breaks = Unreached })) (record { now = end; breaks = breaks })
   pub ends : (t : Ty) → h.result ≡ Some t → is_reached end ≡ false
-  pub kept : InItems p.reading (suc h.variables) h.body
+  pub kept : InItems p.reading [] (suc h.variables) h.body
 
 -- ---- what is awaited
 
@@ -187,18 +184,18 @@ pub record IsLoop (p : Source) (x : Exits) (bs : List InScope) (l : LoopExit) (c
   pub now : flow.State
   pub stands : IsContext p x bs context
   pub tested : is_tested v ≡ true
-  pub first : Evaluates p.reading context condition l.head v f
+  pub first : Evaluates p.reading x.relied context condition l.head v f
   pub again : Executes p.reading (inside x l) (in_body context) body f now
   pub back : Implies now l.head
   pub fails : Implies f exit
   pub left : Implies l.breaks exit
 
 -- The elements of an array, of this type: each leaves known what was known before it.
-pub record Repeats (m : Reading) (c : Context) (level : ℕ) (kind : Kind) (element : Expression) (t : Ty) (f : flow.State) : Type 0 where
+pub record Repeats (m : Reading) (q : Relied) (c : Context) (level : ℕ) (kind : Kind) (element : Expression) (t : Ty) (f : flow.State) : Type 0 where
   pub now : flow.State
   pub level_is : level ≡ c.counters
   pub kind_is : kind ≡ kind_of t
-  pub each : Evaluates m (with_counter c) element f (types.Value t) now
+  pub each : Evaluates m q (with_counter c) element f (types.Value t) now
   pub back : Implies now f
 
 -- What waits for a value: with the types of the operands that wait in it, what it awaits, and what goes on then, in which scope.
@@ -208,7 +205,7 @@ pub data Waits (p : Source) (x : Exits) (bs : List InScope) : Awaiting → List 
   negates : (f : flow.State) → Waits p x bs (Operate unary.Negate) [] (Value lives.Int) f bs (Val (Value lives.Int) f)
   complements : (f : flow.State) → Waits p x bs (Operate unary.Complement) [] (Value lives.Int) f bs (Val (Value lives.Int) f)
   denies : (v : ValueType) (f : flow.State) → is_tested v ≡ true → Waits p x bs (Operate unary.Not) [] (read_value bs v) f bs (Val (Value lives.Int) f)
-  chains : {os : Operations} (c : Context) (v : ValueType) (t : Ty) (f h : flow.State) → IsContext p x bs c → Computes p.reading c v os f t h
+  chains : {os : Operations} (c : Context) (v : ValueType) (t : Ty) (f h : flow.State) → IsContext p x bs c → Computes p.reading x.relied c v os f t h
       → Waits p x bs (Chain os) [] (read_value bs v) f bs (Val (Value (read bs t)) h)
   applies : {o : Operator} {left : Operand} (f : flow.State) → Waits p x bs (Apply o left) (lives.Int ∷ []) (Value lives.Int) f bs (Val (Value lives.Int) f)
   decides : (v : ValueType) (f h : flow.State) → is_tested v ≡ true → Implies f h → Waits p x bs Decide [] (read_value bs v) f bs (Val (Value lives.Int) h)
@@ -227,26 +224,26 @@ pub data Waits (p : Source) (x : Exits) (bs : List InScope) : Awaiting → List 
   follows_member : {k : Kind} {fields : List Kind} {field : ℕ} (m : PointerKind) (n : ℕ) (ls : List Life) (s : StructType) (t : Ty) (u : RunTy) (r : Region) (f : flow.State) → k ≡ kind_of_mark m
       → slice_get p.program.structs n ≡ Some s → fields ≡ map values.kind_of s.fields → slice_get s.fields field ≡ Some t → (length ls ≡ s.parameters → at (lives_among ls) t ≡ u) → IsThere bs r
       → Waits p x bs (FollowMember k fields field) [] (Value (lives.Pointer m (lives.Struct n ls) (lives_in bs r))) f bs (PlaceOf u (lives_in bs r) f)
-  indexes : {peek : Option ℕ} {target : Option Kind} {index : Expression} (c : Context) (t : Ty) (r : Region) (f h : flow.State) → IsContext p x bs c → Evaluates p.reading c index f (types.Value types.Int) h
+  indexes : {peek : Option ℕ} {target : Option Kind} {index : Expression} (c : Context) (t : Ty) (r : Region) (f h : flow.State) → IsContext p x bs c → Evaluates p.reading x.relied c index f (types.Value types.Int) h
       → target ≡ target_of t → IsThere bs r → Waits p x bs (Index peek target index) [] (Value (lives.Pointer marks.Fat (read bs t) (lives_in bs r))) f bs (PlaceOf (read bs t) (lives_in bs r) h)
   advances : {peek : Option ℕ} {target : Option Kind} {base : Operand} (t : Ty) (r : Region) (f : flow.State) → target ≡ target_of t → IsThere bs r
       → Waits p x bs (Advance peek target base) (lives.Pointer marks.Fat (read bs t) (lives_in bs r) ∷ []) (Value lives.Int) f bs (PlaceOf (read bs t) (lives_in bs r) f)
   counts_elements : (t : RunTy) (l : Life) (f : flow.State) → Waits p x bs CountElements [] (Value (lives.Pointer marks.Fat t l)) f bs (Val (Value lives.Int) f)
-  places_by : {i : Initial} (c : Context) (m : PointerKind) (t : Ty) (r : Region) (f h : flow.State) → IsContext p x bs c → Makes p.reading c i m t f h → IsThere bs r
+  places_by : {i : Initial} (c : Context) (m : PointerKind) (t : Ty) (r : Region) (f h : flow.State) → IsContext p x bs c → Makes p.reading x.relied c i m t f h → IsThere bs r
       → Waits p x bs (PlaceBy i) [] (Value (lives.Handle (lives_in bs r))) f bs (Val (Value (lives.Pointer m (read bs t) (lives_in bs r))) h)
   makes_plain : {owner : Owner} {kind : Kind} (t : Ty) (r : Region) (f : flow.State) → IsThere bs r → IsOwner (lives_in bs r) owner → kind ≡ kind_of t
       → Waits p x bs (MakePlain owner kind) [] (Value (read bs t)) f bs (Val (Value (lives.Pointer marks.NonNull (read bs t) (lives_in bs r))) f)
   makes_fields : {owner : Owner} {before : List Operand} {rest : Arguments} (c : Context) (done : List RunTy) (t : Ty) (ts : List Ty) (n : ℕ) (ls : List Life) (r : Region) (f h : flow.State)
-      → IsThere bs r → IsOwner (lives_in bs r) owner → IsContext p x bs c → Passes p.reading c ts rest f h → AreFields p n ls (turned (read bs t ∷ done) (map (read bs) ts))
+      → IsThere bs r → IsOwner (lives_in bs r) owner → IsContext p x bs c → Passes p.reading x.relied c ts rest f h → AreFields p n ls (turned (read bs t ∷ done) (map (read bs) ts))
       → Waits p x bs (MakeFields owner before rest) done (Value (read bs t)) f bs (Val (Value (lives.Pointer marks.NonNull (lives.Struct n ls) (lives_in bs r))) h)
   makes_array : {owner : Owner} {level : ℕ} {kind : Kind} {element : Expression} (c : Context) (t : Ty) (r : Region) (f : flow.State) → IsThere bs r → IsOwner (lives_in bs r) owner → IsContext p x bs c
-      → Repeats p.reading c level kind element t f
+      → Repeats p.reading x.relied c level kind element t f
       → Waits p x bs (MakeArray owner level kind element) [] (Value lives.Int) f bs (Val (Value (lives.Pointer marks.Fat (read bs t) (lives_in bs r))) f)
   fills : {object count index level : ℕ} {kind : Kind} {element : Expression} (cs : List InScope) (c : Context) (t : Ty) (r : Region) (f h : flow.State) → (bs ≡ Level level ∷ cs) → IsThere cs r → IsContext p x cs c
-      → Repeats p.reading c level kind element t f → Implies h f
+      → Repeats p.reading x.relied c level kind element t f → Implies h f
       → Waits p x bs (FillElement object count index level kind element) (lives.Pointer marks.Fat (read cs t) (lives_in cs r) ∷ []) (Value (read cs t)) h cs (Val (Value (lives.Pointer marks.Fat (read cs t) (lives_in cs r))) f)
   passes : {callee : Callee} {before : List Operand} {rest : Arguments} (c : Context) (done : List RunTy) (t : Ty) (ts : List Ty) (r : ValueType) (f h : flow.State)
-      → IsContext p x bs c → Passes p.reading c ts rest f h → IsCalled p bs callee (turned (read bs t ∷ done) (map (read bs) ts)) (read_value bs r)
+      → IsContext p x bs c → Passes p.reading x.relied c ts rest f h → IsCalled p bs callee (turned (read bs t ∷ done) (map (read bs) ts)) (read_value bs r)
       → Waits p x bs (Pass callee before rest) done (Value (read bs t)) f bs (Val (read_value bs r) h)
   initialises : {number : ℕ} {kind : Kind} {js : Items} (cs : List InScope) (c : Context) (t : Ty) (f h : flow.State) → Within cs bs → IsContext p x bs c
       → IsNew p.reading c t → number ≡ c.next_local → kind ≡ kind_of t → Continues p.reading x (with_local true t c) js (with_fullness Full f number) h → Waits p x bs (Initialise number kind js) [] (Value (read bs t)) f cs (Go h)
@@ -256,25 +253,24 @@ pub data Waits (p : Source) (x : Exits) (bs : List InScope) : Awaiting → List 
       → Waits p x bs (Test condition body) [] (read_value bs v) f bs (Go h)
   returns : (t : Ty) (u : RunTy) (f h : flow.State) → x.result ≡ Some t → Value u ≡ x.gives → Waits p x bs Return [] (Value u) f bs (Go h)
   throws : {tag : ℕ} (f h : flow.State) → Waits p x bs (ThrowWith tag) [] (Value lives.Int) f bs (Go h)
-
-  opens_by : {number lent : ℕ} {js : Items} (cs : List InScope) (c : Context) (b : Bound) (r : ℕ) (f h : flow.State) → HasLoans p.reading → Within cs bs → IsContext p x bs c → IsAmong (Variable b) bs → b.number ≡ lent → IsSet f lent
+  opens_by : {number lent : ℕ} {js : Items} (cs : List InScope) (c : Context) (b : Bound) (r : ℕ) (f h i : flow.State) → HasLoans p.reading → Within cs bs → IsContext p x bs c → IsAmong (Variable b) bs → b.number ≡ lent → IsSet f lent
       → r < c.next_region → IsLive c (regions.Variable c.region) → number ≡ c.next_local
       → Continues p.reading (lending x lent) (with_local false (types.Handle (regions.Variable r)) (with_key_opened r c)) js (with_fullness Full (with_fullness Locked f lent) number) h
-      → Waits p x bs (OpenBy number lent js) [] (Value (lives.Key (life_named bs r))) f cs (Go h)
-  aliases : {number lent : ℕ} {js : Items} (cs : List InScope) (c : Context) (b : Bound) (u t : Ty) (f h : flow.State) → HasLoans p.reading → Within cs bs → IsContext p x bs c → IsAmong (Variable b) bs → b.number ≡ lent → IsSet f lent
+      → Implies (with_fullness Full h lent) i → Waits p x bs (OpenBy number lent js) [] (Value (lives.Key (life_named bs r))) f cs (Go i)
+  aliases : {number lent : ℕ} {js : Items} (cs : List InScope) (c : Context) (b : Bound) (u t : Ty) (f h i : flow.State) → HasLoans p.reading → Within cs bs → IsContext p x bs c → IsAmong (Variable b) bs → b.number ≡ lent → IsSet f lent
       → is_unique u ≡ true → AllIn (IsKnown c.next_region) u → t ≡ with_region_of (regions.Variable c.next_region) u → IsLive c (regions.Variable c.region) → number ≡ c.next_local
       → Continues p.reading (lending x lent) (with_local true t (with_opened scopes.Alias c)) js (with_fullness Full (with_fullness Locked f lent) number) h
-      → Waits p x bs (AliasOf number lent js) [] (Value (read bs u)) f cs (Go h)
+      → Implies (with_fullness Full h lent) i → Waits p x bs (AliasOf number lent js) [] (Value (read bs u)) f cs (Go i)
 
 -- what waits for a place, of this type and there so long, and what goes on then
 pub data WaitsPlace (p : Source) (x : Exits) (bs : List InScope) : AwaitingPlace → RunTy → Life → flow.State → Want → Type 0 where
   loads_from : {kind : Kind} (t : Ty) (r : Region) (f : flow.State) → IsThere bs r → is_struct t ≡ false → kind ≡ values.kind_of t
       → WaitsPlace p x bs (LoadFrom kind) (read bs t) (lives_in bs r) f (Val (Value (read bs t)) f)
   takes_address : (t : RunTy) (l : Life) (f : flow.State) → WaitsPlace p x bs TakeAddress t l f (Val (Value (lives.Pointer marks.NonNull t l)) f)
-  stores_to : {peek : Option ℕ} {from to : Kind} {a : Expression} (c : Context) (v : ValueType) (t : Ty) (r : Region) (f h : flow.State) → IsThere bs r → IsContext p x bs c → Evaluates p.reading c a f v h
+  stores_to : {peek : Option ℕ} {from to : Kind} {a : Expression} (c : Context) (v : ValueType) (t : Ty) (r : Region) (f h : flow.State) → IsThere bs r → IsContext p x bs c → Evaluates p.reading x.relied c a f v h
       → Converts c v t → from ≡ kind_of_value v → to ≡ kind_of t → WaitsPlace p x bs (StoreTo peek (Convert from to a)) (read bs t) (lives_in bs r) f (Val (read_value bs (assigned_type t)) h)
   swaps_left : {kind : Kind} {peek : Option ℕ} {right : Side} (c : Context) (t : Ty) (r : Region) (f h : flow.State) → IsThere bs r → IsContext p x bs c → kind ≡ values.kind_of t → is_struct t ≡ false
-      → Finds p.reading c right f t h → WaitsPlace p x bs (SwapLeft kind peek right) (read bs t) (lives_in bs r) f (Go h)
+      → Finds p.reading x.relied c right f t h → WaitsPlace p x bs (SwapLeft kind peek right) (read bs t) (lives_in bs r) f (Go h)
   swaps_right : {kind : Kind} {peek : Option ℕ} {left : values.Value} (t : Ty) (r : Region) (f : flow.State) → IsThere bs r → kind ≡ values.kind_of t
       → WaitsPlace p x bs (SwapRight kind peek left) (read bs t) (lives_in bs r) f (Go f)
 
@@ -346,9 +342,10 @@ IsStack p g x bs (Go f) (CloseRegion region home ∷ k) =
     (cs : List InScope) × (number : ℕ) × (l : Life) × (live : Bool) × (h : flow.State) × (bs ≡ Home region ∷ Names number l live ∷ cs) × Implies f h × LiveIn k cs × IsStack p g x cs (Go h) k
 IsStack p g x bs (Go f) (CloseLexical region ∷ k) = (h : flow.State) × Implies f h × LiveIn k bs × IsStack p g x bs (Go h) k
 -- what was lent is not so any more
-IsStack p g x bs (Go f) (EndLoan lent ∷ k) = (y : Exits) × (x ≡ lending y lent) × IsStack p g y bs (Go f) k
+IsStack p g x bs (Go f) (EndLoan lent ∷ k) =
+    (y : Exits) × (h : flow.State) × (x ≡ lending y lent) × Implies (with_fullness Full f lent) h × AreFullAt g lent bs × IsStack p g y bs (Go h) k
 IsStack p g x bs (Go f) (Handler cs ∷ k) =
-    (c : Context) × (start h : flow.State) × IsContext p x bs c × Holds g start bs × Catches p.reading x c start cs f h × Implies f h × IsStack p g x bs (Go h) k
+    (y : Exits) × (c : Context) × (start h : flow.State) × (x ≡ relying y start) × IsContext p y bs c × Holds g start bs × Catches p.reading y c start cs f h × Implies f h × IsStack p g y bs (Go h) k
 -- the caller's locals are as they were, and hold what they held
 IsStack p g x bs (Go f) (Caller e ∷ k) =
     (y : Exits) × (cs : List InScope) × (h : flow.State) × (is_loop x.loop ≡ false) × IsBlocked x.result f × HasResult x.result x.gives × IsBound e.locals e.counters cs × AreVariables g cs × LiveIn k cs × Holds g h cs
@@ -403,13 +400,13 @@ AreFull g (b ∷ bs) = IsFilledIn g b × AreFull g bs
 
 -- in a function's body, outside of loops
 abbrev pub IsBody : Exits → List InScope → Function → Type 0
-IsBody x bs h = (x.loop ≡ None) × (x.locks ≡ []) × (x.result ≡ h.result) × (read_value bs (result_type h.result) ≡ x.gives)
+IsBody x bs h = (x.loop ≡ None) × (x.locks ≡ []) × (x.relied ≡ []) × (x.result ≡ h.result) × (read_value bs (result_type h.result) ≡ x.gives)
 
 abbrev pub IsFocus : Source → Typing → Exits → List InScope → Focus → List Entry → Type 0
 IsFocus p g x bs (Evaluating a) k =
-    (c : Context) × (t : ValueType) × (f h : flow.State) × IsContext p x bs c × Holds g f bs × Evaluates p.reading c a f t h × IsStack p g x bs (Val (read_value bs t) h) k
+    (c : Context) × (t : ValueType) × (f h : flow.State) × IsContext p x bs c × Holds g f bs × Evaluates p.reading x.relied c a f t h × IsStack p g x bs (Val (read_value bs t) h) k
 IsFocus p g x bs (Locating d) k =
-    (c : Context) × (t : Ty) × (r : Region) × (f h : flow.State) × IsContext p x bs c × Holds g f bs × Locates p.reading c d f t r h × IsStack p g x bs (PlaceOf (read bs t) (lives_in bs r) h) k
+    (c : Context) × (t : Ty) × (r : Region) × (f h : flow.State) × IsContext p x bs c × Holds g f bs × Locates p.reading x.relied c d f t r h × IsStack p g x bs (PlaceOf (read bs t) (lives_in bs r) h) k
 IsFocus p g x bs (GivenPlace place) k =
     (t : RunTy) × (l : Life) × (f : flow.State) × Holds g f bs × HasType g (lives.Pointer marks.NonNull t l) place × IsStack p g x bs (PlaceOf t l f) k
 IsFocus p g x bs (Writing writes (Some v)) k =
@@ -418,10 +415,10 @@ IsFocus p g x bs (Writing writes None) k = (f : flow.State) × Holds g f bs × A
 IsFocus p g x bs (Swapping kind left right before) k =
     (t : Ty) × (f : flow.State) × Holds g f bs × (kind ≡ values.kind_of t) × (is_struct t ≡ false) × IsSpot p g bs t f left × IsSpot p g bs t f right × IsRead g (read bs t) before × IsStack p g x bs (Go f) k
 IsFocus p g x bs (Beginning owner count level kind element) k =
-    (c : Context) × (t : Ty) × (r : Region) × (f : flow.State) × IsContext p x bs c × Holds g f bs × IsThere bs r × IsOwner (lives_in bs r) owner × Repeats p.reading c level kind element t f
+    (c : Context) × (t : Ty) × (r : Region) × (f : flow.State) × IsContext p x bs c × Holds g f bs × IsThere bs r × IsOwner (lives_in bs r) owner × Repeats p.reading x.relied c level kind element t f
     × IsStack p g x bs (Val (Value (lives.Pointer marks.Fat (read bs t) (lives_in bs r))) f) k
 IsFocus p g x bs (Repeating object count index level kind element) k =
-    (c : Context) × (t : Ty) × (r : Region) × (f : flow.State) × IsContext p x bs c × Holds g f bs × IsThere bs r × Repeats p.reading c level kind element t f
+    (c : Context) × (t : Ty) × (r : Region) × (f : flow.State) × IsContext p x bs c × Holds g f bs × IsThere bs r × Repeats p.reading x.relied c level kind element t f
     × IsArray g (read bs t) (lives_in bs r) object count index × IsStack p g x bs (Val (Value (lives.Pointer marks.Fat (read bs t) (lives_in bs r))) f) k
 IsFocus p g x bs (Given v) k = (r : RunValue) × (f : flow.State) × Holds g f bs × IsResult g r v × IsStack p g x bs (Val r f) k
 IsFocus p g x bs (Executing s) k =
@@ -439,8 +436,8 @@ IsFocus p g x bs (Binding number ts arguments body) k =
 IsFocus p g x bs (Naming number v js) k =
     (c : Context) × (is_place : Bool) × (t : Ty) × (cs : List InScope) × (f h : flow.State) × Within cs bs × IsContext p x bs c × Holds g f bs × IsNew p.reading c t × (number ≡ c.next_local)
     × IsResult g (Value (read bs t)) v × Continues p.reading x (with_local is_place t c) js (with_fullness Full f number) h × IsStack p g x cs (Go h) k
-IsFocus p g x bs Breaking k = (l : LoopExit) × (f : flow.State) × (x.loop ≡ Some l) × Holds g l.breaks bs × IsStack p g x bs (Go f) k
-IsFocus p g x bs Continuing k = (l : LoopExit) × (f : flow.State) × (x.loop ≡ Some l) × Holds g l.head bs × IsStack p g x bs (Go f) k
+IsFocus p g x bs Breaking k = (l : LoopExit) × (f h : flow.State) × (x.loop ≡ Some l) × Holds g f bs × Implies (with_each Full x.locks f) l.breaks × IsStack p g x bs (Go h) k
+IsFocus p g x bs Continuing k = (l : LoopExit) × (f h : flow.State) × (x.loop ≡ Some l) × Holds g f bs × Implies (with_each Full x.locks f) l.head × IsStack p g x bs (Go h) k
 IsFocus p g x bs (Returning v) k = (f : flow.State) × IsReturn g x.result x.gives v × IsStack p g x bs (Go f) k
 IsFocus p g x bs (Throwing tag value) k = (w : Want) × IsStack p g x bs w k
 IsFocus p g x bs (Catching tag value cs) k =
