@@ -146,7 +146,7 @@ pub(crate) fn check_items(scope: &mut Scope<'_>, items: &[Item]) -> Result<Vec<t
     ensures gives { Gives (λ v. typed_view.items_of v.items) result (run (rule_items scope.old (items_of items.now))) }
     ensures inside { OnOk result (IsBehindItems scope.old (items_of items.now) scope.new) }
 {
-    let mut all = Vec::new(scope.alloc());
+    let mut all = Vec::with_capacity(scope.alloc(), items.len())?;
     for item in items {
         let item = check_item(scope, item)?;
         all.push(item)?;

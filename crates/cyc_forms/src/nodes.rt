@@ -9,7 +9,7 @@ use cyc_scope::Stop;
 use cyc_types::typed;
 use std::alloc::Global;
 
-#[inline(never)]
+#[inline(always)]
 pub fn boxed(alloc: Global, expression: typed::Expr) -> Result<Box<typed::Expr>, Stop>
     ensures { Gives view_boxed result (Ok (view_expression expression)) }
 {

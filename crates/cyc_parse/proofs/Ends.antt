@@ -7,11 +7,11 @@ use Rattle.cyc_syntax.specs.Names.{with_text}
 use Rattle.cyc_syntax.specs.Place.{IsBehind}
 use Rattle.cyc_syntax.specs.Tokens.{Token}
 use Rattle.cyc_syntax.specs.TreeView.{place_of_span}
-use Rattle.cyc_syntax.specs.Symbols.{Place, Symbol, texts_in, symbol_of, symbols_of}
+use Rattle.cyc_syntax.specs.Symbols.{Symbol, texts_in, symbol_of, symbols_of}
 use Rattle.cyc_syntax.specs.Trees.{Declaration}
 use Rattle.cyc_parse.specs.Parsing.{Outcome, and_then, bind}
 use Rattle.cyc_parse.specs.Declarations.{program_of}
-use Rattle.cyc_parse.specs.Answers.{at_end, whole_program, end_of, fault_of, IsRefused, IsAnswer}
+use Rattle.cyc_parse.specs.Answers.{at_end, whole_program, end_of, IsRefused, IsAnswer}
 
 left_of : Outcome (List Declaration) → List Symbol
 left_of (Ok p) = p.1
@@ -27,13 +27,16 @@ pub whole_ends : (ts : List Symbol) (ds : List Declaration) (left : List Symbol)
 unfolding bind
 whole_ends ts ds left e = e ∙ ap (λ (us : List Symbol). Ok (ds, us)) (none_left (program_of ts) ds left e)
 
--- The symbols are those of the tokens, and the place is the end of the text.
-pub refused_of : (text : List ℕ) (tokens : List Token) (end : Span) (seen names : List (List ℕ)) (symbols : List Symbol) (fault : Fault)
-    → IsBehind end text → seen ≡ [] → names ≡ fold with_text seen (texts_in tokens) → symbols ≡ map (symbol_of names) tokens
-    → (fault ≡ memory_fault) ⊎ IsRefused (place_of_span end) symbols fault → IsAnswer text tokens (Err fault)
-refused_of text tokens end seen names symbols fault behind empty met are (inl memory) = inl memory
-refused_of text tokens end seen names symbols fault behind empty met are (inr h) =
+-- The place behind the whole text is its end.
+pub end_behind : (text : List ℕ) (end : Span) → IsBehind end text → place_of_span end ≡ end_of text
+end_behind text end behind = (λ i. record { line = behind.line i; column = behind.column i })
+
+-- The symbols are those of the tokens.
+pub refused_of : (text : List ℕ) (tokens : List Token) (seen names : List (List ℕ)) (symbols : List Symbol) (fault : Fault)
+    → seen ≡ [] → names ≡ fold with_text seen (texts_in tokens) → symbols ≡ map (symbol_of names) tokens
+    → (fault ≡ memory_fault) ⊎ IsRefused (end_of text) symbols fault → IsAnswer text tokens (Err fault)
+refused_of text tokens seen names symbols fault empty met are (inl memory) = inl memory
+refused_of text tokens seen names symbols fault empty met are (inr h) =
     let same : symbols ≡ symbols_of tokens =
     are ∙ ap (λ (ns : List (List ℕ)). map (symbol_of ns) tokens) (met ∙ ap (λ (ss : List (List ℕ)). fold with_text ss (texts_in tokens)) empty) in
-    let place : place_of_span end ≡ end_of text = (λ i. record { line = behind.line i; column = behind.column i }) in
-    inr (record { refusal = h.refusal; refused = ap whole_program (sym same) ∙ h.refused; is = h.is ∙ ap (λ (p : Place). fault_of p h.refusal) place })
+    inr (record { refusal = h.refusal; refused = ap whole_program (sym same) ∙ h.refused; is = h.is })

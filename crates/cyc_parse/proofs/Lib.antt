@@ -38,5 +38,6 @@ pub mod LocalDeclarations
 -- what the loops of the code and its levels of nesting cite
 pub mod Loops
 pub mod Levels
+pub mod LoneOperands
 pub mod StatementLevels
 pub mod StatementLoops

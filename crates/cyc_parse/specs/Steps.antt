@@ -1,15 +1,15 @@
 -- Parts of the parser that are functions of their own in the code, and one step of each list that the code reads in a
 -- loop: the next item, if the list goes on.
-use Rattle.std.specs.Prelude.{ℕ, zero, suc, ◌+◌, ◌-◌, Bool, false, ◌&&◌, nat_lt, nat_le, if◌then◌else◌, Option, Some, None}
+use Rattle.std.specs.Prelude.{ℕ, zero, suc, ◌+◌, ◌-◌, Bool, false, ◌&&◌, ◌||◌, nat_lt, nat_le, if◌then◌else◌, List, [], ◌∷◌, Option, Some, None, is_some}
 use Rattle.cyc_syntax.specs.declared.tokens.Sign.TheVariants as signs
 use Rattle.cyc_syntax.specs.declared.tree.BinaryOperator.{BinaryOperator}
 use Rattle.cyc_syntax.specs.declared.tree.PrefixOperator.{PrefixOperator}
 use Rattle.cyc_syntax.specs.declared.tree.Operation.{Operation}
 use Rattle.cyc_syntax.specs.Grammar.{level, max_items}
-use Rattle.cyc_syntax.specs.Symbols.{Terminal, Mark}
+use Rattle.cyc_syntax.specs.Symbols.{Terminal, Mark, Symbol}
 use Rattle.cyc_syntax.specs.Trees.{Declaration, Pointer, Expression, Bracketed, FreeKey, Prefixed, New, RegionNew, Postfixes, ThenIndex, ThenField, Operations, ThenOperation}
 use Rattle.cyc_syntax.specs.TreeView.{place_of_span, view_expression}
-use Rattle.cyc_parse.specs.Parsing.{Parser, ◌>>=◌, ◌>>◌, pure, if_sees, if_starts, choose, advance, sign, identifier}
+use Rattle.cyc_parse.specs.Parsing.{Parser, ◌>>=◌, ◌>>◌, pure, next, sees, if_sees, if_starts, choose, advance, sign, identifier}
 use Rattle.cyc_parse.specs.Types.{mark_at, optional_region}
 use Rattle.cyc_parse.specs.Declarations.{declaration}
 use Rattle.cyc_parse.specs.Expressions.{Nested, binary_operator, operator_at, chained, binary_of, operations, climb, postfixes, unary}
@@ -68,6 +68,16 @@ level_within below most (Some o) = if nat_lt below (level o) && is_within most (
 abbrev pub level_at : ℕ → ℕ → Option Terminal → Option ℕ
 level_at below most (Some (Mark s)) = level_within below most (binary_operator s)
 level_at below most _ = None
+
+-- the symbols behind the next one
+abbrev pub behind : List Symbol → List Symbol
+behind [] = []
+behind (t ∷ ts) = ts
+
+-- Whether an operand of the operators of the level above this one goes on with these symbols: by arguments, by a postfix, or by an
+-- operator of a level up to this one.
+abbrev pub is_continued : ℕ → List Symbol → Bool
+is_continued below ts = sees signs.LeftParen ts || ((sees signs.LeftBracket ts || sees signs.Arrow ts) || is_some (level_at 0 below (next ts)))
 
 -- an operand of the operators of the level above this one
 abbrev pub operand : ℕ → Nested → ℕ → Parser Expression

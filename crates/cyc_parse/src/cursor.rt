@@ -8,6 +8,7 @@ ghost use Rattle.cyc_syntax.specs.TreeView.{place_of_span, view_name};
 ghost use Rattle.cyc_parse.specs.Code.{Gives, view_terminal, view_symbol, accepted};
 ghost use Rattle.cyc_parse.specs.Answers.{place_at};
 ghost use Rattle.cyc_parse.specs.Declarations.{number_value};
+ghost use Rattle.cyc_parse.specs.Steps.{behind};
 ghost use Rattle.cyc_parse.specs.Parsing.{next, sees, opens_regions, advance, take, sign, word, identifier, region_name};
 
 use crate::stop::{Reason, Stop};
@@ -60,6 +61,16 @@ impl<'a> Parser<'a> {
         match self.left {
             [first, ..] => Some(first.terminal),
             [] => None,
+        }
+    }
+
+    /// The parser behind the next symbol.
+    pub(crate) fn behind(&self) -> Parser<'a>
+        ensures { result ≡ behind self.now }
+    {
+        match self.left {
+            [_, rest @ ..] => Parser::new(self.alloc, rest),
+            [] => Parser::new(self.alloc, self.left),
         }
     }
 

@@ -2,12 +2,13 @@
 //! reads at a level of nesting below which so many are left.
 #![tactic(auto, unfolding(crate::specs::Parsing::bind, crate::specs::Parsing::choose, crate::specs::Parsing::if_sees, crate::specs::Parsing::if_starts, crate::specs::Parsing::if_is, crate::specs::Parsing::refuse_item, crate::specs::Expressions::nested), using(crate::proofs::Levels::levels))]
 
-ghost use Rattle.std.specs.Prelude.{◌≡◌, ◌<◌, ◌≤◌, ◌-◌, suc, map, option_map, List, [], Ok, IfSome};
+ghost use Rattle.std.specs.Prelude.{◌≡◌, ◌<◌, ◌≤◌, ◌-◌, suc, ◌||◌, map, option_map, List, [], Ok, IfSome};
+ghost use Rattle.cyc_syntax.specs.declared.tokens.Sign.TheVariants as signs;
 ghost use Rattle.cyc_syntax.specs.TreeView.{view_name, view_expression, view_initial, expressions_of, postfixes_of, operations_of, then_postfix};
 ghost use Rattle.cyc_parse.specs.Boxes.{view_boxed, view_boxed_initial};
 ghost use Rattle.cyc_parse.specs.Code.{Gives};
-ghost use Rattle.cyc_parse.specs.Parsing.{next, starts, separated, no_more_items, opens_regions};
-ghost use Rattle.cyc_parse.specs.Steps.{after_comma, one_postfix, one_operation, then_operation, prefixed, created, created_in, freed_key, bracketed, with_chain, level_at, operand, climb_from, one_level};
+ghost use Rattle.cyc_parse.specs.Parsing.{next, sees, starts, separated, no_more_items, opens_regions};
+ghost use Rattle.cyc_parse.specs.Steps.{after_comma, one_postfix, one_operation, then_operation, prefixed, created, created_in, freed_key, bracketed, with_chain, level_at, behind, is_continued, operand, climb_from, one_level};
 ghost use Rattle.cyc_syntax.specs.Grammar.{level};
 ghost use Rattle.cyc_syntax.specs.Trees.{Expression, NoPostfixes, NoOperations, Call, Plain, Fields};
 ghost use Rattle.cyc_parse.specs.Expressions.{binary_operator, chained, binary_of, nested, begins_expression, begins_initial, operator_at, no_more_operations, operations, climb, group, arguments, from_name, primary, no_more_postfixes, postfixes, with_postfixes, unary, assignment, binary, expression, values, fields, initial_from_name, array, initial};
@@ -328,10 +329,16 @@ impl<'a> Parser<'a> {
         Ok(None)
     }
 
+    fn begins_postfix(&self) -> bool
+        ensures { result ≡ sees signs.LeftBracket self.now || sees signs.Arrow self.now }
+    {
+        self.sees(Sign::LeftBracket) || self.sees(Sign::Arrow)
+    }
+
     fn end_postfixes(&mut self) -> Result<(), Stop>
         ensures { Gives (λ _. NoPostfixes) result (no_more_postfixes self.old) self.new }
     {
-        if self.sees(Sign::LeftBracket) || self.sees(Sign::Arrow) {
+        if self.begins_postfix() {
             return Err(Stop::Refused(Reason::TooLong));
         }
         Ok(())
@@ -465,6 +472,43 @@ impl<'a> Parser<'a> {
         }
     }
 
+    /// Whether an operand of the operators of the level above this one goes on behind its first symbol: by arguments, by a
+    /// postfix, or by an operator of a level up to this one.
+    fn is_continued(&self, below: u32) -> bool
+        ensures { result ≡ is_continued below (behind self.now) }
+    {
+        let behind = self.behind();
+        behind.sees(Sign::LeftParen)
+            || behind.begins_postfix()
+            || behind.next_level(0, below).is_some()
+    }
+
+    /// An operand of the operators of the level above this one. Most are one number or one name, which needs no box.
+    #[cycle(expression)]
+    fn parse_operand(&mut self, room: u32, below: u32) -> Result<Expr, Stop>
+        requires { below < 10 }
+        ensures { Gives view_expression result (operand room (nested room) below self.old) self.new }
+    {
+        let is_continued = self.is_continued(below);
+        match self.next() {
+            Some(Terminal::Number(value)) if !is_continued => {
+                let span = self.advance()?;
+                Ok(Expr::Number { span, value })
+            }
+            Some(Terminal::Identifier(name)) if !is_continued => {
+                let span = self.advance()?;
+                Ok(Expr::Variable {
+                    name: Ident { name, span },
+                })
+            }
+            _ => {
+                let first = self.parse_unary_here(room)?;
+                let operand = self.climb(room, below, first)?;
+                Ok(Box::into_inner(operand))
+            }
+        }
+    }
+
     #[cycle(expression)]
     fn parse_operation(&mut self, room: u32, below: u32) -> Result<Option<Operation>, Stop>
         requires { below < 10 }
@@ -474,12 +518,11 @@ impl<'a> Parser<'a> {
             return Ok(None);
         };
         let span = self.advance()?;
-        let operand = self.parse_unary_here(room)?;
-        let operand = self.climb(room, below, operand)?;
+        let operand = self.parse_operand(room, below)?;
         Ok(Some(Operation {
             operator,
             span,
-            operand: Box::into_inner(operand),
+            operand,
         }))
     }
 

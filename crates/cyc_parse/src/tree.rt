@@ -9,7 +9,7 @@ ghost use Rattle.cyc_syntax.specs.Symbols.{texts_in, symbol_of};
 ghost use Rattle.cyc_syntax.specs.TreeView.{place_of_span, view_declaration};
 ghost use Rattle.cyc_syntax.specs.Weight.{tree_weight};
 ghost use Rattle.cyc_parse.specs.Code.{Gives, view_reason, view_symbol};
-ghost use Rattle.cyc_parse.specs.Answers.{whole_program, code_of, fault_of, IsAnswer};
+ghost use Rattle.cyc_parse.specs.Answers.{whole_program, end_of, code_of, fault_of, IsAnswer};
 ghost use Rattle.cyc_parse.specs.Answers as answers;
 ghost use Rattle.cyc_parse.specs.Acceptance.{declarations_of, IsAccepted, IsRefused, IsFaulty};
 
@@ -48,8 +48,7 @@ fn answer(alloc: Global, tokens: &[Token], text: &[u8]) -> Result<Tree, Fault>
 {
     let mut names = Names::new(alloc)?;
     let symbols = symbols_of_tokens(alloc, tokens, text, &mut names)?;
-    let end = place_behind(Span { line: 1, column: 1 }, text);
-    let declarations = declarations_of(alloc, &symbols, end)?;
+    let declarations = declarations_of(alloc, &symbols, text)?;
     Ok(Tree {
         declarations,
         names,
@@ -100,17 +99,25 @@ fn symbols_of_tokens(
 
 // ---- from symbols to declarations
 
-/// The declarations that symbols spell, or their fault, in a text that ends at this place.
+/// The declarations that symbols spell, or their fault in this text.
 #[tactic(auto, using(crate::proofs::Ends::whole_ends))]
-fn declarations_of(alloc: Global, symbols: &[Symbol], end: Span) -> Result<Vec<Declaration>, Fault>
+fn declarations_of(
+    alloc: Global,
+    symbols: &[Symbol],
+    text: &[u8],
+) -> Result<Vec<Declaration>, Fault>
+    requires { length text.now ≤ max_bytes }
     ensures read { IfOk result (λ v. whole_program (map view_symbol symbols.now) ≡ Ok (map view_declaration v.items, [])) }
-    ensures refused { IfErr result (λ f. (f ≡ memory_fault) ⊎ answers.IsRefused (place_of_span end) (map view_symbol symbols.now) f) }
+    ensures refused { IfErr result (λ f. (f ≡ memory_fault) ⊎ answers.IsRefused (end_of text.now) (map view_symbol symbols.now) f) }
 {
     let mut parser = Parser::new(alloc, symbols);
     match parser.parse_whole_program() {
         Ok(declarations) => Ok(declarations),
         Err(Stop::Memory) => Err(Fault::memory()),
-        Err(Stop::Refused(reason)) => Err(parser.fault(reason, end)),
+        Err(Stop::Refused(reason)) => {
+            let end = place_behind(Span { line: 1, column: 1 }, text);
+            Err(parser.fault(reason, end))
+        }
     }
 }
 

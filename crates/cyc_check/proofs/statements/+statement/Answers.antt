@@ -26,7 +26,7 @@ use Rattle.cyc_check.proofs.statements.+statement.Goals as goal
 pub check_items-returns-in_err-item-clause-gives : goal.check_items-returns-in_err-item-clause-gives
 check_items-returns-in_err-item-clause-gives t c =
     let is = read c.args.items.now c.loop-item.item-index c.item-item.result c.loop-item-test.true c.item-item.is in
-    let p = err_from_is_err_and c.from_residual.result c.from_residual.ensures.1 in
+    let p = err_from_is_err_and c.from_residual-in_err-item.result c.from_residual-in_err-item.ensures.1 in
     rw (p.1, p.2)
     (walk_stops c.in_err-item.field-0.0 c.args.scope.now c.loop-item.scope c.loop-item.all.items (view_item c.item-item.result) (items_of (drop (c.loop-item.item-index + 1) c.args.items.now)) (items_of c.args.items.now)
     (subst (λ xs. Walked c.args.scope.now c.loop-item.scope c.loop-item.all.items (items_of xs) (items_of c.args.items.now)) is c.loop-item.invariant) c.in_err-item.ensures.gives)
@@ -44,7 +44,7 @@ check_items-returns-clause-gives t c =
     (subst (λ xs. Walked c.args.scope.now c.loop-item.scope c.loop-item.all.items (items_of xs) (items_of c.args.items.now)) (drop_all c.args.items.now c.loop-item.item-index c.loop-item-test.false) c.loop-item.invariant)
 
 pub check_items-loop-item-init : goal.check_items-loop-item-init
-check_items-loop-item-init t c = rw c.new-all.ensures.items (walk_starts c.args.scope.now (items_of c.args.items.now))
+check_items-loop-item-init t c = rw c.in_ok-all.ensures.items (walk_starts c.args.scope.now (items_of c.args.items.now))
 
 pub check_item-returns-in-Local-clause-gives : goal.check_item-returns-in-Local-clause-gives
 check_item-returns-in-Local-clause-gives t c =

@@ -98,10 +98,13 @@ abbrev pub decreases-climb_level : goal.decreases-climb_level
 decreases-climb_level l = 256 * l.room + 22 * l.most + 2 * (l.most - l.below) + 7
 
 abbrev pub decreases-parse_operations : goal.decreases-parse_operations
-decreases-parse_operations l = 256 * l.room + 24 * l.below + 11
+decreases-parse_operations l = 256 * l.room + 24 * l.below + 12
 
 abbrev pub decreases-parse_operation : goal.decreases-parse_operation
-decreases-parse_operation l = 256 * l.room + 24 * l.below + 10
+decreases-parse_operation l = 256 * l.room + 24 * l.below + 11
+
+abbrev pub decreases-parse_operand : goal.decreases-parse_operand
+decreases-parse_operand l = 256 * l.room + 24 * l.below + 10
 
 abbrev pub invariant-parse_argument_list-loop : goal.invariant-parse_argument_list-loop
 invariant-parse_argument_list-loop l = with_front view_expression (λ x xs. x ∷ xs) l.arguments.items (more_items l.room begins_expression (nested l.room).expression (64 - l.counter) l.self) ≡ separated l.room begins_expression (nested l.room).expression l.fn.self
