@@ -185,7 +185,7 @@ module _ (p : Source) (accepted : AreAccepted p) where
         → Stand p.reading (body_context p.program h).regions bs → IsHome p.reading 0 bs → IsStack p g x cs (Go end) k → IsWell p (Running Proceeding (Rest js ∷ k) e w)
     begin h number js k end vs cs live within ok (loop, locks, result, gives) body scope_is count scope below full stand at_home stack =
         let flows = subst (λ o. Derives (rule_items (record { loop = loop_of o; locks = x.locks }) h.body (record { now = start_of h; breaks = Unreached })) (record { now = end; breaks = ok.breaks })) (sym loop)
-            (subst (λ ns. Derives (rule_items (record { loop = None; locks = ns }) h.body (record { now = start_of h; breaks = Unreached })) (record { now = end; breaks = ok.breaks })) (sym locks) ok.flows) in
+        (subst (λ ns. Derives (rule_items (record { loop = None; locks = ns }) h.body (record { now = start_of h; breaks = Unreached })) (record { now = end; breaks = ok.breaks })) (sym locks) ok.flows) in
         let rest : Continues p.reading x (body_context p.program h) h.body (start_of h) end = record {
           before = Unreached;
           behind = ok.breaks;

@@ -117,8 +117,13 @@ module _ (p : Source) (g : Typing) (x : Exits) (bs : List InScope) (e : Environm
   break_on k c f h before behind' None same is live lent holds known are stack = absurd (let z : false ≡ true = is in cc)
   break_on k c f h before behind' (Some l) same is live lent holds known are stack =
       let left = with_each Full x.locks f in
-      on Breaking k live (l, h, same,
-          holds_implied g left l.breaks bs (implies_after left behind' l.breaks (subst (λ z. Implies left z) (sym known) (meet_second before left)) are) (lent_holds g e x.locks f bs bound variables lent holds), stack)
+      on Breaking k live (
+        l,
+        h,
+        same,
+        holds_implied g left l.breaks bs (implies_after left behind' l.breaks (subst (λ z. Implies left z) (sym known) (meet_second before left)) are) (lent_holds g e x.locks f bs bound variables lent holds),
+        stack,
+      )
 
   continue_on : (k : List Entry) (f h : flow.State) (o : Option LoopExit) → x.loop ≡ o → is_loop o ≡ true → LiveIn k bs → AreLent x.locks bs → Holds g f bs
       → AllKept (statements.continue_demanded (loop_of o) (with_each Full x.locks f)) → IsStack p g x bs (Go h) k → IsWell p (Running Continuing k e w)
@@ -381,7 +386,7 @@ module _ (p : Source) (g : Typing) (x : Exits) (bs : List InScope) (e : Environm
       let (b, bound_among, number_of, of_type) = bound_of p.reading (lives_in bs) c.locals bs key t home stands.scope has in
       let set : IsSet f key = not_vacant (is_vacant (flow.fullness f key)) demands.0 in
       let rest = lent_rest key js (with_local false (types.Handle (regions.Variable r)) (with_key_opened r c)) (with_fullness Full (with_fullness Locked f key) n) h before behind' ending locked wjs
-          (subst (λ (z : Known). Derives (rule_items (around (lending x key)) js z) (record { now = ending; breaks = behind' })) now djs) are kjs among ends in
+      (subst (λ (z : Known). Derives (rule_items (around (lending x key)) js z) (record { now = ending; breaks = behind' })) now djs) are kjs among ends in
       from_local p g x bs e w typed' globals bound variables (Needs (OpenBy n key js) ∷ k) c key t (types.Value t) f f nests.0 live stands holds (home, has) set (implies_self f) refl (
         [],
         cs,
@@ -395,7 +400,7 @@ module _ (p : Source) (g : Typing) (x : Exits) (bs : List InScope) (e : Environm
       let (b, bound_among, number_of, of_bound) = bound_of p.reading (lives_in bs) c.locals bs source v home stands.scope has in
       let set : IsSet f source = not_vacant (is_vacant (flow.fullness f source)) demands.0 in
       let rest = lent_rest source js (with_local true t (with_opened scopes.Alias c)) (with_fullness Full (with_fullness Locked f source) n) h before behind' ending locked wjs
-          (subst (λ (z : Known). Derives (rule_items (around (lending x source)) js z) (record { now = ending; breaks = behind' })) now djs) are kjs among ends in
+      (subst (λ (z : Known). Derives (rule_items (around (lending x source)) js z) (record { now = ending; breaks = behind' })) now djs) are kjs among ends in
       subst (λ kind. IsWell p (loaded_from kind (e.locals source) (Needs (AliasOf n source js) ∷ k) e w)) (sym (ap values.kind_of of_type ∙ alias_kind (regions.Variable r) v))
       (from_local p g x bs e w typed' globals bound variables (Needs (AliasOf n source js) ∷ k) c source v (types.Value v) f f nests.0 live stands holds (home, has) set (implies_self f) refl (
         [],

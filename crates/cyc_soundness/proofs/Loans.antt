@@ -93,7 +93,7 @@ alias_read : (bs : List InScope) (n : ℕ) (u : Ty) → is_unique u ≡ true →
 alias_read bs n (types.Pointer k t regions.Unique) unique (known, one) =
     let inner : List InScope = Names n heap_life true ∷ bs in
     let same : read inner t ≡ read bs t = sym (read_alike (lives_in bs) (lives_in inner) t
-        (all_in (IsKnown n) (λ r. lives_in bs r ≡ lives_in inner r) (λ r is. other_life n heap_life true bs r (known_other n r is)) t known)) in
+    (all_in (IsKnown n) (λ r. lives_in bs r ≡ lives_in inner r) (λ r is. other_life n heap_life true bs r (known_other n r is)) t known)) in
     ap (λ z. lives.Pointer k z (life_named inner n)) same ∙ ap (λ l. lives.Pointer k (read bs t) l) (same_name n heap_life (life_named bs n))
 alias_read bs n (types.Pointer k t regions.Heap) unique known = absurd (let z : false ≡ true = unique in cc)
 alias_read bs n (types.Pointer k t (regions.Variable m)) unique known = absurd (let z : false ≡ true = unique in cc)

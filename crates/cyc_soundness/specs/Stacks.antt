@@ -256,7 +256,6 @@ pub data Waits (p : Source) (x : Exits) (bs : List InScope) : Awaiting → List 
       → Waits p x bs (Test condition body) [] (read_value bs v) f bs (Go h)
   returns : (t : Ty) (u : RunTy) (f h : flow.State) → x.result ≡ Some t → Value u ≡ x.gives → Waits p x bs Return [] (Value u) f bs (Go h)
   throws : {tag : ℕ} (f h : flow.State) → Waits p x bs (ThrowWith tag) [] (Value lives.Int) f bs (Go h)
-
   opens_by : {number lent : ℕ} {js : Items} (cs : List InScope) (c : Context) (b : Bound) (r : ℕ) (f h : flow.State) → HasLoans p.reading → Within cs bs → IsContext p x bs c → IsAmong (Variable b) bs → b.number ≡ lent → IsSet f lent
       → r < c.next_region → IsLive c (regions.Variable c.region) → number ≡ c.next_local
       → Continues p.reading (lending x lent) (with_local false (types.Handle (regions.Variable r)) (with_key_opened r c)) js (with_fullness Full (with_fullness Locked f lent) number) h
