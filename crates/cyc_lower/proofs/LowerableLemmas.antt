@@ -1,10 +1,11 @@
 -- A well typed program that is built is lowered.
-use Rattle.std.proofs.Common.{◌≡◌, ◌⊎◌, inl, inr, ℕ, suc, ◌<◌, true, ◌&&◌, List, [], ◌∷◌, Option, Some, None, map, length, slice_get, refl, ap, subst, ◌∙◌, arith, length-append}
+use Rattle.std.proofs.Common.{◌≡◌, ◌⊎◌, inl, inr, ℕ, suc, ◌<◌, true, ◌&&◌, List, [], ◌∷◌, Option, Some, None, map, length, slice_get, refl, ap, subst, ◌∙◌, arith, length-append, Bool, false}
 use Rattle.std.specs.Prelude.{◌==◌, nat_le}
 use Rattle.std.specs.List.{list_all}
 use Rattle.std.proofs.lemmas.Bool.{and_parts, leb-true}
 use Rattle.std.proofs.lemmas.Option.{slice_get_within}
 use Rattle.std.proofs.lemmas.List.{length-map}
+use Rattle.cyc_words.specs.Word.{IsWord}
 use Rattle.cyc_types.specs.declared.region.Region.{Region}
 use Rattle.cyc_types.specs.declared.typed.Callee.{Callee}
 use Rattle.cyc_types.specs.declared.typed.Callee.TheVariants as callees
@@ -17,15 +18,14 @@ use Rattle.cyc_types.specs.declared.typed.UnaryOperator.TheVariants as unary
 use Rattle.cyc_syntax.specs.declared.tree.PointerKind.{PointerKind}
 use Rattle.cyc_syntax.specs.declared.tree.PointerKind.TheVariants as marks
 use Rattle.cyc_types.specs.Types.{Ty, Int, Pointer, Struct, ValueType, Value, substituted_ty, words_of}
-use Rattle.cyc_types.specs.TypedTrees.{Lvalue, Local, Global, Expression, Number, NullPointer, Copy, Peek, Load, AddressOfCell, Call, Unary, Binary, Assign, Store, New, Dereference, Target, Member, OnHeap, Initial, Plain, Fields, Converted, Convert, Arguments, NoArguments, MoreArguments, Operations, NoOperations, ThenCompute, ThenTest, ThenPointer, Statement, Block, Empty, Evaluate, If, While, Return, Break, Continue, Items, NoItems, MoreItems, Execute, Declare, GlobalVariable, Signature, Function, Program}
-use Rattle.cyc_types.specs.Built.{is_built_type, is_built_result, is_built_value_type, is_built_kind, is_built_operator, is_built_expression, is_built_place, is_built_size, is_built_initial, is_built_converted, are_built_arguments, are_built_operations, is_built_value, is_built_statement, are_built_items, is_built_struct, is_built_global, is_built_function, is_built}
-use Rattle.cyc_types.specs.IntPart.{is_empty}
+use Rattle.cyc_types.specs.TypedTrees.{Lvalue, Local, Global, Expression, Number, NullPointer, Copy, Peek, Load, AddressOfCell, Call, Unary, Binary, Assign, Store, New, Dereference, Target, Member, OnHeap, Initial, Plain, Fields, Converted, Convert, Arguments, NoArguments, MoreArguments, Operations, NoOperations, ThenCompute, ThenTest, ThenPointer, Statement, Block, Empty, Evaluate, If, While, Return, Break, Continue, Items, NoItems, MoreItems, Execute, Declare, GlobalVariable, Signature, Function, Program, Throw, Try, Clauses, NoClauses, Default, Case}
+use Rattle.cyc_types.specs.Built.{is_built_type, is_built_result, is_built_value_type, is_built_kind, is_built_operator, is_built_expression, is_built_place, is_built_size, is_built_initial, is_built_converted, are_built_arguments, are_built_operations, is_built_value, is_built_statement, are_built_items, is_built_struct, is_built_global, is_built_function, is_built, is_built_tag, is_built_thrown, are_built_clauses}
 use Rattle.cyc_types.specs.Numbered.{signatures_of, Numbering, IsSignature, argument_count, IsWithin, numbering_of}
 use Rattle.cyc_types.specs.typing.Tests.{kind_of_mark}
-use Rattle.cyc_types.specs.typing.WellTyped.{Context, IsVariable, IsPlace, IsCallee, WellTyped, IsPeek, IsLeft, IsUnaryOperand, IsConverted, ArePassed, IsCell, IsMade, IsChain, IsCondition, behind, in_block, in_body, with_local, IsInitial, IsReturned, WellTypedStatement, WellTypedItems, body_context, AreWellTypedFunctions, IsWellTypedProgram}
+use Rattle.cyc_types.specs.typing.WellTyped.{Context, IsVariable, IsPlace, IsCallee, WellTyped, IsPeek, IsLeft, IsUnaryOperand, IsConverted, ArePassed, IsCell, IsMade, IsChain, IsCondition, behind, in_block, in_body, with_local, IsInitial, IsReturned, WellTypedStatement, WellTypedItems, body_context, AreWellTypedFunctions, IsWellTypedProgram, IsThrown, IsCaught, with_caught, behind_clause, WellTypedClauses}
 use Rattle.cyc_meaning.specs.Values.{is_thin, words_of_kind}
 use Rattle.cyc_lower.specs.Lowering.{are_as_wide, passed_words, all_passed}
-use Rattle.cyc_lower.specs.Lowerable.{stands_alone, HasPlace, IsLowerable, IsLowerableObject, IsLowerableCell, IsLowerableConverted, AreLowerableArguments, AreLowerableOperations, IsLowerableReturn, IsLowerableInitial, IsLowerableStatement, AreLowerableItems, AreLowerableFunctions, IsLowerableProgram}
+use Rattle.cyc_lower.specs.Lowerable.{stands_alone, HasPlace, IsLowerable, IsLowerableObject, IsLowerableCell, IsLowerableConverted, AreLowerableArguments, AreLowerableOperations, IsLowerableReturn, IsLowerableInitial, IsLowerableStatement, AreLowerableItems, AreLowerableFunctions, IsLowerableProgram, IsLowerableThrown, IsLowerableCaught, AreLowerableClauses}
 
 -- ---- what is built has one word
 
@@ -54,6 +54,9 @@ alone : (o : PointerOperator) (os : Operations) → is_built_operator o ≡ true
 alone pointers.AddFat os i = absurd (cc)
 alone pointers.SubtractFat os i = absurd (cc)
 alone o os i = refl
+
+word_tag : (n : ℕ) → is_built_tag n ≡ true → IsWord n
+word_tag n i = let few = leb-true n 4294967295 i in omega (arith, few)
 
 passed_single : (c : Converted) → is_built_converted c ≡ true → passed_words c ≡ 1
 passed_single (Convert from to a) i =
@@ -100,6 +103,9 @@ module _ (b : Numbering) where
 
   passed_by : (c : Context) → Agrees b c → (s : Statement) → Agrees b (behind c s)
   passed_by c k s = record { globals = k.globals; functions = k.functions; variables = k.variables; result = k.result }
+
+  left : (c : Context) → Agrees b c → (x : Option ℕ) (js : Items) → Agrees b (behind_clause c x js)
+  left c k x js = record { globals = k.globals; functions = k.functions; variables = k.variables; result = k.result }
 
   looping : (c : Context) → Agrees b c → Agrees b (in_body c)
   looping c k = record { globals = k.globals; functions = k.functions; variables = k.variables; result = k.result }
@@ -202,6 +208,16 @@ module _ (b : Numbering) where
   returned_lowerable c k (Some t) (Some d) i w = converted_lowerable c k d t i w
   returned_lowerable c k r v i w = absurd w
 
+  thrown_lowerable : (c : Context) → Agrees b c → (v : Option Expression) (has : Bool) → is_built_thrown v ≡ true → IsThrown c has v → IsLowerableThrown b v
+  thrown_lowerable c k None has i w = tt
+  thrown_lowerable c k (Some a) true i w = lowerable c k a (Value Int) i w
+  thrown_lowerable c k (Some a) false i w = absurd w
+
+  caught_lowerable : (c : Context) → Agrees b c → (x : Option ℕ) (has : Bool) → IsCaught c has x → IsLowerableCaught b x
+  caught_lowerable c k None has w = tt
+  caught_lowerable c k (Some n) true (next, known) = let l : n < length c.variables = slice_get_within c.variables n Int known in omega (arith, l, k.variables)
+  caught_lowerable c k (Some n) false w = absurd w
+
   mutual
     statement_lowerable : (c : Context) → Agrees b c → (s : Statement) → is_built_statement s ≡ true → WellTypedStatement c s → IsLowerableStatement b c.in_loop s
     statement_lowerable c k (Block r js) i (next, w) = items_lowerable (in_block c) (entered c k) js i w
@@ -216,6 +232,10 @@ module _ (b : Numbering) where
     statement_lowerable c k (Return v) i w = subst (λ r. IsLowerableReturn b r v) k.result (returned_lowerable c k c.result v i w)
     statement_lowerable c k Break i w = w
     statement_lowerable c k Continue i w = w
+    statement_lowerable c k (Throw n v) i (has, known, w) =
+        let (tag, thrown) = and_parts (is_built_tag n) (is_built_thrown v) i in (word_tag n tag, thrown_lowerable c k v has thrown w)
+    statement_lowerable c k (Try s cs) i (w, ws) =
+        let (first, rest) = and_parts (is_built_statement s) (are_built_clauses cs) i in (statement_lowerable c k s first w, clauses_lowerable (behind c s) (passed_by c k s) cs rest ws)
     statement_lowerable c k s i w = absurd (cc)
 
     items_lowerable : (c : Context) → Agrees b c → (js : Items) → are_built_items js ≡ true → WellTypedItems c js → AreLowerableItems b c.in_loop js
@@ -228,6 +248,18 @@ module _ (b : Numbering) where
         let l : n < length c.variables = slice_get_within c.variables n t known in
         (omega (arith, l, k.variables), initial_lowerable c k v t first w, items_lowerable (with_local true t c) (declared c k t) js rest ws)
     items_lowerable c k js i w = absurd (cc)
+
+    clauses_lowerable : (c : Context) → Agrees b c → (cs : Clauses) → are_built_clauses cs ≡ true → WellTypedClauses c cs → AreLowerableClauses b c.in_loop cs
+    clauses_lowerable c k NoClauses i w = tt
+    clauses_lowerable c k (Default r js) i (next, w) = items_lowerable (in_block c) (entered c k) js i w
+    clauses_lowerable c k (Case n None r js cs) i (has, known, caught, next, w, ws) =
+        let (tag, more) = and_parts (is_built_tag n) (are_built_items js && are_built_clauses cs) i in
+        let (first, rest) = and_parts (are_built_items js) (are_built_clauses cs) more in
+        (word_tag n tag, caught_lowerable c k None has caught, items_lowerable (in_block c) (entered c k) js first w, clauses_lowerable (behind_clause c None js) (left c k None js) cs rest ws)
+    clauses_lowerable c k (Case n (Some y) r js cs) i (has, known, caught, next, w, ws) =
+        let (tag, more) = and_parts (is_built_tag n) (are_built_items js && are_built_clauses cs) i in
+        let (first, rest) = and_parts (are_built_items js) (are_built_clauses cs) more in
+        (word_tag n tag, caught_lowerable c k (Some y) has caught, items_lowerable (with_local true Int (in_block c)) (declared (in_block c) (entered c k) Int) js first w, clauses_lowerable (behind_clause c (Some y) js) (left c k (Some y) js) cs rest ws)
 
 -- ---- programs
 
@@ -247,7 +279,6 @@ functions_lowerable p (h ∷ hs) i (w, ws) =
 
 pub lowerable_program : (p : Program) → IsWellTypedProgram p → is_built p ≡ true → IsLowerableProgram p
 lowerable_program p w i =
-    let (structs, more) = and_parts (list_all is_built_struct p.structs) (is_empty p.exceptions && (list_all is_built_global p.globals && list_all is_built_function p.functions)) i in
-    let (exceptions, others) = and_parts (is_empty p.exceptions) (list_all is_built_global p.globals && list_all is_built_function p.functions) more in
+    let (structs, others) = and_parts (list_all is_built_struct p.structs) (list_all is_built_global p.globals && list_all is_built_function p.functions) i in
     let (globals, functions) = and_parts (list_all is_built_global p.globals) (list_all is_built_function p.functions) others in
     record { functions = functions_lowerable p p.functions functions w.functions; main = w.main }

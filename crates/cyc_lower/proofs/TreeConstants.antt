@@ -4,7 +4,7 @@ use Rattle.cyc_words.specs.Word.{IsWord}
 use Rattle.cyc_syntax.specs.declared.tokens.Keyword.TheVariants as words
 use Rattle.cyc_syntax.specs.Symbols.{Terminal, Symbol}
 use Rattle.cyc_syntax.specs.Symbols as terminals
-use Rattle.cyc_syntax.specs.Trees.{Expression, Number, Character, Call, Bracketed, Chained, Prefixed, New, RegionNew, Binary, Assign, Initial, Plain, Fields, Array, Expressions, NoExpressions, MoreExpressions, Postfixes, NoPostfixes, ThenIndex, ThenField, Operations, NoOperations, ThenOperation, Statement, Block, Labelled, Evaluate, If, IfElse, While, Return, Body, Braces, Items, NoItems, MoreItems, Item, Execute, Local, Region, Alias, DynamicRegion, GlobalValue, Positive, Negative, Byte, NullPointer, Declaration, StructType, Exceptions, Global, Function}
+use Rattle.cyc_syntax.specs.Trees.{Expression, Number, Character, Call, Bracketed, Chained, Prefixed, New, RegionNew, Binary, Assign, Initial, Plain, Fields, Array, Expressions, NoExpressions, MoreExpressions, Postfixes, NoPostfixes, ThenIndex, ThenField, Operations, NoOperations, ThenOperation, Statement, Block, Labelled, Evaluate, If, IfElse, While, Return, Body, Braces, Items, NoItems, MoreItems, Item, Execute, Local, Region, Alias, DynamicRegion, GlobalValue, Positive, Negative, Byte, NullPointer, Declaration, StructType, Exceptions, Global, Function, Throw, Try, Clauses, NoClauses, Default, Case}
 use Rattle.cyc_syntax.specs.Yields.{Leaf, Yield, item_number}
 use Rattle.cyc_syntax.specs.Yields as yields
 use Rattle.cyc_syntax.specs.Grammar.{IsSpelled, HasTree}
@@ -56,7 +56,14 @@ abbrev mutual
   IsOfWordsWrittenStatement (IfElse p c s t) = IsOfWordsWritten c × IsOfWordsWrittenStatement s × IsOfWordsWrittenStatement t
   IsOfWordsWrittenStatement (While p c s) = IsOfWordsWritten c × IsOfWordsWrittenStatement s
   IsOfWordsWrittenStatement (Return p v) = IsOfWordsValue v
+  IsOfWordsWrittenStatement (Throw p x v) = IsOfWordsValue v
+  IsOfWordsWrittenStatement (Try p s cs) = IsOfWordsWrittenStatement s × AreOfWordsWrittenClauses cs
   IsOfWordsWrittenStatement s = Unit {0}
+
+  pub AreOfWordsWrittenClauses : Clauses → Type 0
+  AreOfWordsWrittenClauses NoClauses = Unit {0}
+  AreOfWordsWrittenClauses (Default is) = AreOfWordsWrittenItems is
+  AreOfWordsWrittenClauses (Case x v is cs) = AreOfWordsWrittenItems is × AreOfWordsWrittenClauses cs
 
   pub IsOfWordsBody : Body → Type 0
   IsOfWordsBody (Braces p is q) = AreOfWordsWrittenItems is
@@ -183,6 +190,10 @@ returned_constants : (d : ℕ) (v : Option Expression) (after : Yield) → AreOf
 returned_constants d None after h = tt
 returned_constants d (Some e) after h = expression_constants d e (front_part (yields.expression d e) after h)
 
+thrown_constants : (d : ℕ) (v : Option Expression) (after : Yield) → AreOfWordsLeaves (yields.optional (yields.thrown d) v ++ after) → IsOfWordsValue v
+thrown_constants d None after h = tt
+thrown_constants d (Some e) after (l, h) = expression_constants (suc d) e (front_part (yields.expression (suc d) e) _ (front_part (yields.expression (suc d) e ++ _) after h))
+
 given_constants : (d : ℕ) (v : Option Expression) (after : Yield) → AreOfWordsLeaves (yields.optional (yields.given d) v ++ after) → IsOfWordsValue v
 given_constants d None after h = tt
 given_constants d (Some e) after (l, h) = expression_constants (suc d) e (front_part (yields.expression (suc d) e) after h)
@@ -203,7 +214,19 @@ mutual
   statement_constants d (While p c s) h =
       (expression_constants (suc d) c (front_part (yields.expression (suc d) c) _ h.1.1), statement_constants (suc d) s (rest_part (yields.expression (suc d) c) _ h.1.1).1)
   statement_constants d (Return p v) (r, h) = returned_constants d v _ h
+  statement_constants d (Throw p x v) (r, (n, (l, h))) = thrown_constants (suc d) v _ h
+  statement_constants d (Try p s cs) (r, h) = (
+    statement_constants (suc d) s (front_part (yields.statement (suc d) s) _ h),
+    clauses_constants (suc d) cs (front_part (yields.clauses (suc d) cs) _ (rest_part (yields.statement (suc d) s) _ h).1.1),
+  )
   statement_constants d s h = tt
+
+  clauses_constants : (d : ℕ) (cs : Clauses) → AreOfWordsLeaves (yields.clauses d cs) → AreOfWordsWrittenClauses cs
+  clauses_constants d NoClauses h = tt
+  clauses_constants d (Default is) (w, (s, h)) = items_constants d is h
+  clauses_constants d (Case x v is cs) (w, (s, (n, h))) =
+      let k = (rest_part (yields.optional (yields.caught d) v) _ h).1 in
+      (items_constants d is (front_part (yields.items d is) _ k), clauses_constants d cs (rest_part (yields.items d is) _ k))
 
   body_constants : (d : ℕ) (b : Body) → AreOfWordsLeaves (yields.body d b) → IsOfWordsBody b
   body_constants d (Braces p is q) (l, h) = items_constants (suc d) is (front_part (yields.items (suc d) is) _ h)

@@ -8,7 +8,7 @@ use Rattle.cyc_syntax.specs.declared.tree.PrefixOperator.TheVariants as prefixes
 use Rattle.cyc_syntax.specs.declared.tree.BinaryOperator.{BinaryOperator}
 use Rattle.cyc_syntax.specs.declared.tree.BinaryOperator.TheVariants as operators
 use Rattle.cyc_syntax.specs.Symbols.{Place}
-use Rattle.cyc_syntax.specs.Trees.{Named, WrittenType, Expression, Number, Character, Null, HeapRegion, UniqueRegion, Variable, Call, Bracketed, NumberOfElements, FreeUnique, FreeKey, Chained, Prefixed, New, RegionNew, Binary, Assign, Initial, Plain, Fields, Array, Expressions, NoExpressions, MoreExpressions, Postfixes, NoPostfixes, ThenIndex, ThenField, Operations, NoOperations, ThenOperation, Statement, Block, Labelled, Empty, Evaluate, Swap, If, IfElse, While, Return, Break, Continue, Throw, Try, Body, Braces, Items, NoItems, MoreItems, Execute, Local, Region, Alias, DynamicRegion, GlobalValue, Positive, Negative, Byte, NullPointer, Declaration, StructType, Exceptions, Global, Function, place_of}
+use Rattle.cyc_syntax.specs.Trees.{Named, WrittenType, Expression, Number, Character, Null, HeapRegion, UniqueRegion, Variable, Call, Bracketed, NumberOfElements, FreeUnique, FreeKey, Chained, Prefixed, New, RegionNew, Binary, Assign, Initial, Plain, Fields, Array, Expressions, NoExpressions, MoreExpressions, Postfixes, NoPostfixes, ThenIndex, ThenField, Operations, NoOperations, ThenOperation, Statement, Block, Labelled, Empty, Evaluate, Swap, If, IfElse, While, Return, Break, Continue, Throw, Try, Body, Braces, Items, NoItems, MoreItems, Execute, Local, Region, Alias, DynamicRegion, GlobalValue, Positive, Negative, Byte, NullPointer, Declaration, StructType, Exceptions, Global, Function, place_of, Clauses, NoClauses, Default, Case}
 use Rattle.cyc_types.specs.declared.typed.Operator.{Operator}
 use Rattle.cyc_types.specs.declared.typed.LogicalOperator.{LogicalOperator}
 use Rattle.cyc_types.specs.declared.typed.PointerOperator.{PointerOperator}
@@ -17,21 +17,20 @@ use Rattle.cyc_types.specs.Types as types
 use Rattle.cyc_types.specs.TypedTrees.{Lvalue, Side, VariableSide, CellSide, Converted, Signature, type_of}
 use Rattle.cyc_types.specs.TypedTrees as typed
 use Rattle.cyc_types.specs.Rules.{Rule, Derives}
-use Rattle.cyc_types.specs.IntPart.{is_empty}
 use Rattle.cyc_types.specs.Numbered.{argument_count}
-use Rattle.cyc_types.specs.Built.{is_built_type, is_built_result, is_built_value_type, is_built_kind, is_built_operator, is_built_size, is_built_expression, is_built_place, is_built_initial, is_built_converted, are_built_arguments, are_built_operations, is_built_value, is_built_statement, are_built_items, is_built_struct, is_built_global, is_built_function, is_built}
-use Rattle.cyc_types.specs.typing.Scopes.{Meaning, Unknown, Fixed, Counter, Routine, Scope, meaning_of, behind, in_block, in_labelled, in_body}
+use Rattle.cyc_types.specs.Built.{is_built_type, is_built_result, is_built_value_type, is_built_kind, is_built_operator, is_built_size, is_built_expression, is_built_place, is_built_initial, is_built_converted, are_built_arguments, are_built_operations, is_built_value, is_built_statement, are_built_items, is_built_struct, is_built_global, is_built_function, is_built, is_built_tag, is_built_thrown, are_built_clauses}
+use Rattle.cyc_types.specs.typing.Scopes.{Meaning, Unknown, Fixed, Counter, Routine, Scope, meaning_of, behind, in_block, in_labelled, in_body, counted}
 use Rattle.cyc_types.specs.typing.Scopes as scopes
 use Rattle.cyc_types.specs.typing.Tests.{is_unique, is_moved, is_pointer}
 use Rattle.cyc_types.specs.typing.Expressions.{passed, variable_read, variable_looked, read, looked, rule_looked, Found, place_meant, Reached, pointed, indexed, selected, loaded, pointer_to, address_of, assignment, is_looking, is_looking_first, operand, Joined, peeked_local, then_pointer, then_added, ints_joined, tests_joined, sums_joined, then_compared, equality_joined, joined, instance_of, instantiated, called, key_freed, Made, field_types, arguments_written, fields_known, rule, rule_all, rule_chain, rule_place, rule_postfixed, rule_further, rule_made}
-use Rattle.cyc_types.specs.typing.Statements.{rule_condition, returned, rule_returned, exception_among, rule_initial, behind_item, rule_statement, rule_body, rule_items}
+use Rattle.cyc_types.specs.typing.Statements.{rule_condition, returned, rule_returned, exception_among, rule_initial, behind_item, rule_statement, rule_body, rule_items, rule_thrown, rule_clauses, with_caught, behind_clause}
 use Rattle.cyc_types.specs.typing.Heads.{signature_of}
 use Rattle.cyc_types.specs.typing.Programs.{Program, program_known, body_scope, rule_functions, constant_of, globals_of, IsTypedProgram}
 use Rattle.cyc_types.specs.typing.Heads as heads
 use Rattle.cyc_types.proofs.typing.CountLemmas.{thrown_shape, opened_shape, aliased_shape}
 use Rattle.cyc_words.specs.Word.{IsWord}
-use Rattle.cyc_lower.specs.Words.{IsOfWords, IsOfWordsCell, IsOfWordsObject, IsOfWordsConverted, AreOfWordsArguments, AreOfWordsOperations, IsOfWordsInitial, IsOfWordsStatement, AreOfWordsItems, IsOfWordsConstant, AreOfWordsGlobals, AreOfWordsFunctions, IsOfWordsProgram}
-use Rattle.cyc_lower.proofs.TreeConstants.{IsOfWordsWritten, IsOfWordsMadeOf, AreOfWordsWritten, AreOfWordsPostfixes, AreOfWordsChain, IsOfWordsValue, IsOfWordsWrittenStatement, IsOfWordsBody, AreOfWordsWrittenItems, IsOfWordsGlobalValue, IsOfWordsTree}
+use Rattle.cyc_lower.specs.Words.{IsOfWords, IsOfWordsCell, IsOfWordsObject, IsOfWordsConverted, AreOfWordsArguments, AreOfWordsOperations, IsOfWordsInitial, IsOfWordsStatement, AreOfWordsItems, IsOfWordsConstant, AreOfWordsGlobals, AreOfWordsFunctions, IsOfWordsProgram, IsOfWordsThrown, AreOfWordsClauses}
+use Rattle.cyc_lower.proofs.TreeConstants.{IsOfWordsWritten, IsOfWordsMadeOf, AreOfWordsWritten, AreOfWordsPostfixes, AreOfWordsChain, IsOfWordsValue, IsOfWordsWrittenStatement, IsOfWordsBody, AreOfWordsWrittenItems, IsOfWordsGlobalValue, IsOfWordsTree, AreOfWordsWrittenClauses}
 
 -- ---- the constants of a typed tree, but those in forms that are not built
 
@@ -76,6 +75,10 @@ abbrev ValueHasWords : Option Converted → Type 0
 ValueHasWords None = Unit {0}
 ValueHasWords (Some c) = ConvertedHasWords c
 
+abbrev ThrownHasWords : Option typed.Expression → Type 0
+ThrownHasWords None = Unit {0}
+ThrownHasWords (Some a) = HasWords a
+
 abbrev mutual
   StatementHasWords : typed.Statement → Type 0
   StatementHasWords (typed.Block r js) = ItemsHaveWords js
@@ -83,6 +86,8 @@ abbrev mutual
   StatementHasWords (typed.If a s t) = HasWords a × StatementHasWords s × StatementHasWords t
   StatementHasWords (typed.While p a s) = HasWords a × StatementHasWords s
   StatementHasWords (typed.Return v) = ValueHasWords v
+  StatementHasWords (typed.Throw n v) = ThrownHasWords v
+  StatementHasWords (typed.Try s cs) = StatementHasWords s × ClausesHaveWords cs
   StatementHasWords s = Unit {0}
 
   ItemsHaveWords : typed.Items → Type 0
@@ -90,6 +95,11 @@ abbrev mutual
   ItemsHaveWords (typed.MoreItems (typed.Execute s) js) = StatementHasWords s × ItemsHaveWords js
   ItemsHaveWords (typed.MoreItems (typed.Declare n t v) js) = ValueHasWords v × ItemsHaveWords js
   ItemsHaveWords js = Unit {0}
+
+  ClausesHaveWords : typed.Clauses → Type 0
+  ClausesHaveWords typed.NoClauses = Unit {0}
+  ClausesHaveWords (typed.Default r js) = ItemsHaveWords js
+  ClausesHaveWords (typed.Case n x r js cs) = ItemsHaveWords js × ClausesHaveWords cs
 
 abbrev FunctionsHaveWords : List typed.Function → Type 0
 FunctionsHaveWords [] = Unit {0}
@@ -327,6 +337,10 @@ returned_constants : (g : Scope) (p : Place) (v : Option Expression) (c : Option
 returned_constants g p None c w (k, eq) = subst ValueHasWords (sym eq) tt
 returned_constants g p (Some e) c w (a, h, k) = value_constants g g.result p (place_of e) a c (expression_constants g e w a h) k
 
+thrown_constants : (g : Scope) (v : Option Expression) (a : Option typed.Expression) → IsOfWordsValue v → Derives (rule_thrown g v) a → ThrownHasWords a
+thrown_constants g None a w (k, eq) = subst ThrownHasWords (sym eq) tt
+thrown_constants g (Some e) a w (b, h, (k, eq)) = subst ThrownHasWords (sym eq) (expression_constants g e w b h)
+
 condition_constants : (g : Scope) (e : Expression) → IsOfWordsWritten e → GivesWords (rule_condition g e)
 condition_constants g e w a (b, h, (k, eq)) = subst HasWords (sym eq) (seen_constants g e (rule g e) (λ c d. expression_constants g e w c d) b h)
 
@@ -344,8 +358,14 @@ mutual
   statement_constants g (Return p v) w t (c, h, (u, eq)) = subst StatementHasWords (sym eq) (returned_constants g p v c w h)
   statement_constants g (Break p) w t (k, eq) = subst StatementHasWords (sym eq) tt
   statement_constants g (Continue p) w t (k, eq) = subst StatementHasWords (sym eq) tt
-  statement_constants g (Throw p x v) w t (a, ka, d) = let (n, eq) = thrown_shape g (exception_among g.exceptions x.name) x v a t d in subst StatementHasWords (sym eq) tt
-  statement_constants g (Try p s cs) w t (b, kb, (ds, ks, (u, eq))) = subst StatementHasWords (sym eq) tt
+  statement_constants g (Throw p x v) w t (a, ka, d) = let (n, eq) = thrown_shape g (exception_among g.exceptions x.name) x v a t d in subst StatementHasWords (sym eq) (thrown_constants g v a w ka)
+  statement_constants g (Try p s cs) (w, ws) t (b, kb, (ds, ks, (u, eq))) = subst StatementHasWords (sym eq) (statement_constants g s w b kb, clauses_constants (behind g s) [] cs ws ds ks)
+
+  clauses_constants : (g : Scope) (before : List ℕ) (cs : Clauses) → AreOfWordsWrittenClauses cs → (ds : typed.Clauses) → Derives (rule_clauses g before cs) ds → ClausesHaveWords ds
+  clauses_constants g before NoClauses w ds (u, eq) = subst ClausesHaveWords (sym eq) tt
+  clauses_constants g before (Default is) w ds (js, h, (u, eq)) = subst ClausesHaveWords (sym eq) (items_constants (in_block g) is w js h)
+  clauses_constants g before (Case x v is cs) (w, ws) ds (n, kn, (js, h, (es, hs, (u, eq)))) =
+      subst ClausesHaveWords (sym eq) (items_constants (with_caught v (in_block g)) is w js h, clauses_constants (behind_clause g (counted v) is) (x.name ∷ before) cs ws es hs)
 
   body_constants : (g : Scope) (b : Body) → IsOfWordsBody b → (js : typed.Items) → Derives (rule_body g b) js → ItemsHaveWords js
   body_constants g (Braces p is q) w js h = items_constants g is w js h
@@ -448,6 +468,10 @@ built_value : (v : Option Converted) → is_built_value v ≡ true → ValueHasW
 built_value None i w = tt
 built_value (Some c) i w = built_converted c i w
 
+built_thrown : (v : Option typed.Expression) → is_built_thrown v ≡ true → ThrownHasWords v → IsOfWordsThrown v
+built_thrown None i w = tt
+built_thrown (Some a) i w = built_words a i w
+
 mutual
   built_statement : (s : typed.Statement) → is_built_statement s ≡ true → StatementHasWords s → IsOfWordsStatement s
   built_statement (typed.Block r js) i w = built_items js i w
@@ -461,6 +485,9 @@ mutual
   built_statement (typed.Return v) i w = built_value v i w
   built_statement typed.Break i w = tt
   built_statement typed.Continue i w = tt
+  built_statement (typed.Throw n v) i w = built_thrown v (and_parts (is_built_tag n) (is_built_thrown v) i).1 w
+  built_statement (typed.Try s cs) i (w, ws) =
+      let (first, rest) = and_parts (is_built_statement s) (are_built_clauses cs) i in (built_statement s first w, built_clauses cs rest ws)
   built_statement s i w = absurd (cc)
 
   built_items : (js : typed.Items) → are_built_items js ≡ true → ItemsHaveWords js → AreOfWordsItems js
@@ -471,6 +498,13 @@ mutual
       let (of_type, more) = and_parts (is_built_type t) (is_built_value v && are_built_items js) i in
       let (first, rest) = and_parts (is_built_value v) (are_built_items js) more in (built_value v first w, built_items js rest ws)
   built_items js i w = absurd (cc)
+
+  built_clauses : (cs : typed.Clauses) → are_built_clauses cs ≡ true → ClausesHaveWords cs → AreOfWordsClauses cs
+  built_clauses typed.NoClauses i w = tt
+  built_clauses (typed.Default r js) i w = built_items js i w
+  built_clauses (typed.Case n x r js cs) i (w, ws) =
+      let (tag, more) = and_parts (is_built_tag n) (are_built_items js && are_built_clauses cs) i in
+      let (first, rest) = and_parts (are_built_items js) (are_built_clauses cs) more in (built_items js first w, built_clauses cs rest ws)
 
 built_functions : (hs : List typed.Function) → list_all is_built_function hs ≡ true → FunctionsHaveWords hs → AreOfWordsFunctions hs
 built_functions [] i w = tt
@@ -483,8 +517,7 @@ pub typed_constants : (texts : List (List ℕ)) (tree : List Declaration) (p : t
 typed_constants texts tree p (u, heads_kept, (v, main, (fs, functions, (x, eq)))) i w =
     let q : Program = program_known texts tree in
     let same : p.functions ≡ fs = ap (λ (z : typed.Program). z.functions) eq in
-    let (structs, more) = and_parts (list_all is_built_struct p.structs) (is_empty p.exceptions && (list_all is_built_global p.globals && list_all is_built_function p.functions)) i in
-    let (exceptions, others) = and_parts (is_empty p.exceptions) (list_all is_built_global p.globals && list_all is_built_function p.functions) more in
+    let (structs, others) = and_parts (list_all is_built_struct p.structs) (list_all is_built_global p.globals && list_all is_built_function p.functions) i in
     let (globals, built) = and_parts (list_all is_built_global p.globals) (list_all is_built_function p.functions) others in
     record {
       functions = built_functions p.functions built (functions_constants q tree p.functions w (subst (Derives (rule_functions q tree)) (sym same) functions));

@@ -1,6 +1,6 @@
--- WHICH TYPED PROGRAMS ARE BUILT: those that what stands behind the flow check handles so far. Such a program has no exceptions of its
--- own, and each of its values and cells is an int or a thin pointer that is not unique: one word. Its objects are made in the heap, and
--- its expressions and statements have the forms that these need. (What is built first is this project's own choice.)
+-- WHICH TYPED PROGRAMS ARE BUILT: those that what stands behind the flow check handles so far. In such a program each value and cell is
+-- an int or a thin pointer that is not unique: one word. Its objects are made in the heap, and its expressions and statements have the
+-- forms that these and exceptions need. (What is built first is this project's own choice.)
 --
 -- What a pointer leads to is looked at where it is followed, and not in its type.
 use Rattle.std.specs.Prelude.{ℕ, nat_le, Bool, true, false, not, ◌&&◌, Option, None, Some}
@@ -14,9 +14,8 @@ use Rattle.cyc_types.specs.declared.typed.PointerOperator.{PointerOperator}
 use Rattle.cyc_types.specs.declared.typed.PointerOperator.TheVariants as pointers
 use Rattle.cyc_types.specs.Regions.{region_eq}
 use Rattle.cyc_types.specs.Types.{Ty, Int, Pointer, Struct, ValueType, Void, Value}
-use Rattle.cyc_types.specs.TypedTrees.{Expression, Number, NullPointer, Copy, Load, AddressOfCell, Call, Unary, Binary, Assign, Store, New, Dereference, Target, Member, Placement, OnHeap, Initial, Plain, Fields, Converted, Convert, Arguments, NoArguments, MoreArguments, Operations, NoOperations, ThenCompute, ThenTest, ThenPointer, Statement, Block, Empty, Evaluate, If, While, Return, Break, Continue, Items, NoItems, MoreItems, Execute, Declare, StructType, GlobalVariable, Function, Program}
+use Rattle.cyc_types.specs.TypedTrees.{Expression, Number, NullPointer, Copy, Load, AddressOfCell, Call, Unary, Binary, Assign, Store, New, Dereference, Target, Member, Placement, OnHeap, Initial, Plain, Fields, Converted, Convert, Arguments, NoArguments, MoreArguments, Operations, NoOperations, ThenCompute, ThenTest, ThenPointer, Statement, Block, Empty, Evaluate, If, While, Return, Break, Continue, Throw, Try, Items, NoItems, MoreItems, Execute, Declare, Clauses, NoClauses, Default, Case, StructType, GlobalVariable, Function, Program}
 use Rattle.cyc_types.specs.typing.Tests.{is_thin_mark}
-use Rattle.cyc_types.specs.IntPart.{is_empty}
 use Rattle.cyc_types.specs.Numbered.{argument_count}
 
 -- ---- types
@@ -112,6 +111,15 @@ is_built_value (Some c) = is_built_converted c
 
 -- ---- statements
 
+-- the number of an exception is a word
+abbrev pub is_built_tag : ℕ → Bool
+is_built_tag n = nat_le n 4294967295
+
+-- what is thrown with an exception, if it has an int
+abbrev pub is_built_thrown : Option Expression → Bool
+is_built_thrown None = true
+is_built_thrown (Some a) = is_built_expression a
+
 abbrev mutual
   pub is_built_statement : Statement → Bool
   is_built_statement (Block r js) = are_built_items js
@@ -122,6 +130,8 @@ abbrev mutual
   is_built_statement (Return v) = is_built_value v
   is_built_statement Break = true
   is_built_statement Continue = true
+  is_built_statement (Throw n v) = is_built_tag n && is_built_thrown v
+  is_built_statement (Try s cs) = is_built_statement s && are_built_clauses cs
   is_built_statement s = false
 
   pub are_built_items : Items → Bool
@@ -129,6 +139,11 @@ abbrev mutual
   are_built_items (MoreItems (Execute s) js) = is_built_statement s && are_built_items js
   are_built_items (MoreItems (Declare n t v) js) = is_built_type t && (is_built_value v && are_built_items js)
   are_built_items js = false
+
+  pub are_built_clauses : Clauses → Bool
+  are_built_clauses NoClauses = true
+  are_built_clauses (Default r js) = are_built_items js
+  are_built_clauses (Case n x r js cs) = is_built_tag n && (are_built_items js && are_built_clauses cs)
 
 -- ---- programs
 
@@ -142,7 +157,7 @@ abbrev pub is_built_function : Function → Bool
 is_built_function h = list_all is_built_type h.parameters && (is_built_result h.result && are_built_items h.body)
 
 abbrev pub is_built : Program → Bool
-is_built p = list_all is_built_struct p.structs && (is_empty p.exceptions && (list_all is_built_global p.globals && list_all is_built_function p.functions))
+is_built p = list_all is_built_struct p.structs && (list_all is_built_global p.globals && list_all is_built_function p.functions)
 
 -- the fault of a program that is not built
 abbrev pub not_built : Fault

@@ -3,12 +3,13 @@ ghost use Rattle.std.specs.Prelude.{◌≡◌, map, option_map, false, length};
 ghost use Rattle.std.specs.Result.{is_ok};
 ghost use Rattle.std.specs.List.{list_all};
 ghost use Rattle.cyc_types.specs.TypeView.{view_ty, view_value_type};
-ghost use Rattle.cyc_types.specs.TypedTreeView.{view_expression, view_dereference, view_placement, view_initial, view_converted, arguments_of, operations_of, view_statement, items_of, view_struct, view_global, view_function, view_program};
-ghost use Rattle.cyc_types.specs.Built.{is_built_type, is_built_result, is_built_value_type, is_built_kind, is_built_operator, is_built_placement, is_built_size, is_built_expression, is_built_place, is_built_initial, is_built_converted, are_built_arguments, are_built_operations, is_built_value, is_built_statement, are_built_items, is_built_struct, is_built_global, is_built_function, is_built};
+ghost use Rattle.cyc_types.specs.TypedTrees.{NoClauses};
+ghost use Rattle.cyc_types.specs.TypedTreeView.{view_expression, view_dereference, view_placement, view_initial, view_converted, arguments_of, operations_of, view_statement, items_of, clauses_of, default_of, view_struct, view_global, view_function, view_program};
+ghost use Rattle.cyc_types.specs.Built.{is_built_type, is_built_result, is_built_value_type, is_built_kind, is_built_operator, is_built_placement, is_built_size, is_built_expression, is_built_place, is_built_initial, is_built_converted, are_built_arguments, are_built_operations, is_built_value, is_built_tag, is_built_thrown, is_built_statement, are_built_items, are_built_clauses, is_built_struct, is_built_global, is_built_function, is_built};
 
 use crate::typed::{
-    Converted, Dereference, Expr, Function, Global, Initial, Item, Kind, Operation, Placement,
-    PointerOperator, Stmt, StructType, TypedTree, ValueType,
+    Body, Clause, Converted, Dereference, Expr, Function, Global, Initial, Item, Kind, Operation,
+    Placement, PointerOperator, Stmt, StructType, TypedTree, ValueType,
 };
 use crate::{Region, Ty};
 use cyc_syntax::PointerKind;
@@ -19,6 +20,7 @@ use cyc_words::{Code, Fault, Span};
 pub enum Construct {
     /// Without fields, or with more than a thousand.
     Struct,
+    /// With a number that is no word.
     Exception,
     FatPointer,
     UniquePointer,
@@ -39,10 +41,6 @@ pub enum Construct {
     Array,
     /// `:=:`
     Swap,
-    /// `throw`
-    Throw,
-    /// `try`
-    Try,
     /// A region, opened or new, or an alias.
     Region,
 }
@@ -335,6 +333,25 @@ fn check_value(value: &Option<Converted>, name: Span) -> Result<(), Unbuilt>
     }
 }
 
+fn check_tag(tag: usize, name: Span) -> Result<(), Unbuilt>
+    ensures { is_ok result ≡ is_built_tag tag }
+{
+    if tag <= 4_294_967_295 {
+        Ok(())
+    } else {
+        stop(Construct::Exception, name)
+    }
+}
+
+fn check_thrown(value: &Option<Expr>, name: Span) -> Result<(), Unbuilt>
+    ensures { is_ok result ≡ is_built_thrown (option_map view_expression value.now) }
+{
+    match value {
+        Some(value) => check_expression(value, name),
+        None => Ok(()),
+    }
+}
+
 #[cycle(statement)]
 fn check_statement(statement: &Stmt, name: Span) -> Result<(), Unbuilt>
     ensures { is_ok result ≡ is_built_statement (view_statement statement.now) }
@@ -362,8 +379,19 @@ fn check_statement(statement: &Stmt, name: Span) -> Result<(), Unbuilt>
         }
         Stmt::Return { value } => check_value(value, name),
         Stmt::Swap { .. } => stop(Construct::Swap, name),
-        Stmt::Throw { .. } => stop(Construct::Throw, name),
-        Stmt::Try { .. } => stop(Construct::Try, name),
+        Stmt::Throw { tag, value } => {
+            check_tag(*tag, name)?;
+            check_thrown(value, name)
+        }
+        Stmt::Try {
+            body,
+            clauses,
+            default,
+        } => {
+            check_statement(body, name)?;
+            check_clauses(clauses, name)?;
+            check_default(default, name)
+        }
     }
 }
 
@@ -382,6 +410,27 @@ fn check_items(items: &[Item], name: Span) -> Result<(), Unbuilt>
         }
     }
     Ok(())
+}
+
+#[cycle(statement)]
+fn check_clauses(clauses: &[Clause], name: Span) -> Result<(), Unbuilt>
+    ensures { is_ok result ≡ are_built_clauses (clauses_of clauses.now NoClauses) }
+{
+    for clause in clauses {
+        check_tag(clause.tag, name)?;
+        check_items(&clause.items, name)?;
+    }
+    Ok(())
+}
+
+#[cycle(statement)]
+fn check_default(default: &Option<Body>, name: Span) -> Result<(), Unbuilt>
+    ensures { is_ok result ≡ are_built_clauses (default_of default.now) }
+{
+    match default {
+        Some(body) => check_items(&body.items, name),
+        None => Ok(()),
+    }
 }
 
 fn check_structs(structs: &[StructType]) -> Result<(), Unbuilt>
@@ -424,12 +473,6 @@ pub fn check_built(tree: &TypedTree) -> Result<(), Unbuilt>
     ensures { is_ok result ≡ is_built (view_program tree.now) }
 {
     check_structs(&tree.structs)?;
-    if !tree.exceptions.is_empty() {
-        return Err(Unbuilt {
-            construct: Construct::Exception,
-            span: None,
-        });
-    }
     check_globals(&tree.globals)?;
     check_functions(&tree.functions)
 }

@@ -426,13 +426,6 @@ no_structs (Exceptions cs ∷ tree) i = absurd (cc)
 no_structs (Global w x v ∷ tree) i = no_structs tree (and_parts (is_int_declaration (Global w x v)) (is_int_program tree) i).1
 no_structs (Function r x ps b ∷ tree) i = no_structs tree (and_parts (is_int_declaration (Function r x ps b)) (is_int_program tree) i).1
 
-no_exceptions : (tree : List Declaration) → is_int_program tree ≡ true → exceptions_of tree ≡ []
-no_exceptions [] i = refl
-no_exceptions (StructType s rs ms ∷ tree) i = absurd (cc)
-no_exceptions (Exceptions cs ∷ tree) i = absurd (cc)
-no_exceptions (Global w x v ∷ tree) i = no_exceptions tree (and_parts (is_int_declaration (Global w x v)) (is_int_program tree) i).1
-no_exceptions (Function r x ps b ∷ tree) i = no_exceptions tree (and_parts (is_int_declaration (Function r x ps b)) (is_int_program tree) i).1
-
 globals_int : (k : Known) (tree : List Declaration) → is_int_program tree ≡ true → list_all is_built_global (globals_of k tree) ≡ true
 globals_int k [] i = refl
 globals_int k (StructType s rs ms ∷ tree) i = absurd (cc)
@@ -467,9 +460,7 @@ program_int texts tree p i (u, heads, (v, main, (fs, functions, (w, eq)))) =
     let declared : AreIntsIn q.declared = before_ints texts (declared_from q.known 0 0 tree) (declared_ints q.known 0 0 tree i) in
     let no_struct : list_all is_built_struct p.structs ≡ true =
     ap (λ (z : typed.Program). list_all is_built_struct z.structs) eq ∙ ap (λ ss. list_all is_built_struct (struct_types ss q.fields)) (no_structs tree i) in
-    let no_exception : is_empty p.exceptions ≡ true = ap (λ (z : typed.Program). is_empty z.exceptions) eq ∙ ap (λ es. is_empty (map (λ (e : Exception). e.has_int) es)) (no_exceptions tree i) in
     let globals : list_all is_built_global p.globals ≡ true = ap (λ (z : typed.Program). list_all is_built_global z.globals) eq ∙ globals_int q.known tree i in
     let all : list_all is_built_function p.functions ≡ true = ap (λ (z : typed.Program). list_all is_built_function z.functions) eq ∙ functions_int q declared tree fs i functions in
-    both (list_all is_built_struct p.structs) (is_empty p.exceptions && (list_all is_built_global p.globals && list_all is_built_function p.functions)) no_struct
-    (both (is_empty p.exceptions) (list_all is_built_global p.globals && list_all is_built_function p.functions) no_exception
-    (both (list_all is_built_global p.globals) (list_all is_built_function p.functions) globals all))
+    both (list_all is_built_struct p.structs) (list_all is_built_global p.globals && list_all is_built_function p.functions) no_struct
+    (both (list_all is_built_global p.globals) (list_all is_built_function p.functions) globals all)
