@@ -20,7 +20,7 @@ use Rattle.cyc_plain.specs.declared.instruction.Instruction.TheVariants as instr
 use Rattle.cyc_plain.specs.declared.limits.TheConstants.{RECORD_WORDS}
 use Rattle.cyc_lower.specs.declared.statements.Exits.{Exits}
 use Rattle.cyc_lower.specs.Slots.{Starts, starts_of, slot_of}
-use Rattle.cyc_lower.specs.Lowering.{types_with, types_of, raises_of, body_code, first_temporary, outside_loops, are_as_wide, converts_there, passed_words, operand_of, operand_or, code_unless, code_unless_slot, left_with, left_of, value_slot, slot_with, left_slot, value_operand, next_slot, source_of, source_slot, converted_operand, converted_by, moved_by, conversion_code, divisor_code, operator_code, pointer_instructions, first_two, load_code, copy_code, address_code, object_code, place_operand, place_offset, expression_code, place_code, made_code, arguments_code, converted_code, converted_operand_code, printed_code, initial_code, operations_code, assignment_code, discarded_code, first_code, second_code, pair_code, condition_code, return_code, declaration_code, statement_code, items_code, behind_left, thrown_code, caught_code, clauses_code, leave_code, if_code, while_code, condition_of, failing_jump, compared_of, inside_loop, try_code, clause_code, break_target, continue_target}
+use Rattle.cyc_lower.specs.Lowering.{types_with, types_of, raises_of, body_code, first_temporary, outside_loops, are_as_wide, converts_there, passed_words, operand_of, operand_or, code_unless, code_unless_slot, left_with, left_of, value_slot, slot_with, left_slot, value_operand, next_slot, source_of, source_slot, converted_operand, converted_by, moved_by, conversion_code, divisor_code, operator_code, pointer_instructions, first_two, load_code, copy_code, address_code, object_code, place_operand, place_offset, expression_code, place_code, made_code, arguments_code, converted_code, converted_operand_code, printed_code, initial_code, operations_code, assignment_code, discarded_code, first_code, second_code, pair_code, condition_code, return_code, declaration_code, statement_code, items_code, behind_left, thrown_code, caught_code, clauses_code, leave_code, if_code, while_code, condition_of, failing_jump, compared_of, inside_loop, try_code, clause_code, break_target, continue_target, checked_code}
 
 -- ---- lists
 
@@ -134,10 +134,13 @@ module _ (starts : Starts) (raises : ℕ) where
   divisor_long (operands.Word zero) r same = ap (λ x. length (divisor_code other x)) same
   divisor_long (operands.Slot n) r same = ap (λ x. length (divisor_code other x)) same
 
-  operator_long : (o : Operator) (l m r s : Operand) (d e : ℕ) → r ≡ s → length (operator_code starts o l r d) ≡ length (operator_code other o m s e)
-  operator_long operators.Divide l m r s d e same = joined _ _ _ _ (divisor_long r s same) refl
-  operator_long operators.Remainder l m r s d e same = joined _ _ _ _ (divisor_long r s same) refl
-  operator_long o l m r s d e same = refl
+  checked_long : (o : Operator) (l m r s : Operand) (d e : ℕ) → l ≡ m → r ≡ s → length (checked_code starts o l r d) ≡ length (checked_code other o m s e)
+  checked_long o l m r s d e left right = joined _ _ _ _ (divisor_long r s right) refl
+
+  operator_long : (o : Operator) (l m r s : Operand) (d e : ℕ) → l ≡ m → r ≡ s → length (operator_code starts o l r d) ≡ length (operator_code other o m s e)
+  operator_long operators.Divide l m r s d e left right = checked_long operators.Divide l m r s d e left right
+  operator_long operators.Remainder l m r s d e left right = checked_long operators.Remainder l m r s d e left right
+  operator_long o l m r s d e left right = refl
 
   converted_by_long : (known same : Option Operand) (a x : List Instruction) (to : Kind) (o r : Operand) (p q : ℕ) → known ≡ same → length a ≡ length x
       → length (converted_by starts known a to o p) ≡ length (converted_by other same x to r q)
@@ -206,7 +209,7 @@ module _ (starts : Starts) (raises : ℕ) where
     operations_long : (os : Operations) (p q : ℕ) (l m : Operand) (d e t : ℕ) → l ≡ m → d ≡ e → length (operations_code starts os p l d t) ≡ length (operations_code other os q m e t)
     operations_long NoOperations p q l m d e t left same = refl
     operations_long (ThenCompute o a os) p q l m d e t left same =
-        joined _ _ _ _ (joined _ _ _ _ (operand_by a p q (suc t) (expression_long a p q _ _ (suc t) (same_slot a (suc t)))) (operator_long o l m _ _ _ _ (same_value a (suc t))))
+        joined _ _ _ _ (joined _ _ _ _ (operand_by a p q (suc t) (expression_long a p q _ _ (suc t) (same_slot a (suc t)))) (operator_long o l m _ _ _ _ left (same_value a (suc t))))
         (operations_long os _ _ _ _ d e t (λ i. operands.Slot (next_slot os (same i) t)) same)
     operations_long (ThenTest o a os) p q l m d e t left same =
         ap suc
