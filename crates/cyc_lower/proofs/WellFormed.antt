@@ -913,11 +913,12 @@ module _ (program : PlainProgram) (r : Routine) (b : Numbering) (types : Types) 
         let long = length-append clause later in
         let long_clause = length-append (caught ++ items) leave in
         let long_inner = length-append caught items in
-        append clause later
-        ((omega (arith, few), tt, omega (arith, short, long, long_clause)),
-        append (caught ++ items) leave
-        (append caught items (caught_in x t caught_fits (omega (arith, few))) (items_in js in_loop (p + 1 + length caught) exits t numbered around outside (omega (arith, few)) (omega (arith, short, long, long_clause, long_inner))))
-        (there, tt))
+        append clause later (
+          (omega (arith, few), tt, omega (arith, short, long, long_clause)),
+          append (caught ++ items) leave
+              (append caught items (caught_in x t caught_fits (omega (arith, few))) (items_in js in_loop (p + 1 + length caught) exits t numbered around outside (omega (arith, few)) (omega (arith, short, long, long_clause, long_inner))))
+              (there, tt),
+        )
         (clauses_in cs in_loop (p + length clause) out exits t rest around outside (omega (arith, few)) there (omega (arith, short, long)))
 
 -- ---- functions
