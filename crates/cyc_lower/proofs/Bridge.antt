@@ -12,7 +12,7 @@ use Rattle.cyc_types.specs.declared.typed.Operator.TheVariants as operators
 use Rattle.cyc_types.specs.declared.typed.PointerOperator.{PointerOperator}
 use Rattle.cyc_types.specs.declared.typed.PointerOperator.TheVariants as pointers
 use Rattle.cyc_types.specs.Types.{Ty, words_of}
-use Rattle.cyc_types.specs.TypedTrees.{Load, New, OnHeap, AsUnique, ByHandle, Initial, Plain, Fields, Dereference, Target, Lvalue, Local, Global, Expression, Number, NullPointer, Copy, Call, Unary, Binary, Assign, Converted, Convert, Arguments, NoArguments, MoreArguments, Operations, NoOperations, ThenCompute, ThenTest, ThenPointer, Statement, Block, Empty, Evaluate, If, While, Return, Break, Continue, Items, NoItems, MoreItems, Execute, Declare, Signature, StructType, Function, Program, Move, Peek, ThenPointerPeek, type_of, AddressOfCell, Store, Member, type_of_place, Throw, Try, Clauses, NoClauses, Default, Case}
+use Rattle.cyc_types.specs.TypedTrees.{Load, New, OnHeap, AsUnique, ByHandle, Initial, Plain, Fields, Dereference, Target, Lvalue, Local, Global, Expression, Number, NullPointer, Copy, Call, Unary, Binary, Assign, Converted, Convert, Arguments, NoArguments, MoreArguments, Operations, NoOperations, ThenCompute, ThenTest, ThenPointer, Statement, Block, Empty, Evaluate, If, While, Return, Break, Continue, Items, NoItems, MoreItems, Execute, Declare, Signature, StructType, Function, Program, Move, Peek, ThenPointerPeek, type_of, AddressOfCell, Store, Member, type_of_place, FreeUnique, Side, VariableSide, CellSide, Swap, Throw, Try, Clauses, NoClauses, Default, Case}
 use Rattle.cyc_types.specs.Numbered.{Numbering, argument_count, numbering_of, signatures_of}
 use Rattle.cyc_plain.specs.declared.limits.TheConstants.{RECORD_WORDS}
 use Rattle.cyc_plain.specs.declared.instruction.Comparison.{Comparison}
@@ -24,16 +24,18 @@ use Rattle.cyc_plain.specs.declared.instruction.Instruction.TheVariants as instr
 use Rattle.cyc_plain.specs.Program.{Routine, no_routine, routine_at}
 use Rattle.cyc_plain.specs.Straight.{At, HasAt}
 use Rattle.cyc_plain.proofs.Straight.{has_front, has_back, has_whole}
-use Rattle.cyc_store.specs.declared.range.TheConstants.{MOST_BLOCK_WORDS, HEAP}
+use Rattle.cyc_store.specs.declared.range.TheConstants.{MOST_BLOCK_WORDS, HEAP, UNIQUE}
 use Rattle.cyc_meaning.specs.Values.{kind_of, words_of_kind}
 use Rattle.cyc_meaning.specs.FrameCount.{words_of_all, operand_words}
 use Rattle.cyc_lower.specs.Slots.{Types, starts_of, slot_of}
-use Rattle.cyc_lower.specs.Lowering.{leave_code, types_of, are_as_wide, converts_there, passed_words, source_of, source_slot, moved_by, move_of, operand_of, operand_or, code_unless, slot_or, code_unless_slot, left_with, left_of, value_slot, next_slot, slot_with, left_slot, value_operand, converted_operand, printed_operand, jump_if_nonzero, check_code, conversion_code, divisor_code, checked_code, operator_code, truth_code, load_code, low_byte, test_code, is_in, copy_code, expression_code, arguments_code, converted_code, converted_operand_code, printed_code, initial_code, assignment_code, assigned_operand, operations_code, discarded_code, failing_comparison, compared_or, compared_of, first_operand, first_code, second_code, pair_code, condition_code, condition_of, failing_jump, break_target, continue_target, return_code, declaration_code, statement_code, items_code, function_code, first_temporary, results_of, lower_function, lower_program, behind_left, pointer_code, outside_loops, inside_loop, pointer_operator, index_code, pointer_instructions, stores_code, object_code, made_code, place_operand, place_offset, place_code, address_code, tag_operand, other_jump, goes_on, clause_code, thrown_code, thrown_operand, caught_code, clauses_code, raising, blocks, guard_code, body_code}
+use Rattle.cyc_lower.specs.Lowering.{types_of, are_as_wide, converts_there, passed_words, source_of, source_slot, moved_by, move_of, operand_of, operand_or, code_unless, slot_or, code_unless_slot, left_with, left_of, value_slot, next_slot, slot_with, left_slot, value_operand, converted_operand, printed_operand, jump_if_nonzero, check_code, conversion_code, divisor_code, checked_code, operator_code, truth_code, load_code, low_byte, test_code, is_in, copy_code, expression_code, arguments_code, converted_code, converted_operand_code, printed_code, initial_code, assignment_code, assigned_operand, operations_code, discarded_code, failing_comparison, compared_or, compared_of, first_operand, first_code, second_code, pair_code, condition_code, condition_of, failing_jump, break_target, continue_target, return_code, declaration_code, statement_code, items_code, function_code, first_temporary, results_of, lower_function, lower_program, behind_left, pointer_code, outside_loops, inside_loop, pointer_operator, index_code, pointer_instructions, stores_code, object_code, made_code, place_operand, place_offset, place_code, address_code, raising, blocks, guard_code, body_code, free_code, jump_if_zero, right_slot, side_code, read_side, write_side, exchange_code, swap_code, leave_code, tag_operand, other_jump, goes_on, clause_code, thrown_code, thrown_operand, caught_code, clauses_code}
 use Rattle.cyc_lower.specs.declared.statements.Exits.{Exits}
-use Rattle.cyc_lower.proofs.Stands.{LeaveBy, LeaveAt, OperandBy, CheckAt, ConversionBy, ConversionAt, DivisorAt, CheckedAt, OperatorAt, LoadAt, CopyBy, ExpressionAt, InitialAt, InitialBy, ConvertedAt, ConvertedOperandAt, PrintedAt, ArgumentsAt, OperationsAt, PairAt, ConditionAt, AssignmentAt, DiscardedAt, ReturnedAt, ReturnAt, DeclarationAt, StatementAt, ItemsAt, FirstTwoAt, IndexAt, PointerAt, StoresAt, ObjectAt, MadeAt, AddressAt, PlaceAt, ThrownAt, CaughtAt, ClausesAt, GuardAt}
+use Rattle.cyc_lower.proofs.Stands.{OperandBy, CheckAt, ConversionBy, ConversionAt, DivisorAt, CheckedAt, OperatorAt, LoadAt, CopyBy, ExpressionAt, InitialAt, InitialBy, ConvertedAt, ConvertedOperandAt, PrintedAt, ArgumentsAt, OperationsAt, PairAt, ConditionAt, AssignmentAt, DiscardedAt, ReturnedAt, ReturnAt, DeclarationAt, StatementAt, ItemsAt, FirstTwoAt, IndexAt, PointerAt, StoresAt, ObjectAt, MadeAt, AddressAt, PlaceAt, GuardAt, FreedAt, HasSide, SideAt, ReadAt, WriteAt, SwapAt, LeaveBy, LeaveAt, ThrownAt, CaughtAt, ClausesAt}
 use Rattle.cyc_lower.proofs.Lengths.{body_long}
+use Rattle.cyc_types.specs.typing.Expressions.{type_of_side}
+use Rattle.cyc_lower.specs.Lowerable.{may_wait}
 use Rattle.cyc_lower.proofs.Widths.{kind_of_result, given, passed_kind, type_words}
-use Rattle.cyc_lower.proofs.Fitting.{FitsPlace, FitsStored, FitsCell, FitsObject, Fits, FitsConverted, FitArguments, FitOperations, FitsReturn, FitsInitial, FitsStatement, FitItems, AreFitting, IsFitting, FitsThrown, FitsCaught, FitClauses}
+use Rattle.cyc_lower.proofs.Fitting.{FitsPlace, FitsStored, FitsCell, FitsObject, Fits, FitsConverted, FitArguments, FitOperations, FitsReturn, FitsInitial, FitsStatement, FitItems, AreFitting, IsFitting, FitsSide, FitsThrown, FitsCaught, FitClauses}
 use Rattle.cyc_lower.proofs.Values.{as_wide}
 use Rattle.cyc_lower.proofs.Relation.{bounds_in, types_in}
 use Rattle.cyc_lower.proofs.Calls.{FunctionsStand}
@@ -107,6 +109,9 @@ module _ (code : List Instruction) (b : Numbering) (types : Types) (raised : Blo
 
   guard_stands : (tag : ℕ) (failing : Comparison) (l r : Operand) (p q : ℕ) → 1 ≤ tag → tag ≤ 4 → p + 1 ≡ q → HasAt code p (guard_code (starts_of types) tag failing l r) → GuardAt code b types tag failing l r p q
   guard_stands tag failing l r p q some few end (jump, none) = (types.raises + tag, jump, raised tag some few, end)
+
+  freed_stands : (o : Operand) (p q : ℕ) → p + 2 ≡ q → HasAt code p (free_code o p) → FreedAt code b types o p q
+  freed_stands o p q end (jump, (ask, none)) = (subst (λ t. At code p (jump_if_zero o t)) end jump, ask, omega (arith, end))
 
   check_stands : (tag : ℕ) (o : Operand) (p q : ℕ) → 1 ≤ tag → tag ≤ 4 → p + 1 ≡ q → HasAt code p (check_code (starts_of types) tag o) → CheckAt code b types tag o p q
   check_stands tag o p q some few end has = guard_stands tag comparisons.Equal o (operands.Word 0) p q some few end has
@@ -308,8 +313,15 @@ module _ (code : List Instruction) (b : Numbering) (types : Types) (raised : Blo
           ),
           copy_by (is_in o d) (passed_words c) o d m q (cut p q both back end) (has_back code p both back has),
         )
+    expression_stands (FreeUnique a) d t p q numbered end has =
+        let o = value_operand (starts_of types) a t in
+        let inner = expression_code (starts_of types) a p (value_slot (starts_of types) a t) t in
+        let front = code_unless (operand_of (starts_of types) a) inner in
+        let m = p + length front in
+        let back = free_code o m in
+        (o, m, operand_by (operand_of (starts_of types) a) _ inner (value_slot (starts_of types) a t) p m refl (has_front code p front back has) (λ e h. expression_stands a (value_slot (starts_of types) a t) t p m numbered e h), freed_stands o m q (cut p q front back end) (has_back code p front back has))
     expression_stands (New OnHeap i ty) d t p q numbered end has = made_stands i HEAP d t p q numbered end has
-    expression_stands (New AsUnique i ty) d t p q numbered end has = absurd numbered
+    expression_stands (New AsUnique i ty) d t p q numbered end has = made_stands i UNIQUE d t p q numbered end has
     expression_stands (New (ByHandle h) i ty) d t p q numbered end has = absurd numbered
     expression_stands a d t p q numbered end has = absurd numbered
 
@@ -602,6 +614,61 @@ module _ (code : List Instruction) (b : Numbering) (types : Types) (raised : Blo
   declaration_stands n None t p q few numbered end has = (few, omega (arith, end))
   declaration_stands n (Some c) t p q few (room, numbered) end has = (few, room, initial_stands c (slot_of (starts_of types) n) t p q numbered end has)
 
+  -- ---- swaps
+
+  has_side : (a : Side) (kind : Kind) → FitsSide b types a kind → HasSide code b types a kind
+  has_side (VariableSide (Local w n) ty) kind (within, room) = room
+  has_side (VariableSide (Global n) ty) kind within = within
+  has_side (CellSide x) kind numbered = tt
+
+  side_stands : (a : Side) (kind : Kind) (t p q : ℕ) → FitsSide b types a kind → p + length (side_code (starts_of types) a p t) ≡ q → HasAt code p (side_code (starts_of types) a p t) → SideAt code b types a t p q
+  side_stands (VariableSide l ty) kind t p q numbered end has = omega (arith, end)
+  side_stands (CellSide x) kind t p q numbered end has =
+      let front = place_code (starts_of types) x p t in
+      let o = place_operand (starts_of types) x t in
+      let bytes = place_offset (starts_of types) x in
+      let back = address_code o bytes t in
+      let r = p + length front in
+      (o, bytes, r, place_stands x t p r numbered refl (has_front code p front back has), address_stands o bytes t r q (cut p q front back end) (has_back code p front back has))
+
+  read_stands : (a : Side) (s d p : ℕ) → At code p (read_side (starts_of types) a s d) → ReadAt code b types a s d p
+  read_stands (VariableSide (Local w n) ty) s d p here = here
+  read_stands (VariableSide (Global n) ty) s d p here = here
+  read_stands (CellSide x) s d p here = here
+
+  write_stands : (a : Side) (s v p : ℕ) → At code p (write_side (starts_of types) a s v) → WriteAt code b types a s v p
+  write_stands (VariableSide (Local w n) ty) s v p here = here
+  write_stands (VariableSide (Global n) ty) s v p here = here
+  write_stands (CellSide x) s v p here = here
+
+  swap_stands : (x y : Side) (t p q : ℕ) → words_of (type_of_side x) ≡ 1 → FitsSide b types x (kind_of (type_of_side x)) → FitsSide b types y (kind_of (type_of_side x)) → may_wait x y ≡ true
+      → p + length (swap_code (starts_of types) x y p t) ≡ q → HasAt code p (swap_code (starts_of types) x y p t) → SwapAt code b types x y t p q
+  swap_stands x y t p q single fits_x fits_y waits end has =
+      let kind = kind_of (type_of_side x) in
+      let front = side_code (starts_of types) x p t in
+      let m = p + length front in
+      let middle = side_code (starts_of types) y m (right_slot x t) in
+      let r = m + length middle in
+      let back = exchange_code (starts_of types) x y t in
+      let has_rest = has_back code p front (middle ++ back) has in
+      let (first, (second, (third, (fourth, none)))) = has_back code m middle back has_rest in (
+        m,
+        r,
+        single,
+        has_side x kind fits_x,
+        has_side y kind fits_y,
+        waits,
+        side_stands x kind t p m fits_x refl (has_front code p front (middle ++ back) has),
+        side_stands y kind (right_slot x t) m r fits_y refl (has_front code m middle back has_rest),
+        (
+          read_stands x t (t + 2) r first,
+          read_stands y (right_slot x t) (t + 3) (r + 1) second,
+          write_stands x t (t + 3) (r + 1 + 1) third,
+          write_stands y (right_slot x t) (t + 2) (r + 1 + 1 + 1) fourth,
+          omega (arith, cut m q middle back (cut p q front (middle ++ back) end)),
+        ),
+      )
+
   thrown_stands : (v : Option Expression) (t p q : ℕ) → FitsThrown b types v → p + length (thrown_code (starts_of types) v p t) ≡ q → HasAt code p (thrown_code (starts_of types) v p t)
       → ThrownAt code b types v (thrown_operand (starts_of types) v t) t p q
   thrown_stands None t p q numbered end has = (refl, omega (arith, end))
@@ -618,6 +685,7 @@ module _ (code : List Instruction) (b : Numbering) (types : Types) (raised : Blo
     statement_stands (Block r js) in_loop exits d p q numbered end has = items_stand js in_loop exits d p q numbered end has
     statement_stands Empty in_loop exits d p q numbered end has = omega (arith, end)
     statement_stands (Evaluate a) in_loop exits t p q numbered end has = discarded_stands a t p q numbered end has
+    statement_stands (Swap x y) in_loop exits t p q (single, fits_x, fits_y, waits) end has = swap_stands x y t p q single fits_x fits_y waits end has
     statement_stands (If a s u) in_loop exits t p q (numbered_a, numbered_s, numbered_u) end has =
         let condition = condition_code (starts_of types) a p t in
         let m = p + length condition in
@@ -703,7 +771,6 @@ module _ (code : List Instruction) (b : Numbering) (types : Types) (raised : Blo
           subst (λ n. At code n (instructions.Jump q)) out_is (subst (λ n. At code out (instructions.Jump n)) end_is jump),
           subst (λ n. ClausesAt code b types cs n exits t (n + 1) q) out_is (clauses_stand cs in_loop out exits t (out + 1) q (omega arith) numbered end_is has_clauses),
         )
-    statement_stands s in_loop exits d p q numbered end has = absurd numbered
 
     items_stand : (js : Items) (in_loop : Bool) (exits : Exits) (d p q : ℕ) → FitItems b types in_loop js → p + length (items_code (starts_of types) js p exits d) ≡ q → HasAt code p (items_code (starts_of types) js p exits d) → ItemsAt code b types js exits d p q
     items_stand NoItems in_loop exits d p q numbered end has = omega (arith, end)

@@ -115,6 +115,28 @@ module _ (t : Tables) where
   in_words v slots (operands.Slot n) is = (slots, n, refl, is)
   in_words v slots (operands.Word w) is = ((λ (i : ℕ). w), 0, refl, IsWord-is v.kind v.value w (λ (i : ℕ). w) 0 refl is)
 
+  -- null is 0
+  pub null_at : (kind : Kind) (words : Words) (p : ℕ) → Is t kind Null words p → words p ≡ 0
+  null_at kinds.Nullable words p is = is
+  null_at kinds.Fat words p is = is
+  null_at kind words p is = absurd is
+
+  pub null_is : (kind : Kind) (slots : Words) (o : Place) → IsIn t (record { kind = kind; value = Null }) slots o → operand_word slots o ≡ 0
+  null_is kind slots o is =
+      let (words, p, same, is_it) = in_words (record { kind = kind; value = Null }) slots o is in
+      sym same ∙ null_at kind words p is_it
+
+  -- a thin pointer is the address of a cell
+  pub points_at : (kind : Kind) (object offset : ℕ) (words : Words) (p : ℕ) → Is t kind (Thin object offset) words p → Points t object offset (words p)
+  points_at kinds.Nullable object offset words p is = is
+  points_at kinds.NonNull object offset words p is = is
+  points_at kind object offset words p is = absurd is
+
+  pub points_in : (kind : Kind) (object offset : ℕ) (slots : Words) (o : Place) → IsIn t (record { kind = kind; value = Thin object offset }) slots o → Points t object offset (operand_word slots o)
+  points_in kind object offset slots o is =
+      let (words, p, same, is_it) = in_words (record { kind = kind; value = Thin object offset }) slots o is in
+      subst (Points t object offset) same (points_at kind object offset words p is_it)
+
   -- a value of one word is told by it
   pub one_word : (kind : Kind) (v : Value) (words : Words) (p : ℕ) → words_of_kind kind ≡ 1 → Is t kind v words p → IsWord t kind v (words p)
   one_word kinds.Int (Int a) words p one is = is

@@ -11,7 +11,7 @@ use Rattle.cyc_types.specs.declared.typed.Kind.TheVariants as kinds
 use Rattle.cyc_types.specs.declared.typed.UnaryOperator.TheVariants as unary
 use Rattle.cyc_types.specs.declared.typed.Operator.{Operator}
 use Rattle.cyc_types.specs.Types.{Ty, ValueType, words_of}
-use Rattle.cyc_types.specs.TypedTrees.{type_of_place, Dereference, Target, Lvalue, Local, Global, Expression, Number, Copy, Call, Unary, Binary, Assign, Converted, Convert, Arguments, NoArguments, MoreArguments, Operations, NoOperations, ThenCompute, ThenTest, ThenPointer, Function, Program, ThenPointerPeek, peeked, Member}
+use Rattle.cyc_types.specs.TypedTrees.{type_of_place, Dereference, Placement, Initial, Target, Lvalue, Local, Global, Expression, Number, Copy, Call, Unary, Binary, Assign, Converted, Convert, Arguments, NoArguments, MoreArguments, Operations, NoOperations, ThenCompute, ThenTest, ThenPointer, Function, Program, ThenPointerPeek, peeked, Member}
 use Rattle.cyc_types.specs.TypedTrees as typed
 use Rattle.cyc_plain.specs.declared.instruction.Comparison.{Comparison}
 use Rattle.cyc_plain.specs.declared.instruction.Comparison.TheVariants as comparisons
@@ -24,23 +24,24 @@ use Rattle.cyc_plain.specs.Straight.{At as CodeAt}
 use Rattle.cyc_plain.specs.Step.{Choice, with_slots, advanced, performed}
 use Rattle.cyc_plain.proofs.SlotLaws.{put-same}
 use Rattle.cyc_meaning.specs.Values.{Int, Null, Thin, Operand as Kinded, kind_of, words_of_kind}
-use Rattle.cyc_store.specs.declared.range.TheConstants.{HEAP}
+use Rattle.cyc_store.specs.declared.range.TheConstants.{HEAP, UNIQUE}
 use Rattle.cyc_meaning.specs.SourceMachine.{status_in}
-use Rattle.cyc_meaning.specs.State.{status_of, InRegion, World, heap_number, Environment, ConvertTo, Operate, Chain, Apply, Store, Pass, MakePlain, MakeFields, Choose, Test, Follow, LoadFrom, Entry, Needs, NeedsPlace, Discard, Focus, Evaluating, Locating, Given, Running, FollowMember, TakeAddress, StoreTo}
+use Rattle.cyc_meaning.specs.Allocation.{makes, allocates}
+use Rattle.cyc_meaning.specs.State.{status_of, Owner, InRegion, Unique, World, heap_number, Environment, ConvertTo, Operate, Chain, Apply, Store, Pass, MakePlain, MakeFields, Choose, Test, Follow, LoadFrom, Entry, Needs, NeedsPlace, Discard, Focus, Evaluating, Locating, Given, Running, FollowMember, TakeAddress, StoreTo, FreeObject}
 use Rattle.cyc_meaning.specs.Step.{target_of, target_by, object_of, assigned, passes, step, loaded_from}
 use Rattle.cyc_lower.specs.Slots.{slot_of, field_in}
 use Rattle.cyc_meaning.specs.Places.{locates_member}
 use Rattle.cyc_lower.proofs.PlaceWords.{field_bytes}
 use Rattle.cyc_lower.proofs.Slots.{slot-room}
-use Rattle.cyc_lower.proofs.Widths.{kind_positive, type_words, HasRoom, Outside}
+use Rattle.cyc_lower.proofs.Widths.{kind_positive, type_words, made_kind, HasRoom, Outside}
 use Rattle.cyc_lower.proofs.Moves.{moved_slots, moves, put_elsewhere, moved_elsewhere, moved_is}
 use Rattle.cyc_lower.specs.Lowering.{failing_comparison, operand_of, value_slot, source_of, source_slot, are_as_wide, converts_there, all_passed, move_of, left_with, slot_with, compared_or, compared_of, lower_program}
 use Rattle.cyc_lower.proofs.Weights.{weight, stack_weight, expression_weight, arguments_weight}
-use Rattle.cyc_lower.proofs.Stands.{CopyBy, CopyAt, OperandBy, InitialBy, ExpressionAt, ArgumentsAt, ObjectAt, ValueAt, PairAt, ConditionAt, AssignmentAt, PrintedAt, DiscardedAt, StoredAt}
+use Rattle.cyc_lower.proofs.Stands.{CopyBy, CopyAt, OperandBy, InitialBy, ExpressionAt, ArgumentsAt, ObjectAt, MadeAt, ValueAt, PairAt, ConditionAt, AssignmentAt, PrintedAt, DiscardedAt, StoredAt}
 use Rattle.cyc_objects.specs.Tables.{Tables}
 use Rattle.cyc_objects.specs.Words.{Is}
-use Rattle.cyc_lower.proofs.Relation.{IsIn, types_at, starts_at, given_at, called_at, words_held, height, Holds, held, contents, callers, in_temporary, in_local, drops, leaves, copies, prints_only, gives_byte, DataIn, SharedAt, CallAt, to_slot, to_jump, ValueStack, PlaceStack, ConditionStack, DroppedStack, AheadStack, LandsStack, HandsOnStack, PrintsStack, RightAt, EvaluatingAt, as_operand, into_slot, for_effect, as_right, as_condition, in_operand, ahead, with_left, Related, Matches, code_of, bounds_in, bounds_at, base_of, floor, top}
-use Rattle.cyc_lower.proofs.Data.{behind-least, IsWord-is, height-least, Holds-same, Holds-above, data_written}
+use Rattle.cyc_lower.proofs.Relation.{IsIn, IsHandleOf, types_at, starts_at, given_at, called_at, words_held, height, Holds, held, contents, callers, in_temporary, in_local, drops, leaves, copies, prints_only, gives_byte, DataIn, SharedAt, CallAt, to_slot, to_jump, ValueStack, PlaceStack, ConditionStack, DroppedStack, AheadStack, LandsStack, HandsOnStack, PrintsStack, RightAt, EvaluatingAt, as_operand, into_slot, for_effect, as_right, as_condition, in_operand, ahead, with_left, Related, Matches, code_of, bounds_in, bounds_at, base_of, top, floor}
+use Rattle.cyc_lower.proofs.Data.{IsWord-is, height-least, Holds-same, Holds-above, behind-least, data_written}
 use Rattle.cyc_lower.proofs.Accesses.{IsWell, is_loaded}
 use Rattle.cyc_lower.proofs.Matched.{IsMatched, silently, by_one}
 
@@ -342,6 +343,32 @@ module _ (source : Program) (pages calls : ℕ) where
       by_one source pages calls (does ∙ found.gives) shared (subst (λ x. CodeAt (code_of source g) c.active.next (move_of x d o)) (sym (type_words t)) at)
       (λ choice. landed_moved v o d k e w c q choice shared (facts.0.2.holds n found.number v found.there found.has).0 facts holds end lands)
 
+  -- the values of a new object come to slots, in the region of this handle
+  made_of : (placement : Placement) (owner : Owner) (handle : ℕ) (i : Initial) (t : Ty) (k : List Entry) (e : Environment) (w : World) (c : Configuration) (d q : ℕ) → allocates placement i k e w ≡ makes owner i k e w
+      → IsHandleOf owner handle → At_step (typed.New placement i t) k e w c
+      → MadeAt (code_of source c.active.function) (bounds_at source c.active.function) (types_at source c.active.function) i handle d (top source c.active.function k) c.active.next q
+      → LandsStack source c.active.function e.locals (made_kind i) d q c.frames k → IsBegun (typed.New placement i t) k e w c
+  made_of placement owner handle (typed.Plain kind a) t k e w c d q does owned (well, shared, facts, holds) (m, at_a, wide, object) lands =
+      let g = c.active.function in
+      silently source pages calls (Running (Evaluating (typed.New placement (typed.Plain kind a) t)) k e w) (Running (Evaluating a) (Needs (MakePlain owner kind) ∷ k) e w) (plain.Running c) does (
+        shared,
+        facts,
+        into_slot (top source g k) m at_a holds
+            (in_temporary (omega arith) (handle, d, q, owned, refl, subst (λ n. ObjectAt (code_of source g) (bounds_at source g) (types_at source g) handle 1 n (top source g k) d m q) (sym wide) object, lands)),
+      )
+      (omega arith)
+  made_of placement owner handle (typed.Fields NoArguments) t k e w c d q does owned known (p, at_cs, (m, single, some, few, ask, stores, move, there)) lands = absurd (omega (arith, some))
+  made_of placement owner handle (typed.Fields (MoreArguments (Convert from to a) cs)) t k e w c d q does owned (well, shared, facts, holds) (p, (r, (s, at_a, at_to), at_cs), (m, single, some, few, ask, stores, move, there)) lands =
+      silently source pages calls (Running (Evaluating (typed.New placement (typed.Fields (MoreArguments (Convert from to a) cs)) t)) k e w)
+      (Running (Evaluating a) (Needs (ConvertTo from to (target_by a)) ∷ Needs (MakeFields owner [] cs) ∷ k) e w) (plain.Running c) does (
+        shared,
+        facts,
+        into_slot (top source c.active.function k) s at_a holds
+            (in_temporary (omega arith) (r, at_to, (handle, d, p, q, words_of_kind to + all_passed cs, owned, refl, at_cs, (m, omega (arith, single), some, few, ask, stores, move, there), omega arith, lands))),
+      )
+      (omega arith)
+  made_of placement owner handle (typed.Array p level n kind a) t k e w c d q does owned known at lands = absurd at
+
   comes : (a : Expression) (k : List Entry) (e : Environment) (w : World) (c : Configuration) (d q : ℕ) → At_step a k e w c
       → ExpressionAt (code_of source c.active.function) (bounds_at source c.active.function) (types_at source c.active.function) a d (top source c.active.function k) c.active.next q
       → LandsStack source c.active.function e.locals (given_at source c.active.function a) d q c.frames k → IsBegun a k e w c
@@ -393,27 +420,12 @@ module _ (source : Program) (pages calls : ℕ) where
       (shared, facts, (o, offset, r, at, holds, (d, q, address, lands)))
       (omega arith)
   comes (typed.Store x (Convert from to a) t) k e w c d q known (o, m, at, copy) lands = cell_begins x from to a t k e w c o m known at (copies d q copy lands)
-  comes (typed.New typed.OnHeap (typed.Plain kind a) t) k e w c d q (well, shared, facts, holds) (m, at_a, wide, object) lands =
-      let g = c.active.function in
-      silently source pages calls (Running (Evaluating (typed.New typed.OnHeap (typed.Plain kind a) t)) k e w) (Running (Evaluating a) (Needs (MakePlain (InRegion heap_number) kind) ∷ k) e w) (plain.Running c) refl (
-        shared,
-        facts,
-        into_slot (top source g k) m at_a holds
-            (in_temporary (omega arith) (HEAP, d, q, (refl, refl), refl, subst (λ n. ObjectAt (code_of source g) (bounds_at source g) (types_at source g) HEAP 1 n (top source g k) d m q) (sym wide) object, lands)),
-      )
+  comes (typed.FreeUnique a) k e w c d q (well, shared, facts, holds) (o, m, at_a, (jump, ask, end)) lands =
+      silently source pages calls (Running (Evaluating (typed.FreeUnique a)) k e w) (Running (Evaluating a) (Needs FreeObject ∷ k) e w) (plain.Running c) refl
+      (shared, facts, as_operand o m at_a holds (d, q, (jump, ask, end), lands))
       (omega arith)
-  comes (typed.New typed.OnHeap (typed.Fields NoArguments) t) k e w c d q known (p, at_cs, (m, single, some, few, ask, stores, move, there)) lands = absurd (omega (arith, some))
-  comes (typed.New typed.OnHeap (typed.Fields (MoreArguments (Convert from to a) cs)) t) k e w c d q (well, shared, facts, holds) (p, (r, (s, at_a, at_to), at_cs), (m, single, some, few, ask, stores, move, there)) lands =
-      silently source pages calls (Running (Evaluating (typed.New typed.OnHeap (typed.Fields (MoreArguments (Convert from to a) cs)) t)) k e w)
-      (Running (Evaluating a) (Needs (ConvertTo from to (target_by a)) ∷ Needs (MakeFields (InRegion heap_number) [] cs) ∷ k) e w) (plain.Running c) refl (
-        shared,
-        facts,
-        into_slot (top source c.active.function k) s at_a holds
-            (in_temporary (omega arith) (r, at_to, (HEAP, d, p, q, words_of_kind to + all_passed cs, (refl, refl), refl, at_cs, (m, omega (arith, single), some, few, ask, stores, move, there), omega arith, lands))),
-      )
-      (omega arith)
-  comes (typed.New typed.OnHeap (typed.Array p level n kind a) t) k e w c d q known at lands = absurd at
-  comes (typed.New typed.AsUnique i t) k e w c d q known at lands = absurd at
+  comes (typed.New typed.OnHeap i t) k e w c d q known at lands = made_of typed.OnHeap (InRegion heap_number) HEAP i t k e w c d q refl (refl, refl) known at lands
+  comes (typed.New typed.AsUnique i t) k e w c d q known at lands = made_of typed.AsUnique (Unique true) UNIQUE i t k e w c d q refl refl known at lands
   comes (typed.New (typed.ByHandle h) i t) k e w c d q known at lands = absurd at
   comes a k e w c d q known at lands = absurd at
 
@@ -448,6 +460,7 @@ module _ (source : Program) (pages calls : ℕ) where
       (leaves (subst (λ x. ValueStack source g e.locals to x m c.frames k) (is ∙ sym is_there) (subst (λ r. ValueStack source g e.locals to o r c.frames k) (sym end) stack)))
   operand (Assign (Global n) c' t) k e w c o q known at stack = in_top (Assign (Global n) c' t) k e w c o q known at stack
   operand (typed.Load x) k e w c o q known at stack = in_top (typed.Load x) k e w c o q known at stack
+  operand (typed.FreeUnique a) k e w c o q known at stack = in_top (typed.FreeUnique a) k e w c o q known at stack
   operand (typed.New x i t) k e w c o q known at stack = in_top (typed.New x i t) k e w c o q known at stack
   operand (typed.AddressOfCell x t) k e w c o q known at stack = in_top (typed.AddressOfCell x t) k e w c o q known at stack
   operand (typed.Store x v t) k e w c o q known at stack = in_top (typed.Store x v t) k e w c o q known at stack
@@ -475,7 +488,7 @@ module _ (source : Program) (pages calls : ℕ) where
   for_its_effect (typed.AddressOf l t) k e w c q known (o, (is, at)) stack = absurd at
   for_its_effect (typed.AddressOfCell x t) k e w c q known (o, at) stack = in_top (typed.AddressOfCell x t) k e w c o q known at (dropped_value c.active.function e.locals (given_at source c.active.function (typed.AddressOfCell x t)) o q c.frames k stack)
   for_its_effect (typed.NumberOfElements a) k e w c q known (o, (is, at)) stack = absurd at
-  for_its_effect (typed.FreeUnique a) k e w c q known (o, (is, at)) stack = absurd at
+  for_its_effect (typed.FreeUnique a) k e w c q known (o, at) stack = in_top (typed.FreeUnique a) k e w c o q known at (dropped_value c.active.function e.locals (given_at source c.active.function (typed.FreeUnique a)) o q c.frames k stack)
   for_its_effect (typed.FreeKey a) k e w c q known (o, (is, at)) stack = absurd at
   for_its_effect (typed.Store x (Convert from to a) t) k e w c q known (o, at) stack = cell_begins x from to a t k e w c o q known at (drops stack)
   for_its_effect (typed.New x i t) k e w c q known (o, at) stack = in_top (typed.New x i t) k e w c o q known at (dropped_value c.active.function e.locals (given_at source c.active.function (typed.New x i t)) o q c.frames k stack)

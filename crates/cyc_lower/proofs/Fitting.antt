@@ -16,14 +16,14 @@ use Rattle.cyc_types.specs.declared.typed.PointerOperator.{PointerOperator}
 use Rattle.cyc_types.specs.declared.typed.PointerOperator.TheVariants as pointers
 use Rattle.cyc_types.specs.Types.{Ty, words_of, words_of_mark, substituted_ty, ValueType, Void, Value, result_type}
 use Rattle.cyc_types.specs.Types as type_forms
-use Rattle.cyc_types.specs.TypedTrees.{Load, New, OnHeap, AsUnique, ByHandle, Initial, Plain, Fields, Array, Dereference, Target, Lvalue, Local, Global, Expression, Number, NullPointer, Copy, Peek, Call, Unary, Binary, Assign, Converted, Convert, Arguments, NoArguments, MoreArguments, Operations, NoOperations, ThenCompute, ThenTest, ThenPointer, Statement, Block, Empty, Evaluate, If, While, Return, Break, Continue, Items, NoItems, MoreItems, Execute, Declare, Signature, StructType, Function, Program, Store, Member, Element, type_of_place, type_of, HeapRegion, Counter, Move, AddressOf, AddressOfCell, NumberOfElements, FreeUnique, FreeKey, ThenPointerPeek, Throw, Try, Clauses, NoClauses, Default, Case}
+use Rattle.cyc_types.specs.TypedTrees.{Load, New, OnHeap, AsUnique, ByHandle, Initial, Plain, Fields, Array, Dereference, Target, Lvalue, Local, Global, Expression, Number, NullPointer, Copy, Peek, Call, Unary, Binary, Assign, Converted, Convert, Arguments, NoArguments, MoreArguments, Operations, NoOperations, ThenCompute, ThenTest, ThenPointer, Statement, Block, Empty, Evaluate, If, While, Return, Break, Continue, Items, NoItems, MoreItems, Execute, Declare, Signature, StructType, Function, Program, Store, Member, Element, type_of_place, type_of, HeapRegion, Counter, Move, AddressOf, AddressOfCell, NumberOfElements, FreeUnique, FreeKey, ThenPointerPeek, Side, VariableSide, CellSide, Swap, Throw, Try, Clauses, NoClauses, Default, Case}
 use Rattle.cyc_types.specs.typing.Scopes.{signature_of_ints}
 use Rattle.cyc_types.specs.typing.Tests as tests
-use Rattle.cyc_types.specs.typing.Expressions.{instantiated}
-use Rattle.cyc_types.specs.typing.WellTyped.{Context, PointerOperation, adds, subtracts, equals, differs, thin_null, thin_there, fat_null, fat_there, null_is, null_is_not, IsCallee, Converts, IsPeek, WellTyped, IsCell, IsConverted, ArePassed, IsChain, IsCondition, IsReturned, IsInitial, WellTypedStatement, WellTypedItems, behind, in_block, in_body, with_local, body_context, AreWellTypedFunctions, AreWellTypedGlobals, IsWellTypedProgram, IsLeft, IsThrown, IsCaught, WellTypedClauses, with_caught, behind_clause}
+use Rattle.cyc_types.specs.typing.Expressions.{instantiated, type_of_side}
+use Rattle.cyc_types.specs.typing.WellTyped.{Context, PointerOperation, adds, subtracts, equals, differs, thin_null, thin_there, fat_null, fat_there, null_is, null_is_not, IsCallee, Converts, IsPeek, WellTyped, IsCell, IsConverted, ArePassed, IsChain, IsCondition, IsReturned, IsInitial, WellTypedStatement, WellTypedItems, behind, in_block, in_body, with_local, body_context, AreWellTypedFunctions, AreWellTypedGlobals, IsWellTypedProgram, IsLeft, IsMade, IsSide, IsThrown, IsCaught, WellTypedClauses, with_caught, behind_clause}
 use Rattle.cyc_types.specs.Numbered.{Numbering, signatures_of, IsSignature, argument_count, numbering_of}
 use Rattle.cyc_meaning.specs.Pointers.{result_kind as operator_kind}
-use Rattle.cyc_lower.specs.Lowerable.{IsLowerable, IsLowerableConverted, AreLowerableArguments, AreLowerableOperations, IsLowerableReturn, IsLowerableInitial, IsLowerableStatement, AreLowerableItems, AreLowerableFunctions, IsLowerableProgram, is_comparison, are_sums, stands_alone, IsLowerableCell, IsLowerableThrown, IsLowerableCaught, AreLowerableClauses}
+use Rattle.cyc_lower.specs.Lowerable.{IsLowerable, IsLowerableConverted, AreLowerableArguments, AreLowerableOperations, IsLowerableReturn, IsLowerableInitial, IsLowerableStatement, AreLowerableItems, AreLowerableFunctions, IsLowerableProgram, is_comparison, are_sums, stands_alone, IsLowerableCell, IsLowerableObject, IsLowerableSide, may_wait, IsLowerableThrown, IsLowerableCaught, AreLowerableClauses}
 use Rattle.cyc_store.specs.declared.range.TheConstants.{MOST_BLOCK_WORDS}
 use Rattle.cyc_meaning.specs.Values.{kind_of, is_thin, words_of_kind}
 use Rattle.cyc_meaning.specs.FrameCount.{result_words, words_of_all, operand_words}
@@ -59,7 +59,9 @@ module _ (b : Numbering) (types : Types) where
     Fits (Binary a os t) = Fits a × FitOperations (operand_words (type_of a)) t os
     Fits (Assign l c t) = FitsStored l (passed_kind c) × FitsConverted c
     Fits (Load x) = FitsCell x
+    Fits (FreeUnique a) = Fits a
     Fits (New OnHeap i t) = FitsObject i
+    Fits (New AsUnique i t) = FitsObject i
     Fits (AddressOfCell x t) = FitsCell x
     Fits (Store x c t) = FitsCell x × (words_of_kind (passed_kind c) ≡ 1) × FitsConverted c
     Fits a = ⊥
@@ -90,6 +92,11 @@ module _ (b : Numbering) (types : Types) where
     FitOperations left t (ThenPointer o a os) = (words_of_kind (left_kind o) ≤ left) × Fits a × FitOperations (words_of t) t os
     FitOperations left t (ThenPointerPeek n o a os) = (words_of_kind (left_kind o) ≤ left) × Fits a × FitOperations (words_of t) t os
 
+  -- a side of a swap of values of this kind
+  abbrev pub FitsSide : Side → Kind → Type 0
+  FitsSide (VariableSide l t) kind = FitsPlace l kind
+  FitsSide (CellSide x) kind = FitsCell x
+
   abbrev pub FitsReturn : Option Ty → Option Converted → Type 0
   FitsReturn None None = Unit {0}
   FitsReturn None (Some c) = ⊥
@@ -113,6 +120,8 @@ module _ (b : Numbering) (types : Types) where
     FitsStatement l (Block r js) = FitItems l js
     FitsStatement l Empty = Unit {0}
     FitsStatement l (Evaluate a) = Fits a
+    FitsStatement l (Swap x y) =
+        (words_of (type_of_side x) ≡ 1) × FitsSide x (kind_of (type_of_side x)) × FitsSide y (kind_of (type_of_side x)) × (may_wait x y ≡ true)
     FitsStatement l (If a s t) = Fits a × FitsStatement l s × FitsStatement l t
     FitsStatement l (While p a s) = Fits a × FitsStatement true s
     FitsStatement l (Return v) = FitsReturn b.result v
@@ -120,7 +129,6 @@ module _ (b : Numbering) (types : Types) where
     FitsStatement l Continue = l ≡ true
     FitsStatement l (Throw tag v) = IsWord tag × FitsThrown v
     FitsStatement l (Try s cs) = FitsStatement l s × FitClauses l cs
-    FitsStatement l s = ⊥
 
     pub FitItems : Bool → Items → Type 0
     FitItems l NoItems = Unit {0}
@@ -398,15 +406,27 @@ module _ (b : Numbering) (types : Types) where
         let (kind, fitting) = fits_converted d c t suits numbered converted in
         let single = ap words_of_kind kind ∙ type_words t ∙ ap words_of same ∙ cell_single x place in
         (stored_given x d u t v kind (is ∙ u_is), (fits_place, single, fitting))
-    fits (New OnHeap (Plain kind a) t) c v suits (single, numbered) (mark, u, r, place, (well, unlocked, kind_is, mark_is), t_is, is) =
-        let (given_is, fitting) = fits a c (Value u) suits numbered well in
-        (pointer_given mark u r t v mark_is t_is is, (single, kind_is ∙ sym (kinds_same u) ∙ sym given_is, fitting))
-    fits (New OnHeap (Fields cs) t) c v suits (single, some, few, numbered) (mark, u, r, place, (n, rs, s, there, many, passed, u_is, mark_is), t_is, is) =
-        (pointer_given mark u r t v mark_is t_is is, (single, some, few, (fit_arguments cs c (map (substituted_ty rs) s.fields) suits numbered passed).1))
+    fits (FreeUnique a) c v suits numbered (k, u, well, is) = (subst (IsGiven kinds.Int) (sym is) tt, (fits a c _ suits numbered well).1)
+    fits (New OnHeap (Plain kind a) t) c v suits numbered (mark, u, r, place, made, t_is, is) =
+        (pointer_given mark u r t v made.3 t_is is, fits_object (Plain kind a) c mark u suits numbered made)
+    fits (New OnHeap (Fields cs) t) c v suits numbered (mark, u, r, place, (n, rs, s, there, many, passed, u_is, mark_is), t_is, is) =
+        (pointer_given mark u r t v mark_is t_is is, fits_object (Fields cs) c mark u suits numbered (n, rs, s, there, many, passed, u_is, mark_is))
     fits (New OnHeap (Array p level n kind a) t) c v suits numbered well = absurd numbered
-    fits (New AsUnique i t) c v suits numbered well = absurd numbered
+    fits (New AsUnique (Plain kind a) t) c v suits numbered (mark, u, r, place, made, t_is, is) =
+        (pointer_given mark u r t v made.3 t_is is, fits_object (Plain kind a) c mark u suits numbered made)
+    fits (New AsUnique (Fields cs) t) c v suits numbered (mark, u, r, place, (n, rs, s, there, many, passed, u_is, mark_is), t_is, is) =
+        (pointer_given mark u r t v mark_is t_is is, fits_object (Fields cs) c mark u suits numbered (n, rs, s, there, many, passed, u_is, mark_is))
+    fits (New AsUnique (Array p level n kind a) t) c v suits numbered well = absurd numbered
     fits (New (ByHandle h) i t) c v suits numbered well = absurd numbered
     fits a c v suits numbered well = absurd numbered
+
+    fits_object : (i : Initial) (c : Context) (mark : PointerKind) (u : Ty) → Suits c → IsLowerableObject b i → IsMade c i mark u → FitsObject b types i
+    fits_object (Plain kind a) c mark u suits (single, numbered) (well, unlocked, kind_is, mark_is) =
+        let (given_is, fitting) = fits a c (Value u) suits numbered well in
+        (single, kind_is ∙ sym (kinds_same u) ∙ sym given_is, fitting)
+    fits_object (Fields cs) c mark u suits (single, some, few, numbered) (n, rs, s, there, many, passed, u_is, mark_is) =
+        (single, some, few, (fit_arguments cs c (map (substituted_ty rs) s.fields) suits numbered passed).1)
+    fits_object (Array p level n kind a) c mark u suits numbered made = absurd numbered
 
     fits_cell : (x : Dereference) (c : Context) (t : Ty) (r : Region) → Suits c → IsLowerableCell b x → IsCell c x t r → (t ≡ type_of_place x) × FitsCell b types x
     fits_cell (Target k a u) c t r suits (thin, single, numbered) (m, well, live, kind, same) =
@@ -478,6 +498,13 @@ module _ (b : Numbering) (types : Types) where
   suits_behind : (s : Statement) (c : Context) → Suits c → Suits (behind c s)
   suits_behind s c suits = record { functions = suits.functions; structs = suits.structs; variables = suits.variables; result = suits.result }
 
+  fits_side : (x : Side) (c : Context) (t : Ty) → Suits c → IsLowerableSide b x → IsSide c x t → (t ≡ type_of_side x) × (words_of (type_of_side x) ≡ 1) × FitsSide b types x (kind_of t)
+  fits_side (VariableSide (Local p n) u) c t suits (single, within) (r, (m, place, home, there), is) = (is, single, (within, room_in c n u (kind_of t) suits there (ap kind_of is)))
+  fits_side (VariableSide (Global n) u) c t suits (single, within) (r, place, is) = (is, single, within)
+  fits_side (CellSide x) c t suits numbered (r, cell) =
+      let (same, fitting) = fits_cell x c t r suits numbered cell in
+      (same, cell_single x numbered, fitting)
+
   suits_caught : (x : Option ℕ) (c : Context) → Suits c → Suits (with_caught x (in_block c))
   suits_caught None c suits = record { functions = suits.functions; structs = suits.structs; variables = suits.variables; result = suits.result }
   suits_caught (Some n) c suits = record { functions = suits.functions; structs = suits.structs; variables = suits.variables; result = suits.result }
@@ -498,6 +525,10 @@ module _ (b : Numbering) (types : Types) where
         fit_items js l (in_block c) (record { functions = suits.functions; structs = suits.structs; variables = suits.variables; result = suits.result }) numbered well
     fits_statement Empty l c suits numbered well = tt
     fits_statement (Evaluate a) l c suits numbered (t, well) = (fits a c t suits numbered well).1
+    fits_statement (Swap x y) l c suits (low_x, low_y, waits) (t, side_x, side_y, flat) =
+        let (same, single, fits_x) = fits_side x c t suits low_x side_x in
+        let (same_y, single_y, fits_y) = fits_side y c t suits low_y side_y in
+        (single, subst (λ u. FitsSide b types x (kind_of u)) same fits_x, subst (λ u. FitsSide b types y (kind_of u)) same fits_y, waits)
     fits_statement (If a s t) l c suits (numbered_a, numbered_s, numbered_t) (well_a, well_s, well_t) =
         (fits_condition a c suits numbered_a well_a, fits_statement s l c suits numbered_s well_s, fits_statement t l (behind c s) (suits_behind s c suits) numbered_t well_t)
     fits_statement (While p a s) l c suits (numbered_a, numbered_s) (well_a, well_s) = (
@@ -509,7 +540,6 @@ module _ (b : Numbering) (types : Types) where
     fits_statement Continue l c suits numbered well = numbered
     fits_statement (Throw tag v) l c suits (word, numbered) (has, known, well) = (word, fits_thrown v has c suits numbered well)
     fits_statement (Try s cs) l c suits (numbered_s, numbered) (well_s, well) = (fits_statement s l c suits numbered_s well_s, fit_clauses cs l (behind c s) (suits_behind s c suits) numbered well)
-    fits_statement s l c suits numbered well = absurd numbered
 
     fit_items : (js : Items) (l : Bool) (c : Context) → Suits c → AreLowerableItems b l js → WellTypedItems c js → FitItems b types l js
     fit_items NoItems l c suits numbered well = tt

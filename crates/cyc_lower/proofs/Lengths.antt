@@ -9,18 +9,18 @@ use Rattle.cyc_types.specs.declared.typed.Operator.{Operator}
 use Rattle.cyc_types.specs.declared.typed.Operator.TheVariants as operators
 use Rattle.cyc_types.specs.declared.typed.PointerOperator.{PointerOperator}
 use Rattle.cyc_types.specs.declared.typed.PointerOperator.TheVariants as pointers
-use Rattle.cyc_types.specs.TypedTrees.{Load, New, OnHeap, Initial, Plain, Fields, Dereference, Target, Member, Element, Lvalue, Local, Global, Expression, Number, NullPointer, Copy, Call, Unary, Binary, Assign, Converted, Convert, Arguments, NoArguments, MoreArguments, Operations, NoOperations, ThenCompute, ThenTest, ThenPointer, ThenPointerPeek, Statement, Block, Empty, Evaluate, If, While, Return, Break, Continue, Items, NoItems, MoreItems, Execute, Declare, StructType, Function, Move, Peek, AddressOfCell, Store, Throw, Try, Clauses, NoClauses, Default, Case}
+use Rattle.cyc_types.specs.TypedTrees.{Load, New, OnHeap, Initial, Plain, Fields, Dereference, Target, Member, Element, Lvalue, Local, Global, Expression, Number, NullPointer, Copy, Call, Unary, Binary, Assign, Converted, Convert, Arguments, NoArguments, MoreArguments, Operations, NoOperations, ThenCompute, ThenTest, ThenPointer, ThenPointerPeek, Statement, Block, Empty, Evaluate, If, While, Return, Break, Continue, Items, NoItems, MoreItems, Execute, Declare, StructType, Function, Move, Peek, AddressOfCell, Store, AsUnique, FreeUnique, Side, VariableSide, CellSide, Swap, Throw, Try, Clauses, NoClauses, Default, Case}
 use Rattle.cyc_types.specs.Types.{words_of}
 use Rattle.cyc_types.specs.Numbered.{argument_count}
 use Rattle.cyc_plain.specs.declared.instruction.Operand.{Operand}
 use Rattle.cyc_plain.specs.declared.instruction.Operand.TheVariants as operands
 use Rattle.cyc_plain.specs.declared.instruction.Instruction.{Instruction}
-use Rattle.cyc_store.specs.declared.range.TheConstants.{HEAP}
-use Rattle.cyc_plain.specs.declared.instruction.Instruction.TheVariants as instructions
-use Rattle.cyc_plain.specs.declared.limits.TheConstants.{RECORD_WORDS}
+use Rattle.cyc_store.specs.declared.range.TheConstants.{HEAP, UNIQUE}
 use Rattle.cyc_lower.specs.declared.statements.Exits.{Exits}
 use Rattle.cyc_lower.specs.Slots.{Starts, starts_of, slot_of}
-use Rattle.cyc_lower.specs.Lowering.{types_with, types_of, raises_of, body_code, first_temporary, outside_loops, are_as_wide, converts_there, passed_words, operand_of, operand_or, code_unless, code_unless_slot, left_with, left_of, value_slot, slot_with, left_slot, value_operand, next_slot, source_of, source_slot, converted_operand, converted_by, moved_by, conversion_code, divisor_code, operator_code, pointer_instructions, first_two, load_code, copy_code, address_code, object_code, place_operand, place_offset, expression_code, place_code, made_code, arguments_code, converted_code, converted_operand_code, printed_code, initial_code, operations_code, assignment_code, discarded_code, first_code, second_code, pair_code, condition_code, return_code, declaration_code, statement_code, items_code, behind_left, thrown_code, caught_code, clauses_code, leave_code, if_code, while_code, condition_of, failing_jump, compared_of, inside_loop, try_code, clause_code, break_target, continue_target, checked_code}
+use Rattle.cyc_lower.specs.Lowering.{types_with, types_of, raises_of, body_code, first_temporary, outside_loops, are_as_wide, converts_there, passed_words, operand_of, operand_or, code_unless, code_unless_slot, left_with, left_of, value_slot, slot_with, left_slot, value_operand, next_slot, source_of, source_slot, converted_operand, converted_by, moved_by, conversion_code, divisor_code, operator_code, pointer_instructions, first_two, load_code, copy_code, address_code, object_code, place_operand, place_offset, expression_code, place_code, made_code, arguments_code, converted_code, converted_operand_code, printed_code, initial_code, operations_code, assignment_code, discarded_code, first_code, second_code, pair_code, condition_code, return_code, declaration_code, statement_code, items_code, behind_left, if_code, while_code, condition_of, failing_jump, compared_of, inside_loop, checked_code, right_slot, side_code, swap_code, thrown_code, caught_code, clauses_code, leave_code, try_code, clause_code, break_target, continue_target}
+use Rattle.cyc_plain.specs.declared.instruction.Instruction.TheVariants as instructions
+use Rattle.cyc_plain.specs.declared.limits.TheConstants.{RECORD_WORDS}
 
 -- ---- lists
 
@@ -174,6 +174,8 @@ module _ (starts : Starts) (raises : ℕ) where
         (joined _ _ _ _ (joined _ _ _ _ (place_long x p q t) (λ i. length (address_code (same_place x t i) (same_offset x i) t))) (joined _ _ _ _ (converted_operand_long c _ _ (t + 1)) refl))
         (λ i. length (copy_code (passed_words c) (same_converted c (t + 1) i) (same i)))
     expression_long (New OnHeap x ty) p q d e t same = made_long x HEAP p q d e t same
+    expression_long (New AsUnique x ty) p q d e t same = made_long x UNIQUE p q d e t same
+    expression_long (FreeUnique a) p q d e t same = joined _ _ _ _ (operand_by a p q t (expression_long a p q _ _ t (same_slot a t))) refl
     expression_long a p q d e t same = refl
 
     place_long : (x : Dereference) (p q t : ℕ) → length (place_code starts x p t) ≡ length (place_code other x q t)
@@ -248,6 +250,13 @@ module _ (starts : Starts) (raises : ℕ) where
   declaration_long n None p q t = refl
   declaration_long n (Some c) p q t = initial_long c p q (slot_of starts n) (slot_of starts n) t refl
 
+  side_long : (x : Side) (p q t : ℕ) → length (side_code starts x p t) ≡ length (side_code other x q t)
+  side_long (VariableSide l ty) p q t = refl
+  side_long (CellSide x) p q t = joined _ _ _ _ (place_long x p q t) (λ i. length (address_code (same_place x t i) (same_offset x i) t))
+
+  swap_long : (x y : Side) (p q t : ℕ) → length (swap_code starts x y p t) ≡ length (swap_code other x y q t)
+  swap_long x y p q t = joined _ _ _ _ (side_long x p q t) (joined _ _ _ _ (side_long y _ _ (right_slot x t)) refl)
+
   thrown_long : (v : Option Expression) (p q t : ℕ) → length (thrown_code starts v p t) ≡ length (thrown_code other v q t)
   thrown_long None p q t = refl
   thrown_long (Some a) p q t = operand_by a p q t (expression_long a p q _ _ t (same_slot a t))
@@ -260,6 +269,7 @@ module _ (starts : Starts) (raises : ℕ) where
   mutual
     statement_long : (s : Statement) (p q head : ℕ) (exits : Exits) (t : ℕ) → length (statement_code starts s p exits t) ≡ length (statement_code other s q (record exits { head = head }) t)
     statement_long (Block r js) p q head exits t = items_long js p q head exits t
+    statement_long Empty p q head exits t = refl
     statement_long (Evaluate a) p q head exits t = discarded_long a p q t
     statement_long (If a s u) p q head exits t =
         let others = record exits { head = head } in
@@ -292,7 +302,7 @@ module _ (starts : Starts) (raises : ℕ) where
         let aim = q + 1 + length (x ++ close) in
         try_long (a ++ close) (clauses_code starts cs (out + 1) out exits t) (x ++ close) (clauses_code other cs (aim + 1) aim (record exits { head = head }) t) t p q
         (joined a close x close (statement_long s (p + 1) (q + 1) head exits (t + RECORD_WORDS)) refl) (clauses_long cs (out + 1) (aim + 1) out aim head exits t)
-    statement_long s p q head exits t = refl
+    statement_long (Swap x y) p q head exits t = swap_long x y p q t
 
     items_long : (js : Items) (p q head : ℕ) (exits : Exits) (t : ℕ) → length (items_code starts js p exits t) ≡ length (items_code other js q (record exits { head = head }) t)
     items_long NoItems p q head exits t = refl

@@ -18,7 +18,11 @@ pub mod Data
 pub mod Sharing
 pub mod CellWrites
 pub mod Allocations
+pub mod UniqueBlocks
 pub mod PlaceWords
+pub mod CellReads
+pub mod AddressSteps
+pub mod SwapSteps
 pub mod PlaceSteps
 pub mod Values
 pub mod PointerSteps

@@ -1,7 +1,7 @@
 -- What a state of the source and one of the plain program have in common while the one is matched by the other.
-use Rattle.std.proofs.Common.{◌≡◌, ℕ, suc, ◌+◌, ◌*◌, ◌≤◌, ◌<◌, Bool, true, false, List, [], ◌∷◌, ◌++◌, length, Option, None, Some, slice_get, ◌^◌}
+use Rattle.std.proofs.Common.{◌≡◌, ℕ, suc, ◌+◌, ◌*◌, ◌≤◌, ◌<◌, true, List, [], ◌∷◌, ◌++◌, length, Option, None, Some, slice_get, ◌^◌, false, Bool}
+use Rattle.cyc_words.specs.Word.{add_of, IsWord as IsNumber}
 use Rattle.std.specs.Prelude.{if◌then◌else◌}
-use Rattle.cyc_words.specs.Word.{IsWord as IsNumber, add_of}
 use Rattle.cyc_types.specs.declared.typed.Kind.{Kind}
 use Rattle.cyc_types.specs.declared.typed.Kind.TheVariants as kinds
 use Rattle.cyc_types.specs.declared.typed.Callee.{Callee}
@@ -9,10 +9,10 @@ use Rattle.cyc_types.specs.declared.typed.UnaryOperator.TheVariants as unary
 use Rattle.cyc_types.specs.declared.typed.Operator.{Operator}
 use Rattle.cyc_types.specs.declared.typed.Callee.TheVariants as callees
 use Rattle.cyc_types.specs.Types.{Ty}
-use Rattle.cyc_types.specs.TypedTrees.{Lvalue, Local, Global, Expression, NoArguments, NoOperations, Statement, Function, Program, Convert, Clauses}
+use Rattle.cyc_types.specs.TypedTrees.{Lvalue, Local, Global, Expression, NoArguments, NoOperations, Statement, Function, Program, Convert, Dereference, Side, VariableSide, CellSide, Clauses}
 use Rattle.cyc_types.specs.Numbered.{Numbering, argument_count, numbering_of, signatures_of}
 use Rattle.cyc_store.specs.State.{StoreState, demand}
-use Rattle.cyc_store.specs.declared.range.TheConstants.{HEAP}
+use Rattle.cyc_store.specs.declared.range.TheConstants.{HEAP, UNIQUE}
 use Rattle.cyc_objects.specs.Tables.{Variable, Placed, Tables}
 use Rattle.cyc_objects.specs.Words.{words_of_kinds, InRange, Is, Points, before}
 use Rattle.cyc_objects.specs.Related as objects
@@ -31,16 +31,17 @@ use Rattle.cyc_plain.specs.State as plain
 use Rattle.cyc_plain.specs.Straight.{At}
 use Rattle.cyc_meaning.specs.Values.{Value, Null, Thin, Operand as Kinded, Cell, kinds_of, words_of_kind, is_thin}
 use Rattle.cyc_meaning.specs.Allocation.{writes_from, blanks_of}
-use Rattle.cyc_meaning.specs.State.{Owner, InRegion, Unique, Object, World, heap_number, globals_number, Environment, ConvertTo, Operate, Chain, Apply, ApplyPointer, Follow, LoadFrom, Decide, Store, Pass, MakePlain, MakeFields, Initialise, Choose, Test, Return, Entry, Needs, NeedsPlace, Discard, Rest, Join, Loop, CloseRegion, CloseLexical, EndLoan, Handler, Caller, Main, calls_in, Focus, Evaluating, Locating, Given, Executing, Proceeding, Calling, Entering, Binding, Writing, Breaking, Continuing, Returning, Throwing, State, Running, Ended, GivenPlace, FollowMember, TakeAddress, StoreTo, StoreCell, ThrowWith, Naming, Catching}
+use Rattle.cyc_meaning.specs.State.{Owner, InRegion, Unique, Object, World, heap_number, globals_number, Environment, ConvertTo, Operate, Chain, Apply, ApplyPointer, Follow, LoadFrom, Decide, Store, Pass, MakePlain, MakeFields, Initialise, Choose, Test, Return, Entry, Needs, NeedsPlace, Discard, Rest, Join, Loop, CloseRegion, CloseLexical, EndLoan, Handler, Caller, Main, calls_in, Focus, Evaluating, Locating, Given, Executing, Proceeding, Calling, Entering, Binding, Writing, Breaking, Continuing, Returning, Throwing, State, Running, Ended, GivenPlace, FollowMember, TakeAddress, StoreTo, StoreCell, FreeObject, SwapLeft, SwapRight, Write, Swapping, ThrowWith, Naming, Catching}
 use Rattle.cyc_meaning.specs.Step.{object_of}
 use Rattle.cyc_meaning.specs.Operators.{null_exception, is_zero}
 use Rattle.cyc_meaning.specs.FrameCount.{words_of_all}
 use Rattle.cyc_lower.specs.declared.statements.Exits.{Exits}
 use Rattle.cyc_meaning.specs.Pointers.{result_kind as operator_kind}
 use Rattle.cyc_lower.specs.Slots.{Types, Starts, starts_of, slot_of}
-use Rattle.cyc_lower.specs.Lowering.{unary_operator, failing_comparison, operand_of, move_of, low_byte, converts_there, all_passed, compared_of, break_target, continue_target, results_of, lower_program, outside_loops, slot_types, tag_operand, raises_of}
+use Rattle.cyc_lower.specs.Lowering.{unary_operator, failing_comparison, operand_of, move_of, low_byte, converts_there, all_passed, compared_of, break_target, continue_target, results_of, lower_program, outside_loops, slot_types, raises_of, right_slot, tag_operand}
+use Rattle.cyc_lower.specs.Lowerable.{waits_for}
 use Rattle.cyc_lower.proofs.Widths.{kind_of_result, given, called_kind, HasRoom, Outside, chain_kind}
-use Rattle.cyc_lower.proofs.Stands.{LeaveAt, CheckAt, ConversionAt, PlaceAt, OperatorAt, TruthAt, CopyAt, ExpressionAt, ArgumentsAt, OperationsAt, ValueAt, ConditionAt, FailingAt, ComparesAt, DiscardedAt, StatementAt, ItemsAt, PointerAt, StoresAt, ObjectAt, AddressAt, ConvertedOperandAt, ClausesAt}
+use Rattle.cyc_lower.proofs.Stands.{CheckAt, ConversionAt, PlaceAt, OperatorAt, TruthAt, CopyAt, ExpressionAt, ArgumentsAt, OperationsAt, ValueAt, ConditionAt, FailingAt, ComparesAt, DiscardedAt, StatementAt, ItemsAt, PointerAt, StoresAt, ObjectAt, AddressAt, ConvertedOperandAt, FreedAt, HasSide, SideAt, ReadAt, WriteAt, ExchangeAt, LeaveAt, ClausesAt}
 
 -- ---- values in slots
 
@@ -93,7 +94,11 @@ held (Needs (Choose first second) ∷ k) = []
 held (Needs (Test condition body) ∷ k) = []
 held (Needs Return ∷ k) = []
 held (Needs (Follow pointer target) ∷ k) = held k
+held (Needs FreeObject ∷ k) = held k
 held (Needs (FollowMember pointer fields field) ∷ k) = held k
+held (NeedsPlace (SwapLeft kind peek right) ∷ k) = []
+held (NeedsPlace (SwapRight kind None left) ∷ k) = []
+held (NeedsPlace (SwapRight kind (Some n) left) ∷ k) = record { kind = kinds.NonNull; value = left } ∷ []
 held (NeedsPlace a ∷ k) = held k
 held (entry ∷ k) = []
 
@@ -102,7 +107,8 @@ held (entry ∷ k) = []
 -- the handle of the region where an object with this owner is made
 abbrev pub IsHandleOf : Owner → (handle : ℕ) → Type 0
 IsHandleOf (InRegion region) handle = (region ≡ heap_number) × (handle ≡ HEAP)
-IsHandleOf (Unique live) handle = ⊥
+IsHandleOf (Unique true) handle = handle ≡ UNIQUE
+IsHandleOf (Unique false) handle = ⊥
 
 -- a new object has cells of these kinds, which stand from this address on
 pub record IsObject (t : Tables) (object address : ℕ) (kinds : List Kind) : Type 0 where
@@ -371,6 +377,30 @@ module _ (source : Program) where
   StoreAt g kind (Global n) from to p q =
       At (code_of g) p (instructions.StoreGlobal n from) × (p + 1 ≡ q) × (to ≡ from) × (n < (bounds_at g).globals) × (words_of_kind kind ≡ 1)
 
+  -- ---- swaps
+
+  -- where a side of a swap lies: a variable is an object, and a cell has its address in a slot
+  abbrev pub IsSideAt : Tables → (ℕ → Option ℕ) → Words → Side → (s object offset : ℕ) → Type 0
+  IsSideAt t locals slots (VariableSide l ty) s object offset =
+      (offset ≡ 0) × (object_of (record { locals = locals; home = 0; counters = λ level. None }) l ≡ Some object)
+  IsSideAt t locals slots (CellSide x) s object offset = Points t object offset (slots s)
+
+  -- the left side, while the right one is sought: a variable, or a cell that is reached by a peek
+  abbrev pub IsLeft : (ℕ → Option ℕ) → (peek : Option ℕ) → Side → (place : Value) → Type 0
+  IsLeft locals None (VariableSide l ty) (Thin object offset) =
+      (offset ≡ 0) × (object_of (record { locals = locals; home = 0; counters = λ level. None }) l ≡ Some object)
+  IsLeft locals (Some n) (CellSide x) (Thin object offset) = Unit {0}
+  IsLeft locals peek a place = ⊥
+
+  -- words that stand in slots come to sides, and then the code goes on at q
+  abbrev pub WritesAt : Tables → (ℕ → Option ℕ) → (g : ℕ) → Words → List Write → (p q : ℕ) → Type 0
+  WritesAt t locals g slots [] p q = p ≡ q
+  WritesAt t locals g slots (x ∷ writes) p q =
+      (a : Side) × (object : ℕ) × (offset : ℕ) × (s : ℕ) × (v : ℕ) × WriteAt (code_of g) (bounds_at g) (types_at g) a s v p
+      × HasSide (code_of g) (bounds_at g) (types_at g) a x.operand.kind × (words_of_kind x.operand.kind ≡ 1) × (base_of g ≤ s) × (base_of g ≤ v)
+      × (x.place ≡ Thin object offset) × IsSideAt t locals slots a s object offset × IsWord t x.operand.kind x.operand.value (slots v)
+      × WritesAt t locals g slots writes (p + 1) q
+
   -- what this function returns is of this kind
   abbrev pub IsReturned : (g : ℕ) → Kind → Type 0
   IsReturned g kind = (results_of (bounds_at g).result ≡ words_of_kind kind) × (kind ≡ returned_at g)
@@ -445,6 +475,9 @@ module _ (source : Program) where
         (exits : Exits) × (q : ℕ) × (s : ℕ) × (r : ℕ) × (o ≡ operands.Slot s) × LeaveAt (code_of g) (bounds_at g) (types_at g) exits.first_record (floor g k) p r
         × At (code_of g) r (instructions.Finish s) × IsReturned g kind
         × StatementStack g exits q frames k
+    ValueStack g locals kind o p frames (Needs FreeObject ∷ k) =
+        (d : ℕ) × (q : ℕ) × FreedAt (code_of g) (bounds_at g) (types_at g) o p q
+        × Lands (base_of g) (top g k) d 1 (ValueStack g locals kinds.Int (operands.Slot d) q frames k) (AheadStack g locals kinds.Int d q frames k)
     ValueStack g locals kind o p frames (Needs (ThrowWith tag) ∷ k) = IsNumber tag × At (code_of g) p (instructions.Throw (tag_operand tag) o)
     ValueStack g locals kind o p frames (Needs (Follow pointer target) ∷ k) =
         (q : ℕ) × (is_thin pointer ≡ true) × CheckAt (code_of g) (bounds_at g) (types_at g) null_exception o p q × PlaceStack g locals o 0 q frames k
@@ -468,6 +501,14 @@ module _ (source : Program) where
         × At (code_of g) u (instructions.Store (operands.Slot (top g k)) 0 x) × (words_of_kind to ≡ 1)
         × HandsOn (code_of g) (words_of_kind to) x (u + 1) (DroppedStack g (u + 1) frames k) (ValueStack g locals to x (u + 1) frames k)
         (λ d r. Lands (base_of g) (top g k) d (words_of_kind to) (ValueStack g locals to (operands.Slot d) r frames k) (AheadStack g locals to d r frames k))
+    PlaceStack g locals o c p frames (NeedsPlace (SwapLeft kind peek right) ∷ k) =
+        (exits : Exits) × (x : Dereference) × (m : ℕ) × (r : ℕ) × (q : ℕ) × (words_of_kind kind ≡ 1) × HasSide (code_of g) (bounds_at g) (types_at g) right kind
+        × (waits_for peek right ≡ true) × AddressAt (code_of g) o c (floor g k) p m × SideAt (code_of g) (bounds_at g) (types_at g) right (floor g k + 1) m r
+        × ExchangeAt (code_of g) (bounds_at g) (types_at g) (CellSide x) right (floor g k) r q × StatementStack g exits q frames k
+    PlaceStack g locals o c p frames (NeedsPlace (SwapRight kind peek left) ∷ k) =
+        (exits : Exits) × (a : Side) × (y : Dereference) × (m : ℕ) × (q : ℕ) × (words_of_kind kind ≡ 1) × HasSide (code_of g) (bounds_at g) (types_at g) a kind
+        × IsLeft locals peek a left × AddressAt (code_of g) o c (right_slot a (floor g k)) p m
+        × ExchangeAt (code_of g) (bounds_at g) (types_at g) a (CellSide y) (floor g k) m q × StatementStack g exits q frames k
     PlaceStack g locals o c p frames k = ⊥
 
     -- the same for a condition, which fails where this comparison holds
@@ -590,6 +631,20 @@ module _ (source : Program) where
       × HoldsFrom t slots slot values × StoresAt (code_of g) (bounds_at g) (types_at g) (words_held values) address (4 * words_of_kinds done) slot p m
       × At (code_of g) m (instructions.Move d (operands.Slot address)) × (m + 1 ≡ q)
       × Holds t slots (floor g k) (held k) × LandsStack g locals kinds.NonNull d q frames k
+  FocusAt t (Writing writes None) k locals g p slots frames =
+      (exits : Exits) × (q : ℕ) × WritesAt t locals g slots writes p q × StatementStack g exits q frames k
+  FocusAt t (Swapping kind (Thin object offset) (Thin other beside) None) k locals g p slots frames =
+      (exits : Exits) × (q : ℕ) × (a : Side) × (b : Side) × (words_of_kind kind ≡ 1) × HasSide (code_of g) (bounds_at g) (types_at g) a kind × HasSide (code_of g) (bounds_at g) (types_at g) b kind
+      × IsSideAt t locals slots a (floor g k) object offset × IsSideAt t locals slots b (right_slot a (floor g k)) other beside
+      × ExchangeAt (code_of g) (bounds_at g) (types_at g) a b (floor g k) p q × StatementStack g exits q frames k
+  FocusAt t (Swapping kind (Thin object offset) (Thin other beside) (Some before)) k locals g p slots frames =
+      (exits : Exits) × (q : ℕ) × (a : Side) × (b : Side) × (words_of_kind kind ≡ 1) × HasSide (code_of g) (bounds_at g) (types_at g) a kind × HasSide (code_of g) (bounds_at g) (types_at g) b kind
+      × IsSideAt t locals slots a (floor g k) object offset × IsSideAt t locals slots b (right_slot a (floor g k)) other beside
+      × (before.kind ≡ kind) × IsWord t before.kind before.value (slots (floor g k + 2))
+      × ReadAt (code_of g) (bounds_at g) (types_at g) b (right_slot a (floor g k)) (floor g k + 3) p
+      × WriteAt (code_of g) (bounds_at g) (types_at g) a (floor g k) (floor g k + 3) (p + 1)
+      × WriteAt (code_of g) (bounds_at g) (types_at g) b (right_slot a (floor g k)) (floor g k + 2) (p + 1 + 1)
+      × (p + 1 + 1 + 1 ≡ q) × StatementStack g exits q frames k
   FocusAt t (Naming number v items) k locals g p slots frames =
       (exits : Exits) × (q : ℕ) × (o : Operand) × At (code_of g) p (move_of (words_of_kind v.kind) (slot_of (starts_at g) number) o) × IsIn t v slots o
       × (number < length (types_at g).locals) × HasRoom (types_at g) number v.kind

@@ -12,11 +12,11 @@ use Rattle.cyc_types.specs.declared.typed.PointerOperator.{PointerOperator}
 use Rattle.cyc_types.specs.declared.typed.PointerOperator.TheVariants as pointers
 use Rattle.cyc_types.specs.declared.typed.LogicalOperator.{LogicalOperator}
 use Rattle.cyc_types.specs.declared.typed.LogicalOperator.TheVariants as logical
-use Rattle.cyc_types.specs.TypedTrees.{Load, New, OnHeap, AsUnique, ByHandle, Initial, Plain, Fields, Array, Dereference, Target, Member, Element, Lvalue, Local, Global, Expression, Number, Copy, Call, Unary, Binary, Assign, Converted, Convert, Arguments, NoArguments, MoreArguments, Operations, NoOperations, ThenCompute, ThenTest, ThenPointer, ThenPointerPeek, Statement, Block, Empty, Evaluate, If, While, Return, Break, Continue, Items, NoItems, MoreItems, Execute, Declare, StructType, Function, Move, Peek, Throw, Try, Clauses, NoClauses, Default, Case, AddressOfCell, Store}
+use Rattle.cyc_types.specs.TypedTrees.{Load, New, OnHeap, AsUnique, ByHandle, Initial, Plain, Fields, Array, Dereference, Target, Member, Element, Lvalue, Local, Global, Expression, Number, Copy, Call, Unary, Binary, Assign, Converted, Convert, Arguments, NoArguments, MoreArguments, Operations, NoOperations, ThenCompute, ThenTest, ThenPointer, ThenPointerPeek, Statement, Block, Empty, Evaluate, If, While, Return, Break, Continue, Items, NoItems, MoreItems, Execute, Declare, StructType, Function, Move, Peek, AddressOfCell, Store, FreeUnique, Side, VariableSide, CellSide, Swap, Throw, Try, Clauses, NoClauses, Default, Case}
 use Rattle.cyc_types.specs.Types.{Ty, words_of}
 use Rattle.cyc_types.specs.Numbered.{argument_count}
 use Rattle.cyc_types.proofs.WeightLemmas.{some_token}
-use Rattle.cyc_types.specs.Weight.{expression_weight, dereference_weight, initial_weight, converted_weight, arguments_weight, more_arguments_weight, operations_weight, else_weight, statement_weight, items_weight, clauses_weight, function_weight}
+use Rattle.cyc_types.specs.Weight.{expression_weight, dereference_weight, initial_weight, converted_weight, arguments_weight, more_arguments_weight, operations_weight, else_weight, statement_weight, items_weight, function_weight, side_weight, clauses_weight}
 use Rattle.cyc_plain.specs.declared.instruction.Comparison.{Comparison}
 use Rattle.cyc_plain.specs.declared.instruction.Operand.{Operand}
 use Rattle.cyc_plain.specs.declared.instruction.Operand.TheVariants as operands
@@ -27,10 +27,10 @@ use Rattle.cyc_plain.specs.Program.{instruction_size, size}
 use Rattle.cyc_plain.specs.declared.limits.TheConstants.{RECORD_WORDS}
 use Rattle.cyc_lower.specs.declared.statements.Exits.{Exits}
 use Rattle.cyc_lower.specs.Slots.{starts_of, slot_of, Starts}
-use Rattle.cyc_store.specs.declared.range.TheConstants.{HEAP}
+use Rattle.cyc_store.specs.declared.range.TheConstants.{HEAP, UNIQUE}
 use Rattle.cyc_meaning.specs.Values.{kind_of, words_of_kind}
 use Rattle.cyc_lower.proofs.Widths.{kind_few, type_words}
-use Rattle.cyc_lower.specs.Lowering.{types_of, converts_there, passed_words, all_passed, source_of, source_slot, converted_by, moved_by, move_of, unary_operator, binary_operator, operand_of, operand_or, code_unless, slot_or, code_unless_slot, left_of, value_slot, next_slot, left_slot, value_operand, converted_operand, printed_operand, conversion_code, divisor_code, checked_code, operator_code, truth_code, load_code, low_byte, test_code, is_in, copy_code, expression_code, arguments_code, converted_code, converted_operand_code, printed_code, initial_code, assignment_code, operations_code, discarded_code, failing_comparison, compared_or, left_with, slot_with, first_code, second_code, pair_code, condition_code, condition_of, failing_jump, break_target, continue_target, return_code, declaration_code, statement_code, items_code, first_temporary, jump_if_zero, jump_if_nonzero, lower_function, behind_left, pointer_code, outside_loops, inside_loop, pointer_operator, index_of, first_two, pointer_instructions, stores_code, object_code, made_code, leave_code, tag_operand, other_jump, clause_code, caught_code, clauses_code, place_operand, place_offset, place_code, address_code, store_address_code, blocks}
+use Rattle.cyc_lower.specs.Lowering.{types_of, converts_there, passed_words, all_passed, source_of, source_slot, converted_by, moved_by, move_of, unary_operator, binary_operator, operand_of, operand_or, code_unless, slot_or, code_unless_slot, left_of, value_slot, next_slot, left_slot, value_operand, converted_operand, printed_operand, conversion_code, divisor_code, checked_code, operator_code, truth_code, load_code, low_byte, test_code, is_in, copy_code, expression_code, arguments_code, converted_code, converted_operand_code, printed_code, initial_code, assignment_code, operations_code, discarded_code, failing_comparison, compared_or, left_with, slot_with, first_code, second_code, pair_code, condition_code, condition_of, failing_jump, break_target, continue_target, return_code, declaration_code, statement_code, items_code, first_temporary, jump_if_zero, jump_if_nonzero, lower_function, behind_left, pointer_code, outside_loops, inside_loop, pointer_operator, index_of, first_two, pointer_instructions, stores_code, object_code, made_code, place_operand, place_offset, place_code, address_code, store_address_code, blocks, free_code, right_slot, side_code, read_side, write_side, exchange_code, swap_code, leave_code, tag_operand, other_jump, clause_code, caught_code, clauses_code}
 use Rattle.cyc_lower.specs.Lowered.{size_per_weight}
 
 abbrev code_size : List Instruction → ℕ
@@ -235,8 +235,12 @@ module _ (starts : Starts) where
           converted_operand_size c (p + length address) (t + 1),
           copy_size c o d,
         )
+    expression_size (FreeUnique a) p d t =
+        let inner = expression_code starts a p (value_slot starts a t) t in
+        let front = code_unless (operand_of starts a) inner in
+        omega (arith, both front (free_code (value_operand starts a t) (p + length front)), unless_size (operand_of starts a) inner, expression_size a p (value_slot starts a t) t)
     expression_size (New OnHeap i ty) p d t = made_size i HEAP p d t
-    expression_size (New AsUnique i ty) p d t = omega arith
+    expression_size (New AsUnique i ty) p d t = omega (arith, made_size i UNIQUE p d t)
     expression_size (New (ByHandle h) i ty) p d t = omega arith
     expression_size a p d t = omega (arith, some_token a)
 
@@ -446,11 +450,44 @@ module _ (starts : Starts) where
   else_size Empty p exits d bound = omega arith
   else_size t p exits d bound = omega (arith, bound)
 
+  -- a side, and the two instructions that read and write it
+  side_size : (a : Side) (p t : ℕ) → code_size (side_code starts a p t) ≤ size_per_weight * side_weight a
+  side_size (VariableSide l ty) p t = omega arith
+  side_size (CellSide x) p t = omega (arith, store_address_size x p t)
+
+  read_size : (a : Side) (s d : ℕ) → instruction_size (read_side starts a s d) ≤ 18
+  read_size (VariableSide (Local w n) ty) s d = omega arith
+  read_size (VariableSide (Global n) ty) s d = omega arith
+  read_size (CellSide x) s d = omega arith
+
+  write_size : (a : Side) (s v : ℕ) → instruction_size (write_side starts a s v) ≤ 18
+  write_size (VariableSide (Local w n) ty) s v = omega arith
+  write_size (VariableSide (Global n) ty) s v = omega arith
+  write_size (CellSide x) s v = omega arith
+
+  swap_size : (x y : Side) (p t : ℕ) → code_size (swap_code starts x y p t) ≤ size_per_weight * (2 + side_weight x + side_weight y)
+  swap_size x y p t =
+      let front = side_code starts x p t in
+      let middle = side_code starts y (p + length front) (right_slot x t) in
+      let back = exchange_code starts x y t in
+      omega (
+        arith,
+        both front (middle ++ back),
+        both middle back,
+        side_size x p t,
+        side_size y (p + length front) (right_slot x t),
+        read_size x t (t + 2),
+        read_size y (right_slot x t) (t + 3),
+        write_size x t (t + 3),
+        write_size y (right_slot x t) (t + 2),
+      )
+
   mutual
     statement_size : (s : Statement) (p : ℕ) (exits : Exits) (d : ℕ) → code_size (statement_code starts s p exits d) ≤ size_per_weight * statement_weight s
     statement_size (Block r js) p exits d = omega (arith, items_size js p exits d)
     statement_size Empty p exits d = omega arith
     statement_size (Evaluate a) p exits t = omega (arith, discarded_size a p t)
+    statement_size (Swap x y) p exits t = swap_size x y p t
     statement_size (If a s u) p exits t =
         let condition = condition_code starts a p t in
         let m = p + length condition in
@@ -506,7 +543,6 @@ module _ (starts : Starts) where
           statement_size s (p + 1) exits (t + RECORD_WORDS),
           clauses_size cs (out + 1) out exits t,
         )
-    statement_size s p exits d = omega arith
 
     items_size : (js : Items) (p : ℕ) (exits : Exits) (d : ℕ) → code_size (items_code starts js p exits d) ≤ size_per_weight * items_weight js
     items_size NoItems p exits d = omega arith

@@ -9,8 +9,9 @@ use Rattle.cyc_types.specs.declared.typed.Operator.{Operator}
 use Rattle.cyc_types.specs.declared.typed.Operator.TheVariants as operators
 use Rattle.cyc_types.specs.declared.typed.PointerOperator.{PointerOperator}
 use Rattle.cyc_types.specs.declared.typed.PointerOperator.TheVariants as pointers
-use Rattle.cyc_types.specs.TypedTrees.{type_of_place, Load, Dereference, Target, Lvalue, Local, Global, Expression, Number, NullPointer, Copy, Call, Unary, Binary, Assign, Converted, Convert, Arguments, NoArguments, MoreArguments, Operations, NoOperations, ThenCompute, ThenTest, ThenPointer, Statement, Block, Empty, Evaluate, If, While, Return, Break, Continue, Items, NoItems, MoreItems, Execute, Declare, Move, Peek, ThenPointerPeek, New, OnHeap, Initial, Plain, Fields, AddressOfCell, Store, Member, Throw, Try, Clauses, NoClauses, Default, Case}
+use Rattle.cyc_types.specs.TypedTrees.{type_of_place, Load, Dereference, Target, Lvalue, Local, Global, Expression, Number, NullPointer, Copy, Call, Unary, Binary, Assign, Converted, Convert, Arguments, NoArguments, MoreArguments, Operations, NoOperations, ThenCompute, ThenTest, ThenPointer, Statement, Block, Empty, Evaluate, If, While, Return, Break, Continue, Items, NoItems, MoreItems, Execute, Declare, Move, Peek, ThenPointerPeek, New, OnHeap, AsUnique, Initial, Plain, Fields, AddressOfCell, Store, Member, FreeUnique, Side, VariableSide, CellSide, Swap, Throw, Try, Clauses, NoClauses, Default, Case}
 use Rattle.cyc_types.specs.Types.{words_of}
+use Rattle.cyc_types.specs.typing.Expressions.{type_of_side}
 use Rattle.cyc_types.specs.Numbered.{Numbering, argument_count}
 use Rattle.cyc_plain.specs.declared.limits.TheConstants.{RECORD_WORDS}
 use Rattle.cyc_plain.specs.declared.instruction.UnaryOperator.TheVariants as plain_unary
@@ -23,12 +24,13 @@ use Rattle.cyc_plain.specs.declared.instruction.Request.TheVariants as requests
 use Rattle.cyc_plain.specs.declared.instruction.Instruction.{Instruction}
 use Rattle.cyc_plain.specs.declared.instruction.Instruction.TheVariants as instructions
 use Rattle.cyc_plain.specs.Straight.{At}
-use Rattle.cyc_store.specs.declared.range.TheConstants.{MOST_BLOCK_WORDS, HEAP}
+use Rattle.cyc_store.specs.declared.range.TheConstants.{MOST_BLOCK_WORDS, HEAP, UNIQUE}
 use Rattle.cyc_meaning.specs.Operators.{null_exception, division_by_zero}
-use Rattle.cyc_meaning.specs.Values.{is_thin, words_of_kind}
+use Rattle.cyc_meaning.specs.Values.{is_thin, words_of_kind, kind_of}
 use Rattle.cyc_lower.specs.declared.statements.Exits.{Exits}
 use Rattle.cyc_lower.specs.Slots.{Types, starts_of, slot_of, field_of}
-use Rattle.cyc_lower.specs.Lowering.{unary_operator, binary_operator, operand_of, source_of, source_slot, failing_comparison, left_with, left_of, value_slot, next_slot, slot_with, left_slot, is_in, move_of, test_jump, are_as_wide, converts_there, passed_words, all_passed, compared_of, low_byte, break_target, continue_target, results_of, behind_left, inside_loop, pointer_operator, tag_operand, other_jump, goes_on, raising}
+use Rattle.cyc_lower.specs.Lowering.{unary_operator, binary_operator, operand_of, source_of, source_slot, failing_comparison, left_with, left_of, value_slot, next_slot, slot_with, left_slot, is_in, raising, move_of, test_jump, are_as_wide, converts_there, passed_words, all_passed, compared_of, low_byte, break_target, continue_target, results_of, behind_left, inside_loop, pointer_operator, jump_if_zero, right_slot, tag_operand, other_jump, goes_on}
+use Rattle.cyc_lower.specs.Lowerable.{may_wait}
 use Rattle.cyc_lower.proofs.Widths.{kind_of_result, given, passed_kind, HasRoom, HasField}
 
 -- ---- expressions
@@ -123,6 +125,10 @@ module _ (code : List Instruction) (bounds : Numbering) (types : Types) where
       × At code p (instructions.Ask (requests.Allocate (t + words) (operands.Word handle) (operands.Word (max 1 words))))
       × StoresAt words (t + words) 0 t (p + 1) m × At code m (instructions.Move d (operands.Slot (t + words))) × (m + 1 ≡ q)
 
+  -- the block at the address in an operand is freed, where that is not 0
+  abbrev pub FreedAt : Operand → (p q : ℕ) → Type 0
+  FreedAt o p q = At code p (jump_if_zero o q) × At code (p + 1) (instructions.Ask (requests.Free o)) × (p + 1 + 1 ≡ q)
+
   abbrev mutual
     -- the value comes to slot d by the last instruction
     pub ExpressionAt : Expression → (d t p q : ℕ) → Type 0
@@ -151,7 +157,10 @@ module _ (code : List Instruction) (bounds : Numbering) (types : Types) where
         × CopyAt code (passed_words c) o d m q
     ExpressionAt (Load x) d t p q =
         (o : Operand) × (c : ℕ) × (r : ℕ) × PlaceAt x o c t p r × (words_of (type_of_place x) ≡ 1) × At code r (instructions.Load d o c) × (r + 1 ≡ q)
+    ExpressionAt (FreeUnique a) d t p q =
+        (o : Operand) × (m : ℕ) × OperandBy (operand_of (starts_of types) a) (ExpressionAt a (value_slot (starts_of types) a t) t p m) (value_slot (starts_of types) a t) o p m × FreedAt o m q
     ExpressionAt (New OnHeap i ty) d t p q = MadeAt i HEAP d t p q
+    ExpressionAt (New AsUnique i ty) d t p q = MadeAt i UNIQUE d t p q
     ExpressionAt (AddressOfCell x ty) d t p q = (o : Operand) × (c : ℕ) × (r : ℕ) × PlaceAt x o c t p r × AddressAt code o c d r q
     ExpressionAt (Store x v ty) d t p q =
         (o : Operand) × (m : ℕ)
@@ -268,6 +277,42 @@ module _ (code : List Instruction) (bounds : Numbering) (types : Types) where
       (a : Operand) × (c : ℕ) × (r : ℕ) × (s : ℕ) × (u : ℕ) × PlaceAt x a c t p r × AddressAt code a c t r s × ConvertedOperandAt v (t + 1) o s u
       × (words_of_kind (passed_kind v) ≡ 1) × At code u (instructions.Store (operands.Slot t) 0 o) × (u + 1 ≡ q)
 
+  -- ---- swaps
+
+  -- a side of a swap has room for a value of a kind
+  abbrev pub HasSide : Side → Kind → Type 0
+  HasSide (VariableSide (Local w n) ty) kind = HasRoom types n kind
+  HasSide (VariableSide (Global n) ty) kind = n < bounds.globals
+  HasSide (CellSide x) kind = Unit {0}
+
+  -- the address of a side that is a cell comes to slot t
+  abbrev pub SideAt : Side → (t p q : ℕ) → Type 0
+  SideAt (VariableSide l ty) t p q = p ≡ q
+  SideAt (CellSide x) t p q = (o : Operand) × (c : ℕ) × (m : ℕ) × PlaceAt x o c t p m × AddressAt code o c t m q
+
+  -- a word that a side holds comes to slot d
+  abbrev pub ReadAt : Side → (s d p : ℕ) → Type 0
+  ReadAt (VariableSide (Local w n) ty) s d p = At code p (instructions.Move d (operands.Slot (slot_of (starts_of types) n)))
+  ReadAt (VariableSide (Global n) ty) s d p = At code p (instructions.LoadGlobal d n)
+  ReadAt (CellSide x) s d p = At code p (instructions.Load d (operands.Slot s) 0)
+
+  -- the word in slot v comes to a side
+  abbrev pub WriteAt : Side → (s v p : ℕ) → Type 0
+  WriteAt (VariableSide (Local w n) ty) s v p = At code p (instructions.Move (slot_of (starts_of types) n) (operands.Slot v))
+  WriteAt (VariableSide (Global n) ty) s v p = At code p (instructions.StoreGlobal n (operands.Slot v))
+  WriteAt (CellSide x) s v p = At code p (instructions.Store (operands.Slot s) 0 (operands.Slot v))
+
+  -- both sides are read, the left one first, and then written
+  abbrev pub ExchangeAt : (left right : Side) → (t p q : ℕ) → Type 0
+  ExchangeAt a b t p q =
+      ReadAt a t (t + 2) p × ReadAt b (right_slot a t) (t + 3) (p + 1) × WriteAt a t (t + 3) (p + 1 + 1) × WriteAt b (right_slot a t) (t + 2) (p + 1 + 1 + 1)
+      × (p + 1 + 1 + 1 + 1 ≡ q)
+
+  abbrev pub SwapAt : (left right : Side) → (t p q : ℕ) → Type 0
+  SwapAt a b t p q =
+      (m : ℕ) × (r : ℕ) × (words_of (type_of_side a) ≡ 1) × HasSide a (kind_of (type_of_side a)) × HasSide b (kind_of (type_of_side a)) × (may_wait a b ≡ true)
+      × SideAt a t p m × SideAt b (right_slot a t) m r × ExchangeAt a b t r q
+
   -- the value of an expression is dropped
   abbrev pub DiscardedAt : Expression → (t p q : ℕ) → Type 0
   DiscardedAt (Call callees.Putchar cs ty) t p q = (o : Operand) × (m : ℕ) × PrintedAt cs t o p m × At code m (instructions.WriteByte o) × (m + 1 ≡ q)
@@ -317,6 +362,7 @@ module _ (code : List Instruction) (bounds : Numbering) (types : Types) where
     StatementAt (Block r js) exits t p q = ItemsAt js exits t p q
     StatementAt Empty exits t p q = p ≡ q
     StatementAt (Evaluate a) exits t p q = DiscardedAt a t p q
+    StatementAt (Swap a b) exits t p q = SwapAt a b t p q
     StatementAt (If a s u) exits t p q =
         (x : Operand) × (y : Operand) × (m : ℕ) × (r : ℕ) × ConditionAt a x y t p m × FailingAt a x y m (r + 1) × StatementAt s exits t (m + 1) r
         × At code r (instructions.Jump q) × StatementAt u exits t (r + 1) q
@@ -331,7 +377,6 @@ module _ (code : List Instruction) (bounds : Numbering) (types : Types) where
     StatementAt (Try s cs) exits t p q =
         (m : ℕ) × At code p (instructions.Try t (m + 1 + 1)) × StatementAt s exits (t + RECORD_WORDS) (p + 1) m × At code m (instructions.Leave t)
         × At code (m + 1) (instructions.Jump q) × ClausesAt cs (m + 1) exits t (m + 1 + 1) q
-    StatementAt s exits t p q = ⊥
 
     pub ItemsAt : Items → Exits → (t p q : ℕ) → Type 0
     ItemsAt NoItems exits t p q = p ≡ q

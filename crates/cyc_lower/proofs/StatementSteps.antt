@@ -6,7 +6,7 @@ use Rattle.cyc_words.specs.Word.{signed}
 use Rattle.cyc_words.specs.Ending.{Returned, Uncaught}
 use Rattle.cyc_types.specs.declared.typed.Kind.{Kind}
 use Rattle.cyc_types.specs.Types.{Ty}
-use Rattle.cyc_types.specs.TypedTrees.{Local, Expression, Copy, Move, Peek, Converted, Convert, Statement, Block, Empty, Evaluate, If, While, Break, Continue, Items, NoItems, MoreItems, Execute, Declare, Function, Program}
+use Rattle.cyc_types.specs.TypedTrees.{Local, Expression, Copy, Move, Peek, Converted, Convert, Statement, Block, Empty, Evaluate, If, While, Break, Continue, Items, NoItems, MoreItems, Execute, Declare, Function, Program, Swap}
 use Rattle.cyc_types.specs.TypedTrees as typed
 use Rattle.cyc_plain.specs.declared.instruction.Operand.{Operand}
 use Rattle.cyc_plain.specs.declared.instruction.Operand.TheVariants as operands
@@ -38,6 +38,7 @@ use Rattle.cyc_lower.proofs.Relation.{behind_records, by_jumps, HandlersStand, D
 use Rattle.cyc_lower.proofs.Data.{behind-least, handlers_same, height-least, Holds-same, Holds-above, data_declared, data_returned, data_grows, held_by_caller, calls_counted}
 use Rattle.cyc_lower.proofs.Values.{int_at}
 use Rattle.cyc_lower.proofs.Accesses.{IsWell, is_declared, is_closed, home_there}
+use Rattle.cyc_lower.proofs.SwapSteps.{begins_swap}
 use Rattle.cyc_lower.proofs.Weights.{weight}
 use Rattle.cyc_lower.proofs.Handling.{leaving, record_left}
 use Rattle.cyc_lower.proofs.Matched.{IsMatched, silently, by_one, by_two}
@@ -93,6 +94,7 @@ module _ (source : Program) (pages calls : ℕ) where
       silently source pages calls (Running (Executing (Evaluate a)) k e w) (Running (Evaluating a) (Discard ∷ k) e w) (plain.Running c) refl
       (shared, facts, for_effect q here tt (exits, stack))
       (omega arith)
+  executing (Swap a b) k e w c well related = begins_swap source pages calls a b k e w c well related
   executing (If a s t) k e w c well (shared, facts, (exits, q, (x, y, m, r, at_a, jump, at_s, over, at_t), stack)) =
       silently source pages calls (Running (Executing (If a s t)) k e w) (Running (Evaluating a) (Needs (Choose s t) ∷ k) e w) (plain.Running c) refl
       (shared, facts, as_condition x y m at_a tt (exits, r, q, jump, at_s, over, at_t, stack))
@@ -116,7 +118,6 @@ module _ (source : Program) (pages calls : ℕ) where
   executing (typed.Throw tag None) k e w c well related = throws_none source pages calls tag k e w c well related
   executing (typed.Throw tag (Some a)) k e w c well related = throws_some source pages calls tag a k e w c well related
   executing (typed.Try s handler) k e w c well related = begins source pages calls s handler k e w c well related
-  executing s k e w c well (shared, facts, (exits, q, at, stack)) = absurd at
 
   -- ---- the end of a call
 

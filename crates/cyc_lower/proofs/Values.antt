@@ -42,7 +42,7 @@ use Rattle.cyc_meaning.specs.Operators.{Result, Gives, Raises, Misfits, has_no_r
 use Rattle.cyc_meaning.specs.Pointers.{takes_kind, followed, result_kind as operator_kind}
 use Rattle.cyc_meaning.specs.Places.{arrives, member_of}
 use Rattle.cyc_meaning.specs.Conversion.{conversion}
-use Rattle.cyc_meaning.specs.State.{Region, World, Environment, with_local, made, variable, written, region_at, Awaiting, ConvertTo, Operate, Chain, Apply, ApplyPointer, Follow, Decide, Store, Pass, MakePlain, MakeFields, Initialise, Choose, Test, Return, Entry, Needs, Discard, Rest, Join, Loop, Focus, Evaluating, Given, GivenPlace, Executing, Proceeding, Calling, Returning, Throwing, State, Running, cell_at, FollowMember, StoreCell, ThrowWith, calls_in}
+use Rattle.cyc_meaning.specs.State.{Region, World, Environment, with_local, made, variable, written, region_at, Awaiting, ConvertTo, Operate, Chain, Apply, ApplyPointer, Follow, Decide, Store, Pass, MakePlain, MakeFields, Initialise, Choose, Test, Return, Entry, Needs, Discard, Rest, Join, Loop, Focus, Evaluating, Given, GivenPlace, Executing, Proceeding, Calling, Returning, Throwing, State, Running, cell_at, FollowMember, StoreCell, calls_in, FreeObject, ThrowWith}
 use Rattle.cyc_meaning.specs.Step.{leads_to, wrong, object_of, computed, stored_at, declared, passes, tested, awaits_right, chosen, looped, step}
 use Rattle.cyc_meaning.specs.State.{status_of}
 use Rattle.cyc_meaning.specs.SourceMachine.{status_in}
@@ -59,8 +59,8 @@ use Rattle.cyc_objects.proofs.Pointers.{not-null, part-not-null, pointer-word}
 use Rattle.cyc_objects.specs.Tables.{Variable, with_row}
 use Rattle.cyc_objects.proofs.Values.{Grows-row, Is-grows}
 use Rattle.cyc_lower.proofs.Sharing.{shared_declared, row_declared, shared_written}
-use Rattle.cyc_lower.proofs.Relation.{IsWord, IsIn, with_kind, types_at, starts_at, Holds, held, contents, callers, in_place, by_jump, in_temporary, in_local, drops, leaves, copies, DataIn, SharedAt, StoreAt, to_slot, to_jump, ValueStack, ConditionStack, DroppedStack, AheadStack, LandsStack, HandsOnStack, AppliedStack, ReadyAt, as_operand, into_slot, as_right, in_operand, nowhere, ahead, compared, with_left, behind_statement, Related, Matches, code_of, bounds_at, base_of, floor, top}
-use Rattle.cyc_lower.proofs.Data.{behind-least, handlers_beside, in_words, IsWord-is, one_word, height-least, Holds-same, Holds-above, data_written, data_assigned, data_assigned_global, data_declared, data_grows}
+use Rattle.cyc_lower.proofs.Relation.{IsWord, IsIn, with_kind, types_at, starts_at, Holds, held, contents, callers, in_place, by_jump, in_temporary, in_local, drops, leaves, copies, DataIn, SharedAt, StoreAt, to_slot, to_jump, ValueStack, ConditionStack, DroppedStack, AheadStack, LandsStack, HandsOnStack, AppliedStack, ReadyAt, as_operand, into_slot, as_right, in_operand, nowhere, ahead, compared, with_left, behind_statement, Related, Matches, code_of, bounds_at, base_of, top, floor}
+use Rattle.cyc_lower.proofs.Data.{in_words, IsWord-is, one_word, height-least, Holds-same, Holds-above, data_assigned, data_assigned_global, data_declared, data_grows, null_is, points_in, null_at, points_at, behind-least, handlers_beside, data_written}
 use Rattle.cyc_lower.proofs.Accesses.{IsWell, is_fitting, is_stored, written_here, written_elsewhere, written_length, is_declared, home_there, is_member}
 use Rattle.cyc_lower.proofs.PlaceWords.{stays, member_there}
 use Rattle.cyc_lower.proofs.CellWrites.{cell_is_there, saves_there, shared_saved, data_saved}
@@ -69,6 +69,7 @@ use Rattle.cyc_lower.proofs.Relation.{StatementStack}
 use Rattle.cyc_lower.proofs.Handling.{leaving, record_left, raised}
 use Rattle.cyc_lower.proofs.Matched.{IsMatched, silently, by_one, by_two, by_three, shared_way, shared_within, by_two_known, output_way}
 use Rattle.cyc_lower.proofs.PointerSteps.{applies_pointers, right_follows}
+use Rattle.cyc_lower.proofs.UniqueBlocks.{frees_value}
 use Rattle.cyc_lower.proofs.Allocations.{plain_made, fields_made}
 use Rattle.cyc_lower.proofs.Evaluations.{IsStep, landed_word, landed_moved, lands_at, passes_related, passes_weight, object_of_same, global_there}
 
@@ -113,35 +114,15 @@ module _ (t : Tables) where
       let (words, p, same, is_it) = in_words t (of_kind kind (Int a)) slots o is in
       sym same ∙ int_at kind a words p is_it
 
-  null_at : (kind : Kind) (words : Words) (p : ℕ) → Is t kind Null words p → words p ≡ 0
-  null_at kinds.Nullable words p is = is
-  null_at kinds.Fat words p is = is
-  null_at kind words p is = absurd is
-
-  pub null_is : (kind : Kind) (slots : Words) (o : Operand) → IsIn t (of_kind kind Null) slots o → operand_word slots o ≡ 0
-  null_is kind slots o is =
-      let (words, p, same, is_it) = in_words t (of_kind kind Null) slots o is in
-      sym same ∙ null_at kind words p is_it
-
   -- a value of one word is told by it
   pub first_word : (v : Kinded) (slots : Words) (o : Operand) → words_of_kind v.kind ≡ 1 → IsIn t v slots o → IsWord t v.kind v.value (operand_word slots o)
   first_word v slots (operands.Slot n) single is = one_word t v.kind v.value slots n single is
   first_word v slots (operands.Word w) single is = is
 
-  -- the address of a cell, which is not 0
-  points_at : (kind : Kind) (object offset : ℕ) (words : Words) (p : ℕ) → Is t kind (Thin object offset) words p → Points t object offset (words p)
-  points_at kinds.Nullable object offset words p is = is
-  points_at kinds.NonNull object offset words p is = is
-  points_at kind object offset words p is = absurd is
-
-  pub points_in : (kind : Kind) (object offset : ℕ) (slots : Words) (o : Operand) → IsIn t (of_kind kind (Thin object offset)) slots o → Points t object offset (operand_word slots o)
-  points_in kind object offset slots o is =
-      let (words, p, same, is_it) = in_words t (of_kind kind (Thin object offset)) slots o is in
-      subst (Points t object offset) same (points_at kind object offset words p is_it)
-
+  -- the address of a cell is not 0
   pub not_zero : (kind : Kind) (object offset : ℕ) (slots : Words) (o : Operand) → IsIn t (of_kind kind (Thin object offset)) slots o → (operand_word slots o == 0) ≡ false
   not_zero kind object offset slots o is =
-      false_from_ne_true (operand_word slots o == 0) (λ h. not-null (points_in kind object offset slots o is) (eqb-true (operand_word slots o) 0 h))
+      false_from_ne_true (operand_word slots o == 0) (λ h. not-null (points_in t kind object offset slots o is) (eqb-true (operand_word slots o) 0 h))
 
   part_at : (kind : Kind) (object start many index : ℕ) (words : Words) (p : ℕ) → Is t kind (Fat object start many index) words p → Is t kinds.Fat (Fat object start many index) words p
   part_at kinds.Fat object start many index words p is = is
@@ -187,11 +168,11 @@ module _ (t : Tables) where
   -- a value that is converted without a change keeps its words
   kept_at : (from to : Kind) (v : Value) (words : Words) (p : ℕ) → conversion to v ≡ Gives v → Is t from v words p → Is t to v words p
   kept_at from kinds.Int (Int a) words p gives is = int_at from a words p is
-  kept_at from kinds.Nullable Null words p gives is = null_at from words p is
-  kept_at from kinds.Fat Null words p gives is = null_at from words p is
+  kept_at from kinds.Nullable Null words p gives is = null_at t from words p is
+  kept_at from kinds.Fat Null words p gives is = null_at t from words p is
   kept_at from kinds.NonNull Null words p gives is = absurd (let f : Raises 1 ≡ Gives Null = gives in cc)
-  kept_at from kinds.Nullable (Thin object offset) words p gives is = points_at from object offset words p is
-  kept_at from kinds.NonNull (Thin object offset) words p gives is = points_at from object offset words p is
+  kept_at from kinds.Nullable (Thin object offset) words p gives is = points_at t from object offset words p is
+  kept_at from kinds.NonNull (Thin object offset) words p gives is = points_at t from object offset words p is
   kept_at from kinds.Fat (Thin object offset) words p gives is = absurd (let f : Gives (Fat object offset 1 0) ≡ Gives (Thin object offset) = gives in cc)
   kept_at from kinds.Fat (Fat object start many index) words p gives is = part_at from object start many index words p is
   kept_at from kinds.Nullable (Fat object start many index) words p gives is = absurd (not_thinned object start index (nat_lt index many) gives)
@@ -1131,6 +1112,7 @@ module _ (source : Program) (pages calls : ℕ) where
       leaving source pages calls false (Given v) (Returning (Some v)) (Needs Return ∷ k) k e w c exits.first_record r refl shared (omega arith) (record_left source c.active.function exits q c.frames k stack).1 leave facts.1
       (λ handlers stand. (shared, (facts.0, stand), (exits, q, s, here, subst (IsIn shared.tables v c.active.slots) there is, single, stack)))
   stands_given v o (Needs (ThrowWith tag) ∷ k) e w c of_words words well stands stack = throws_with tag v.kind v.value o k e w c well stands stack
+  stands_given v o (Needs FreeObject ∷ k) e w c of_words words well (shared, facts, is, holds) stack = frees_value source pages calls v.kind v.value o k e w c well shared facts is stack
   stands_given v o (Needs (Follow pointer target) ∷ k) e w c of_words words well stands stack = follows pointer target v.kind v.value o k e w c well stands stack
   stands_given v o (Needs (FollowMember pointer fields field) ∷ k) e w c of_words words well stands stack = follows_member pointer fields field v.kind v.value o k e w c well stands stack
   stands_given v o (Discard ∷ k) e w c of_words words well (shared, facts, is, holds) (exits, stack) =

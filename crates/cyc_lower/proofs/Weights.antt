@@ -1,8 +1,8 @@
 -- The weight of a source state, which falls with each step that the plain program makes no step for.
 use Rattle.std.proofs.Common.{ℕ, suc, ◌+◌, List, [], ◌∷◌, Option, None, Some, length}
-use Rattle.cyc_types.specs.TypedTrees.{Load, New, Initial, Plain, Fields, Dereference, Target, Expression, Number, NullPointer, Copy, Call, Unary, Binary, Assign, Converted, Convert, Arguments, NoArguments, MoreArguments, Operations, NoOperations, ThenCompute, ThenTest, ThenPointer, Statement, Block, Empty, Evaluate, If, While, Break, Continue, Items, NoItems, MoreItems, Execute, Declare, Move, Peek, ThenPointerPeek, AddressOfCell, Member, Clauses, NoClauses, Default, Case}
+use Rattle.cyc_types.specs.TypedTrees.{Load, New, Initial, Plain, Fields, Dereference, Target, Expression, Number, NullPointer, Copy, Call, Unary, Binary, Assign, Converted, Convert, Arguments, NoArguments, MoreArguments, Operations, NoOperations, ThenCompute, ThenTest, ThenPointer, Statement, Block, Empty, Evaluate, If, While, Break, Continue, Items, NoItems, MoreItems, Execute, Declare, Move, Peek, ThenPointerPeek, AddressOfCell, Member, FreeUnique, Side, VariableSide, CellSide, Swap, Clauses, NoClauses, Default, Case}
 use Rattle.cyc_types.specs.TypedTrees as typed
-use Rattle.cyc_meaning.specs.State.{Awaiting, Chain, Pass, MakeFields, Initialise, Entry, Needs, Rest, Focus, Evaluating, Locating, Executing, Entering, Binding, State, Running, AwaitingPlace, StoreTo, NeedsPlace, Catching}
+use Rattle.cyc_meaning.specs.State.{Awaiting, Chain, Pass, MakeFields, Initialise, Entry, Needs, Rest, Focus, Evaluating, Locating, Executing, Entering, Binding, State, Running, AwaitingPlace, StoreTo, NeedsPlace, SwapLeft, Writing, Catching}
 
 -- An expression that is an operand may have no code. One that begins with another weighs more than that and what waits for it.
 abbrev mutual
@@ -17,6 +17,7 @@ abbrev mutual
   expression_weight (Binary a os t) = suc (suc (expression_weight a + operations_weight os))
   expression_weight (Assign l c t) = suc (suc (converted_weight c))
   expression_weight (Load x) = suc (suc (dereference_weight x))
+  expression_weight (FreeUnique a) = suc (suc (expression_weight a))
   expression_weight (New w i t) = suc (suc (object_weight i))
   expression_weight (AddressOfCell x t) = suc (suc (dereference_weight x))
   expression_weight (typed.Store x c t) = suc (suc (suc (dereference_weight x + converted_weight c)))
@@ -48,6 +49,11 @@ abbrev mutual
   operations_weight (ThenPointerPeek n o a os) = suc (suc (expression_weight a + operations_weight os))
   operations_weight os = 0
 
+-- a side of a swap, with what waits for it
+abbrev pub side_weight : Side → ℕ
+side_weight (VariableSide l t) = 0
+side_weight (CellSide x) = suc (dereference_weight x)
+
 abbrev pub initial_weight : Option Converted → ℕ
 initial_weight None = 0
 initial_weight (Some c) = suc (converted_weight c)
@@ -61,6 +67,7 @@ abbrev mutual
   statement_weight (Block r js) = suc (suc (suc (items_weight js)))
   statement_weight Empty = 1
   statement_weight (Evaluate a) = suc (suc (expression_weight a))
+  statement_weight (Swap a b) = suc (suc (side_weight a + side_weight b))
   statement_weight (If a s t) = suc (suc (expression_weight a))
   statement_weight (While p a s) = 0
   statement_weight (typed.Return v) = suc (initial_weight v)
@@ -90,6 +97,7 @@ awaiting_weight (Initialise number kind js) = suc (items_weight js)
 awaiting_weight a = 0
 
 abbrev pub place_weight : AwaitingPlace → ℕ
+place_weight (SwapLeft kind peek right) = side_weight right
 place_weight (StoreTo peek c) = suc (converted_weight c)
 place_weight a = 0
 
@@ -109,6 +117,7 @@ focus_weight (Executing s) = statement_weight s
 focus_weight (Entering h arguments) = suc (suc (suc (suc (length h.parameters + items_weight h.body))))
 focus_weight (Binding number types arguments body) = suc (suc (length types + items_weight body))
 focus_weight (Locating x) = dereference_weight x
+focus_weight (Writing writes result) = 1
 focus_weight (Catching tag value handler) = clauses_weight handler
 focus_weight focus = 0
 

@@ -13,7 +13,7 @@ use Rattle.cyc_types.specs.declared.typed.PointerOperator.TheVariants as pointer
 use Rattle.cyc_types.specs.declared.typed.LogicalOperator.{LogicalOperator}
 use Rattle.cyc_types.specs.declared.typed.LogicalOperator.TheVariants as logical
 use Rattle.cyc_types.specs.Types.{Ty, words_of, ValueType, Void, Null, Value}
-use Rattle.cyc_types.specs.TypedTrees.{Load, New, OnHeap, AsUnique, ByHandle, Initial, Plain, Fields, Array, Dereference, Target, type_of_place, Lvalue, Local, Global, Expression, Number, NullPointer, Copy, Call, Unary, Binary, Assign, Converted, Convert, Arguments, NoArguments, MoreArguments, Operations, NoOperations, ThenCompute, ThenTest, ThenPointer, type_of, Statement, Block, Empty, Evaluate, If, While, Return, Break, Continue, Items, NoItems, MoreItems, Execute, Declare, GlobalVariable, Signature, StructType, Function, Program, Move, Peek, ThenPointerPeek, AddressOfCell, Store, Member, Throw, Try, Clauses, NoClauses, Default, Case}
+use Rattle.cyc_types.specs.TypedTrees.{Load, New, OnHeap, AsUnique, ByHandle, Initial, Plain, Fields, Array, Dereference, Target, type_of_place, Lvalue, Local, Global, Expression, Number, NullPointer, Copy, Call, Unary, Binary, Assign, Converted, Convert, Arguments, NoArguments, MoreArguments, Operations, NoOperations, ThenCompute, ThenTest, ThenPointer, type_of, Statement, Block, Empty, Evaluate, If, While, Return, Break, Continue, Items, NoItems, MoreItems, Execute, Declare, GlobalVariable, Signature, StructType, Function, Program, Move, Peek, ThenPointerPeek, AddressOfCell, Store, Member, FreeUnique, Side, VariableSide, CellSide, Swap, Throw, Try, Clauses, NoClauses, Default, Case}
 use Rattle.cyc_types.specs.typing.WellTyped.{signature_of}
 use Rattle.cyc_types.specs.Numbered.{Numbering, argument_count, signatures_of, numbering_of}
 use Rattle.cyc_plain.specs.declared.instruction.Comparison.{Comparison}
@@ -29,18 +29,19 @@ use Rattle.cyc_plain.specs.WellFormed.{IsOperand, IsInRange, IsRoutine, IsWellFo
 use Rattle.std.specs.Prelude.{◌==◌, max, if◌then◌else◌}
 use Rattle.std.proofs.lemmas.Bool.{eq-eqb, eqb-true}
 use Rattle.cyc_meaning.specs.Operators.{null_exception, division_by_zero}
-use Rattle.cyc_store.specs.declared.range.TheConstants.{HEAP}
+use Rattle.cyc_store.specs.declared.range.TheConstants.{HEAP, UNIQUE}
 use Rattle.cyc_meaning.specs.Values.{kind_of, words_of_kind}
-use Rattle.cyc_meaning.specs.FrameCount.{result_words, operand_words, converted_words, argument_words, expression_need, dereference_need, converted_need, arguments_need, operations_need, initial_need, statement_need, items_need, words_of_all, initial_value_need, kept_by, kept_by_items, place_words, clauses_need, kept_by_clauses, thrown_need}
+use Rattle.cyc_meaning.specs.FrameCount.{result_words, operand_words, converted_words, argument_words, expression_need, dereference_need, converted_need, arguments_need, operations_need, initial_need, statement_need, items_need, words_of_all, initial_value_need, place_words, side_need, kept_by, kept_by_items, clauses_need, kept_by_clauses, thrown_need}
 use Rattle.cyc_lower.specs.declared.statements.Exits.{Exits}
 use Rattle.cyc_meaning.specs.Pointers.{result_kind as operator_kind}
 use Rattle.cyc_lower.specs.Slots.{starts_of, slot_of, Types}
-use Rattle.cyc_lower.specs.Lowering.{types_of, spare_slots, are_as_wide, converts_there, passed_words, all_passed, source_of, source_slot, moved_by, move_of, unary_operator, binary_operator, operand_of, operand_or, code_unless, slot_or, code_unless_slot, left_with, left_of, value_slot, next_slot, slot_with, left_slot, value_operand, converted_operand, printed_operand, check_code, conversion_code, divisor_code, checked_code, operator_code, truth_code, load_code, low_byte, test_code, is_in, copy_code, expression_code, arguments_code, converted_code, converted_operand_code, printed_code, initial_code, assignment_code, operations_code, discarded_code, failing_comparison, compared_or, first_operand, first_code, second_code, pair_code, condition_code, condition_of, failing_jump, break_target, continue_target, return_code, declaration_code, statement_code, items_code, first_temporary, results_of, lower_function, lower_global, lower_program, pointer_operator, left_kind, behind_left, pointer_code, outside_loops, inside_loop, index_code, pointer_instructions, stores_code, object_code, made_code, leave_code, place_operand, place_offset, place_code, address_code, addressed_by, store_address_code, store_code, tag_operand, other_jump, goes_on, clause_code, thrown_code, thrown_operand, caught_code, clauses_code, guard_code, blocks}
+use Rattle.cyc_lower.specs.Lowering.{types_of, spare_slots, are_as_wide, converts_there, passed_words, all_passed, source_of, source_slot, moved_by, move_of, unary_operator, binary_operator, operand_of, operand_or, code_unless, slot_or, code_unless_slot, left_with, left_of, value_slot, next_slot, slot_with, left_slot, value_operand, converted_operand, printed_operand, check_code, conversion_code, divisor_code, checked_code, operator_code, truth_code, load_code, low_byte, test_code, is_in, copy_code, expression_code, arguments_code, converted_code, converted_operand_code, printed_code, initial_code, assignment_code, operations_code, discarded_code, failing_comparison, compared_or, first_operand, first_code, second_code, pair_code, condition_code, condition_of, failing_jump, break_target, continue_target, return_code, declaration_code, statement_code, items_code, first_temporary, results_of, lower_function, lower_global, lower_program, pointer_operator, left_kind, behind_left, pointer_code, outside_loops, inside_loop, index_code, pointer_instructions, stores_code, object_code, made_code, place_operand, place_offset, place_code, address_code, addressed_by, store_address_code, store_code, guard_code, blocks, free_code, right_slot, side_code, read_side, write_side, exchange_code, swap_code, leave_code, tag_operand, other_jump, goes_on, clause_code, thrown_code, thrown_operand, caught_code, clauses_code}
 use Rattle.cyc_lower.proofs.Widths.{kind_positive, kind_few, type_words, kind_of_result, result_kind, given, passed_kind, words_in, chain_kind, made_kind}
-use Rattle.cyc_lower.proofs.Fitting.{FitsPlace, FitsStored, FitsCell, Fits, FitsConverted, FitArguments, FitOperations, FitsReturn, FitsInitial, FitsStatement, FitItems, AreFitting, IsFitting, FitsObject, FitsThrown, FitsCaught, FitClauses}
+use Rattle.cyc_lower.proofs.Fitting.{FitsPlace, FitsStored, FitsCell, Fits, FitsConverted, FitArguments, FitOperations, FitsReturn, FitsInitial, FitsStatement, FitItems, AreFitting, IsFitting, FitsObject, FitsSide, FitsThrown, FitsCaught, FitClauses}
 use Rattle.cyc_lower.specs.Words.{AreOfWordsItems, AreOfWordsFunctions, IsOfWordsProgram}
 use Rattle.cyc_lower.proofs.WordLemmas.{all_append, all_of, no_return}
 use Rattle.cyc_lower.proofs.Lengths.{body_long}
+use Rattle.cyc_types.specs.typing.Expressions.{type_of_side}
 use Rattle.cyc_lower.proofs.Values.{as_wide}
 use Rattle.cyc_lower.proofs.Slots.{words_positive, slot-room, slot_types-many, slots-few}
 
@@ -167,10 +168,13 @@ module _ (program : PlainProgram) (r : Routine) (b : Numbering) (types : Types) 
   given_needs (Load (Target k a t)) numbered = omega (arith, type_words t)
   given_needs (Load (Member k a s f t)) numbered = omega (arith, type_words t)
   given_needs (Load x) numbered = absurd numbered
+  given_needs (FreeUnique a) numbered = omega (arith, operand_positive (type_of a))
   given_needs (New OnHeap (Plain kind a) t) numbered = omega arith
   given_needs (New OnHeap (Fields cs) t) numbered = omega arith
   given_needs (New OnHeap (Array p level n kind a) t) numbered = absurd numbered
-  given_needs (New AsUnique i t) numbered = absurd numbered
+  given_needs (New AsUnique (Plain kind a) t) numbered = omega arith
+  given_needs (New AsUnique (Fields cs) t) numbered = omega arith
+  given_needs (New AsUnique (Array p level n kind a) t) numbered = absurd numbered
   given_needs (New (ByHandle h) i t) numbered = absurd numbered
   given_needs (AddressOfCell x t) numbered = omega arith
   given_needs (Store x (Convert from to a) t) numbered = omega arith
@@ -300,6 +304,9 @@ module _ (program : PlainProgram) (r : Routine) (b : Numbering) (types : Types) 
 
   guard_in : (tag : ℕ) (failing : Comparison) (o m : Operand) → tag ≤ 4 → IsOperand r o → IsOperand r m → AreIn (guard_code (starts_of types) tag failing o m)
   guard_in tag failing o m few left right = ((left, right, omega (arith, few, behind)), tt)
+
+  free_in : (o : Operand) (p : ℕ) → IsOperand r o → p + 2 < length r.code → AreIn (free_code o p)
+  free_in o p inside short = ((inside, tt, short), (record { answer_in_range = omega arith; first_in_range = inside; second_in_range = tt }, tt))
 
   check_in : (tag : ℕ) (o : Operand) → tag ≤ 4 → IsOperand r o → AreIn (check_code (starts_of types) tag o)
   check_in tag o few inside = guard_in tag comparisons.Equal o (operands.Word 0) few inside tt
@@ -530,25 +537,37 @@ module _ (program : PlainProgram) (r : Routine) (b : Numbering) (types : Types) 
         (λ less. addressed_in x p t t place (omega (arith, few)) (omega (arith, few)) less (λ shorter. place_in x place_words p t place (omega arith) (omega (arith, few)) shorter))
         (λ q less. converted_operand_in c q (t + 1) numbered (omega (arith, few)) (omega (arith, few)) less))
         (copy_in (is_in o d) c o d (converted_room c (t + 1) numbered (omega (arith, few))) (omega (arith, room, ap words_of_kind (stored_kind x c ty))))
-    expression_in (New OnHeap i ty) p d t numbered room few short = made_in i HEAP ty p d t numbered (omega (arith, room, kind_positive (made_kind i))) (omega (arith, few)) short
-    expression_in (New AsUnique i ty) p d t numbered room few short = absurd numbered
+    expression_in (FreeUnique a) p d t numbered room few short =
+        let slot = value_slot (starts_of types) a t in
+        let o = value_operand (starts_of types) a t in
+        let inner = expression_code (starts_of types) a p slot t in
+        let front = code_unless (operand_of (starts_of types) a) inner in
+        let back = free_code o (p + length front) in
+        let long = length-append front back in
+        let free : t + words_of_kind (kind_at a) ≤ r.slots = omega (arith, few, given_needs a numbered, operand_positive (type_of a)) in
+        append front back
+        (unless_in (operand_of (starts_of types) a) inner p (omega (arith, short, long)) (λ less. expression_in a p slot t numbered (slot_fits a t numbered free) (omega (arith, few)) less))
+        (free_in o (p + length front) (value_in a t numbered free) (omega (arith, short, long)))
+    expression_in (New OnHeap i ty) p d t numbered room few short = made_in i HEAP 0 ty p d t numbered (omega (arith, room, kind_positive (made_kind i))) (omega (arith, few)) short
+    expression_in (New AsUnique i ty) p d t numbered room few short = made_in i UNIQUE 1 ty p d t numbered (omega (arith, room, kind_positive (made_kind i))) (omega (arith, few)) short
     expression_in (New (ByHandle h) i ty) p d t numbered room few short = absurd numbered
     expression_in a p d t numbered room few short = absurd numbered
 
-    made_in : (i : Initial) (handle : ℕ) (ty : Ty) (p d t : ℕ) → FitsObject b types i → d < r.slots → t + initial_value_need i 0 (words_of ty) ≤ r.slots → p + length (made_code (starts_of types) i handle p d t) < length r.code → AreIn (made_code (starts_of types) i handle p d t)
-    made_in (Plain kind a) handle ty p d t (single, kind_is, numbered) room few short =
+    -- behind a handle of so many words
+    made_in : (i : Initial) (handle words : ℕ) (ty : Ty) (p d t : ℕ) → FitsObject b types i → d < r.slots → t + initial_value_need i words (words_of ty) ≤ r.slots → p + length (made_code (starts_of types) i handle p d t) < length r.code → AreIn (made_code (starts_of types) i handle p d t)
+    made_in (Plain kind a) handle words ty p d t (single, kind_is, numbered) room few short =
         let front = expression_code (starts_of types) a p t t in
         let back = object_code handle 1 d t in
         append front back
         (expression_in a p t t numbered (omega (arith, few, single, ap words_of_kind kind_is, words_positive ty)) (omega (arith, few)) (omega (arith, short, length-append front back)))
         (object_in handle 1 d t room (omega (arith, few, single, words_positive ty)))
-    made_in (Fields cs) handle ty p d t (single, some, many, numbered) room few short =
+    made_in (Fields cs) handle words ty p d t (single, some, many, numbered) room few short =
         let front = arguments_code (starts_of types) cs p t in
         let back = object_code handle (argument_count cs) d t in
         append front back
-        (arguments_in cs p t t 0 numbered (omega arith) (omega (arith, few)) (omega (arith, few)) (omega (arith, short, length-append front back)))
+        (arguments_in cs p t t words numbered (omega arith) (omega (arith, few)) (omega (arith, few)) (omega (arith, short, length-append front back)))
         (object_in handle (argument_count cs) d t room (omega (arith, few, single, arguments_words cs, words_positive ty)))
-    made_in i handle ty p d t numbered room few short = absurd numbered
+    made_in i handle words ty p d t numbered room few short = absurd numbered
 
     -- a place of what has so many words
     place_in : (x : Dereference) (own p t : ℕ) → FitsCell b types x → 1 ≤ own → t + dereference_need x own ≤ r.slots → p + length (place_code (starts_of types) x p t) < length r.code → AreIn (place_code (starts_of types) x p t)
@@ -802,6 +821,47 @@ module _ (program : PlainProgram) (r : Routine) (b : Numbering) (types : Types) 
   declaration_in n (Some c) p t within (own, numbered) few short =
       initial_in c p (slot_of (starts_of types) n) t numbered (omega (arith, locals n within, own)) (omega (arith, few, converted_few c)) (omega (arith, few)) short
 
+  -- ---- swaps
+
+  side_in : (a : Side) (kind : Kind) (p t : ℕ) → FitsSide b types a kind → t < r.slots → t + side_need a ≤ r.slots → p + length (side_code (starts_of types) a p t) < length r.code → AreIn (side_code (starts_of types) a p t)
+  side_in (VariableSide l ty) kind p t numbered room few short = tt
+  side_in (CellSide x) kind p t numbered room few short = addressed_in x p t t numbered room few short (λ less. place_in x place_words p t numbered (omega arith) few less)
+
+  read_in : (a : Side) (kind : Kind) (s d : ℕ) → FitsSide b types a kind → s < r.slots → d < r.slots → IsInRange program r (read_side (starts_of types) a s d)
+  read_in (VariableSide (Local w n) ty) kind s d (within, own) low room = (room, omega (arith, locals n within, own, kind_positive kind))
+  read_in (VariableSide (Global n) ty) kind s d within low room = (room, omega (arith, within, globals))
+  read_in (CellSide x) kind s d numbered low room = (room, low)
+
+  write_in : (a : Side) (kind : Kind) (s v : ℕ) → FitsSide b types a kind → s < r.slots → v < r.slots → IsInRange program r (write_side (starts_of types) a s v)
+  write_in (VariableSide (Local w n) ty) kind s v (within, own) low room = (omega (arith, locals n within, own, kind_positive kind), room)
+  write_in (VariableSide (Global n) ty) kind s v within low room = (omega (arith, within, globals), room)
+  write_in (CellSide x) kind s v numbered low room = (low, room)
+
+  right_near : (a : Side) (t : ℕ) → right_slot a t ≤ t + 1
+  right_near (VariableSide l ty) t = omega arith
+  right_near (CellSide x) t = omega arith
+
+  swap_in : (x y : Side) (kind : Kind) (p t : ℕ) → FitsSide b types x kind → FitsSide b types y kind → t + statement_need (Swap x y) ≤ r.slots → p + length (swap_code (starts_of types) x y p t) < length r.code → AreIn (swap_code (starts_of types) x y p t)
+  swap_in x y kind p t fits_x fits_y few short =
+      let front = side_code (starts_of types) x p t in
+      let middle = side_code (starts_of types) y (p + length front) (right_slot x t) in
+      let back = exchange_code (starts_of types) x y t in
+      let slot = right_near x t in
+      let long = length-append front (middle ++ back) in
+      let long_rest = length-append middle back in
+      let room : t + 4 ≤ r.slots = omega (arith, few) in
+      append front (middle ++ back) (side_in x kind p t fits_x (omega (arith, room)) (omega (arith, few)) (omega (arith, short, long)))
+      (append middle back (side_in y kind (p + length front) (right_slot x t) fits_y (omega (arith, room, slot)) (omega (arith, few, slot)) (omega (arith, short, long, long_rest))) (
+        read_in x kind t (t + 2) fits_x (omega (arith, room)) (omega (arith, room)),
+        (
+          read_in y kind (right_slot x t) (t + 3) fits_y (omega (arith, room, slot)) (omega (arith, room)),
+          (
+            write_in x kind t (t + 3) fits_x (omega (arith, room)) (omega (arith, room)),
+            (write_in y kind (right_slot x t) (t + 2) fits_y (omega (arith, room, slot)) (omega (arith, room)), tt),
+          ),
+        ),
+      ))
+
   thrown_in : (v : Option Expression) (p t : ℕ) → FitsThrown b types v → t + thrown_need v + spare_slots ≤ r.slots → p + length (thrown_code (starts_of types) v p t) < length r.code → AreIn (thrown_code (starts_of types) v p t)
   thrown_in None p t numbered few short = tt
   thrown_in (Some a) p t numbered few short =
@@ -827,6 +887,7 @@ module _ (program : PlainProgram) (r : Routine) (b : Numbering) (types : Types) 
     statement_in (Block n js) in_loop p exits t numbered around outside few short = items_in js in_loop p exits t numbered around outside few short
     statement_in Empty in_loop p exits t numbered around outside few short = tt
     statement_in (Evaluate a) in_loop p exits t numbered around outside few short = discarded_in a p t numbered (omega (arith, few)) short
+    statement_in (Swap x y) in_loop p exits t (single, fits_x, fits_y, waits) around outside few short = swap_in x y (kind_of (type_of_side x)) p t fits_x fits_y (omega (arith, few)) short
     statement_in (If a s u) in_loop p exits t (numbered_a, numbered_s, numbered_u) around outside few short =
         let condition = condition_code (starts_of types) a p t in
         let m = p + length condition in
@@ -882,7 +943,6 @@ module _ (program : PlainProgram) (r : Routine) (b : Numbering) (types : Types) 
               (append body close (statement_in s in_loop (p + 1) exits (t + RECORD_WORDS) numbered_s around (exits_inside exits t outside room) (omega (arith, few)) (omega (arith, short, long, long_body))) (room, tt))
               (omega (arith, short, long), clauses_in cs in_loop (out + 1) out exits t numbered around outside (omega (arith, few)) (omega (arith, short, long)) (omega (arith, short, long))),
         )
-    statement_in s in_loop p exits t numbered around outside few short = absurd numbered
 
     items_in : (js : Items) (in_loop : Bool) (p : ℕ) (exits : Exits) (t : ℕ) → FitItems b types in_loop js → (in_loop ≡ true → exits.head + 2 < length r.code) → HasExits exits t → t + kept_by_items js + items_need js + spare_slots ≤ r.slots → p + length (items_code (starts_of types) js p exits t) < length r.code → AreIn (items_code (starts_of types) js p exits t)
     items_in NoItems in_loop p exits t numbered around outside few short = tt

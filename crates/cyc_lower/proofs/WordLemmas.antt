@@ -14,7 +14,7 @@ use Rattle.cyc_types.specs.declared.typed.PointerOperator.{PointerOperator}
 use Rattle.cyc_types.specs.declared.typed.PointerOperator.TheVariants as pointers
 use Rattle.cyc_types.specs.declared.typed.LogicalOperator.{LogicalOperator}
 use Rattle.cyc_types.specs.declared.typed.LogicalOperator.TheVariants as logical
-use Rattle.cyc_types.specs.TypedTrees.{Load, New, OnHeap, AsUnique, ByHandle, Initial, Plain, Fields, Dereference, Target, Lvalue, Local, Global, Expression, Number, NullPointer, Copy, Call, Unary, Binary, Assign, Converted, Convert, Arguments, NoArguments, MoreArguments, Operations, NoOperations, ThenCompute, ThenTest, ThenPointer, Statement, Block, Empty, Evaluate, If, While, Return, Break, Continue, Items, NoItems, MoreItems, Execute, Declare, Constant, Word, Null, GlobalVariable, StructType, Function, Program, Move, Peek, ThenPointerPeek, Throw, Try, Clauses, NoClauses, Default, Case, AddressOfCell, Store, Member, Element}
+use Rattle.cyc_types.specs.TypedTrees.{Load, New, OnHeap, AsUnique, ByHandle, Initial, Plain, Fields, Dereference, Target, Lvalue, Local, Global, Expression, Number, NullPointer, Copy, Call, Unary, Binary, Assign, Converted, Convert, Arguments, NoArguments, MoreArguments, Operations, NoOperations, ThenCompute, ThenTest, ThenPointer, Statement, Block, Empty, Evaluate, If, While, Return, Break, Continue, Items, NoItems, MoreItems, Execute, Declare, Constant, Word, Null, GlobalVariable, StructType, Function, Program, Move, Peek, ThenPointerPeek, AddressOfCell, Store, Member, Element, FreeUnique, Side, VariableSide, CellSide, Swap, Throw, Try, Clauses, NoClauses, Default, Case}
 use Rattle.cyc_plain.specs.declared.instruction.Comparison.{Comparison}
 use Rattle.cyc_plain.specs.declared.instruction.Comparison.TheVariants as comparisons
 use Rattle.cyc_plain.specs.declared.instruction.Operand.{Operand}
@@ -22,16 +22,16 @@ use Rattle.cyc_plain.specs.declared.instruction.Operand.TheVariants as operands
 use Rattle.cyc_plain.specs.declared.instruction.Instruction.{Instruction}
 use Rattle.cyc_plain.specs.declared.instruction.Instruction.TheVariants as instructions
 use Rattle.cyc_plain.specs.WellFormed.{IsOfWord, HasWord, HasWords, is_return}
-use Rattle.cyc_lower.specs.Words.{IsOfWords, IsOfWordsCell, IsOfWordsObject, IsOfWordsConverted, AreOfWordsArguments, AreOfWordsOperations, IsOfWordsInitial, IsOfWordsStatement, AreOfWordsItems, IsOfWordsConstant, AreOfWordsGlobals, AreOfWordsFunctions, IsOfWordsProgram, IsOfWordsThrown, AreOfWordsClauses}
+use Rattle.cyc_lower.specs.Words.{IsOfWords, IsOfWordsCell, IsOfWordsObject, IsOfWordsConverted, AreOfWordsArguments, AreOfWordsOperations, IsOfWordsInitial, IsOfWordsStatement, AreOfWordsItems, IsOfWordsConstant, AreOfWordsGlobals, AreOfWordsFunctions, IsOfWordsProgram, IsOfWordsSide, IsOfWordsThrown, AreOfWordsClauses}
 use Rattle.cyc_plain.specs.declared.limits.TheConstants.{RECORD_WORDS}
 use Rattle.cyc_lower.specs.declared.statements.Exits.{Exits}
 use Rattle.cyc_lower.specs.Slots.{starts_of, slot_of, Starts, bytes_from, field_in}
 use Rattle.std.specs.Prelude.{◌==◌, if◌then◌else◌}
 use Rattle.cyc_types.specs.Types.{words_of, Ty}
 use Rattle.cyc_types.specs.Numbered.{argument_count}
-use Rattle.cyc_store.specs.declared.range.TheConstants.{HEAP}
+use Rattle.cyc_store.specs.declared.range.TheConstants.{HEAP, UNIQUE}
 use Rattle.cyc_meaning.specs.Values.{words_of_kind}
-use Rattle.cyc_lower.specs.Lowering.{types_of, are_as_wide, converts_there, passed_words, source_of, source_slot, converted_by, moved_by, move_of, operand_of, operand_or, code_unless, slot_or, code_unless_slot, left_with, left_of, value_slot, next_slot, left_slot, value_operand, converted_operand, printed_operand, check_code, conversion_code, divisor_code, checked_code, operator_code, truth_code, load_code, test_code, is_in, copy_code, expression_code, arguments_code, converted_code, converted_operand_code, printed_code, initial_code, assignment_code, operations_code, discarded_code, failing_comparison, compared_or, compared_of, slot_with, first_code, second_code, pair_code, condition_code, condition_of, return_code, declaration_code, statement_code, items_code, first_temporary, initial_word, lower_function, lower_global, lower_program, behind_left, pointer_code, outside_loops, inside_loop, index_of, first_two, pointer_instructions, stores_code, object_code, made_code, place_operand, place_offset, place_code, address_code, addressed_by, store_address_code, store_code, guard_code, blocks, leave_code, clause_code, caught_code, clauses_code, function_code, break_target, continue_target}
+use Rattle.cyc_lower.specs.Lowering.{types_of, are_as_wide, converts_there, passed_words, source_of, source_slot, converted_by, moved_by, move_of, operand_of, operand_or, code_unless, slot_or, code_unless_slot, left_with, left_of, value_slot, next_slot, left_slot, value_operand, converted_operand, printed_operand, check_code, conversion_code, divisor_code, checked_code, operator_code, truth_code, load_code, test_code, is_in, copy_code, expression_code, arguments_code, converted_code, converted_operand_code, printed_code, initial_code, assignment_code, operations_code, discarded_code, failing_comparison, compared_or, compared_of, slot_with, first_code, second_code, pair_code, condition_code, condition_of, return_code, declaration_code, statement_code, items_code, first_temporary, initial_word, lower_function, lower_global, lower_program, behind_left, pointer_code, outside_loops, inside_loop, index_of, first_two, pointer_instructions, stores_code, object_code, made_code, place_operand, place_offset, place_code, address_code, addressed_by, store_address_code, store_code, guard_code, blocks, leave_code, clause_code, caught_code, clauses_code, function_code, break_target, continue_target, right_slot, side_code, read_side, write_side, exchange_code, swap_code}
 
 -- ---- lists
 
@@ -262,8 +262,13 @@ module _ (starts : Starts) where
         append (store_code starts x c p t) (copy_code (passed_words c) o d)
         (append address _ (address_of_words x p t t first) (append value _ (converted_operand_words c (p + length address) (t + 1) second) ((tt, omega arith, word), tt)))
         (copy_words (is_in o d) (passed_words c) o d word)
+    expression_words (FreeUnique a) p d t words =
+        let slot = value_slot starts a t in
+        let inner = expression_code starts a p slot t in
+        let word = known_word a slot words in
+        append (code_unless (operand_of starts a) inner) _ (unless_words (operand_of starts a) inner (expression_words a p slot t words)) ((word, omega arith), ((word, tt), tt))
     expression_words (New OnHeap i ty) p d t words = made_words i HEAP p d t (omega arith) words
-    expression_words (New AsUnique i ty) p d t words = absurd words
+    expression_words (New AsUnique i ty) p d t words = made_words i UNIQUE p d t (omega arith) words
     expression_words (New (ByHandle h) i ty) p d t words = absurd words
     expression_words a p d t words = absurd words
 
@@ -434,6 +439,29 @@ module _ (starts : Starts) where
   declaration_words n None p t words = tt
   declaration_words n (Some c) p t words = initial_words c p (slot_of starts n) t words
 
+  side_words : (a : Side) (p t : ℕ) → IsOfWordsSide a → HaveWords (side_code starts a p t)
+  side_words (VariableSide l ty) p t words = tt
+  side_words (CellSide x) p t words = address_of_words x p t t words
+
+  read_words : (a : Side) (s d : ℕ) → IsMade (read_side starts a s d)
+  read_words (VariableSide (Local w n) ty) s d = tt
+  read_words (VariableSide (Global n) ty) s d = tt
+  read_words (CellSide x) s d = (tt, omega arith)
+
+  write_words : (a : Side) (s v : ℕ) → IsMade (write_side starts a s v)
+  write_words (VariableSide (Local w n) ty) s v = tt
+  write_words (VariableSide (Global n) ty) s v = tt
+  write_words (CellSide x) s v = (tt, omega arith, tt)
+
+  swap_words : (x y : Side) (p t : ℕ) → IsOfWordsSide x → IsOfWordsSide y → HaveWords (swap_code starts x y p t)
+  swap_words x y p t words_x words_y =
+      let front = side_code starts x p t in
+      let middle = side_code starts y (p + length front) (right_slot x t) in
+      let back = exchange_code starts x y t in
+      append front (middle ++ back) (side_words x p t words_x)
+      (append middle back (side_words y (p + length front) (right_slot x t) words_y)
+      (read_words x t (t + 2), (read_words y (right_slot x t) (t + 3), (write_words x t (t + 3), (write_words y (right_slot x t) (t + 2), tt)))))
+
   -- the number of an exception is less than 2 ^ 32 in an operand, whatever it is
   throw_words : (tag : ℕ) (v : Option Expression) (p : ℕ) (exits : Exits) (t : ℕ) → IsOfWordsThrown v → HaveWords (statement_code starts (Throw tag v) p exits t)
   throw_words tag None p exits t words = ((omega arith, omega arith), tt)
@@ -451,6 +479,7 @@ module _ (starts : Starts) where
     statement_words (Block r js) p exits t words = items_words js p exits t words
     statement_words Empty p exits t words = tt
     statement_words (Evaluate a) p exits t words = discarded_words a p t words
+    statement_words (Swap x y) p exits t (words_x, words_y) = swap_words x y p t words_x words_y
     statement_words (If a s u) p exits t (first, second, third) =
         let condition = condition_code starts a p t in
         let m = p + length condition in
@@ -472,7 +501,6 @@ module _ (starts : Starts) where
         let close = instructions.Leave t ∷ [] in
         let out = p + 1 + length (body ++ close) in
         (tt, append (body ++ close) (_ ∷ clauses_code starts cs (out + 1) out exits t) (append body close (statement_words s (p + 1) exits (t + RECORD_WORDS) first) (tt, tt)) (tt, clauses_words cs (out + 1) out exits t rest))
-    statement_words s p exits t words = absurd words
 
     items_words : (js : Items) (p : ℕ) (exits : Exits) (t : ℕ) → AreOfWordsItems js → HaveWords (items_code starts js p exits t)
     items_words NoItems p exits t words = tt

@@ -1,11 +1,11 @@
 -- Which typed trees are lowered: those whose forms have code. Each number that such a tree has names something that is there, each call passes
 -- as many arguments as its function has parameters, and a break or a continue stands in a loop. A tree of the int language is one.
-use Rattle.std.specs.Prelude.{◌≡◌, ℕ, ◌<◌, Bool, true, false, not, ◌&&◌, List, [], ◌∷◌, Option, Some, None, length, slice_get, ◌≤◌}
-use Rattle.cyc_words.specs.Word.{IsWord}
+use Rattle.std.specs.Prelude.{◌≡◌, ℕ, ◌<◌, Bool, true, false, not, ◌&&◌, List, [], ◌∷◌, Option, Some, None, length, slice_get, ◌≤◌, is_some}
 use Rattle.cyc_types.specs.declared.typed.PointerOperator.{PointerOperator}
 use Rattle.cyc_types.specs.declared.typed.PointerOperator.TheVariants as pointers
 use Rattle.cyc_types.specs.Types.{Ty, words_of}
-use Rattle.cyc_types.specs.TypedTrees.{Load, New, OnHeap, Initial, Plain, Fields, Dereference, Target, Lvalue, Local, Global, Expression, Number, NullPointer, Copy, Call, Unary, Binary, Assign, Converted, Convert, Arguments, NoArguments, MoreArguments, Operations, NoOperations, ThenCompute, ThenTest, ThenPointer, Statement, Block, Empty, Evaluate, If, While, Return, Break, Continue, Items, NoItems, MoreItems, Execute, Declare, Signature, Function, Program, Move, Peek, ThenPointerPeek, AddressOfCell, Store, Member, Throw, Try, Clauses, NoClauses, Default, Case}
+use Rattle.cyc_types.specs.TypedTrees.{Load, New, OnHeap, AsUnique, Initial, Plain, Fields, Dereference, Target, Lvalue, Local, Global, Expression, Number, NullPointer, Copy, Call, Unary, Binary, Assign, Converted, Convert, Arguments, NoArguments, MoreArguments, Operations, NoOperations, ThenCompute, ThenTest, ThenPointer, Statement, Block, Empty, Evaluate, If, While, Return, Break, Continue, Items, NoItems, MoreItems, Execute, Declare, Signature, Function, Program, Move, Peek, ThenPointerPeek, AddressOfCell, Store, Member, FreeUnique, Side, VariableSide, CellSide, Swap, peeked, Throw, Try, Clauses, NoClauses, Default, Case}
+use Rattle.cyc_words.specs.Word.{IsWord}
 use Rattle.cyc_types.specs.typing.Scopes.{signature_of_ints}
 use Rattle.cyc_types.specs.Numbered.{Numbering, IsSignature, IsWithin, argument_count, numbering_of, signatures_of}
 use Rattle.cyc_store.specs.declared.range.TheConstants.{MOST_BLOCK_WORDS}
@@ -48,7 +48,9 @@ abbrev mutual
   IsLowerable b (Binary a os t) = IsLowerable b a × AreLowerableOperations b os
   IsLowerable b (Assign l c t) = HasPlace b l (passed_words c) × IsLowerableConverted b c
   IsLowerable b (Load x) = IsLowerableCell b x
+  IsLowerable b (FreeUnique a) = IsLowerable b a
   IsLowerable b (New OnHeap i t) = IsLowerableObject b i
+  IsLowerable b (New AsUnique i t) = IsLowerableObject b i
   IsLowerable b (AddressOfCell x t) = IsLowerableCell b x
   IsLowerable b (Store x c t) = IsLowerableCell b x × IsLowerableConverted b c
   IsLowerable b a = ⊥
@@ -79,6 +81,22 @@ abbrev mutual
   AreLowerableOperations b (ThenPointer o a os) = (stands_alone o os ≡ true) × IsLowerable b a × AreLowerableOperations b os
   AreLowerableOperations b (ThenPointerPeek n o a os) = (stands_alone o os ≡ true) × IsLowerable b a × AreLowerableOperations b os
 
+-- ---- swaps
+
+-- A side of a swap has one word yet.
+abbrev pub IsLowerableSide : Numbering → Side → Type 0
+IsLowerableSide b (VariableSide l t) = (words_of t ≡ 1) × IsWithin b l
+IsLowerableSide b (CellSide x) = IsLowerableCell b x
+
+-- A cell on the left waits for one on the right only where it is reached by a peek: then it is told from a variable.
+abbrev pub waits_for : (peek : Option ℕ) → (right : Side) → Bool
+waits_for peek (VariableSide l t) = true
+waits_for peek (CellSide y) = is_some peek
+
+abbrev pub may_wait : (left right : Side) → Bool
+may_wait (VariableSide l t) b = true
+may_wait (CellSide x) b = waits_for (peeked x) b
+
 -- a value is returned exactly by a function with a result
 abbrev pub IsLowerableReturn : Numbering → Option Ty → Option Converted → Type 0
 IsLowerableReturn b None None = Unit {0}
@@ -105,6 +123,7 @@ abbrev mutual
   IsLowerableStatement b l (Block r js) = AreLowerableItems b l js
   IsLowerableStatement b l Empty = Unit {0}
   IsLowerableStatement b l (Evaluate a) = IsLowerable b a
+  IsLowerableStatement b l (Swap x y) = IsLowerableSide b x × IsLowerableSide b y × (may_wait x y ≡ true)
   IsLowerableStatement b l (If a s t) = IsLowerable b a × IsLowerableStatement b l s × IsLowerableStatement b l t
   IsLowerableStatement b l (While p a s) = IsLowerable b a × IsLowerableStatement b true s
   IsLowerableStatement b l (Return v) = IsLowerableReturn b b.result v
@@ -112,7 +131,6 @@ abbrev mutual
   IsLowerableStatement b l Continue = l ≡ true
   IsLowerableStatement b l (Throw tag v) = IsWord tag × IsLowerableThrown b v
   IsLowerableStatement b l (Try s cs) = IsLowerableStatement b l s × AreLowerableClauses b l cs
-  IsLowerableStatement b l s = ⊥
 
   pub AreLowerableItems : Numbering → Bool → Items → Type 0
   AreLowerableItems b l NoItems = Unit {0}

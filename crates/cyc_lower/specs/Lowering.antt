@@ -20,7 +20,7 @@ use Rattle.cyc_types.specs.declared.typed.LogicalOperator.{LogicalOperator}
 use Rattle.cyc_types.specs.declared.typed.LogicalOperator.TheVariants as logical
 use Rattle.cyc_types.specs.Types.{Ty, words_of}
 use Rattle.cyc_types.specs.Numbered.{argument_count}
-use Rattle.cyc_types.specs.TypedTrees.{Load, New, OnHeap, Initial, Plain, Fields, Dereference, Target, Lvalue, Local, Global, Expression, Number, NullPointer, Copy, Call, Unary, Binary, Assign, Converted, Convert, Arguments, NoArguments, MoreArguments, Operations, NoOperations, ThenCompute, ThenTest, ThenPointer, ThenPointerPeek, Statement, Block, Empty, Evaluate, If, While, Return, Break, Continue, Items, NoItems, MoreItems, Execute, Declare, Constant, Word, Null, GlobalVariable, StructType, Function, Program, Move, Peek, Throw, Try, Clauses, NoClauses, Default, Case, AddressOfCell, Store, Member, Element}
+use Rattle.cyc_types.specs.TypedTrees.{Load, New, OnHeap, AsUnique, Initial, Plain, Fields, Dereference, Target, Lvalue, Local, Global, Expression, Number, NullPointer, Copy, Call, Unary, Binary, Assign, Converted, Convert, Arguments, NoArguments, MoreArguments, Operations, NoOperations, ThenCompute, ThenTest, ThenPointer, ThenPointerPeek, Statement, Block, Empty, Evaluate, If, While, Return, Break, Continue, Items, NoItems, MoreItems, Execute, Declare, Constant, Word, Null, GlobalVariable, StructType, Function, Program, Move, Peek, AddressOfCell, Store, Member, Element, FreeUnique, Side, VariableSide, CellSide, Swap, Throw, Try, Clauses, NoClauses, Default, Case}
 use Rattle.cyc_plain.specs.declared.instruction.UnaryOperator.{UnaryOperator as PlainUnary}
 use Rattle.cyc_plain.specs.declared.instruction.UnaryOperator.TheVariants as plain_unary
 use Rattle.cyc_plain.specs.declared.instruction.BinaryOperator.{BinaryOperator as PlainBinary}
@@ -33,7 +33,7 @@ use Rattle.cyc_plain.specs.declared.instruction.Request.TheVariants as requests
 use Rattle.cyc_plain.specs.declared.instruction.Instruction.{Instruction}
 use Rattle.cyc_plain.specs.declared.instruction.Instruction.TheVariants as instructions
 use Rattle.cyc_plain.specs.Program.{Routine, Program as PlainProgram}
-use Rattle.cyc_store.specs.declared.range.TheConstants.{HEAP}
+use Rattle.cyc_store.specs.declared.range.TheConstants.{HEAP, UNIQUE}
 use Rattle.cyc_plain.specs.declared.limits.TheConstants.{RECORD_WORDS}
 use Rattle.cyc_meaning.specs.Values.{words_of_kind}
 use Rattle.cyc_meaning.specs.Operators.{null_exception, division_by_zero, array_bounds, array_size}
@@ -300,6 +300,17 @@ object_code handle words d t =
     ++ instructions.Move d (operands.Slot (t + words))
     ∷ []
 
+-- the unique block at an address is freed, where that is not 0
+abbrev pub free_code : Operand → (p : ℕ) → List Instruction
+free_code o p = jump_if_zero o (p + 2) ∷ instructions.Ask (requests.Free o) ∷ []
+
+-- ---- swaps
+
+-- the slot for the address of the right side of a swap, behind that of the left one
+abbrev pub right_slot : (left : Side) → (t : ℕ) → ℕ
+right_slot (VariableSide l ty) t = t
+right_slot (CellSide x) t = t + 1
+
 -- ---- conditions, branches and loops
 
 -- A condition compares two expressions, and this comparison of them holds where it fails.
@@ -495,7 +506,11 @@ module _ (starts : Starts) where
         stored_by (addressed_by (place_code x p t) (place_operand x t) (place_offset x) t)
         (converted_operand_code c (p + length (addressed_by (place_code x p t) (place_operand x t) (place_offset x) t)) (t + 1)) t (converted_operand c (t + 1))
         ++ copy_code (passed_words c) (converted_operand c (t + 1)) d
+    expression_code (FreeUnique a) p d t =
+        code_unless (operand_of a) (expression_code a p (value_slot a t) t)
+        ++ free_code (value_operand a t) (p + length (code_unless (operand_of a) (expression_code a p (value_slot a t) t)))
     expression_code (New OnHeap i ty) p d t = made_code i HEAP p d t
+    expression_code (New AsUnique i ty) p d t = made_code i UNIQUE p d t
     expression_code a p d t = instructions.Move d (operands.Word 0) ∷ []
 
     -- a place that a pointer leads to, which is tested
@@ -623,6 +638,32 @@ module _ (starts : Starts) where
       ++ instructions.Finish (slot_or (source_of (Convert from to a)) t)
       ∷ []
 
+  -- The address of a side of a swap that is a cell comes to slot t. A variable has no code.
+  abbrev pub side_code : Side → (p t : ℕ) → List Instruction
+  side_code (VariableSide l ty) p t = []
+  side_code (CellSide x) p t = store_address_code x p t
+
+  -- a word that a side holds comes to slot d
+  abbrev pub read_side : Side → (address d : ℕ) → Instruction
+  read_side (VariableSide (Local w n) ty) s d = instructions.Move d (operands.Slot (slot_of starts n))
+  read_side (VariableSide (Global n) ty) s d = instructions.LoadGlobal d n
+  read_side (CellSide x) s d = instructions.Load d (operands.Slot s) 0
+
+  -- the word in a slot comes to a side
+  abbrev pub write_side : Side → (address from : ℕ) → Instruction
+  write_side (VariableSide (Local w n) ty) s v = instructions.Move (slot_of starts n) (operands.Slot v)
+  write_side (VariableSide (Global n) ty) s v = instructions.StoreGlobal n (operands.Slot v)
+  write_side (CellSide x) s v = instructions.Store (operands.Slot s) 0 (operands.Slot v)
+
+  -- both sides are read, the left one first, and then written
+  abbrev pub exchange_code : (left right : Side) → (t : ℕ) → List Instruction
+  exchange_code a b t =
+      read_side a t (t + 2) ∷ read_side b (right_slot a t) (t + 3) ∷ write_side a t (t + 3) ∷ write_side b (right_slot a t) (t + 2) ∷ []
+
+  abbrev pub swap_code : (left right : Side) → (p t : ℕ) → List Instruction
+  swap_code a b p t =
+      side_code a p t ++ (side_code b (p + length (side_code a p t)) (right_slot a t) ++ exchange_code a b t)
+
   -- a local with an initial value gets it
   abbrev pub declaration_code : (number : ℕ) → Option Converted → (p t : ℕ) → List Instruction
   declaration_code n None p t = []
@@ -648,6 +689,7 @@ module _ (starts : Starts) where
     statement_code (Block r js) p exits t = items_code js p exits t
     statement_code Empty p exits t = []
     statement_code (Evaluate a) p exits t = discarded_code a p t
+    statement_code (Swap a b) p exits t = swap_code a b p t
     statement_code (If a s u) p exits t =
         if_code (condition_code a p t) (failing_jump (condition_of a t))
         (statement_code s (p + length (condition_code a p t) + 1) exits t)
@@ -664,7 +706,6 @@ module _ (starts : Starts) where
         (clauses_code cs (p + 1 + length (statement_code s (p + 1) exits (t + RECORD_WORDS) ++ instructions.Leave t ∷ []) + 1)
         (p + 1 + length (statement_code s (p + 1) exits (t + RECORD_WORDS) ++ instructions.Leave t ∷ [])) exits t)
         p
-    statement_code s p exits t = []
 
     pub items_code : Items → (p : ℕ) → Exits → (t : ℕ) → List Instruction
     items_code NoItems p exits t = []

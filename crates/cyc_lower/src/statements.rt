@@ -255,6 +255,7 @@ impl Emitter {
             Stmt::Block { items, .. } => self.lower_items(starts, items, exits, free),
             Stmt::Empty => Ok(()),
             Stmt::Evaluate { value } => self.discard(starts, value, free),
+            Stmt::Swap { left, right } => self.lower_swap(starts, left, right, free),
             Stmt::If {
                 condition,
                 then,
@@ -297,8 +298,6 @@ impl Emitter {
                 self.jump_here(out);
                 Ok(())
             }
-            // A swap is not built yet, and never runs.
-            Stmt::Swap { .. } => Ok(()),
         }
     }
 

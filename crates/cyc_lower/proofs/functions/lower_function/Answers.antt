@@ -4,7 +4,7 @@ use Rattle.cyc_types.specs.TypeView.{view_ty}
 use Rattle.cyc_types.specs.TypedTreeView.{view_struct, view_function, items_of}
 use Rattle.cyc_types.specs.declared.ty.Ty.{Ty}
 use Rattle.cyc_meaning.specs.FrameCount.{items_need, kept_by_items, words_of_all}
-use Rattle.cyc_lower.specs.Lowering.{first_temporary, function_code, span_of_place}
+use Rattle.cyc_lower.specs.Lowering.{first_temporary, function_code, items_code, outside_loops, span_of_place}
 use Rattle.cyc_lower.proofs.Routines.{few_locals, function_made}
 use Rattle.cyc_lower.proofs.functions.lower_function.Goals as goal
 
@@ -51,8 +51,12 @@ returns c =
     let kept = ap (λ (js : List Item). kept_by_items (items_of js)) c.deref-4.ensures.value in
     let slots : free + c.kept_by_items.result + c.items_need.result + 3 ≡ first_temporary h + kept_by_items h.body + items_need h.body + 3 = omega (arith, c.in_ok-locals.ensures.1, c.kept_by_items.ensures, kept, c.items_need.ensures, body) in
     let code : c.lower_blocks.new.self.code.items ≡ function_code structs h =
-    function_made structs h c.deref.result.now c.deref-2.result.now free raises c.in_ok-lower_body.field-0.code.items c.in_ok-emitter.emitter.code.items c.emit.new.self.code.items c.lower_blocks.new.self.code.items
-    (c.deref.ensures.value ∙ c.in_ok-locals.ensures.0) (c.deref-2.ensures.value ∙ c.in_ok-locals.ensures.0) c.in_ok-locals.ensures.1 c.in_ok-lower_body.ensures c.place-raises.ensures c.in_ok-emitter.ensures c.in_ok-emit.ensures c.in_ok-lower_blocks.ensures in
+    function_made structs h c.in_ok-locals.locals.items free raises c.in_ok-lower_body.field-0.code.items c.in_ok-emitter.emitter.code.items c.emit.new.self.code.items c.lower_blocks.new.self.code.items
+    c.in_ok-locals.ensures.0 c.in_ok-locals.ensures.1
+    (c.in_ok-lower_body.ensures ∙ ap (λ (l : List ℕ). items_code (record { locals = l; structs = structs; raises = 0 }) h.body 0 (outside_loops free) free) c.deref.ensures.value)
+    c.place-raises.ensures
+    (c.in_ok-emitter.ensures ∙ ap (λ (l : List ℕ). items_code (record { locals = l; structs = structs; raises = raises }) h.body 0 (outside_loops free) free) c.deref-2.ensures.value)
+    c.in_ok-emit.ensures c.in_ok-lower_blocks.ensures in
     λ i. record {
       name = span_of_place h.place;
       parameters = parameters i;
