@@ -721,8 +721,9 @@ module _ (source : Program) where
     behind_call : (kind : Kind) → (o : Operand) → DataIn t c.active.slots k e w c → ValueStack c.active.function e.locals kind o c.active.next c.frames k → ProceedingAt t k e w c
     behind_wrong : (kind : Kind) → (n : ℕ) → calls_in k ≡ suc (length c.frames) → AheadStack c.active.function e.locals kind n c.active.next c.frames k → ProceedingAt t k e w c
 
-  -- An exception comes to the newest handler at once, or ends the plain program, while the source leaves one entry after the other. So
-  -- the handlers are those of the call to which it has come, behind which no frame waits that has none open.
+  -- An exception comes to the newest handler by one instruction, or ends the plain program, while the source leaves one entry after the
+  -- other. So the plain program stands where it throws, until the source is at the handler. That is the newest of the call whose entries
+  -- the source leaves (`a`), or of those that wait for it (`rest`).
   abbrev pub CaughtBy : Activation → List Frame → List Entry → Type 0
   CaughtBy a rest [] = (a.handlers ≡ []) × (rest ≡ [])
   CaughtBy a rest (entry ∷ k) = HandlersStand a.function a.slots a.handlers rest (entry ∷ k)
