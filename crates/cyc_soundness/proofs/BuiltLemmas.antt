@@ -13,12 +13,12 @@ use Rattle.cyc_soundness.proofs.Numbers.{both_true}
 not_built : {A : Type 0} → false ≡ true → A
 not_built e = absurd (let k : false ≡ true = e in cc)
 
-placement_kept : (w : Placement) → is_built_placement w ≡ true → InPlacement AsHeap w
+placement_kept : (w : Placement) → is_built_placement w ≡ true → InPlacement AsHeap [] w
 placement_kept OnHeap e = tt
 placement_kept w e = not_built e
 
 mutual
-  expression_kept : (a : Expression) → is_built_expression a ≡ true → InExpression AsHeap a
+  expression_kept : (a : Expression) → is_built_expression a ≡ true → InExpression AsHeap [] a
   expression_kept (Number n) e = tt
   expression_kept NullPointer e = tt
   expression_kept (Copy l t) e = tt
@@ -38,26 +38,26 @@ mutual
       (placement_kept w whole.0, initial_kept i (both_true (is_built_initial i) (is_built_type t) whole.1).0)
   expression_kept a e = not_built e
 
-  place_kept : (d : Dereference) → is_built_place d ≡ true → InPlace AsHeap d
+  place_kept : (d : Dereference) → is_built_place d ≡ true → InPlace AsHeap [] d
   place_kept (Target k a t) e = expression_kept a (both_true (is_built_expression a) (is_built_kind k && is_built_type t) e).0
   place_kept (Member k a s f t) e = expression_kept a (both_true (is_built_expression a) (is_built_kind k && is_built_type t) e).0
   place_kept d e = not_built e
 
-  initial_kept : (i : Initial) → is_built_initial i ≡ true → InInitial AsHeap i
+  initial_kept : (i : Initial) → is_built_initial i ≡ true → InInitial AsHeap [] i
   initial_kept (Plain k a) e = expression_kept a (both_true (is_built_expression a) (is_built_kind k) e).0
   initial_kept (Fields cs) e = arguments_kept cs (both_true (is_built_size (argument_count cs)) (are_built_arguments cs) e).1
   initial_kept i e = not_built e
 
-  converted_kept : (c : Converted) → is_built_converted c ≡ true → InConverted AsHeap c
+  converted_kept : (c : Converted) → is_built_converted c ≡ true → InConverted AsHeap [] c
   converted_kept (Convert from to a) e = expression_kept a (both_true (is_built_expression a) (is_built_kind from && is_built_kind to) e).0
 
-  arguments_kept : (cs : Arguments) → are_built_arguments cs ≡ true → InArguments AsHeap cs
+  arguments_kept : (cs : Arguments) → are_built_arguments cs ≡ true → InArguments AsHeap [] cs
   arguments_kept NoArguments e = tt
   arguments_kept (MoreArguments c cs) e =
       let both = both_true (is_built_converted c) (are_built_arguments cs) e in
       (converted_kept c both.0, arguments_kept cs both.1)
 
-  operations_kept : (os : Operations) → are_built_operations os ≡ true → InOperations AsHeap os
+  operations_kept : (os : Operations) → are_built_operations os ≡ true → InOperations AsHeap [] os
   operations_kept NoOperations e = tt
   operations_kept (ThenCompute o a os) e =
       let both = both_true (is_built_expression a) (are_built_operations os) e in
@@ -70,16 +70,16 @@ mutual
       (expression_kept a both.0, operations_kept os both.1)
   operations_kept os e = not_built e
 
-value_kept : (v : Option Converted) → is_built_value v ≡ true → InValue AsHeap v
+value_kept : (v : Option Converted) → is_built_value v ≡ true → InValue AsHeap [] v
 value_kept None e = tt
 value_kept (Some c) e = converted_kept c e
 
-thrown_kept : (v : Option Expression) → is_built_thrown v ≡ true → InThrown AsHeap v
+thrown_kept : (v : Option Expression) → is_built_thrown v ≡ true → InThrown AsHeap [] v
 thrown_kept None e = tt
 thrown_kept (Some a) e = expression_kept a e
 
 mutual
-  statement_kept : (n : ℕ) (s : Statement) → is_built_statement s ≡ true → InStatement AsHeap n s
+  statement_kept : (n : ℕ) (s : Statement) → is_built_statement s ≡ true → InStatement AsHeap [] n s
   statement_kept n (Block r js) e = items_kept (suc n) js e
   statement_kept n Empty e = tt
   statement_kept n (Evaluate a) e = expression_kept a e
@@ -99,7 +99,7 @@ mutual
       (statement_kept n s both.0, clauses_kept (n + declared_regions s) cs both.1)
   statement_kept n s e = not_built e
 
-  items_kept : (n : ℕ) (js : Items) → are_built_items js ≡ true → InItems AsHeap n js
+  items_kept : (n : ℕ) (js : Items) → are_built_items js ≡ true → InItems AsHeap [] n js
   items_kept n NoItems e = tt
   items_kept n (MoreItems (Execute s) js) e =
       let both = both_true (is_built_statement s) (are_built_items js) e in
@@ -110,7 +110,7 @@ mutual
       (tt, value_kept v both.0, items_kept n js both.1)
   items_kept n js e = not_built e
 
-  clauses_kept : (n : ℕ) (cs : Clauses) → are_built_clauses cs ≡ true → InClauses AsHeap n cs
+  clauses_kept : (n : ℕ) (cs : Clauses) → are_built_clauses cs ≡ true → InClauses AsHeap [] n cs
   clauses_kept n NoClauses e = tt
   clauses_kept n (Default r js) e = items_kept (suc n) js e
   clauses_kept n (Case tag x r js cs) e =

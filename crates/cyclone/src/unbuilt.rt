@@ -14,7 +14,7 @@ pub fn first_unbuilt(alloc: Global, text: &[u8]) -> Option<Unbuilt> {
 pub fn name_of(construct: Construct) -> &'static str {
     match construct {
         Construct::Struct => "a struct of this size",
-        Construct::Exception => "an exception of its own",
+        Construct::Exception => "an exception with this number",
         Construct::FatPointer => "a fat pointer",
         Construct::UniquePointer => "a unique pointer",
         Construct::Handle => "the handle of a region",
@@ -26,8 +26,6 @@ pub fn name_of(construct: Construct) -> &'static str {
         Construct::RegionNew => "rnew",
         Construct::Array => "an array",
         Construct::Swap => ":=:",
-        Construct::Throw => "throw",
-        Construct::Try => "try",
         Construct::Region => "a region or an alias",
     }
 }
