@@ -1,5 +1,5 @@
 -- The steps that make objects: the store is asked for a block, and then each cell is written.
-use Rattle.std.proofs.Common.{◌≡◌, ℕ, zero, suc, ◌+◌, ◌*◌, ◌≤◌, ◌<◌, max, Bool, true, false, List, [], ◌∷◌, ◌++◌, length, reverse, None, Some, refl, sym, ap, subst, ◌∙◌, inl, inr, arith, length-append, append_assoc}
+use Rattle.std.proofs.Common.{◌≡◌, ℕ, zero, suc, ◌+◌, ◌*◌, ◌≤◌, ◌<◌, max, Bool, true, false, List, [], ◌∷◌, ◌++◌, length, reverse, Option, None, Some, slice_get, refl, sym, ap, subst, ◌∙◌, inl, inr, arith, length-append, append_assoc}
 use Rattle.std.proofs.lemmas.List.{length-reverse}
 use Rattle.std.specs.Prelude.{nat_le, nat_lt, ◌&&◌, if◌then◌else◌}
 use Rattle.std.proofs.lemmas.Bool.{le-leb, and_from, false_from_ne_true, leb-true, ltb-true, cases_Bool}
@@ -46,8 +46,8 @@ use Rattle.cyc_objects.proofs.Making.{open-home, allocated, allocated-unique, re
 use Rattle.cyc_lower.specs.Lowering.{lower_program}
 use Rattle.cyc_lower.proofs.Widths.{kind_positive, Outside}
 use Rattle.cyc_lower.proofs.Stands.{StoresAt, ObjectAt}
-use Rattle.cyc_lower.proofs.Relation.{IsWord, IsIn, IsHandleOf, IsObject, words_held, height, Holds, HoldsFrom, held, callers, homes, silent, DataIn, SharedAt, in_temporary, into_slot, LandsStack, ValueStack, Matches, code_of, bounds_at, types_at, base_of, top, contents}
-use Rattle.cyc_lower.proofs.Data.{Is-same, height-least, one_word, Holds-same, Holds-rest, Holds-grows, HoldsFrom-grows, in_order, words-reverse, data_above, data_grows, variables_grow, contents_made}
+use Rattle.cyc_lower.proofs.Relation.{IsWord, IsIn, IsHandleOf, IsObject, words_held, height, Holds, HoldsFrom, held, callers, homes, silent, DataIn, SharedAt, in_temporary, into_slot, LandsStack, ValueStack, Matches, code_of, bounds_at, types_at, base_of, top, contents, floor}
+use Rattle.cyc_lower.proofs.Data.{Is-same, height-least, one_word, Holds-same, Holds-rest, Holds-grows, HoldsFrom-grows, in_order, words-reverse, data_grows, variables_grow, contents_made, data_written}
 use Rattle.cyc_lower.proofs.Accesses.{IsWell, is_fitting}
 use Rattle.cyc_lower.proofs.CellWrites.{SameVariables, data_beside, cell_is_there, saves_there, shared_saved, data_saved}
 use Rattle.cyc_lower.proofs.Matched.{IsMatched, below, silently, by_places, by_one, shared_way, shared_within, place_in, known, Executes}
@@ -214,7 +214,7 @@ module _ (source : Program) (pages calls : ℕ) where
   -- ---- an object is made
 
   module _ (k : List Entry) (e : Environment) (w : World) (c : Configuration) (shared : SharedAt source pages calls k e w c) (facts : DataIn source shared.tables c.active.slots k e w c)
-      (holds : Holds shared.tables c.active.slots (base_of source c.active.function) (held k)) (vs : List Kinded) (owner : Owner) (handle : ℕ) (new : World) (makes : Makes shared.tables w c.store owner handle (blanks_of vs) new)
+      (holds : Holds shared.tables c.active.slots (floor source c.active.function k) (held k)) (vs : List Kinded) (owner : Owner) (handle : ℕ) (new : World) (makes : Makes shared.tables w c.store owner handle (blanks_of vs) new)
       (some : 1 ≤ words_held vs) (few : words_held vs ≤ MOST_BLOCK_WORDS) (choice : services.Choice)
       (free : refusal c.store (Allocate handle (block_size (blanks_of vs))) ≡ None)
       (served : plain_step.IsServed c.store (Allocate handle (block_size (blanks_of vs))) choice) where
@@ -261,17 +261,19 @@ module _ (source : Program) (pages calls : ℕ) where
     data_made =
         let g = c.active.function in
         let many : length new.objects ≡ length w.objects + 1 = ap length makes.joined ∙ length-append w.objects (record { owner = owner; cells = cells } ∷ []) in
-        data_above grown source g new.objects e.locals (callers k) c.active.slots after.active.slots c.globals c.frames (t + words_held vs) 1 (omega (arith, height-least (base_of source g) (held k))) same_slots
-        (data_grows shared.tables grown grows source g new.objects e.locals (callers k) c.active.slots c.globals c.frames
-        (data_beside shared.tables source g w.objects new.objects e.locals (callers k) c.active.slots c.globals c.frames (omega (arith, many)) beside facts))
+        data_written source grown g new.objects e.locals k c.active.slots after.active.slots c.active.handlers c.globals c.frames (t + words_held vs) 1 (omega (arith, height-least (floor source g k) (held k))) same_slots (
+          data_grows shared.tables grown grows source g new.objects e.locals (callers k) c.active.slots c.globals c.frames
+              (data_beside shared.tables source g w.objects new.objects e.locals (callers k) c.active.slots c.globals c.frames (omega (arith, many)) beside facts.0),
+          facts.1,
+        )
       where
         beside : SameVariables shared.tables w.objects new.objects
         beside o row = ap (λ l. contents l o) makes.joined ∙ contents_made w.objects (record { owner = owner; cells = cells }) o (omega (arith, slice_get-below shared.tables.rows o Variable row, shared.related.rows))
 
-    holds_made : Holds grown after.active.slots (base_of source c.active.function) (held k)
+    holds_made : Holds grown after.active.slots (floor source c.active.function k) (held k)
     holds_made =
-        Holds-same grown c.active.slots after.active.slots (base_of source c.active.function) (held k) (λ n short. same_slots n (inl (omega (arith, short))))
-        (Holds-grows shared.tables grown grows c.active.slots (base_of source c.active.function) (held k) holds)
+        Holds-same grown c.active.slots after.active.slots (floor source c.active.function k) (held k) (λ n short. same_slots n (inl (omega (arith, short))))
+        (Holds-grows shared.tables grown grows c.active.slots (floor source c.active.function k) (held k) holds)
 
     values_made : HoldsFrom shared.tables c.active.slots t vs → HoldsFrom grown after.active.slots t vs
     values_made values =
@@ -295,7 +297,7 @@ module _ (source : Program) (pages calls : ℕ) where
   pub made_object : (owner : Owner) (handle : ℕ) → IsHandleOf owner handle → (focus : Focus) (k₀ k : List Entry) (e : Environment) (w : World) (c : Configuration) (vs : List Kinded) (d q : ℕ)
       → step source (Running focus k₀ e w) ≡ makes_of owner vs k e w
       → IsWell (makes_of owner vs k e w) → SharedAt source pages calls k₀ e w c → (shared : SharedAt source pages calls k e w c) → DataIn source shared.tables c.active.slots k e w c
-      → Holds shared.tables c.active.slots (base_of source c.active.function) (held k) → HoldsFrom shared.tables c.active.slots (top source c.active.function k) vs
+      → Holds shared.tables c.active.slots (floor source c.active.function k) (held k) → HoldsFrom shared.tables c.active.slots (top source c.active.function k) vs
       → ObjectAt (code_of source c.active.function) (bounds_at source c.active.function) (types_at source c.active.function) handle (length vs) (words_held vs) (top source c.active.function k) d c.active.next q
       → LandsStack source c.active.function e.locals kinds.NonNull d q c.frames k → IsMatched source pages calls (Running focus k₀ e w) (plain.Running c)
   made_object owner handle owned focus k₀ k e w c vs d q does well shared₀ shared facts holds values (m, single, some, few, ask, stores, move, end) lands =
@@ -354,7 +356,7 @@ module _ (source : Program) (pages calls : ℕ) where
   -- the value of its only cell
   pub plain_made : (owner : Owner) (kind : Kind) (v : Kinded) (o : Operand) (k : List Entry) (e : Environment) (w : World) (c : Configuration)
       → IsWell (step source (Running (Given v) (Needs (MakePlain owner kind) ∷ k) e w)) → (shared : SharedAt source pages calls k e w c) → DataIn source shared.tables c.active.slots k e w c
-      → IsIn shared.tables v c.active.slots o → Holds shared.tables c.active.slots (base_of source c.active.function) (held k)
+      → IsIn shared.tables v c.active.slots o → Holds shared.tables c.active.slots (floor source c.active.function k) (held k)
       → ValueStack source c.active.function e.locals v.kind o c.active.next c.frames (Needs (MakePlain owner kind) ∷ k)
       → IsMatched source pages calls (Running (Given v) (Needs (MakePlain owner kind) ∷ k) e w) (plain.Running c)
   plain_made owner kind v o k e w c well shared facts is holds (handle, d, q, owned, there, (m, single, some, few, ask, stores, move, end), lands) =
@@ -371,12 +373,12 @@ module _ (source : Program) (pages calls : ℕ) where
   -- the next of its fields is evaluated, or it is made of all
   pub fields_made : (owner : Owner) (earlier : List Kinded) (cs : Arguments) (v : Kinded) (o : Operand) (k : List Entry) (e : Environment) (w : World) (c : Configuration)
       → IsWell (step source (Running (Given v) (Needs (MakeFields owner earlier cs) ∷ k) e w)) → (shared : SharedAt source pages calls k e w c) → DataIn source shared.tables c.active.slots k e w c
-      → IsIn shared.tables v c.active.slots o → Holds shared.tables c.active.slots (base_of source c.active.function) (earlier ++ held k)
+      → IsIn shared.tables v c.active.slots o → Holds shared.tables c.active.slots (floor source c.active.function k) (earlier ++ held k)
       → ValueStack source c.active.function e.locals v.kind o c.active.next c.frames (Needs (MakeFields owner earlier cs) ∷ k)
       → IsMatched source pages calls (Running (Given v) (Needs (MakeFields owner earlier cs) ∷ k) e w) (plain.Running c)
   fields_made owner earlier NoArguments v o k e w c well shared facts is holds (handle, d, p, q, all, owned, there, none, (m, single, some, few, ask, stores, move, end), long, lands) =
       let g = c.active.function in
-      let base = base_of source g in
+      let base = floor source g k in
       let t = top source g k in
       let values = reverse (v ∷ earlier) in
       let held_all : Holds shared.tables c.active.slots base ((v ∷ earlier) ++ held k) = (subst (IsIn shared.tables v c.active.slots) there is, holds) in
@@ -394,7 +396,7 @@ module _ (source : Program) (pages calls : ℕ) where
       (Running (Evaluating a) (Needs (ConvertTo from to (target_by a)) ∷ Needs (MakeFields owner (v ∷ earlier) cs) ∷ k) e w) (plain.Running c) refl (
         shared,
         facts,
-        into_slot (height (base_of source g) (v ∷ earlier ++ held k)) s at_a (subst (IsIn shared.tables v c.active.slots) there is, holds)
+        into_slot (height (floor source g k) (v ∷ earlier ++ held k)) s at_a (subst (IsIn shared.tables v c.active.slots) there is, holds)
             (in_temporary (omega arith) (r, at_to, (handle, d, p, q, all, owned, refl, at_cs, (m, omega (arith, single), some, few, ask, stores, move, end), omega (arith, long), lands))),
       )
       (omega arith)

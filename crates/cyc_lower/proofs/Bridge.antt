@@ -12,9 +12,11 @@ use Rattle.cyc_types.specs.declared.typed.Operator.TheVariants as operators
 use Rattle.cyc_types.specs.declared.typed.PointerOperator.{PointerOperator}
 use Rattle.cyc_types.specs.declared.typed.PointerOperator.TheVariants as pointers
 use Rattle.cyc_types.specs.Types.{Ty, words_of}
-use Rattle.cyc_types.specs.TypedTrees.{Load, New, OnHeap, AsUnique, ByHandle, Initial, Plain, Fields, Dereference, Target, Lvalue, Local, Global, Expression, Number, NullPointer, Copy, Call, Unary, Binary, Assign, Converted, Convert, Arguments, NoArguments, MoreArguments, Operations, NoOperations, ThenCompute, ThenTest, ThenPointer, Statement, Block, Empty, Evaluate, If, While, Return, Break, Continue, Items, NoItems, MoreItems, Execute, Declare, Signature, StructType, Function, Program, Move, Peek, ThenPointerPeek, type_of, AddressOfCell, Store, Member, type_of_place, FreeUnique, Side, VariableSide, CellSide, Swap}
+use Rattle.cyc_types.specs.TypedTrees.{Load, New, OnHeap, AsUnique, ByHandle, Initial, Plain, Fields, Dereference, Target, Lvalue, Local, Global, Expression, Number, NullPointer, Copy, Call, Unary, Binary, Assign, Converted, Convert, Arguments, NoArguments, MoreArguments, Operations, NoOperations, ThenCompute, ThenTest, ThenPointer, Statement, Block, Empty, Evaluate, If, While, Return, Break, Continue, Items, NoItems, MoreItems, Execute, Declare, Signature, StructType, Function, Program, Move, Peek, ThenPointerPeek, type_of, AddressOfCell, Store, Member, type_of_place, FreeUnique, Side, VariableSide, CellSide, Swap, Throw, Try, Clauses, NoClauses, Default, Case}
 use Rattle.cyc_types.specs.Numbered.{Numbering, argument_count, numbering_of, signatures_of}
+use Rattle.cyc_plain.specs.declared.limits.TheConstants.{RECORD_WORDS}
 use Rattle.cyc_plain.specs.declared.instruction.Comparison.{Comparison}
+use Rattle.cyc_plain.specs.declared.instruction.Comparison.TheVariants as comparisons
 use Rattle.cyc_plain.specs.declared.instruction.Operand.{Operand}
 use Rattle.cyc_plain.specs.declared.instruction.Operand.TheVariants as operands
 use Rattle.cyc_plain.specs.declared.instruction.Instruction.{Instruction}
@@ -26,13 +28,14 @@ use Rattle.cyc_store.specs.declared.range.TheConstants.{MOST_BLOCK_WORDS, HEAP, 
 use Rattle.cyc_meaning.specs.Values.{kind_of, words_of_kind}
 use Rattle.cyc_meaning.specs.FrameCount.{words_of_all, operand_words}
 use Rattle.cyc_lower.specs.Slots.{Types, starts_of, slot_of}
-use Rattle.cyc_lower.specs.Lowering.{types_of, are_as_wide, converts_there, passed_words, source_of, source_slot, moved_by, move_of, operand_of, operand_or, code_unless, slot_or, code_unless_slot, left_with, left_of, value_slot, next_slot, slot_with, left_slot, value_operand, converted_operand, printed_operand, jump_if_nonzero, check_code, conversion_code, divisor_code, checked_code, operator_code, truth_code, load_code, low_byte, test_code, is_in, copy_code, expression_code, arguments_code, converted_code, converted_operand_code, printed_code, initial_code, assignment_code, assigned_operand, operations_code, discarded_code, failing_comparison, compared_or, compared_of, first_operand, first_code, second_code, pair_code, condition_code, condition_of, failing_jump, break_target, continue_target, return_code, declaration_code, statement_code, items_code, function_code, first_temporary, results_of, lower_function, lower_program, behind_left, pointer_code, outside_loops, inside_loop, pointer_operator, index_code, pointer_instructions, stores_code, object_code, made_code, place_operand, place_offset, place_code, address_code, free_code, jump_if_zero, right_slot, side_code, read_side, write_side, exchange_code, swap_code}
+use Rattle.cyc_lower.specs.Lowering.{types_of, are_as_wide, converts_there, passed_words, source_of, source_slot, moved_by, move_of, operand_of, operand_or, code_unless, slot_or, code_unless_slot, left_with, left_of, value_slot, next_slot, slot_with, left_slot, value_operand, converted_operand, printed_operand, jump_if_nonzero, check_code, conversion_code, divisor_code, checked_code, operator_code, truth_code, load_code, low_byte, test_code, is_in, copy_code, expression_code, arguments_code, converted_code, converted_operand_code, printed_code, initial_code, assignment_code, assigned_operand, operations_code, discarded_code, failing_comparison, compared_or, compared_of, first_operand, first_code, second_code, pair_code, condition_code, condition_of, failing_jump, break_target, continue_target, return_code, declaration_code, statement_code, items_code, function_code, first_temporary, results_of, lower_function, lower_program, behind_left, pointer_code, outside_loops, inside_loop, pointer_operator, index_code, pointer_instructions, stores_code, object_code, made_code, place_operand, place_offset, place_code, address_code, raising, blocks, guard_code, body_code, free_code, jump_if_zero, right_slot, side_code, read_side, write_side, exchange_code, swap_code, leave_code, tag_operand, other_jump, goes_on, clause_code, thrown_code, thrown_operand, caught_code, clauses_code}
 use Rattle.cyc_lower.specs.declared.statements.Exits.{Exits}
+use Rattle.cyc_lower.proofs.Stands.{OperandBy, CheckAt, ConversionBy, ConversionAt, DivisorAt, CheckedAt, OperatorAt, LoadAt, CopyBy, ExpressionAt, InitialAt, InitialBy, ConvertedAt, ConvertedOperandAt, PrintedAt, ArgumentsAt, OperationsAt, PairAt, ConditionAt, AssignmentAt, DiscardedAt, ReturnedAt, ReturnAt, DeclarationAt, StatementAt, ItemsAt, FirstTwoAt, IndexAt, PointerAt, StoresAt, ObjectAt, MadeAt, AddressAt, PlaceAt, GuardAt, FreedAt, HasSide, SideAt, ReadAt, WriteAt, SwapAt, LeaveBy, LeaveAt, ThrownAt, CaughtAt, ClausesAt}
+use Rattle.cyc_lower.proofs.Lengths.{body_long}
 use Rattle.cyc_types.specs.typing.Expressions.{type_of_side}
 use Rattle.cyc_lower.specs.Lowerable.{may_wait}
-use Rattle.cyc_lower.proofs.Stands.{OperandBy, CheckAt, ConversionBy, ConversionAt, DivisorAt, CheckedAt, OperatorAt, LoadAt, CopyBy, ExpressionAt, InitialAt, InitialBy, ConvertedAt, ConvertedOperandAt, PrintedAt, ArgumentsAt, OperationsAt, PairAt, ConditionAt, AssignmentAt, DiscardedAt, ReturnedAt, ReturnAt, DeclarationAt, StatementAt, ItemsAt, FirstTwoAt, IndexAt, PointerAt, StoresAt, ObjectAt, MadeAt, AddressAt, PlaceAt, FreedAt, HasSide, SideAt, ReadAt, WriteAt, SwapAt}
 use Rattle.cyc_lower.proofs.Widths.{kind_of_result, given, passed_kind, type_words}
-use Rattle.cyc_lower.proofs.Fitting.{FitsPlace, FitsStored, FitsCell, FitsObject, Fits, FitsConverted, FitArguments, FitOperations, FitsReturn, FitsInitial, FitsStatement, FitItems, AreFitting, IsFitting, FitsSide}
+use Rattle.cyc_lower.proofs.Fitting.{FitsPlace, FitsStored, FitsCell, FitsObject, Fits, FitsConverted, FitArguments, FitOperations, FitsReturn, FitsInitial, FitsStatement, FitItems, AreFitting, IsFitting, FitsSide, FitsThrown, FitsCaught, FitClauses}
 use Rattle.cyc_lower.proofs.Values.{as_wide}
 use Rattle.cyc_lower.proofs.Relation.{bounds_in, types_in}
 use Rattle.cyc_lower.proofs.Calls.{FunctionsStand}
@@ -41,7 +44,20 @@ use Rattle.cyc_lower.proofs.Calls.{FunctionsStand}
 cut : (p q : ℕ) (a b : List Instruction) → p + length (a ++ b) ≡ q → p + length a + length b ≡ q
 cut p q a b end = omega (arith, end, length-append a b)
 
-module _ (code : List Instruction) (b : Numbering) (types : Types) where
+-- the blocks that raise exceptions stand behind this place
+abbrev BlocksStand : List Instruction → (raises : ℕ) → Type 0
+BlocksStand code raises = (tag : ℕ) → 1 ≤ tag → tag ≤ 4 → At code (raises + tag) (raising tag)
+
+blocks_stand : (code : List Instruction) (raises : ℕ) → HasAt code (raises + 1) blocks → BlocksStand code raises
+blocks_stand code raises has zero some few = absurd (omega (arith, some))
+blocks_stand code raises (first, rest) (suc zero) some few = first
+blocks_stand code raises (first, (second, rest)) (suc (suc zero)) some few = subst (λ n. At code n (raising 2)) (let e : raises + 1 + 1 ≡ raises + 2 = omega arith in e) second
+blocks_stand code raises (first, (second, (third, rest))) (suc (suc (suc zero))) some few = subst (λ n. At code n (raising 3)) (let e : raises + 1 + 1 + 1 ≡ raises + 3 = omega arith in e) third
+blocks_stand code raises (first, (second, (third, (fourth, none)))) (suc (suc (suc (suc zero)))) some few =
+    subst (λ n. At code n (raising 4)) (let e : raises + 1 + 1 + 1 + 1 ≡ raises + 4 = omega arith in e) fourth
+blocks_stand code raises has (suc (suc (suc (suc (suc n))))) some few = absurd (omega (arith, few))
+
+module _ (code : List Instruction) (b : Numbering) (types : Types) (raised : BlocksStand code types.raises) where
   -- ---- operands
 
   -- an operand without code, or code that stands here
@@ -91,31 +107,34 @@ module _ (code : List Instruction) (b : Numbering) (types : Types) where
 
   -- ---- expressions
 
-  check_stands : (tag : ℕ) (o : Operand) (p q : ℕ) → p + 2 ≡ q → HasAt code p (check_code tag o p) → CheckAt code b types tag o p q
-  check_stands tag o p q end (jump, (uncaught, none)) = (subst (λ t. At code p (jump_if_nonzero o t)) end jump, uncaught, end)
+  guard_stands : (tag : ℕ) (failing : Comparison) (l r : Operand) (p q : ℕ) → 1 ≤ tag → tag ≤ 4 → p + 1 ≡ q → HasAt code p (guard_code (starts_of types) tag failing l r) → GuardAt code b types tag failing l r p q
+  guard_stands tag failing l r p q some few end (jump, none) = (types.raises + tag, jump, raised tag some few, end)
 
   freed_stands : (o : Operand) (p q : ℕ) → p + 2 ≡ q → HasAt code p (free_code o p) → FreedAt code b types o p q
   freed_stands o p q end (jump, (ask, none)) = (subst (λ t. At code p (jump_if_zero o t)) end jump, ask, omega (arith, end))
 
-  conversion_by : (to : Kind) (o : Operand) (p q : ℕ) → p + length (conversion_code to o p) ≡ q → HasAt code p (conversion_code to o p) → ConversionBy code b types to o p q
-  conversion_by kinds.NonNull o p q end has = check_stands null_exception o p q end has
+  check_stands : (tag : ℕ) (o : Operand) (p q : ℕ) → 1 ≤ tag → tag ≤ 4 → p + 1 ≡ q → HasAt code p (check_code (starts_of types) tag o) → CheckAt code b types tag o p q
+  check_stands tag o p q some few end has = guard_stands tag comparisons.Equal o (operands.Word 0) p q some few end has
+
+  conversion_by : (to : Kind) (o : Operand) (p q : ℕ) → p + length (conversion_code (starts_of types) to o p) ≡ q → HasAt code p (conversion_code (starts_of types) to o p) → ConversionBy code b types to o p q
+  conversion_by kinds.NonNull o p q end has = check_stands null_exception o p q (omega arith) (omega arith) end has
   conversion_by to o p q end has = omega (arith, end)
 
-  conversion_stands : (from to : Kind) (o : Operand) (p q : ℕ) → are_as_wide from to ≡ true → p + length (conversion_code to o p) ≡ q → HasAt code p (conversion_code to o p) → ConversionAt code b types from to o p q
+  conversion_stands : (from to : Kind) (o : Operand) (p q : ℕ) → are_as_wide from to ≡ true → p + length (conversion_code (starts_of types) to o p) ≡ q → HasAt code p (conversion_code (starts_of types) to o p) → ConversionAt code b types from to o p q
   conversion_stands from to o p q wide end has = (wide, conversion_by to o p q end has)
 
-  divisor_stands : (o : Operand) (p q : ℕ) → p + length (divisor_code o p) ≡ q → HasAt code p (divisor_code o p) → DivisorAt code b types o p q
+  divisor_stands : (o : Operand) (p q : ℕ) → p + length (divisor_code (starts_of types) o) ≡ q → HasAt code p (divisor_code (starts_of types) o) → DivisorAt code b types o p q
   divisor_stands (operands.Word (suc n)) p q end has = omega (arith, end)
-  divisor_stands (operands.Word zero) p q end has = check_stands division_by_zero (operands.Word zero) p q end has
-  divisor_stands (operands.Slot n) p q end has = check_stands division_by_zero (operands.Slot n) p q end has
+  divisor_stands (operands.Word zero) p q end has = check_stands division_by_zero (operands.Word zero) p q (omega arith) (omega arith) end has
+  divisor_stands (operands.Slot n) p q end has = check_stands division_by_zero (operands.Slot n) p q (omega arith) (omega arith) end has
 
-  checked_stands : (o : Operator) (l r : Operand) (d p q : ℕ) → p + length (checked_code o l r p d) ≡ q → HasAt code p (checked_code o l r p d) → CheckedAt code b types o d l r p q
+  checked_stands : (o : Operator) (l r : Operand) (d p q : ℕ) → p + length (checked_code (starts_of types) o l r d) ≡ q → HasAt code p (checked_code (starts_of types) o l r d) → CheckedAt code b types o d l r p q
   checked_stands o l r d p q end has =
-      let front = divisor_code r p in
+      let front = divisor_code (starts_of types) r in
       let (here, none) = has_back code p front _ has in
       (p + length front, divisor_stands r p (p + length front) refl (has_front code p front _ has), here, cut p q front _ end)
 
-  operator_stands : (o : Operator) (l r : Operand) (d p q : ℕ) → p + length (operator_code o l r p d) ≡ q → HasAt code p (operator_code o l r p d) → OperatorAt code b types o d l r p q
+  operator_stands : (o : Operator) (l r : Operand) (d p q : ℕ) → p + length (operator_code (starts_of types) o l r d) ≡ q → HasAt code p (operator_code (starts_of types) o l r d) → OperatorAt code b types o d l r p q
   operator_stands operators.Divide l r d p q end has = checked_stands operators.Divide l r d p q end has
   operator_stands operators.Remainder l r d p q end has = checked_stands operators.Remainder l r d p q end has
   operator_stands o l r d p q end (here, none) = (here, end)
@@ -180,8 +199,8 @@ module _ (code : List Instruction) (b : Numbering) (types : Types) where
 
   initial_by : (there : Bool) (from to : Kind) (a : Expression) (d t p q : ℕ) → from ≡ given b.functions a → are_as_wide from to ≡ true → converts_there from to ≡ there
       → ((slot r : ℕ) → p + length (expression_code (starts_of types) a p slot t) ≡ r → HasAt code p (expression_code (starts_of types) a p slot t) → ExpressionAt code b types a slot t p r)
-      → p + length (if there then expression_code (starts_of types) a p d t else moved_by (source_of (starts_of types) (Convert from to a)) (expression_code (starts_of types) a p (source_slot (starts_of types) (Convert from to a) t) t) to (converted_operand (starts_of types) (Convert from to a) t) p d) ≡ q
-      → HasAt code p (if there then expression_code (starts_of types) a p d t else moved_by (source_of (starts_of types) (Convert from to a)) (expression_code (starts_of types) a p (source_slot (starts_of types) (Convert from to a) t) t) to (converted_operand (starts_of types) (Convert from to a) t) p d)
+      → p + length (if there then expression_code (starts_of types) a p d t else moved_by (starts_of types) (source_of (starts_of types) (Convert from to a)) (expression_code (starts_of types) a p (source_slot (starts_of types) (Convert from to a) t) t) to (converted_operand (starts_of types) (Convert from to a) t) p d) ≡ q
+      → HasAt code p (if there then expression_code (starts_of types) a p d t else moved_by (starts_of types) (source_of (starts_of types) (Convert from to a)) (expression_code (starts_of types) a p (source_slot (starts_of types) (Convert from to a) t) t) to (converted_operand (starts_of types) (Convert from to a) t) p d)
       → InitialBy code b types there from to a d t p q
   initial_by true from to a d t p q kind wide lands stands end has = (words_kept from to a kind lands, stands d q end has)
   initial_by false from to a d t p q kind wide lands stands end has =
@@ -191,7 +210,7 @@ module _ (code : List Instruction) (b : Numbering) (types : Types) where
       let inner = expression_code (starts_of types) a p slot t in
       let front = code_unless known inner in
       let m = p + length front in
-      let conversion = conversion_code to o m in
+      let conversion = conversion_code (starts_of types) to o m in
       let both = front ++ conversion in
       let r = p + length both in
       let has_both = has_front code p both _ has in
@@ -314,11 +333,11 @@ module _ (code : List Instruction) (b : Numbering) (types : Types) where
         let inner = expression_code (starts_of types) a p slot t in
         let front = code_unless (operand_of (starts_of types) a) inner in
         let m = p + length front in
-        let check = check_code null_exception o m in (
+        let check = check_code (starts_of types) null_exception o in (
           m,
           operand_by (operand_of (starts_of types) a) _ inner slot p m refl (has_front code p front check has) (λ e h. expression_stands a slot t p m numbered e h),
           thin,
-          check_stands null_exception o m q (cut p q front check end) (has_back code p front check has),
+          check_stands null_exception o m q (omega arith) (omega arith) (cut p q front check end) (has_back code p front check has),
           refl,
         )
     place_stands (Member k a s f ty) t p q (thin, single, there, numbered) end has =
@@ -327,11 +346,11 @@ module _ (code : List Instruction) (b : Numbering) (types : Types) where
         let inner = expression_code (starts_of types) a p slot t in
         let front = code_unless (operand_of (starts_of types) a) inner in
         let m = p + length front in
-        let check = check_code null_exception o m in (
+        let check = check_code (starts_of types) null_exception o in (
           m,
           operand_by (operand_of (starts_of types) a) _ inner slot p m refl (has_front code p front check has) (λ e h. expression_stands a slot t p m numbered e h),
           thin,
-          check_stands null_exception o m q (cut p q front check end) (has_back code p front check has),
+          check_stands null_exception o m q (omega arith) (omega arith) (cut p q front check end) (has_back code p front check has),
           there,
           refl,
         )
@@ -364,7 +383,7 @@ module _ (code : List Instruction) (b : Numbering) (types : Types) where
     converted_stands : (c : Converted) (t p q : ℕ) → FitsConverted b types c → p + length (converted_code (starts_of types) c p t) ≡ q → HasAt code p (converted_code (starts_of types) c p t) → ConvertedAt code b types c t p q
     converted_stands (Convert from to a) t p q (kind, wide, numbered) end has =
         let front = expression_code (starts_of types) a p t t in
-        let back = conversion_code to (operands.Slot t) (p + length front) in
+        let back = conversion_code (starts_of types) to (operands.Slot t) (p + length front) in
         (p + length front, expression_stands a t t p (p + length front) numbered refl (has_front code p front back has), conversion_stands from to (operands.Slot t) (p + length front) q wide (cut p q front back end) (has_back code p front back has))
 
     converted_operand_stands : (c : Converted) (t p q : ℕ) → FitsConverted b types c → p + length (converted_operand_code (starts_of types) c p t) ≡ q → HasAt code p (converted_operand_code (starts_of types) c p t) → ConvertedOperandAt code b types c t (converted_operand (starts_of types) c t) p q
@@ -374,7 +393,7 @@ module _ (code : List Instruction) (b : Numbering) (types : Types) where
         let inner = expression_code (starts_of types) a p slot t in
         let front = code_unless known inner in
         let m = p + length front in
-        let back = conversion_code to (converted_operand (starts_of types) (Convert from to a) t) m in
+        let back = conversion_code (starts_of types) to (converted_operand (starts_of types) (Convert from to a) t) m in
         (m, operand_by known _ inner slot p m refl (has_front code p front back has) (λ e h. expression_stands a slot t p m numbered e h), conversion_stands from to (converted_operand (starts_of types) (Convert from to a) t) m q wide (cut p q front back end) (has_back code p front back has))
 
     printed_stands : (cs : Arguments) (o : Operand) (t p q : ℕ) → argument_count cs ≡ 1 → FitArguments b types cs → p + length (printed_code (starts_of types) cs p t) ≡ q → HasAt code p (printed_code (starts_of types) cs p t) → PrintedAt code b types cs t (printed_operand (starts_of types) cs o t) p q
@@ -399,7 +418,7 @@ module _ (code : List Instruction) (b : Numbering) (types : Types) where
         let r = value_operand (starts_of types) a (suc t) in
         let next = next_slot os d t in
         let m = p + length operand in
-        let operator = operator_code o l r m next in
+        let operator = operator_code (starts_of types) o l r next in
         let s = p + length (operand ++ operator) in
         let back = operations_code (starts_of types) os s (operands.Slot next) d t in
         let front_has = has_front code p (operand ++ operator) back has in (
@@ -550,26 +569,42 @@ module _ (code : List Instruction) (b : Numbering) (types : Types) where
   returns_numbered None c numbered = absurd numbered
   returns_numbered (Some t) c (kind, numbered) = numbered
 
-  return_stands : (v : Option Converted) (t p q : ℕ) → FitsReturn b types b.result v → p + length (return_code (starts_of types) v p t) ≡ q → HasAt code p (return_code (starts_of types) v p t) → ReturnAt code b types v t p
-  return_stands None t p q numbered end (here, none) = (t, here)
-  return_stands (Some (Convert from to a)) t p q numbered end has =
+  leave_by : (none : Bool) (first p q : ℕ) → p + length (if none then [] else instructions.Leave first ∷ []) ≡ q → HasAt code p (if none then [] else instructions.Leave first ∷ []) → LeaveBy code b types none first p q
+  leave_by true first p q end has = omega (arith, end)
+  leave_by false first p q end (here, none) = (here, end)
+
+  leave_stands : (first t p q : ℕ) → p + length (leave_code first t) ≡ q → HasAt code p (leave_code first t) → LeaveAt code b types first t p q
+  leave_stands first t p q end has = leave_by (first == t) first p q end has
+
+  return_stands : (v : Option Converted) (exits : Exits) (t p q : ℕ) → FitsReturn b types b.result v → p + length (return_code (starts_of types) v p exits t) ≡ q → HasAt code p (return_code (starts_of types) v p exits t)
+      → ReturnAt code b types v exits t p
+  return_stands None exits t p q numbered end has =
+      let leave = leave_code exits.first_record t in
+      let (here, none) = has_back code p leave _ has in
+      (t, p + length leave, leave_stands exits.first_record t p (p + length leave) refl (has_front code p leave _ has), here)
+  return_stands (Some (Convert from to a)) exits t p q numbered end has =
       let known = source_of (starts_of types) (Convert from to a) in
       let inner = expression_code (starts_of types) a p t t in
       let front = code_unless_slot known inner in
       let m = p + length front in
       let s = slot_or known t in
-      let conversion = conversion_code to (operands.Slot s) m in
+      let conversion = conversion_code (starts_of types) to (operands.Slot s) m in
       let both = front ++ conversion in
       let r = p + length both in
-      let has_both = has_front code p both _ has in
-      let (here, none) = has_back code p both _ has in
+      let leave = leave_code exits.first_record t in
+      let u = p + length (both ++ leave) in
+      let has_left = has_front code p (both ++ leave) _ has in
+      let has_both = has_front code p both leave has_left in
+      let (here, none) = has_back code p (both ++ leave) _ has in
       let (from_is, wide, fitting) = returns_numbered b.result (Convert from to a) numbered in
       let (words, kind) = returns_kind b.result (Convert from to a) numbered in (
         s,
         m,
         r,
+        u,
         returned_by known _ inner t p m refl (has_front code p front conversion has_both) (λ e h. expression_stands a t t p m fitting e h),
         conversion_stands from to (operands.Slot s) m r wide (cut p r front conversion refl) (has_back code p front conversion has_both),
+        leave_stands exits.first_record t r u (cut p u both leave refl) (has_back code p both leave has_left),
         here,
         words,
         kind,
@@ -634,6 +669,17 @@ module _ (code : List Instruction) (b : Numbering) (types : Types) where
         ),
       )
 
+  thrown_stands : (v : Option Expression) (t p q : ℕ) → FitsThrown b types v → p + length (thrown_code (starts_of types) v p t) ≡ q → HasAt code p (thrown_code (starts_of types) v p t)
+      → ThrownAt code b types v (thrown_operand (starts_of types) v t) t p q
+  thrown_stands None t p q numbered end has = (refl, omega (arith, end))
+  thrown_stands (Some a) t p q numbered end has =
+      let slot = value_slot (starts_of types) a t in
+      operand_by (operand_of (starts_of types) a) _ (expression_code (starts_of types) a p slot t) slot p q end has (λ e h. expression_stands a slot t p q numbered e h)
+
+  caught_stands : (x : Option ℕ) (t p q : ℕ) → FitsCaught b types x → p + length (caught_code (starts_of types) x t) ≡ q → HasAt code p (caught_code (starts_of types) x t) → CaughtAt code b types x t p q
+  caught_stands None t p q numbered end has = omega (arith, end)
+  caught_stands (Some n) t p q (few, room) end (here, none) = (few, room, here, end)
+
   mutual
     statement_stands : (s : Statement) (in_loop : Bool) (exits : Exits) (d p q : ℕ) → FitsStatement b types in_loop s → p + length (statement_code (starts_of types) s p exits d) ≡ q → HasAt code p (statement_code (starts_of types) s p exits d) → StatementAt code b types s exits d p q
     statement_stands (Block r js) in_loop exits d p q numbered end has = items_stand js in_loop exits d p q numbered end has
@@ -691,10 +737,40 @@ module _ (code : List Instruction) (b : Numbering) (types : Types) where
           end_is,
           omega (arith, end_is),
         )
-    statement_stands (Return v) in_loop exits d p q numbered end has = return_stands v d p q numbered end has
-    statement_stands Break in_loop exits d p q numbered end (here, none) = here
-    statement_stands Continue in_loop exits d p q numbered end (here, none) = here
-    statement_stands s in_loop exits d p q numbered end has = absurd numbered
+    statement_stands (Return v) in_loop exits d p q numbered end has = return_stands v exits d p q numbered end has
+    statement_stands Break in_loop exits d p q numbered end has =
+        let leave = leave_code exits.loop_record d in
+        let (here, none) = has_back code p leave (instructions.Jump (break_target exits.head) ∷ []) has in
+        (p + length leave, leave_stands exits.loop_record d p (p + length leave) refl (has_front code p leave (instructions.Jump (break_target exits.head) ∷ []) has), here)
+    statement_stands Continue in_loop exits d p q numbered end has =
+        let leave = leave_code exits.loop_record d in
+        let (here, none) = has_back code p leave (instructions.Jump (continue_target exits.head) ∷ []) has in
+        (p + length leave, leave_stands exits.loop_record d p (p + length leave) refl (has_front code p leave (instructions.Jump (continue_target exits.head) ∷ []) has), here)
+    statement_stands (Throw tag v) in_loop exits t p q (word, numbered) end has =
+        let front = thrown_code (starts_of types) v p t in
+        let (here, none) = has_back code p front _ has in
+        (word, thrown_operand (starts_of types) v t, p + length front, thrown_stands v t p (p + length front) numbered refl (has_front code p front _ has), here)
+    statement_stands (Try s cs) in_loop exits t p q (numbered_s, numbered) end (opening, has) =
+        let body = statement_code (starts_of types) s (p + 1) exits (t + RECORD_WORDS) in
+        let close = instructions.Leave t ∷ [] in
+        let m = p + 1 + length body in
+        let out = p + 1 + length (body ++ close) in
+        let long : length (body ++ close) ≡ length body + 1 = length-append body close in
+        let out_is : out ≡ m + 1 = omega (arith, long) in
+        let clauses = clauses_code (starts_of types) cs (out + 1) out exits t in
+        let over = instructions.Jump (out + 1 + length clauses) in
+        let all : length ((body ++ close) ++ over ∷ clauses) ≡ length (body ++ close) + suc (length clauses) = length-append (body ++ close) (over ∷ clauses) in
+        let end_is : out + 1 + length clauses ≡ q = omega (arith, end, all) in
+        let has_front_part = has_front code (p + 1) (body ++ close) (over ∷ clauses) has in
+        let (jump, has_clauses) = has_back code (p + 1) (body ++ close) (over ∷ clauses) has in
+        let (leave, none) = has_back code (p + 1) body close has_front_part in (
+          m,
+          subst (λ n. At code p (instructions.Try t (n + 1))) out_is opening,
+          statement_stands s in_loop exits (t + RECORD_WORDS) (p + 1) m numbered_s refl (has_front code (p + 1) body close has_front_part),
+          leave,
+          subst (λ n. At code n (instructions.Jump q)) out_is (subst (λ n. At code out (instructions.Jump n)) end_is jump),
+          subst (λ n. ClausesAt code b types cs n exits t (n + 1) q) out_is (clauses_stand cs in_loop out exits t (out + 1) q (omega arith) numbered end_is has_clauses),
+        )
 
     items_stand : (js : Items) (in_loop : Bool) (exits : Exits) (d p q : ℕ) → FitItems b types in_loop js → p + length (items_code (starts_of types) js p exits d) ≡ q → HasAt code p (items_code (starts_of types) js p exits d) → ItemsAt code b types js exits d p q
     items_stand NoItems in_loop exits d p q numbered end has = omega (arith, end)
@@ -707,6 +783,38 @@ module _ (code : List Instruction) (b : Numbering) (types : Types) where
         let back = items_code (starts_of types) js (p + length front) exits d in
         (p + length front, declaration_stands n v d p (p + length front) few numbered refl (has_front code p front back has), items_stand js in_loop exits d (p + length front) q rest (cut p q front back end) (has_back code p front back has))
     items_stand js in_loop exits d p q numbered end has = absurd numbered
+
+    clauses_stand : (cs : Clauses) (in_loop : Bool) (out : ℕ) (exits : Exits) (t p q : ℕ) → out < p → FitClauses b types in_loop cs → p + length (clauses_code (starts_of types) cs p out exits t) ≡ q
+        → HasAt code p (clauses_code (starts_of types) cs p out exits t) → ClausesAt code b types cs out exits t p q
+    clauses_stand NoClauses in_loop out exits t p q behind numbered end (here, none) = here
+    clauses_stand (Default r js) in_loop out exits t p q behind numbered end has = items_stand js in_loop exits t p q numbered end has
+    clauses_stand (Case tag x r js cs) in_loop out exits t p q behind (word, caught_fits, numbered, rest) end has =
+        let caught = caught_code (starts_of types) x t in
+        let m = p + 1 + length caught in
+        let items = items_code (starts_of types) js m exits t in
+        let u = m + length items in
+        let leave = instructions.Jump out ∷ [] in
+        let clause = clause_code tag t (caught ++ items) p out in
+        let later = clauses_code (starts_of types) cs (p + length clause) out exits t in
+        let inner : length (caught ++ items) ≡ length caught + length items = length-append caught items in
+        let long : length ((caught ++ items) ++ leave) ≡ length (caught ++ items) + 1 = length-append (caught ++ items) leave in
+        let next : p + length clause ≡ u + 1 = omega (arith, inner, long) in
+        let over : p + 1 + length (caught ++ items) + 1 ≡ u + 1 = omega (arith, inner) in
+        let (jump, has_clause) = has_front code p clause later has in
+        let has_inner = has_front code (p + 1) (caught ++ items) leave has_clause in
+        let (out_jump, none) = has_back code (p + 1) (caught ++ items) leave has_clause in (
+          m,
+          u,
+          word,
+          subst (λ n. At code p (other_jump tag t n)) over jump,
+          caught_stands x t (p + 1) m caught_fits refl (has_front code (p + 1) caught items has_inner),
+          items_stand js in_loop exits t m u numbered refl (has_back code (p + 1) caught items has_inner),
+          subst (λ n. At code n (instructions.Jump out)) (let e : p + 1 + length (caught ++ items) ≡ u = omega (arith, inner) in e) out_jump,
+          omega (arith, behind),
+          clauses_stand cs in_loop out exits t (u + 1) q (omega (arith, behind)) rest
+              (subst (λ n. n + length (clauses_code (starts_of types) cs n out exits t) ≡ q) next (cut p q clause later end))
+              (subst (λ n. HasAt code n (clauses_code (starts_of types) cs n out exits t)) next (has_back code p clause later has)),
+        )
 
 -- ---- functions
 
@@ -722,21 +830,23 @@ module _ (source : Program) where
   pub routine_there : (n : ℕ) (h : Function) → slice_get source.functions n ≡ Some h → routine_at (lower_program source) n ≡ lower_function source.structs h
   routine_there n h there = get_or_from_slice_get (map (lower_function source.structs) source.functions) n (lower_function source.structs h) no_routine (slice_get-map (lower_function source.structs) source.functions n ∙ ap (option_map (lower_function source.structs)) there)
 
-  -- the code of a function, with its body at the beginning and a return behind it
+  -- the code of a function, with its body at the beginning, and a return behind it
   abbrev BodyStands : Function → List Instruction → Option Function → Type 0
   BodyStands h code o =
       (m : ℕ) × ItemsAt code (bounds_in source o) (types_in source o) h.body (outside_loops (words_of_all (types_in source o).locals)) (words_of_all (types_in source o).locals) 0 m
-      × At code m (instructions.Return (words_of_all (types_in source o).locals))
+      × At code m (instructions.Finish (words_of_all (types_in source o).locals))
 
   body_stands : (h : Function) → FitItems (bounds_in source (Some h)) (types_of source.structs h) false h.body → BodyStands h (function_code source.structs h) (Some h)
   body_stands h numbered =
       let d = first_temporary h in
-      let starts = starts_of (types_of source.structs h) in
-      let body = items_code starts h.body 0 (outside_loops d) d in
-      let end = instructions.Return d ∷ [] in
-      let has = has_whole (body ++ end) in
-      let (here, none) = has_back (body ++ end) 0 body end has in
-      (0 + length body, items_stand (body ++ end) (bounds_in source (Some h)) (types_of source.structs h) h.body false (outside_loops d) d 0 (0 + length body) numbered refl (has_front (body ++ end) 0 body end has), here)
+      let types = types_of source.structs h in
+      let body = body_code types h in
+      let end = instructions.Finish d ∷ blocks in
+      let code = body ++ end in
+      let has = has_whole code in
+      let (here, raising_all) = has_back code 0 body end has in
+      let raised = blocks_stand code types.raises (subst (λ n. HasAt code (n + 1) blocks) (let e : 0 + length body ≡ types.raises = omega (arith, body_long source.structs h) in e) raising_all) in
+      (0 + length body, items_stand code (bounds_in source (Some h)) types raised h.body false (outside_loops d) d 0 (0 + length body) numbered refl (has_front code 0 body end has), here)
 
   pub functions_stand : (pages calls : ℕ) → IsFitting source → FunctionsStand source pages calls
   functions_stand pages calls numbered n h there =

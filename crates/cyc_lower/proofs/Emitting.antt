@@ -48,10 +48,10 @@ behind xs ys some = omega (arith, length-append xs ys)
 before : (xs ys : List Instruction) → 0 < length xs → 0 < length (xs ++ ys)
 before xs ys some = omega (arith, length-append xs ys)
 
-operates : (o : Operator) (l r : Operand) (p d : ℕ) → 0 < length (operator_code o l r p d)
-operates operators.Divide l r p d = behind _ (instructions.Binary (binary_operator operators.Divide) d l r ∷ []) (omega arith)
-operates operators.Remainder l r p d = behind _ (instructions.Binary (binary_operator operators.Remainder) d l r ∷ []) (omega arith)
-operates o l r p d = omega arith
+operates : (starts : Starts) (o : Operator) (l r : Operand) (d : ℕ) → 0 < length (operator_code starts o l r d)
+operates starts operators.Divide l r d = behind _ (instructions.Binary (binary_operator operators.Divide) d l r ∷ []) (omega arith)
+operates starts operators.Remainder l r d = behind _ (instructions.Binary (binary_operator operators.Remainder) d l r ∷ []) (omega arith)
+operates starts o l r d = omega arith
 
 -- what was added makes the code longer
 pub grown : (old more new : List Instruction) → new ≡ old ++ more → 0 < length more → length old < length new
@@ -69,10 +69,10 @@ pub record Lowers {X S : Type 0} (all : List X → ℕ → S → List Instructio
 abbrev pub Remains : {X S : Type 0} → (all : List X → ℕ → S → List Instruction) → (old : List Instruction) → (xs : List X) → (first : S) → (i : ℕ) → (code : List Instruction) → S → Type 0
 Remains all old xs first i code s = code ++ all (drop i xs) (length code) s ≡ old ++ all xs (length old) first
 
-module _ {X S : Type 0} (all : List X → ℕ → S → List Instruction) (one : X → List X → ℕ → S → List Instruction) (next : X → List X → S → S) (lowers : Lowers all one next) where
-  pub goes_on : (old : List Instruction) (xs : List X) (first : S) (i : ℕ) (code new : List Instruction) (s : S) (x : X) → i < length xs → x ≡ get_or xs i x
+module _ {X S : Type 0} (all : List X → ℕ → S → List Instruction) (one : X → List X → ℕ → S → List Instruction) (next : X → List X → S → S) (more : (x : X) (xs : List X) (p : ℕ) (s : S) → all (x ∷ xs) p s ≡ one x xs p s ++ all xs (p + length (one x xs p s)) (next x xs s)) where
+  pub goes_on_by : (old : List Instruction) (xs : List X) (first : S) (i : ℕ) (code new : List Instruction) (s : S) (x : X) → i < length xs → x ≡ get_or xs i x
       → new ≡ code ++ one x (drop (i + 1) xs) (length code) s → Remains all old xs first i code s → Remains all old xs first (i + 1) new (next x (drop (i + 1) xs) s)
-  goes_on old xs first i code new s x inside at is r =
+  goes_on_by old xs first i code new s x inside at is r =
       let rest = drop (i + 1) xs in
       let here : drop i xs ≡ x ∷ rest = drop_more xs i x inside ∙ ap (λ (y : X). y ∷ rest) (sym at) in
       let added = one x rest (length code) s in
@@ -81,9 +81,14 @@ module _ {X S : Type 0} (all : List X → ℕ → S → List Instruction) (one :
       ap (λ (n : ℕ). new ++ all rest n after) long
       ∙ ap (λ (l : List Instruction). l ++ all rest (length code + length added) after) is
       ∙ append_assoc code added (all rest (length code + length added) after)
-      ∙ ap (λ (l : List Instruction). code ++ l) (sym (lowers.more x rest (length code) s))
+      ∙ ap (λ (l : List Instruction). code ++ l) (sym (more x rest (length code) s))
       ∙ ap (λ (ys : List X). code ++ all ys (length code) s) (sym here)
       ∙ r
+
+module _ {X S : Type 0} (all : List X → ℕ → S → List Instruction) (one : X → List X → ℕ → S → List Instruction) (next : X → List X → S → S) (lowers : Lowers all one next) where
+  pub goes_on : (old : List Instruction) (xs : List X) (first : S) (i : ℕ) (code new : List Instruction) (s : S) (x : X) → i < length xs → x ≡ get_or xs i x
+      → new ≡ code ++ one x (drop (i + 1) xs) (length code) s → Remains all old xs first i code s → Remains all old xs first (i + 1) new (next x (drop (i + 1) xs) s)
+  goes_on = goes_on_by all one next lowers.more
 
   pub all_made : (old : List Instruction) (xs : List X) (first : S) (i : ℕ) (code : List Instruction) (s : S) → length xs ≤ i → Remains all old xs first i code s → code ≡ old ++ all xs (length old) first
   all_made old xs first i code s done r =
@@ -220,16 +225,16 @@ module _ (starts : Starts) where
 
   computes : (o : Operator) (b : Expression) (os : Operations) (p : ℕ) (l : Operand) (d t : ℕ) → 0 < length (operations_code starts (ThenCompute o b os) p l d t)
   computes o b os p l d t =
-      before (compute_code o l (value_operand starts b (suc t)) (value_code starts b p (suc t)) p (next_slot os d t)) _
-      (behind (value_code starts b p (suc t)) _ (operates o l (value_operand starts b (suc t)) (p + length (value_code starts b p (suc t))) (next_slot os d t)))
+      before (compute_code starts o l (value_operand starts b (suc t)) (value_code starts b p (suc t)) (next_slot os d t)) _
+      (behind (value_code starts b p (suc t)) _ (operates starts o l (value_operand starts b (suc t)) (next_slot os d t)))
 
   tests : (o : LogicalOperator) (b : Expression) (os : Operations) (p : ℕ) (l : Operand) (d t : ℕ) → 0 < length (operations_code starts (ThenTest o b os) p l d t)
   tests o b os p l d t = before (test_code o (expression_code starts b (p + 1) t t) p (next_slot os d t) t) _ (omega arith)
 
   initial_by : (there : Bool) (known : Option Operand) (at_once inner : List Instruction) (to : Kind) (o : Operand) (p d : ℕ) → 0 < length at_once
-      → 0 < length (if there then at_once else moved_by known inner to o p d)
+      → 0 < length (if there then at_once else moved_by starts known inner to o p d)
   initial_by true known at_once inner to o p d some = some
-  initial_by false known at_once inner to o p d some = behind (converted_by known inner to o p) (move_of (words_of_kind to) d o ∷ []) (omega arith)
+  initial_by false known at_once inner to o p d some = behind (converted_by starts known inner to o p) (move_of (words_of_kind to) d o ∷ []) (omega arith)
 
   place_some : (x : Dereference) (p t : ℕ) → 0 < length (place_code starts x p t)
   place_some (Target k a ty) p t = behind (code_unless (operand_of starts a) (expression_code starts a p (value_slot starts a t) t)) _ (omega arith)
@@ -450,14 +455,14 @@ module _ (starts : Starts) where
       made_left a os old new d t to plain (λ none. absurd (let f : false ≡ true = sym more ∙ eq-eqb (length os) 0 none in cc)) (λ some. there) is
 
   pub made_compute : (value : Operation) (o : Operator) (e : Expr) (old m1 m2 : List Instruction) (l r : Operand) (d t : ℕ) → value ≡ operation.Compute o e
-      → r ≡ value_operand starts (view_expression e) (t + 1) → m1 ≡ old ++ value_code starts (view_expression e) (length old) (t + 1) → m2 ≡ m1 ++ operator_code o l r (length m1) d
+      → r ≡ value_operand starts (view_expression e) (t + 1) → m1 ≡ old ++ value_code starts (view_expression e) (length old) (t + 1) → m2 ≡ m1 ++ operator_code starts o l r d
       → m2 ≡ old ++ operation_code starts value (length old) l d t
   made_compute value o e old m1 m2 l r d t is r_is e1 e2 =
       let a = view_expression e in
       let next : t + 1 ≡ suc t = omega arith in
       let right = value_operand starts a (suc t) in
-      joined old (value_code starts a (length old) (suc t)) (λ p. operator_code o l right p d) m1 m2 (e1 ∙ ap (λ (n : ℕ). old ++ value_code starts a (length old) n) next)
-      (e2 ∙ ap (λ (x : Operand). m1 ++ operator_code o l x (length m1) d) (r_is ∙ ap (value_operand starts a) next))
+      joined old (value_code starts a (length old) (suc t)) (λ p. operator_code starts o l right d) m1 m2 (e1 ∙ ap (λ (n : ℕ). old ++ value_code starts a (length old) n) next)
+      (e2 ∙ ap (λ (x : Operand). m1 ++ operator_code starts o l x d) (r_is ∙ ap (value_operand starts a) next))
       ∙ ap (λ (x : Operation). old ++ operation_code starts x (length old) l d t) (sym is)
 
   pointed : (o : PointerOperator) (l r : Operand) (d : ℕ) → 0 < length (pointer_instructions o l r d)
@@ -474,7 +479,7 @@ module _ (starts : Starts) where
 
   -- where one operator is made, more may follow
   operates_longer : (x : Operation) (p : ℕ) (l : Operand) (d t : ℕ) → 0 < length (operation_code starts x p l d t)
-  operates_longer (operation.Compute o e) p l d t = behind (value_code starts (view_expression e) p (suc t)) _ (operates o l (value_operand starts (view_expression e) (suc t)) (p + length (value_code starts (view_expression e) p (suc t))) d)
+  operates_longer (operation.Compute o e) p l d t = behind (value_code starts (view_expression e) p (suc t)) _ (operates starts o l (value_operand starts (view_expression e) (suc t)) d)
   operates_longer (operation.Test o e) p l d t = omega arith
   operates_longer (operation.Pointer o e) p l d t = behind (value_code starts (view_expression e) p (behind_left o t)) _ (pointed o l (value_operand starts (view_expression e) (behind_left o t)) d)
   operates_longer (operation.PointerPeek n o e) p l d t = behind (value_code starts (view_expression e) p (behind_left o t)) _ (pointed o l (value_operand starts (view_expression e) (behind_left o t)) d)

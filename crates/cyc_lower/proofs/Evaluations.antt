@@ -40,8 +40,8 @@ use Rattle.cyc_lower.proofs.Weights.{weight, stack_weight, expression_weight, ar
 use Rattle.cyc_lower.proofs.Stands.{CopyBy, CopyAt, OperandBy, InitialBy, ExpressionAt, ArgumentsAt, ObjectAt, MadeAt, ValueAt, PairAt, ConditionAt, AssignmentAt, PrintedAt, DiscardedAt, StoredAt}
 use Rattle.cyc_objects.specs.Tables.{Tables}
 use Rattle.cyc_objects.specs.Words.{Is}
-use Rattle.cyc_lower.proofs.Relation.{IsIn, IsHandleOf, types_at, starts_at, given_at, called_at, words_held, height, Holds, held, contents, callers, in_temporary, in_local, drops, leaves, copies, prints_only, gives_byte, DataIn, SharedAt, CallAt, to_slot, to_jump, ValueStack, PlaceStack, ConditionStack, DroppedStack, AheadStack, LandsStack, HandsOnStack, PrintsStack, RightAt, EvaluatingAt, as_operand, into_slot, for_effect, as_right, as_condition, in_operand, ahead, with_left, Related, Matches, code_of, bounds_in, bounds_at, base_of, top}
-use Rattle.cyc_lower.proofs.Data.{IsWord-is, height-least, Holds-same, Holds-above, data_above}
+use Rattle.cyc_lower.proofs.Relation.{IsIn, IsHandleOf, types_at, starts_at, given_at, called_at, words_held, height, Holds, held, contents, callers, in_temporary, in_local, drops, leaves, copies, prints_only, gives_byte, DataIn, SharedAt, CallAt, to_slot, to_jump, ValueStack, PlaceStack, ConditionStack, DroppedStack, AheadStack, LandsStack, HandsOnStack, PrintsStack, RightAt, EvaluatingAt, as_operand, into_slot, for_effect, as_right, as_condition, in_operand, ahead, with_left, Related, Matches, code_of, bounds_in, bounds_at, base_of, top, floor}
+use Rattle.cyc_lower.proofs.Data.{IsWord-is, height-least, Holds-same, Holds-above, behind-least, data_written}
 use Rattle.cyc_lower.proofs.Accesses.{IsWell, is_loaded}
 use Rattle.cyc_lower.proofs.Matched.{IsMatched, silently, by_one}
 
@@ -58,30 +58,30 @@ module _ (source : Program) (pages calls : ℕ) where
   -- a value comes to a slot and those behind it, and the next instruction is the one behind
   pub landed : (v : Kinded) (after : Words) (d : ℕ) (k : List Entry) (e : Environment) (w : World) (c : Configuration) (q : ℕ) (shared : SharedAt source pages calls k e w c) → Is shared.tables v.kind v.value after d
       → ((m : ℕ) → Outside d (words_of_kind v.kind) m → after m ≡ c.active.slots m)
-      → DataIn source shared.tables c.active.slots k e w c → Holds shared.tables c.active.slots (base_of source c.active.function) (held k)
+      → DataIn source shared.tables c.active.slots k e w c → Holds shared.tables c.active.slots (floor source c.active.function k) (held k)
       → c.active.next + 1 ≡ q → LandsStack source c.active.function e.locals v.kind d q c.frames k
       → Related source pages calls (Given v) k e w (advanced (with_slots c after))
   landed v after d k e w c q shared is same facts holds end (in_temporary least stack) =
-      let base = base_of source c.active.function in (
+      let base = floor source c.active.function k in (
         shared,
         in_operand (operands.Slot d)
-            (data_above shared.tables source c.active.function w.objects e.locals (callers k) c.active.slots after c.globals c.frames d (words_of_kind v.kind) (omega (arith, least, height-least base (held k))) same facts)
+            (data_written source shared.tables c.active.function w.objects e.locals k c.active.slots after c.active.handlers c.globals c.frames d (words_of_kind v.kind) (omega (arith, least, height-least base (held k))) same facts)
             is
             (Holds-same shared.tables c.active.slots after base (held k) (λ m below. same m (inl (omega (arith, below, least)))) holds)
             (subst (λ r. ValueStack source c.active.function e.locals v.kind (operands.Slot d) r c.frames k) (sym end) stack),
       )
   landed v after d k e w c q shared is same facts holds end (in_local below stack) =
-      let base = base_of source c.active.function in (
+      let base = floor source c.active.function k in (
         shared,
         ahead d (c.active.slots, λ m out. sym (same m out), facts)
             is
-            (Holds-above shared.tables c.active.slots after base (held k) (λ m above. same m (inr (omega (arith, below, above)))) holds)
+            (Holds-above shared.tables c.active.slots after base (held k) (λ m above. same m (inr (omega (arith, below, above, behind-least k (base_of source c.active.function))))) holds)
             (subst (λ r. AheadStack source c.active.function e.locals v.kind d r c.frames k) (sym end) stack),
       )
 
   -- the same for an int
   pub landed_word : (a word d : ℕ) (k : List Entry) (e : Environment) (w : World) (c : Configuration) (q : ℕ) → word ≡ a
-      → (shared : SharedAt source pages calls k e w c) → DataIn source shared.tables c.active.slots k e w c → Holds shared.tables c.active.slots (base_of source c.active.function) (held k)
+      → (shared : SharedAt source pages calls k e w c) → DataIn source shared.tables c.active.slots k e w c → Holds shared.tables c.active.slots (floor source c.active.function k) (held k)
       → c.active.next + 1 ≡ q → LandsStack source c.active.function e.locals kinds.Int d q c.frames k
       → Related source pages calls (Given (record { kind = kinds.Int; value = Int a })) k e w (advanced (with_slots c (put c.active.slots d word)))
   landed_word a word d k e w c q is shared facts holds end lands =
@@ -90,7 +90,7 @@ module _ (source : Program) (pages calls : ℕ) where
 
   -- a value that is moved from an operand
   pub landed_moved : (v : Kinded) (o : Operand) (d : ℕ) (k : List Entry) (e : Environment) (w : World) (c : Configuration) (q : ℕ) (choice : Choice) (shared : SharedAt source pages calls k e w c) → IsIn shared.tables v c.active.slots o
-      → DataIn source shared.tables c.active.slots k e w c → Holds shared.tables c.active.slots (base_of source c.active.function) (held k)
+      → DataIn source shared.tables c.active.slots k e w c → Holds shared.tables c.active.slots (floor source c.active.function k) (held k)
       → c.active.next + 1 ≡ q → LandsStack source c.active.function e.locals v.kind d q c.frames k
       → Matches source pages calls (Running (Given v) k e w) (performed (lower_program source) choice c (move_of (words_of_kind v.kind) d o))
   landed_moved v o d k e w c q choice shared is facts holds end lands =
@@ -124,7 +124,7 @@ module _ (source : Program) (pages calls : ℕ) where
       → step source (Running (Evaluating a) k e w) ≡ loaded_from (kind_of t) (e.locals n) k e w → kind_of t ≡ given_at source c.active.function a → expression_weight a ≡ 1
       → Some (operands.Slot (slot_of (starts_at source c.active.function) n)) ≡ Some o → IsWell (loaded_from (kind_of t) (e.locals n) k e w)
       → DataIn source tables c.active.slots k e w c → IsRead tables a o k e w c
-  reads_local tables a n t o k e w c does same some known well (low, below, hold, waiting, words) =
+  reads_local tables a n t o k e w c does same some known well ((low, below, hold, waiting, words), handlers) =
       let found = is_loaded (kind_of t) (e.locals n) k e w well in
       let v : Kinded = record { kind = kind_of t; value = found.value } in
       record {
@@ -163,10 +163,10 @@ module _ (source : Program) (pages calls : ℕ) where
   -- the next argument is evaluated, or the call is made
   pub passes_related : (f : Callee) (before : List Kinded) (cs : Arguments) (k : List Entry) (e : Environment) (w : World) (c : Configuration) (d m q all : ℕ)
       → (shared : SharedAt source pages calls k e w c) → DataIn source shared.tables c.active.slots k e w c
-      → ArgumentsAt (code_of source c.active.function) (bounds_at source c.active.function) (types_at source c.active.function) cs (height (base_of source c.active.function) (before ++ held k)) c.active.next m
+      → ArgumentsAt (code_of source c.active.function) (bounds_at source c.active.function) (types_at source c.active.function) cs (height (floor source c.active.function k) (before ++ held k)) c.active.next m
       → CallAt source c.active.function f all (top source c.active.function k) d m q
       → words_held before + all_passed cs ≡ all
-      → Holds shared.tables c.active.slots (base_of source c.active.function) (before ++ held k) → LandsStack source c.active.function e.locals (called_at source c.active.function f) d q c.frames k
+      → Holds shared.tables c.active.slots (floor source c.active.function k) (before ++ held k) → LandsStack source c.active.function e.locals (called_at source c.active.function f) d q c.frames k
       → Matches source pages calls (passes f before cs k e w) (plain.Running c)
   passes_related callees.Putchar before cs k e w c d m q all shared facts at call long holds lands = absurd call
   passes_related callees.Getchar before NoArguments k e w c d m q all shared facts at (here, end) long holds lands =
@@ -185,9 +185,9 @@ module _ (source : Program) (pages calls : ℕ) where
         ),
       )
   passes_related callees.Getchar before (MoreArguments (Convert from to a) cs) k e w c d m q all shared facts (r, (s, at_a, at_to), at) call long holds lands =
-      (shared, facts, into_slot (height (base_of source c.active.function) (before ++ held k)) s at_a holds (in_temporary (omega arith) (r, at_to, (d, m, q, all, refl, at, call, long, lands))))
+      (shared, facts, into_slot (height (floor source c.active.function k) (before ++ held k)) s at_a holds (in_temporary (omega arith) (r, at_to, (d, m, q, all, refl, at, call, long, lands))))
   passes_related (callees.Function n) before (MoreArguments (Convert from to a) cs) k e w c d m q all shared facts (r, (s, at_a, at_to), at) call long holds lands =
-      (shared, facts, into_slot (height (base_of source c.active.function) (before ++ held k)) s at_a holds (in_temporary (omega arith) (r, at_to, (d, m, q, all, refl, at, call, long, lands))))
+      (shared, facts, into_slot (height (floor source c.active.function k) (before ++ held k)) s at_a holds (in_temporary (omega arith) (r, at_to, (d, m, q, all, refl, at, call, long, lands))))
 
   pub passes_weight : (f : Callee) (before : List Kinded) (cs : Arguments) (k : List Entry) (e : Environment) (w : World) → weight (passes f before cs k e w) ≤ arguments_weight cs + stack_weight k
   passes_weight f before NoArguments k e w = omega arith
@@ -208,7 +208,7 @@ module _ (source : Program) (pages calls : ℕ) where
   -- what is known at each such step
   abbrev At_step : Expression → List Entry → Environment → World → Configuration → Type 0
   At_step a k e w c = IsWell (step source (Running (Evaluating a) k e w)) × (shared : SharedAt source pages calls k e w c) × DataIn source shared.tables c.active.slots k e w c
-      × Holds shared.tables c.active.slots (base_of source c.active.function) (held k)
+      × Holds shared.tables c.active.slots (floor source c.active.function k) (held k)
 
   abbrev IsBegun : Expression → List Entry → Environment → World → Configuration → Type 0
   IsBegun a k e w c = IsMatched source pages calls (Running (Evaluating a) k e w) (plain.Running c)
@@ -230,7 +230,7 @@ module _ (source : Program) (pages calls : ℕ) where
       → OperandBy (code_of source c.active.function) (bounds_at source c.active.function) (types_at source c.active.function) (source_of (starts_at source c.active.function) (Convert from to a))
       (ExpressionAt (code_of source c.active.function) (bounds_at source c.active.function) (types_at source c.active.function) a (source_slot (starts_at source c.active.function) (Convert from to a) (top source c.active.function k)) (top source c.active.function k) c.active.next m)
       (source_slot (starts_at source c.active.function) (Convert from to a) (top source c.active.function k)) o c.active.next m
-      → Holds t c.active.slots (base_of source c.active.function) (held k) → ValueStack source c.active.function e.locals (given_at source c.active.function a) o m c.frames k
+      → Holds t c.active.slots (floor source c.active.function k) (held k) → ValueStack source c.active.function e.locals (given_at source c.active.function a) o m c.frames k
       → EvaluatingAt source t a e.locals c.active.function c.active.next c.active.slots c.frames k
   sources t from to a k e w c o m at holds stack = by (are_as_wide from to) at
     where
@@ -245,14 +245,14 @@ module _ (source : Program) (pages calls : ℕ) where
   -- what is assigned to a local comes to its slots at once, or is moved there once it is converted
   assigns_local : (there : Bool) (n : ℕ) (from to : Kind) (a : Expression) (k : List Entry) (e : Environment) (w : World) (c : Configuration) (object : ℕ) (o : Operand) (m : ℕ)
       → converts_there from to ≡ there → e.locals n ≡ Some object → (shared : SharedAt source pages calls k e w c) → DataIn source shared.tables c.active.slots k e w c
-      → Holds shared.tables c.active.slots (base_of source c.active.function) (held k)
+      → Holds shared.tables c.active.slots (floor source c.active.function k) (held k)
       → o ≡ operands.Slot (slot_of (starts_at source c.active.function) n) → HasRoom (types_at source c.active.function) n to
       → InitialBy (code_of source c.active.function) (bounds_at source c.active.function) (types_at source c.active.function) there from to a (slot_of (starts_at source c.active.function) n) (top source c.active.function k) c.active.next m
       → HandsOnStack source c.active.function e.locals to o m c.frames k
       → Related source pages calls (Evaluating a) (Needs (ConvertTo from to (target_by a)) ∷ Needs (Store (Thin object 0)) ∷ k) e w c
   assigns_local true n from to a k e w c object o m lands found shared facts holds there room (wide, at_a) hands =
       let g = c.active.function in
-      let inside = slot-room (types_at source g) n (facts.2.within n object found).0 in (
+      let inside = slot-room (types_at source g) n (facts.0.2.within n object found).0 in (
         shared,
         facts,
         into_slot (slot_of (starts_at source g) n) m at_a holds
@@ -332,7 +332,7 @@ module _ (source : Program) (pages calls : ℕ) where
   -- the value of a local is moved
   comes_from : (a : Expression) (n : ℕ) (t : Ty) (k : List Entry) (e : Environment) (w : World) (c : Configuration) (d q : ℕ)
       → step source (Running (Evaluating a) k e w) ≡ loaded_from (kind_of t) (e.locals n) k e w → IsWell (loaded_from (kind_of t) (e.locals n) k e w)
-      → (shared : SharedAt source pages calls k e w c) → DataIn source shared.tables c.active.slots k e w c → Holds shared.tables c.active.slots (base_of source c.active.function) (held k)
+      → (shared : SharedAt source pages calls k e w c) → DataIn source shared.tables c.active.slots k e w c → Holds shared.tables c.active.slots (floor source c.active.function k) (held k)
       → CodeAt (code_of source c.active.function) c.active.next (move_of (words_of t) d (operands.Slot (slot_of (starts_at source c.active.function) n))) → c.active.next + 1 ≡ q
       → LandsStack source c.active.function e.locals (kind_of t) d q c.frames k → IsBegun a k e w c
   comes_from a n t k e w c d q does well shared facts holds at end lands =
@@ -341,7 +341,7 @@ module _ (source : Program) (pages calls : ℕ) where
       let v : Kinded = record { kind = kind_of t; value = found.value } in
       let o = operands.Slot (slot_of (starts_at source g) n) in
       by_one source pages calls (does ∙ found.gives) shared (subst (λ x. CodeAt (code_of source g) c.active.next (move_of x d o)) (sym (type_words t)) at)
-      (λ choice. landed_moved v o d k e w c q choice shared (facts.2.holds n found.number v found.there found.has).0 facts holds end lands)
+      (λ choice. landed_moved v o d k e w c q choice shared (facts.0.2.holds n found.number v found.there found.has).0 facts holds end lands)
 
   -- the values of a new object come to slots, in the region of this handle
   made_of : (placement : Placement) (owner : Owner) (handle : ℕ) (i : Initial) (t : Ty) (k : List Entry) (e : Environment) (w : World) (c : Configuration) (d q : ℕ) → allocates placement i k e w ≡ makes owner i k e w
@@ -385,7 +385,7 @@ module _ (source : Program) (pages calls : ℕ) where
       let v : Kinded = record { kind = kind_of t; value = found.value } in
       let word = c.globals n in
       let same : n ≡ found.number = same_Some n found.number found.there in
-      let is = (facts.4 n (global_there c.active.function n few)).1 v (ap (contents w.objects) same ∙ found.has) in
+      let is = (facts.0.4 n (global_there c.active.function n few)).1 v (ap (contents w.objects) same ∙ found.has) in
       by_one source pages calls found.gives shared at
       (λ choice. landed v (put c.active.slots d word) d k e w c q shared (IsWord-is shared.tables v.kind v.value word (put c.active.slots d word) d (put-same c.active.slots d word) is)
       (λ m out. put_elsewhere c.active.slots d word (words_of_kind v.kind) m (kind_positive v.kind) out) facts holds end lands)

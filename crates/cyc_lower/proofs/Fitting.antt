@@ -3,6 +3,7 @@
 use Rattle.std.proofs.Common.{◌≡◌, ◌⊎◌, ℕ, ◌≤◌, ◌<◌, Bool, true, false, List, [], ◌∷◌, length, map, Option, None, Some, slice_get, refl, sym, ap, subst, ◌∙◌, arith, inl, inr}
 use Rattle.std.specs.Prelude.{option_map, if◌then◌else◌, not, ◌&&◌}
 use Rattle.std.proofs.lemmas.Option.{same_Some}
+use Rattle.cyc_words.specs.Word.{IsWord}
 use Rattle.cyc_syntax.specs.declared.tree.PointerKind.{PointerKind}
 use Rattle.cyc_syntax.specs.declared.tree.PointerKind.TheVariants as marks
 use Rattle.cyc_types.specs.declared.region.Region.{Region}
@@ -15,15 +16,14 @@ use Rattle.cyc_types.specs.declared.typed.PointerOperator.{PointerOperator}
 use Rattle.cyc_types.specs.declared.typed.PointerOperator.TheVariants as pointers
 use Rattle.cyc_types.specs.Types.{Ty, words_of, words_of_mark, substituted_ty, ValueType, Void, Value, result_type}
 use Rattle.cyc_types.specs.Types as type_forms
-use Rattle.cyc_types.specs.TypedTrees.{Load, New, OnHeap, AsUnique, ByHandle, Initial, Plain, Fields, Array, Dereference, Target, Lvalue, Local, Global, Expression, Number, NullPointer, Copy, Peek, Call, Unary, Binary, Assign, Converted, Convert, Arguments, NoArguments, MoreArguments, Operations, NoOperations, ThenCompute, ThenTest, ThenPointer, Statement, Block, Empty, Evaluate, If, While, Return, Break, Continue, Items, NoItems, MoreItems, Execute, Declare, Signature, StructType, Function, Program, Store, Member, Element, type_of_place, type_of, HeapRegion, Counter, Move, AddressOf, AddressOfCell, NumberOfElements, FreeUnique, FreeKey, ThenPointerPeek, Side, VariableSide, CellSide, Swap}
+use Rattle.cyc_types.specs.TypedTrees.{Load, New, OnHeap, AsUnique, ByHandle, Initial, Plain, Fields, Array, Dereference, Target, Lvalue, Local, Global, Expression, Number, NullPointer, Copy, Peek, Call, Unary, Binary, Assign, Converted, Convert, Arguments, NoArguments, MoreArguments, Operations, NoOperations, ThenCompute, ThenTest, ThenPointer, Statement, Block, Empty, Evaluate, If, While, Return, Break, Continue, Items, NoItems, MoreItems, Execute, Declare, Signature, StructType, Function, Program, Store, Member, Element, type_of_place, type_of, HeapRegion, Counter, Move, AddressOf, AddressOfCell, NumberOfElements, FreeUnique, FreeKey, ThenPointerPeek, Side, VariableSide, CellSide, Swap, Throw, Try, Clauses, NoClauses, Default, Case}
 use Rattle.cyc_types.specs.typing.Scopes.{signature_of_ints}
 use Rattle.cyc_types.specs.typing.Tests as tests
-use Rattle.cyc_types.specs.typing.Expressions.{instantiated}
-use Rattle.cyc_types.specs.typing.Expressions.{type_of_side}
-use Rattle.cyc_types.specs.typing.WellTyped.{Context, PointerOperation, adds, subtracts, equals, differs, thin_null, thin_there, fat_null, fat_there, null_is, null_is_not, IsCallee, Converts, IsPeek, WellTyped, IsCell, IsConverted, ArePassed, IsChain, IsCondition, IsReturned, IsInitial, WellTypedStatement, WellTypedItems, behind, in_block, in_body, with_local, body_context, AreWellTypedFunctions, AreWellTypedGlobals, IsWellTypedProgram, IsLeft, IsMade, IsSide}
+use Rattle.cyc_types.specs.typing.Expressions.{instantiated, type_of_side}
+use Rattle.cyc_types.specs.typing.WellTyped.{Context, PointerOperation, adds, subtracts, equals, differs, thin_null, thin_there, fat_null, fat_there, null_is, null_is_not, IsCallee, Converts, IsPeek, WellTyped, IsCell, IsConverted, ArePassed, IsChain, IsCondition, IsReturned, IsInitial, WellTypedStatement, WellTypedItems, behind, in_block, in_body, with_local, body_context, AreWellTypedFunctions, AreWellTypedGlobals, IsWellTypedProgram, IsLeft, IsMade, IsSide, IsThrown, IsCaught, WellTypedClauses, with_caught, behind_clause}
 use Rattle.cyc_types.specs.Numbered.{Numbering, signatures_of, IsSignature, argument_count, numbering_of}
 use Rattle.cyc_meaning.specs.Pointers.{result_kind as operator_kind}
-use Rattle.cyc_lower.specs.Lowerable.{IsLowerable, IsLowerableConverted, AreLowerableArguments, AreLowerableOperations, IsLowerableReturn, IsLowerableInitial, IsLowerableStatement, AreLowerableItems, AreLowerableFunctions, IsLowerableProgram, is_comparison, are_sums, stands_alone, IsLowerableCell, IsLowerableObject, IsLowerableSide, may_wait}
+use Rattle.cyc_lower.specs.Lowerable.{IsLowerable, IsLowerableConverted, AreLowerableArguments, AreLowerableOperations, IsLowerableReturn, IsLowerableInitial, IsLowerableStatement, AreLowerableItems, AreLowerableFunctions, IsLowerableProgram, is_comparison, are_sums, stands_alone, IsLowerableCell, IsLowerableObject, IsLowerableSide, may_wait, IsLowerableThrown, IsLowerableCaught, AreLowerableClauses}
 use Rattle.cyc_store.specs.declared.range.TheConstants.{MOST_BLOCK_WORDS}
 use Rattle.cyc_meaning.specs.Values.{kind_of, is_thin, words_of_kind}
 use Rattle.cyc_meaning.specs.FrameCount.{result_words, words_of_all, operand_words}
@@ -107,6 +107,14 @@ module _ (b : Numbering) (types : Types) where
   FitsInitial n None = Unit {0}
   FitsInitial n (Some c) = HasRoom types n (passed_kind c) × FitsConverted c
 
+  abbrev pub FitsThrown : Option Expression → Type 0
+  FitsThrown None = Unit {0}
+  FitsThrown (Some a) = Fits a
+
+  abbrev pub FitsCaught : (number : Option ℕ) → Type 0
+  FitsCaught None = Unit {0}
+  FitsCaught (Some n) = (n < b.locals) × HasRoom types n kinds.Int
+
   abbrev mutual
     pub FitsStatement : (in_loop : Bool) → Statement → Type 0
     FitsStatement l (Block r js) = FitItems l js
@@ -119,13 +127,19 @@ module _ (b : Numbering) (types : Types) where
     FitsStatement l (Return v) = FitsReturn b.result v
     FitsStatement l Break = l ≡ true
     FitsStatement l Continue = l ≡ true
-    FitsStatement l s = ⊥
+    FitsStatement l (Throw tag v) = IsWord tag × FitsThrown v
+    FitsStatement l (Try s cs) = FitsStatement l s × FitClauses l cs
 
     pub FitItems : Bool → Items → Type 0
     FitItems l NoItems = Unit {0}
     FitItems l (MoreItems (Execute s) js) = FitsStatement l s × FitItems l js
     FitItems l (MoreItems (Declare n t v) js) = (n < b.locals) × FitsInitial n v × FitItems l js
     FitItems l js = ⊥
+
+    pub FitClauses : Bool → Clauses → Type 0
+    FitClauses l NoClauses = Unit {0}
+    FitClauses l (Default r js) = FitItems l js
+    FitClauses l (Case tag x r js cs) = IsWord tag × FitsCaught x × FitItems l js × FitClauses l cs
 
 abbrev pub AreFitting : List StructType → ℕ → List Signature → List Function → Type 0
 AreFitting structs globals functions [] = Unit {0}
@@ -491,6 +505,20 @@ module _ (b : Numbering) (types : Types) where
       let (same, fitting) = fits_cell x c t r suits numbered cell in
       (same, cell_single x numbered, fitting)
 
+  suits_caught : (x : Option ℕ) (c : Context) → Suits c → Suits (with_caught x (in_block c))
+  suits_caught None c suits = record { functions = suits.functions; structs = suits.structs; variables = suits.variables; result = suits.result }
+  suits_caught (Some n) c suits = record { functions = suits.functions; structs = suits.structs; variables = suits.variables; result = suits.result }
+
+  fits_thrown : (v : Option Expression) (has : Bool) (c : Context) → Suits c → IsLowerableThrown b v → IsThrown c has v → FitsThrown b types v
+  fits_thrown None has c suits numbered well = tt
+  fits_thrown (Some a) true c suits numbered well = (fits a c (Value type_forms.Int) suits numbered well).1
+  fits_thrown (Some a) false c suits numbered well = absurd well
+
+  fits_caught : (x : Option ℕ) (has : Bool) (c : Context) → Suits c → IsLowerableCaught b x → IsCaught c has x → FitsCaught b types x
+  fits_caught None has c suits numbered well = tt
+  fits_caught (Some n) true c suits numbered (next, there) = (numbered, room_in c n type_forms.Int kinds.Int suits there refl)
+  fits_caught (Some n) false c suits numbered well = absurd well
+
   mutual
     fits_statement : (s : Statement) (l : Bool) (c : Context) → Suits c → IsLowerableStatement b l s → WellTypedStatement c s → FitsStatement b types l s
     fits_statement (Block r js) l c suits numbered (next, well) =
@@ -510,7 +538,8 @@ module _ (b : Numbering) (types : Types) where
     fits_statement (Return v) l c suits numbered well = fits_return b.result v c suits numbered (subst (λ (r : Option Ty). IsReturned c r v) suits.result well)
     fits_statement Break l c suits numbered well = numbered
     fits_statement Continue l c suits numbered well = numbered
-    fits_statement s l c suits numbered well = absurd numbered
+    fits_statement (Throw tag v) l c suits (word, numbered) (has, known, well) = (word, fits_thrown v has c suits numbered well)
+    fits_statement (Try s cs) l c suits (numbered_s, numbered) (well_s, well) = (fits_statement s l c suits numbered_s well_s, fit_clauses cs l (behind c s) (suits_behind s c suits) numbered well)
 
     fit_items : (js : Items) (l : Bool) (c : Context) → Suits c → AreLowerableItems b l js → WellTypedItems c js → FitItems b types l js
     fit_items NoItems l c suits numbered well = tt
@@ -522,6 +551,17 @@ module _ (b : Numbering) (types : Types) where
       fit_items js l (with_local true t c) (record { functions = suits.functions; structs = suits.structs; variables = suits.variables; result = suits.result }) all rest,
     )
     fit_items js l c suits numbered well = absurd numbered
+
+    fit_clauses : (cs : Clauses) (l : Bool) (c : Context) → Suits c → AreLowerableClauses b l cs → WellTypedClauses c cs → FitClauses b types l cs
+    fit_clauses NoClauses l c suits numbered well = tt
+    fit_clauses (Default r js) l c suits numbered (next, well) =
+        fit_items js l (in_block c) (record { functions = suits.functions; structs = suits.structs; variables = suits.variables; result = suits.result }) numbered well
+    fit_clauses (Case tag x r js cs) l c suits (word, few, one, all) (has, known, caught, next, well, rest) = (
+      word,
+      fits_caught x has c suits few caught,
+      fit_items js l (with_caught x (in_block c)) (suits_caught x c suits) one well,
+      fit_clauses cs l (behind_clause c x js) (record { functions = suits.functions; structs = suits.structs; variables = suits.variables; result = suits.result }) all rest,
+    )
 
   pub body_fits : (js : Items) (c : Context) → c.functions ≡ b.functions → c.structs ≡ types.structs → c.variables ≡ types.locals → c.result ≡ b.result → AreLowerableItems b false js → WellTypedItems c js → FitItems b types false js
   body_fits js c functions structs variables result numbered well = fit_items js false c (record { functions = functions; structs = structs; variables = variables; result = result }) numbered well

@@ -6,9 +6,11 @@ pub mod TypedConstants
 -- the answers of `lower`
 pub mod Lowerings
 pub mod Routines
+pub mod Lengths
 -- a run of the plain program is one of the source
 pub mod Relation
 pub mod Matched
+pub mod Handling
 pub mod Stands
 pub mod Fitting
 pub mod Bridge
@@ -27,8 +29,10 @@ pub mod PointerSteps
 pub mod Evaluations
 pub mod Accesses
 pub mod Branching
+pub mod Handlers
 pub mod Conditions
 pub mod Calls
+pub mod ExceptionSteps
 pub mod StatementSteps
 pub mod Keeping
 pub mod Whole

@@ -1,28 +1,35 @@
 -- The steps behind a place that a pointer leads to: its cell is read, its address is taken, or waits for what is stored there.
-use Rattle.std.proofs.Common.{◌≡◌, ℕ, ◌+◌, Bool, true, false, List, ◌∷◌, Option, None, Some, refl, sym, ap, subst, ◌∙◌, arith, inl}
+use Rattle.std.proofs.Common.{◌≡◌, ℕ, zero, suc, ◌+◌, ◌*◌, ◌^◌, ◌<◌, Bool, true, false, List, ◌∷◌, Option, None, Some, refl, sym, ap, subst, ◌∙◌, arith, add-zero, inl}
 use Rattle.std.specs.Prelude.{if◌then◌else◌}
+use Rattle.std.proofs.lemmas.Bool.{eqb-true}
 use Rattle.cyc_words.specs.Word.{add_of}
 use Rattle.cyc_types.specs.declared.typed.Kind.{Kind}
 use Rattle.cyc_types.specs.declared.typed.Kind.TheVariants as kinds
 use Rattle.cyc_types.specs.TypedTrees.{Expression, Convert, Program}
+use Rattle.cyc_store.specs.State.{StoreState, word_at}
+use Rattle.cyc_plain.specs.declared.instruction.BinaryOperator.TheVariants as plain_binary
 use Rattle.cyc_plain.specs.declared.instruction.Operand.{Operand}
 use Rattle.cyc_plain.specs.declared.instruction.Operand.TheVariants as operands
+use Rattle.cyc_plain.specs.declared.instruction.Instruction.{Instruction}
 use Rattle.cyc_plain.specs.declared.instruction.Instruction.TheVariants as instructions
 use Rattle.cyc_plain.specs.State as plain
 use Rattle.cyc_plain.specs.State.{put, Configuration}
-use Rattle.cyc_plain.specs.Step.{operand_word, with_slots, advanced, loads}
+use Rattle.cyc_plain.specs.Step.{Choice, operand_word, with_slots, advanced, loads, performed}
 use Rattle.cyc_plain.specs.Straight.{At}
 use Rattle.cyc_plain.proofs.SlotLaws.{put-same}
 use Rattle.cyc_meaning.specs.Values.{Value, Thin, Operand as Kinded, is_kind, words_of_kind}
 use Rattle.cyc_meaning.specs.State.{World, Access, Found, Closed, Missing, Located, cell_at, Environment, LoadFrom, Entry, NeedsPlace, GivenPlace, Given, Running, ConvertTo, StoreCell, TakeAddress, StoreTo, Needs, Evaluating, SwapLeft, SwapRight}
 use Rattle.cyc_meaning.specs.Step.{wrong, read, loaded, target_by}
-use Rattle.cyc_objects.specs.Words.{Points, Is}
-use Rattle.cyc_lower.specs.Lowering.{source_of, source_slot, right_slot}
+use Rattle.cyc_objects.specs.Tables.{Tables}
+use Rattle.cyc_objects.specs.Words.{words_from, Points, Is, IsContent}
+use Rattle.cyc_objects.specs.Related as objects
+use Rattle.cyc_objects.proofs.Cells.{found-alive, cell-live, cell-read}
+use Rattle.cyc_lower.specs.Lowering.{is_in, move_of, source_of, source_slot, lower_program, right_slot}
 use Rattle.cyc_lower.proofs.Widths.{kind_positive, same_kind}
 use Rattle.cyc_lower.proofs.Moves.{put_elsewhere}
-use Rattle.cyc_lower.proofs.Relation.{Matches, held, callers, types_at, starts_at, Holds, DataIn, SharedAt, LandsStack, HandsOnStack, Related, code_of, bounds_at, base_of, top}
-use Rattle.cyc_lower.proofs.Data.{height-least, Holds-same, data_above}
-use Rattle.cyc_lower.proofs.Stands.{OperandBy, ExpressionAt, ConvertedOperandAt}
+use Rattle.cyc_lower.proofs.Relation.{Matches, held, callers, types_at, starts_at, Holds, DataIn, SharedAt, LandsStack, HandsOnStack, Related, code_of, bounds_at, base_of, floor, top}
+use Rattle.cyc_lower.proofs.Data.{Is-same, height-least, Holds-same, data_written}
+use Rattle.cyc_lower.proofs.Stands.{CopyBy, AddressAt, OperandBy, ExpressionAt, ConvertedOperandAt}
 use Rattle.cyc_lower.proofs.CellReads.{word_read}
 use Rattle.cyc_lower.proofs.AddressSteps.{Brought, in_slot, by_word, brought}
 use Rattle.cyc_lower.proofs.SwapSteps.{left_found, right_found}
@@ -58,7 +65,7 @@ module _ (source : Program) (pages calls : ℕ) where
   -- ---- the address of a cell is a value
 
   takes_address : (object offset more : ℕ) (o : Operand) (d q : ℕ) (k : List Entry) (e : Environment) (w : World) (c : Configuration)
-      → (shared : SharedAt source pages calls (NeedsPlace TakeAddress ∷ k) e w c) → DataIn source shared.tables c.active.slots k e w c → Holds shared.tables c.active.slots (base_of source c.active.function) (held k)
+      → (shared : SharedAt source pages calls (NeedsPlace TakeAddress ∷ k) e w c) → DataIn source shared.tables c.active.slots k e w c → Holds shared.tables c.active.slots (floor source c.active.function k) (held k)
       → Brought source shared.tables object offset d q c → LandsStack source c.active.function e.locals kinds.NonNull d q c.frames k
       → IsMatched source pages calls (Running (GivenPlace (Thin object offset)) (NeedsPlace TakeAddress ∷ k) e w) (plain.Running c)
   takes_address object offset more o d q k e w c shared facts holds (in_slot end points) lands =
@@ -86,7 +93,7 @@ module _ (source : Program) (pages calls : ℕ) where
   right_side from to a peek place k = Needs (ConvertTo from to (target_by a)) ∷ Needs (StoreCell peek place) ∷ k
 
   right_begins : (from to : Kind) (a : Expression) (peek : Option ℕ) (object offset : ℕ) (k : List Entry) (e : Environment) (w : World) (c : Configuration) (s : ℕ)
-      → (shared : SharedAt source pages calls k e w c) → DataIn source shared.tables c.active.slots k e w c → Holds shared.tables c.active.slots (base_of source c.active.function) (held k)
+      → (shared : SharedAt source pages calls k e w c) → DataIn source shared.tables c.active.slots k e w c → Holds shared.tables c.active.slots (floor source c.active.function k) (held k)
       → Points shared.tables object offset (c.active.slots (top source c.active.function k)) → c.active.next ≡ s → StoresBehind from to a k e c s
       → Related source pages calls (Evaluating a) (right_side from to a peek (Thin object offset) k) e w c
   right_begins from to a peek object offset k e w c s shared facts holds points start (x, u, (m, at_a, at_to), store, single, hands) =
@@ -104,7 +111,7 @@ module _ (source : Program) (pages calls : ℕ) where
       )
 
   stores_to : (from to : Kind) (a : Expression) (peek : Option ℕ) (object offset : ℕ) (k : List Entry) (e : Environment) (w : World) (c : Configuration) (s : ℕ)
-      → (shared : SharedAt source pages calls k e w c) → DataIn source shared.tables c.active.slots k e w c → Holds shared.tables c.active.slots (base_of source c.active.function) (held k)
+      → (shared : SharedAt source pages calls k e w c) → DataIn source shared.tables c.active.slots k e w c → Holds shared.tables c.active.slots (floor source c.active.function k) (held k)
       → Brought source shared.tables object offset (top source c.active.function k) s c → StoresBehind from to a k e c s
       → IsMatched source pages calls (Running (GivenPlace (Thin object offset)) (NeedsPlace (StoreTo peek (Convert from to a)) ∷ k) e w) (plain.Running c)
   stores_to from to a peek object offset k e w c s shared facts holds (in_slot end points) behind =
@@ -113,13 +120,13 @@ module _ (source : Program) (pages calls : ℕ) where
       (omega arith)
   stores_to from to a peek object offset k e w c s shared facts holds (by_word i word here goes end points) behind =
       let g = c.active.function in
-      let base = base_of source g in
+      let base = floor source g k in
       let free = top source g k in
       let after = put c.active.slots free word in
       by_one source pages calls refl shared here
       (λ choice. subst (Matches source pages calls (Running (Evaluating a) (right_side from to a peek (Thin object offset) k) e w)) (sym (goes choice))
       (right_begins from to a peek object offset k e w (advanced (with_slots c after)) s shared
-      (data_above shared.tables source g w.objects e.locals (callers k) c.active.slots after c.globals c.frames free 1 (height-least base (held k)) (λ m out. put_elsewhere c.active.slots free word 1 m (omega arith) out) facts)
+      (data_written source shared.tables g w.objects e.locals k c.active.slots after c.active.handlers c.globals c.frames free 1 (height-least base (held k)) (λ m out. put_elsewhere c.active.slots free word 1 m (omega arith) out) facts)
       (Holds-same shared.tables c.active.slots after base (held k) (λ m below. put_elsewhere c.active.slots free word 1 m (omega arith) (inl below)) holds)
       (subst (Points shared.tables object offset) (sym (put-same c.active.slots free word)) points) end behind))
 
@@ -142,10 +149,10 @@ module _ (source : Program) (pages calls : ℕ) where
       stores_to from to a peek object offset k e w c s shared facts holds (brought source shared.tables object offset more o (top source c.active.function k) s c small points address)
       (x, u, at_a, store, single, hands)
   given_place (Thin object offset) (NeedsPlace (SwapLeft kind peek right) ∷ k) e w c well (shared, facts, (o, more, small, points, holds, (exits, x, m, r, q, single, has, waits, address, at_right, exchange, stack))) =
-      left_found source pages calls object offset kind peek right k e w c well shared facts (brought source shared.tables object offset more o (base_of source c.active.function) m c small points address)
+      left_found source pages calls object offset kind peek right k e w c well shared facts (brought source shared.tables object offset more o (floor source c.active.function k) m c small points address)
       (exits, x, r, q, single, has, waits, at_right, exchange, stack)
   given_place (Thin object offset) (NeedsPlace (SwapRight kind peek left) ∷ k) e w c well (shared, facts, (o, more, small, points, holds, (exits, a, y, m, q, single, has, is_left, address, exchange, stack))) =
-      right_found source pages calls object offset kind peek left a k e w c shared facts holds (brought source shared.tables object offset more o (right_slot a (base_of source c.active.function)) m c small points address)
+      right_found source pages calls object offset kind peek left a k e w c shared facts holds (brought source shared.tables object offset more o (right_slot a (floor source c.active.function k)) m c small points address)
       is_left (exits, y, q, single, has, exchange, stack)
   given_place (Thin object offset) k e w c well (shared, facts, (o, more, small, points, holds, place)) = absurd place
   given_place place k e w c well (shared, facts, at) = absurd at

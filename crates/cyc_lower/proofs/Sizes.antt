@@ -12,11 +12,11 @@ use Rattle.cyc_types.specs.declared.typed.PointerOperator.{PointerOperator}
 use Rattle.cyc_types.specs.declared.typed.PointerOperator.TheVariants as pointers
 use Rattle.cyc_types.specs.declared.typed.LogicalOperator.{LogicalOperator}
 use Rattle.cyc_types.specs.declared.typed.LogicalOperator.TheVariants as logical
-use Rattle.cyc_types.specs.TypedTrees.{Load, New, OnHeap, AsUnique, ByHandle, Initial, Plain, Fields, Array, Dereference, Target, Member, Element, Lvalue, Local, Global, Expression, Number, Copy, Call, Unary, Binary, Assign, Converted, Convert, Arguments, NoArguments, MoreArguments, Operations, NoOperations, ThenCompute, ThenTest, ThenPointer, ThenPointerPeek, Statement, Block, Empty, Evaluate, If, While, Return, Break, Continue, Items, NoItems, MoreItems, Execute, Declare, StructType, Function, Move, Peek, AddressOfCell, Store, FreeUnique, Side, VariableSide, CellSide, Swap}
+use Rattle.cyc_types.specs.TypedTrees.{Load, New, OnHeap, AsUnique, ByHandle, Initial, Plain, Fields, Array, Dereference, Target, Member, Element, Lvalue, Local, Global, Expression, Number, Copy, Call, Unary, Binary, Assign, Converted, Convert, Arguments, NoArguments, MoreArguments, Operations, NoOperations, ThenCompute, ThenTest, ThenPointer, ThenPointerPeek, Statement, Block, Empty, Evaluate, If, While, Return, Break, Continue, Items, NoItems, MoreItems, Execute, Declare, StructType, Function, Move, Peek, AddressOfCell, Store, FreeUnique, Side, VariableSide, CellSide, Swap, Throw, Try, Clauses, NoClauses, Default, Case}
 use Rattle.cyc_types.specs.Types.{Ty, words_of}
 use Rattle.cyc_types.specs.Numbered.{argument_count}
 use Rattle.cyc_types.proofs.WeightLemmas.{some_token}
-use Rattle.cyc_types.specs.Weight.{expression_weight, dereference_weight, initial_weight, converted_weight, arguments_weight, more_arguments_weight, operations_weight, else_weight, statement_weight, items_weight, function_weight, side_weight}
+use Rattle.cyc_types.specs.Weight.{expression_weight, dereference_weight, initial_weight, converted_weight, arguments_weight, more_arguments_weight, operations_weight, else_weight, statement_weight, items_weight, function_weight, side_weight, clauses_weight}
 use Rattle.cyc_plain.specs.declared.instruction.Comparison.{Comparison}
 use Rattle.cyc_plain.specs.declared.instruction.Operand.{Operand}
 use Rattle.cyc_plain.specs.declared.instruction.Operand.TheVariants as operands
@@ -24,12 +24,13 @@ use Rattle.cyc_plain.specs.declared.instruction.Request.TheVariants as requests
 use Rattle.cyc_plain.specs.declared.instruction.Instruction.{Instruction}
 use Rattle.cyc_plain.specs.declared.instruction.Instruction.TheVariants as instructions
 use Rattle.cyc_plain.specs.Program.{instruction_size, size}
+use Rattle.cyc_plain.specs.declared.limits.TheConstants.{RECORD_WORDS}
 use Rattle.cyc_lower.specs.declared.statements.Exits.{Exits}
 use Rattle.cyc_lower.specs.Slots.{starts_of, slot_of, Starts}
 use Rattle.cyc_store.specs.declared.range.TheConstants.{HEAP, UNIQUE}
 use Rattle.cyc_meaning.specs.Values.{kind_of, words_of_kind}
 use Rattle.cyc_lower.proofs.Widths.{kind_few, type_words}
-use Rattle.cyc_lower.specs.Lowering.{types_of, converts_there, passed_words, all_passed, source_of, source_slot, converted_by, moved_by, move_of, unary_operator, binary_operator, operand_of, operand_or, code_unless, slot_or, code_unless_slot, left_of, value_slot, next_slot, left_slot, value_operand, converted_operand, printed_operand, conversion_code, divisor_code, checked_code, operator_code, truth_code, load_code, low_byte, test_code, is_in, copy_code, expression_code, arguments_code, converted_code, converted_operand_code, printed_code, initial_code, assignment_code, operations_code, discarded_code, failing_comparison, compared_or, left_with, slot_with, first_code, second_code, pair_code, condition_code, condition_of, failing_jump, break_target, continue_target, return_code, declaration_code, statement_code, items_code, first_temporary, jump_if_zero, jump_if_nonzero, lower_function, behind_left, pointer_code, outside_loops, inside_loop, pointer_operator, index_of, first_two, pointer_instructions, stores_code, object_code, made_code, place_operand, place_offset, place_code, address_code, store_address_code, free_code, right_slot, side_code, read_side, write_side, exchange_code, swap_code}
+use Rattle.cyc_lower.specs.Lowering.{types_of, converts_there, passed_words, all_passed, source_of, source_slot, converted_by, moved_by, move_of, unary_operator, binary_operator, operand_of, operand_or, code_unless, slot_or, code_unless_slot, left_of, value_slot, next_slot, left_slot, value_operand, converted_operand, printed_operand, conversion_code, divisor_code, checked_code, operator_code, truth_code, load_code, low_byte, test_code, is_in, copy_code, expression_code, arguments_code, converted_code, converted_operand_code, printed_code, initial_code, assignment_code, operations_code, discarded_code, failing_comparison, compared_or, left_with, slot_with, first_code, second_code, pair_code, condition_code, condition_of, failing_jump, break_target, continue_target, return_code, declaration_code, statement_code, items_code, first_temporary, jump_if_zero, jump_if_nonzero, lower_function, behind_left, pointer_code, outside_loops, inside_loop, pointer_operator, index_of, first_two, pointer_instructions, stores_code, object_code, made_code, place_operand, place_offset, place_code, address_code, store_address_code, blocks, free_code, right_slot, side_code, read_side, write_side, exchange_code, swap_code, leave_code, tag_operand, other_jump, clause_code, caught_code, clauses_code}
 use Rattle.cyc_lower.specs.Lowered.{size_per_weight}
 
 abbrev code_size : List Instruction → ℕ
@@ -52,27 +53,27 @@ unless_slot_size (Some (operands.Slot n)) x = omega arith
 unless_slot_size (Some (operands.Word n)) x = omega arith
 unless_slot_size None x = omega arith
 
-conversion_size : (to : Kind) (o : Operand) (p : ℕ) → code_size (conversion_code to o p) ≤ 18
-conversion_size kinds.NonNull o p = omega arith
-conversion_size to o p = omega arith
+conversion_size : (starts : Starts) (to : Kind) (o : Operand) (p : ℕ) → code_size (conversion_code starts to o p) ≤ 18
+conversion_size starts kinds.NonNull o p = omega arith
+conversion_size starts to o p = omega arith
 
-divisor_size : (o : Operand) (p : ℕ) → code_size (divisor_code o p) ≤ 18
-divisor_size (operands.Word (suc n)) p = omega arith
-divisor_size (operands.Word zero) p = omega arith
-divisor_size (operands.Slot n) p = omega arith
+divisor_size : (starts : Starts) (o : Operand) → code_size (divisor_code starts o) ≤ 18
+divisor_size starts (operands.Word (suc n)) = omega arith
+divisor_size starts (operands.Word zero) = omega arith
+divisor_size starts (operands.Slot n) = omega arith
 
 binary_size : (o : Operator) (l r : Operand) (d : ℕ) → instruction_size (instructions.Binary (binary_operator o) d l r) ≤ 18
 binary_size operators.Divide l r d = omega arith
 binary_size operators.Remainder l r d = omega arith
 binary_size o l r d = omega arith
 
-checked_size : (o : Operator) (l r : Operand) (p d : ℕ) → code_size (checked_code o l r p d) ≤ 36
-checked_size o l r p d = omega (arith, both (divisor_code r p) (instructions.Binary (binary_operator o) d l r ∷ []), divisor_size r p, binary_size o l r d)
+checked_size : (starts : Starts) (o : Operator) (l r : Operand) (d : ℕ) → code_size (checked_code starts o l r d) ≤ 36
+checked_size starts o l r d = omega (arith, both (divisor_code starts r) (instructions.Binary (binary_operator o) d l r ∷ []), divisor_size starts r, binary_size o l r d)
 
-operator_size : (o : Operator) (l r : Operand) (p d : ℕ) → code_size (operator_code o l r p d) ≤ 36
-operator_size operators.Divide l r p d = checked_size operators.Divide l r p d
-operator_size operators.Remainder l r p d = checked_size operators.Remainder l r p d
-operator_size o l r p d = omega arith
+operator_size : (starts : Starts) (o : Operator) (l r : Operand) (d : ℕ) → code_size (operator_code starts o l r d) ≤ 36
+operator_size starts operators.Divide l r d = checked_size starts operators.Divide l r d
+operator_size starts operators.Remainder l r d = checked_size starts operators.Remainder l r d
+operator_size starts o l r d = omega arith
 
 move_size : (words d : ℕ) (o : Operand) → words ≤ 3 → code_size (move_of words d o ∷ []) ≤ 20
 move_size words d (operands.Word n) few = omega arith
@@ -105,16 +106,16 @@ address_size : (o : Operand) (bytes d : ℕ) → code_size (address_code o bytes
 address_size o zero d = omega (arith, copied_address_size o d)
 address_size o (suc bytes) d = omega arith
 
-converted_by_size : (known : Option Operand) (inner : List Instruction) (to : Kind) (o : Operand) (p bound : ℕ) → code_size inner ≤ bound → code_size (converted_by known inner to o p) ≤ bound + 18
-converted_by_size known inner to o p bound few =
+converted_by_size : (starts : Starts) (known : Option Operand) (inner : List Instruction) (to : Kind) (o : Operand) (p bound : ℕ) → code_size inner ≤ bound → code_size (converted_by starts known inner to o p) ≤ bound + 18
+converted_by_size starts known inner to o p bound few =
     let front = code_unless known inner in
-    omega (arith, both front (conversion_code to o (p + length front)), unless_size known inner, few, conversion_size to o (p + length front))
+    omega (arith, both front (conversion_code starts to o (p + length front)), unless_size known inner, few, conversion_size starts to o (p + length front))
 
-initial_by_size : (there : Bool) (known : Option Operand) (at_once inner : List Instruction) (to : Kind) (o : Operand) (p d bound : ℕ) → code_size at_once ≤ bound → code_size inner ≤ bound
-    → code_size (if there then at_once else moved_by known inner to o p d) ≤ bound + 38
-initial_by_size true known at_once inner to o p d bound few other = omega (arith, few)
-initial_by_size false known at_once inner to o p d bound few other =
-    omega (arith, both (converted_by known inner to o p) (move_of (words_of_kind to) d o ∷ []), converted_by_size known inner to o p bound other, move_size (words_of_kind to) d o (kind_few to))
+initial_by_size : (starts : Starts) (there : Bool) (known : Option Operand) (at_once inner : List Instruction) (to : Kind) (o : Operand) (p d bound : ℕ) → code_size at_once ≤ bound → code_size inner ≤ bound
+    → code_size (if there then at_once else moved_by starts known inner to o p d) ≤ bound + 38
+initial_by_size starts true known at_once inner to o p d bound few other = omega (arith, few)
+initial_by_size starts false known at_once inner to o p d bound few other =
+    omega (arith, both (converted_by starts known inner to o p) (move_of (words_of_kind to) d o ∷ []), converted_by_size starts known inner to o p bound other, move_size (words_of_kind to) d o (kind_few to))
 
 first_two_size : (l : Operand) (d : ℕ) → code_size (first_two l d) ≤ 14
 first_two_size (operands.Word n) d = omega arith
@@ -154,6 +155,14 @@ object_size handle words d t =
       both (stores_code words (t + words) 0 t) move,
       stores_size words (t + words) 0 t,
     )
+
+-- handlers are closed by one instruction, where there are some
+leave_size : (first t : ℕ) → code_size (leave_code first t) ≤ 5
+leave_size first t = by (first == t)
+  where
+    by : (none : Bool) → code_size (if none then [] else instructions.Leave first ∷ []) ≤ 5
+    by true = omega arith
+    by false = omega arith
 
 -- a list of arguments with a comma before each has at most one token more
 more_weight : (cs : Arguments) → more_arguments_weight cs ≤ arguments_weight cs + 1
@@ -245,10 +254,10 @@ module _ (starts : Starts) where
     place_size : (x : Dereference) (p t : ℕ) → code_size (place_code starts x p t) + 18 ≤ size_per_weight * dereference_weight x
     place_size (Target k a ty) p t =
         let slot = value_slot starts a t in
-        omega (arith, converted_by_size (operand_of starts a) (expression_code starts a p slot t) kinds.NonNull (value_operand starts a t) p (size_per_weight * expression_weight a) (expression_size a p slot t))
+        omega (arith, converted_by_size starts (operand_of starts a) (expression_code starts a p slot t) kinds.NonNull (value_operand starts a t) p (size_per_weight * expression_weight a) (expression_size a p slot t))
     place_size (Member k a n f ty) p t =
         let slot = value_slot starts a t in
-        omega (arith, converted_by_size (operand_of starts a) (expression_code starts a p slot t) kinds.NonNull (value_operand starts a t) p (size_per_weight * expression_weight a) (expression_size a p slot t))
+        omega (arith, converted_by_size starts (operand_of starts a) (expression_code starts a p slot t) kinds.NonNull (value_operand starts a t) p (size_per_weight * expression_weight a) (expression_size a p slot t))
     place_size (Element a i ty) p t = omega (arith, some_token a)
 
     -- with the address in a slot
@@ -260,7 +269,7 @@ module _ (starts : Starts) where
         omega (
           arith,
           both front (copy_code 1 o t),
-          converted_by_size (operand_of starts a) (expression_code starts a p slot t) kinds.NonNull o p (size_per_weight * expression_weight a) (expression_size a p slot t),
+          converted_by_size starts (operand_of starts a) (expression_code starts a p slot t) kinds.NonNull o p (size_per_weight * expression_weight a) (expression_size a p slot t),
           copied_address_size o t,
         )
     store_address_size (Member k a n f ty) p t =
@@ -271,7 +280,7 @@ module _ (starts : Starts) where
         omega (
           arith,
           both front (address_code o (place_offset starts x) t),
-          converted_by_size (operand_of starts a) (expression_code starts a p slot t) kinds.NonNull o p (size_per_weight * expression_weight a) (expression_size a p slot t),
+          converted_by_size starts (operand_of starts a) (expression_code starts a p slot t) kinds.NonNull o p (size_per_weight * expression_weight a) (expression_size a p slot t),
           address_size o (place_offset starts x) t,
         )
     store_address_size (Element a i ty) p t =
@@ -280,18 +289,18 @@ module _ (starts : Starts) where
     initial_size : (c : Converted) (p d t : ℕ) → code_size (initial_code starts c p d t) ≤ size_per_weight * converted_weight c + 38
     initial_size (Convert from to a) p d t =
         let slot = source_slot starts (Convert from to a) t in
-        initial_by_size (converts_there from to) (source_of starts (Convert from to a)) (expression_code starts a p d t) (expression_code starts a p slot t) to (converted_operand starts (Convert from to a) t) p d
+        initial_by_size starts (converts_there from to) (source_of starts (Convert from to a)) (expression_code starts a p d t) (expression_code starts a p slot t) to (converted_operand starts (Convert from to a) t) p d
         (size_per_weight * expression_weight a) (expression_size a p d t) (expression_size a p slot t)
 
     converted_size : (c : Converted) (p t : ℕ) → code_size (converted_code starts c p t) ≤ size_per_weight * converted_weight c + 18
     converted_size (Convert from to a) p t =
         let front = expression_code starts a p t t in
-        omega (arith, both front (conversion_code to (operands.Slot t) (p + length front)), expression_size a p t t, conversion_size to (operands.Slot t) (p + length front))
+        omega (arith, both front (conversion_code starts to (operands.Slot t) (p + length front)), expression_size a p t t, conversion_size starts to (operands.Slot t) (p + length front))
 
     converted_operand_size : (c : Converted) (p t : ℕ) → code_size (converted_operand_code starts c p t) ≤ size_per_weight * converted_weight c + 18
     converted_operand_size (Convert from to a) p t =
         let slot = source_slot starts (Convert from to a) t in
-        converted_by_size (source_of starts (Convert from to a)) (expression_code starts a p slot t) to (converted_operand starts (Convert from to a) t) p
+        converted_by_size starts (source_of starts (Convert from to a)) (expression_code starts a p slot t) to (converted_operand starts (Convert from to a) t) p
         (size_per_weight * expression_weight a) (expression_size a p slot t)
 
     printed_size : (cs : Arguments) (p t : ℕ) → code_size (printed_code starts cs p t) ≤ size_per_weight * arguments_weight cs + 18
@@ -332,7 +341,7 @@ module _ (starts : Starts) where
         let inner = expression_code starts a p (value_slot starts a (suc t)) (suc t) in
         let operand = code_unless (operand_of starts a) inner in
         let next = next_slot os d t in
-        let operator = operator_code o l (value_operand starts a (suc t)) (p + length operand) next in
+        let operator = operator_code starts o l (value_operand starts a (suc t)) next in
         let q = p + length (operand ++ operator) in
         omega (
           arith,
@@ -340,7 +349,7 @@ module _ (starts : Starts) where
           both operand operator,
           unless_size (operand_of starts a) inner,
           expression_size a p (value_slot starts a (suc t)) (suc t),
-          operator_size o l (value_operand starts a (suc t)) (p + length operand) next,
+          operator_size starts o l (value_operand starts a (suc t)) next,
           operations_size os q (operands.Slot next) d t,
         )
     operations_size (ThenTest o a os) p l d t =
@@ -403,15 +412,39 @@ module _ (starts : Starts) where
       by None = alone_size (Binary a (ThenCompute o b NoOperations) ty) p t
   condition_size a p t = alone_size a p t
 
-  return_size : (v : Option Converted) (p t : ℕ) → code_size (return_code starts v p t) ≤ size_per_weight * statement_weight (Return v)
-  return_size None p t = omega arith
-  return_size (Some (Convert from to a)) p t =
+  return_size : (v : Option Converted) (p : ℕ) (exits : Exits) (t : ℕ) → code_size (return_code starts v p exits t) ≤ size_per_weight * statement_weight (Return v)
+  return_size None p exits t = omega (arith, both (leave_code exits.first_record t) (instructions.Finish t ∷ []), leave_size exits.first_record t)
+  return_size (Some (Convert from to a)) p exits t =
       let known = source_of starts (Convert from to a) in
       let inner = expression_code starts a p t t in
       let front = code_unless_slot known inner in
       let s = slot_or known t in
-      let conversion = conversion_code to (operands.Slot s) (p + length front) in
-      omega (arith, both (front ++ conversion) (instructions.Return s ∷ []), both front conversion, unless_slot_size known inner, expression_size a p t t, conversion_size to (operands.Slot s) (p + length front))
+      let conversion = conversion_code starts to (operands.Slot s) (p + length front) in
+      omega (
+        arith,
+        both ((front ++ conversion) ++ leave_code exits.first_record t) (instructions.Finish s ∷ []),
+        both (front ++ conversion) (leave_code exits.first_record t),
+        both front conversion,
+        unless_slot_size known inner,
+        expression_size a p t t,
+        conversion_size starts to (operands.Slot s) (p + length front),
+        leave_size exits.first_record t,
+      )
+
+  throw_size : (n : ℕ) (v : Option Expression) (p : ℕ) (exits : Exits) (t : ℕ) → code_size (statement_code starts (Throw n v) p exits t) ≤ size_per_weight * statement_weight (Throw n v)
+  throw_size n None p exits t = omega arith
+  throw_size n (Some a) p exits t =
+      let inner = expression_code starts a p (value_slot starts a t) t in
+      omega (
+        arith,
+        both (code_unless (operand_of starts a) inner) (instructions.Throw (tag_operand n) (value_operand starts a t) ∷ []),
+        unless_size (operand_of starts a) inner,
+        expression_size a p (value_slot starts a t) t,
+      )
+
+  caught_size : (x : Option ℕ) (t : ℕ) → code_size (caught_code starts x t) ≤ 6
+  caught_size None t = omega arith
+  caught_size (Some n) t = omega arith
 
   else_size : (t : Statement) (p : ℕ) (exits : Exits) (d : ℕ) → code_size (statement_code starts t p exits d) ≤ size_per_weight * statement_weight t → code_size (statement_code starts t p exits d) ≤ size_per_weight * else_weight t (statement_weight t)
   else_size Empty p exits d bound = omega arith
@@ -491,10 +524,25 @@ module _ (starts : Starts) where
           condition_size a (p + 2) t,
           statement_size s (m + 1) (inside_loop p t exits) t,
         )
-    statement_size (Return v) p exits d = return_size v p d
-    statement_size Break p exits d = omega arith
-    statement_size Continue p exits d = omega arith
-    statement_size s p exits d = omega arith
+    statement_size (Return v) p exits d = return_size v p exits d
+    statement_size Break p exits d = omega (arith, both (leave_code exits.loop_record d) (instructions.Jump (break_target exits.head) ∷ []), leave_size exits.loop_record d)
+    statement_size Continue p exits d = omega (arith, both (leave_code exits.loop_record d) (instructions.Jump (continue_target exits.head) ∷ []), leave_size exits.loop_record d)
+    statement_size (Throw n v) p exits d = throw_size n v p exits d
+    statement_size (Try s cs) p exits t =
+        let body = statement_code starts s (p + 1) exits (t + RECORD_WORDS) in
+        let close = instructions.Leave t ∷ [] in
+        let out = p + 1 + length (body ++ close) in
+        let clauses = clauses_code starts cs (out + 1) out exits t in
+        let over = instructions.Jump (out + 1 + length clauses) in
+        omega (
+          arith,
+          cons (instructions.Try t (out + 1)) ((body ++ close) ++ over ∷ clauses),
+          both (body ++ close) (over ∷ clauses),
+          both body close,
+          cons over clauses,
+          statement_size s (p + 1) exits (t + RECORD_WORDS),
+          clauses_size cs (out + 1) out exits t,
+        )
 
     items_size : (js : Items) (p : ℕ) (exits : Exits) (d : ℕ) → code_size (items_code starts js p exits d) ≤ size_per_weight * items_weight js
     items_size NoItems p exits d = omega arith
@@ -508,8 +556,29 @@ module _ (starts : Starts) where
         omega (arith, both front (items_code starts js q exits d), initial_size c p (slot_of starts n) d, items_size js q exits d)
     items_size (MoreItems j js) p exits d = omega (arith, items_size js p exits d)
 
+    -- where no clause catches it, the exception goes on
+    clauses_size : (cs : Clauses) (p out : ℕ) (exits : Exits) (t : ℕ) → code_size (clauses_code starts cs p out exits t) ≤ 24 + size_per_weight * clauses_weight cs
+    clauses_size NoClauses p out exits t = omega arith
+    clauses_size (Default r js) p out exits t = omega (arith, items_size js p exits t)
+    clauses_size (Case n x r js cs) p out exits t =
+        let caught = caught_code starts x t in
+        let items = items_code starts js (p + 1 + length caught) exits t in
+        let jump = instructions.Jump out ∷ [] in
+        let clause = clause_code n t (caught ++ items) p out in
+        let next = p + length clause in
+        omega (
+          arith,
+          both clause (clauses_code starts cs next out exits t),
+          cons (other_jump n t (p + 1 + length (caught ++ items) + 1)) ((caught ++ items) ++ jump),
+          both (caught ++ items) jump,
+          both caught items,
+          caught_size x t,
+          items_size js (p + 1 + length caught) exits t,
+          clauses_size cs next out exits t,
+        )
+
 pub function_size : (structs : List StructType) (h : Function) → size (lower_function structs h) ≤ size_per_weight * function_weight h
 function_size structs h =
     let d = first_temporary h in
     let starts = starts_of (types_of structs h) in
-    omega (arith, both (items_code starts h.body 0 (outside_loops d) d) (instructions.Return d ∷ []), items_size starts h.body 0 (outside_loops d) d)
+    omega (arith, both (items_code starts h.body 0 (outside_loops d) d) (instructions.Finish d ∷ blocks), items_size starts h.body 0 (outside_loops d) d)

@@ -1,6 +1,7 @@
 -- Where in a function's code the code of a construct stands, with all places between its parts left open.
 use Rattle.std.proofs.Common.{◌≡◌, ℕ, suc, ◌+◌, ◌<◌, Bool, true, false, List, Option, None, Some, zero, ◌≤◌, max}
 use Rattle.std.specs.Prelude.{◌==◌}
+use Rattle.cyc_words.specs.Word.{IsWord}
 use Rattle.cyc_types.specs.declared.typed.Kind.{Kind}
 use Rattle.cyc_types.specs.declared.typed.Kind.TheVariants as kinds
 use Rattle.cyc_types.specs.declared.typed.Callee.TheVariants as callees
@@ -8,13 +9,15 @@ use Rattle.cyc_types.specs.declared.typed.Operator.{Operator}
 use Rattle.cyc_types.specs.declared.typed.Operator.TheVariants as operators
 use Rattle.cyc_types.specs.declared.typed.PointerOperator.{PointerOperator}
 use Rattle.cyc_types.specs.declared.typed.PointerOperator.TheVariants as pointers
-use Rattle.cyc_types.specs.TypedTrees.{type_of_place, Load, Dereference, Target, Lvalue, Local, Global, Expression, Number, NullPointer, Copy, Call, Unary, Binary, Assign, Converted, Convert, Arguments, NoArguments, MoreArguments, Operations, NoOperations, ThenCompute, ThenTest, ThenPointer, Statement, Block, Empty, Evaluate, If, While, Return, Break, Continue, Items, NoItems, MoreItems, Execute, Declare, Move, Peek, ThenPointerPeek, New, OnHeap, AsUnique, Initial, Plain, Fields, AddressOfCell, Store, Member, FreeUnique, Side, VariableSide, CellSide, Swap}
+use Rattle.cyc_types.specs.TypedTrees.{type_of_place, Load, Dereference, Target, Lvalue, Local, Global, Expression, Number, NullPointer, Copy, Call, Unary, Binary, Assign, Converted, Convert, Arguments, NoArguments, MoreArguments, Operations, NoOperations, ThenCompute, ThenTest, ThenPointer, Statement, Block, Empty, Evaluate, If, While, Return, Break, Continue, Items, NoItems, MoreItems, Execute, Declare, Move, Peek, ThenPointerPeek, New, OnHeap, AsUnique, Initial, Plain, Fields, AddressOfCell, Store, Member, FreeUnique, Side, VariableSide, CellSide, Swap, Throw, Try, Clauses, NoClauses, Default, Case}
 use Rattle.cyc_types.specs.Types.{words_of}
 use Rattle.cyc_types.specs.typing.Expressions.{type_of_side}
 use Rattle.cyc_types.specs.Numbered.{Numbering, argument_count}
+use Rattle.cyc_plain.specs.declared.limits.TheConstants.{RECORD_WORDS}
 use Rattle.cyc_plain.specs.declared.instruction.UnaryOperator.TheVariants as plain_unary
 use Rattle.cyc_plain.specs.declared.instruction.BinaryOperator.TheVariants as plain_binary
 use Rattle.cyc_plain.specs.declared.instruction.Comparison.{Comparison}
+use Rattle.cyc_plain.specs.declared.instruction.Comparison.TheVariants as comparisons
 use Rattle.cyc_plain.specs.declared.instruction.Operand.{Operand}
 use Rattle.cyc_plain.specs.declared.instruction.Operand.TheVariants as operands
 use Rattle.cyc_plain.specs.declared.instruction.Request.TheVariants as requests
@@ -26,7 +29,7 @@ use Rattle.cyc_meaning.specs.Operators.{null_exception, division_by_zero}
 use Rattle.cyc_meaning.specs.Values.{is_thin, words_of_kind, kind_of}
 use Rattle.cyc_lower.specs.declared.statements.Exits.{Exits}
 use Rattle.cyc_lower.specs.Slots.{Types, starts_of, slot_of, field_of}
-use Rattle.cyc_lower.specs.Lowering.{unary_operator, binary_operator, operand_of, source_of, source_slot, failing_comparison, left_with, left_of, value_slot, next_slot, slot_with, left_slot, is_in, jump_if_nonzero, move_of, test_jump, are_as_wide, converts_there, passed_words, all_passed, compared_of, low_byte, break_target, continue_target, results_of, behind_left, inside_loop, pointer_operator, jump_if_zero, right_slot}
+use Rattle.cyc_lower.specs.Lowering.{unary_operator, binary_operator, operand_of, source_of, source_slot, failing_comparison, left_with, left_of, value_slot, next_slot, slot_with, left_slot, is_in, raising, move_of, test_jump, are_as_wide, converts_there, passed_words, all_passed, compared_of, low_byte, break_target, continue_target, results_of, behind_left, inside_loop, pointer_operator, jump_if_zero, right_slot, tag_operand, other_jump, goes_on}
 use Rattle.cyc_lower.specs.Lowerable.{may_wait}
 use Rattle.cyc_lower.proofs.Widths.{kind_of_result, given, passed_kind, HasRoom, HasField}
 
@@ -59,8 +62,12 @@ module _ (code : List Instruction) (bounds : Numbering) (types : Types) where
   OperandBy (Some known) computed slot o p q = (o ≡ known) × (p ≡ q)
   OperandBy None computed slot o p q = (o ≡ operands.Slot slot) × computed
 
+  -- where a comparison holds, a jump leads to what raises an exception
+  abbrev pub GuardAt : (tag : ℕ) → Comparison → (l r : Operand) → (p q : ℕ) → Type 0
+  GuardAt tag failing l r p q = (s : ℕ) × At code p (instructions.Branch failing l r s) × At code s (raising tag) × (p + 1 ≡ q)
+
   abbrev pub CheckAt : (tag : ℕ) → Operand → (p q : ℕ) → Type 0
-  CheckAt tag o p q = At code p (jump_if_nonzero o q) × At code (p + 1) (instructions.Uncaught tag o) × (p + 2 ≡ q)
+  CheckAt tag o p q = GuardAt tag comparisons.Equal o (operands.Word 0) p q
 
   abbrev pub ConversionBy : (to : Kind) → Operand → (p q : ℕ) → Type 0
   ConversionBy kinds.NonNull o p q = CheckAt null_exception o p q
@@ -320,15 +327,34 @@ module _ (code : List Instruction) (bounds : Numbering) (types : Types) where
   ReturnedAt (Some (operands.Slot n)) computed slot s p q = (s ≡ n) × (p ≡ q)
   ReturnedAt o computed slot s p q = (s ≡ slot) × computed
 
-  abbrev pub ReturnAt : Option Converted → (t p : ℕ) → Type 0
-  ReturnAt None t p = (s : ℕ) × At code p (instructions.Return s)
-  ReturnAt (Some (Convert from to a)) t p =
-      (s : ℕ) × (m : ℕ) × (r : ℕ) × ReturnedAt (source_of (starts_of types) (Convert from to a)) (ExpressionAt a t t p m) t s p m × ConversionAt from to (operands.Slot s) m r
-      × At code r (instructions.Return s) × (results_of bounds.result ≡ words_of_kind to) × (to ≡ kind_of_result bounds.result)
+  -- handlers are closed whose records stand from a slot on, where there are some
+  abbrev pub LeaveBy : (none : Bool) → (first p q : ℕ) → Type 0
+  LeaveBy true first p q = p ≡ q
+  LeaveBy false first p q = At code p (instructions.Leave first) × (p + 1 ≡ q)
+
+  abbrev pub LeaveAt : (first t p q : ℕ) → Type 0
+  LeaveAt first t p q = LeaveBy (first == t) first p q
+
+  abbrev pub ReturnAt : Option Converted → Exits → (t p : ℕ) → Type 0
+  ReturnAt None exits t p = (s : ℕ) × (m : ℕ) × LeaveAt exits.first_record t p m × At code m (instructions.Finish s)
+  ReturnAt (Some (Convert from to a)) exits t p =
+      (s : ℕ) × (m : ℕ) × (r : ℕ) × (u : ℕ) × ReturnedAt (source_of (starts_of types) (Convert from to a)) (ExpressionAt a t t p m) t s p m × ConversionAt from to (operands.Slot s) m r
+      × LeaveAt exits.first_record t r u × At code u (instructions.Finish s) × (results_of bounds.result ≡ words_of_kind to) × (to ≡ kind_of_result bounds.result)
 
   abbrev pub DeclarationAt : ℕ → Option Converted → (t p q : ℕ) → Type 0
   DeclarationAt n None t p q = (n < bounds.locals) × (p ≡ q)
   DeclarationAt n (Some c) t p q = (n < bounds.locals) × HasRoom types n (passed_kind c) × InitialAt c (slot_of (starts_of types) n) t p q
+
+  -- what an exception tells is brought to an operand
+  abbrev pub ThrownAt : Option Expression → Operand → (t p q : ℕ) → Type 0
+  ThrownAt None o t p q = (o ≡ operands.Word 0) × (p ≡ q)
+  ThrownAt (Some a) o t p q = ValueAt a t o p q
+
+  -- and the local of a clause gets it
+  abbrev pub CaughtAt : (number : Option ℕ) → (t p q : ℕ) → Type 0
+  CaughtAt None t p q = p ≡ q
+  CaughtAt (Some n) t p q =
+      (n < bounds.locals) × HasRoom types n kinds.Int × At code p (instructions.Move (slot_of (starts_of types) n) (operands.Slot (t + 1))) × (p + 1 ≡ q)
 
   -- with these ways out
   abbrev mutual
@@ -344,13 +370,24 @@ module _ (code : List Instruction) (bounds : Numbering) (types : Types) where
         (x : Operand) × (y : Operand) × (m : ℕ) × (r : ℕ) × At code p (instructions.Jump (continue_target p)) × At code (break_target p) (instructions.Jump q)
         × ConditionAt a x y t (continue_target p) m × FailingAt a x y m (break_target p) × StatementAt s (inside_loop p t exits) t (m + 1) r
         × At code r (instructions.Jump (continue_target p)) × (r + 1 ≡ q) × (break_target p < q)
-    StatementAt (Return v) exits t p q = ReturnAt v t p
-    StatementAt Break exits t p q = At code p (instructions.Jump (break_target exits.head))
-    StatementAt Continue exits t p q = At code p (instructions.Jump (continue_target exits.head))
-    StatementAt s exits t p q = ⊥
+    StatementAt (Return v) exits t p q = ReturnAt v exits t p
+    StatementAt Break exits t p q = (m : ℕ) × LeaveAt exits.loop_record t p m × At code m (instructions.Jump (break_target exits.head))
+    StatementAt Continue exits t p q = (m : ℕ) × LeaveAt exits.loop_record t p m × At code m (instructions.Jump (continue_target exits.head))
+    StatementAt (Throw tag v) exits t p q = IsWord tag × (o : Operand) × (m : ℕ) × ThrownAt v o t p m × At code m (instructions.Throw (tag_operand tag) o)
+    StatementAt (Try s cs) exits t p q =
+        (m : ℕ) × At code p (instructions.Try t (m + 1 + 1)) × StatementAt s exits (t + RECORD_WORDS) (p + 1) m × At code m (instructions.Leave t)
+        × At code (m + 1) (instructions.Jump q) × ClausesAt cs (m + 1) exits t (m + 1 + 1) q
 
     pub ItemsAt : Items → Exits → (t p q : ℕ) → Type 0
     ItemsAt NoItems exits t p q = p ≡ q
     ItemsAt (MoreItems (Execute s) js) exits t p q = (m : ℕ) × StatementAt s exits t p m × ItemsAt js exits t m q
     ItemsAt (MoreItems (Declare n ty v) js) exits t p q = (m : ℕ) × DeclarationAt n v t p m × ItemsAt js exits t m q
     ItemsAt js exits t p q = ⊥
+
+    -- the clauses of a `try`, each of which ends in a jump to this place
+    pub ClausesAt : Clauses → (out : ℕ) → Exits → (t p q : ℕ) → Type 0
+    ClausesAt NoClauses out exits t p q = At code p (goes_on t)
+    ClausesAt (Default r js) out exits t p q = ItemsAt js exits t p q
+    ClausesAt (Case tag x r js cs) out exits t p q =
+        (m : ℕ) × (u : ℕ) × IsWord tag × At code p (other_jump tag t (u + 1)) × CaughtAt x t (p + 1) m × ItemsAt js exits t m u × At code u (instructions.Jump out) × (out < u)
+        × ClausesAt cs out exits t (u + 1) q

@@ -1,10 +1,12 @@
 -- The steps of a swap: its places are found, both are read, and then both are written. Each of them is a local, a global or a cell.
-use Rattle.std.proofs.Common.{◌≡◌, ℕ, ◌+◌, ◌≤◌, ◌<◌, Bool, true, false, List, [], ◌∷◌, Option, None, Some, slice_get, refl, sym, ap, subst, ◌∙◌, arith, inl, inr}
+use Rattle.std.proofs.Common.{◌≡◌, ℕ, suc, ◌+◌, ◌≤◌, ◌<◌, Bool, true, false, List, [], ◌∷◌, Option, None, Some, slice_get, refl, sym, ap, subst, ◌∙◌, arith, inl, inr}
 use Rattle.std.specs.Prelude.{if◌then◌else◌}
 use Rattle.std.proofs.lemmas.Option.{same_Some}
 use Rattle.cyc_words.specs.Word.{add_of}
 use Rattle.cyc_types.specs.declared.typed.Kind.{Kind}
-use Rattle.cyc_types.specs.TypedTrees.{Local, Global, Dereference, Side, VariableSide, CellSide, type_of_place, peeked, Swap, Program}
+use Rattle.cyc_types.specs.declared.typed.Kind.TheVariants as kinds
+use Rattle.cyc_types.specs.Types.{Ty, words_of}
+use Rattle.cyc_types.specs.TypedTrees.{Lvalue, Local, Global, Dereference, Side, VariableSide, CellSide, type_of_place, peeked, Swap, Program}
 use Rattle.cyc_plain.specs.declared.instruction.Operand.TheVariants as operands
 use Rattle.cyc_plain.specs.declared.instruction.Instruction.{Instruction}
 use Rattle.cyc_plain.specs.declared.instruction.Instruction.TheVariants as instructions
@@ -15,24 +17,24 @@ use Rattle.cyc_plain.specs.Straight.{At}
 use Rattle.cyc_plain.proofs.SlotLaws.{put-same, put-other}
 use Rattle.cyc_meaning.proofs.WorldLaws.{cell_found}
 use Rattle.cyc_meaning.specs.Values.{Value, Thin, Operand as Kinded, is_kind, kind_of, words_of_kind}
-use Rattle.cyc_meaning.specs.State.{World, Access, Found, Closed, Missing, Located, cell_at, written, Environment, SwapLeft, SwapRight, Entry, NeedsPlace, Write, Focus, Locating, GivenPlace, Executing, Proceeding, Writing, Swapping, Running}
+use Rattle.cyc_meaning.specs.State.{World, Access, Found, Closed, Missing, Located, cell_at, written, Environment, SwapLeft, SwapRight, Entry, NeedsPlace, Write, Focus, Locating, GivenPlace, Executing, Proceeding, Writing, Swapping, State, Running}
 use Rattle.cyc_meaning.specs.Step.{wrong, stored_at, object_of, step}
-use Rattle.cyc_meaning.specs.Swaps.{finds_right_object, finds_left_object, swap_read, swap_content, swap_loaded}
+use Rattle.cyc_meaning.specs.Swaps.{finds_right, finds_right_object, finds_left_object, swap_read, swap_content, swap_loaded}
 use Rattle.cyc_objects.specs.Tables.{Tables}
 use Rattle.cyc_objects.specs.Words.{Points, Is}
 use Rattle.cyc_lower.specs.declared.statements.Exits.{Exits}
 use Rattle.cyc_lower.specs.Lowering.{right_slot, lower_program}
 use Rattle.cyc_lower.specs.Lowerable.{waits_for}
 use Rattle.cyc_lower.specs.Slots.{slot_of}
-use Rattle.cyc_lower.proofs.Widths.{same_kind, type_words, Outside}
+use Rattle.cyc_lower.proofs.Widths.{same_kind, type_words, HasRoom, Outside}
 use Rattle.cyc_lower.proofs.Slots.{slot-room}
 use Rattle.cyc_lower.proofs.Moves.{put_elsewhere}
 use Rattle.cyc_lower.proofs.Weights.{focus_weight, stack_weight}
-use Rattle.cyc_lower.proofs.Stands.{HasSide, SideAt, ReadAt, ExchangeAt, PlaceAt}
-use Rattle.cyc_lower.proofs.Relation.{IsWord, Holds, held, contents, content_of, content_of_cell, with_kind, callers, behind_statement, IsSideAt, IsLeft, WritesAt, StatementStack, DataIn, SharedAt, Matches, code_of, bounds_at, types_at, starts_at, base_of}
-use Rattle.cyc_lower.proofs.Data.{one_word, IsWord-is, data_above, data_assigned, data_assigned_global}
+use Rattle.cyc_lower.proofs.Stands.{HasSide, SideAt, ReadAt, WriteAt, ExchangeAt, SwapAt, PlaceAt}
+use Rattle.cyc_lower.proofs.Relation.{base_of, floor, IsWord, Holds, held, contents, content_of, content_of_cell, with_kind, callers, behind_statement, IsSideAt, IsLeft, WritesAt, StatementStack, DataIn, SharedAt, Related, Matches, code_of, bounds_at, types_at, starts_at, base_of}
+use Rattle.cyc_lower.proofs.Data.{Is-same, one_word, IsWord-is, data_written, data_assigned, data_assigned_global, handlers_beside, behind-least}
 use Rattle.cyc_lower.proofs.Sharing.{shared_written}
-use Rattle.cyc_lower.proofs.Accesses.{IsWell, is_stored, written_here, written_elsewhere, written_length}
+use Rattle.cyc_lower.proofs.Accesses.{IsWell, is_fitting, is_stored, written_here, written_elsewhere, written_length}
 use Rattle.cyc_lower.proofs.CellWrites.{cell_is_there, saves_there, shared_saved, data_saved}
 use Rattle.cyc_lower.proofs.PlaceWords.{stays}
 use Rattle.cyc_lower.proofs.AddressSteps.{Brought, in_slot, by_word}
@@ -122,7 +124,7 @@ module _ (source : Program) (pages calls : ℕ) where
         word = c.active.slots slot;
         here = here;
         goes = λ choice. refl;
-        is = one_word shared.tables kind v c.active.slots slot single (facts.2.holds n object (record { kind = kind; value = v }) is_there holds).0;
+        is = one_word shared.tables kind v c.active.slots slot single (facts.0.2.holds n object (record { kind = kind; value = v }) is_there holds).0;
       }
   reads_side (VariableSide (Global n) ty) s d object offset kind v k e w c shared facts found there same has single (first, is_there) few here =
       let holds = held_there w object found kind v (subst (λ i. cell_at w object i ≡ Found found) first there) same has in
@@ -132,7 +134,7 @@ module _ (source : Program) (pages calls : ℕ) where
         word = c.globals n;
         here = here;
         goes = λ choice. refl;
-        is = (facts.4 n (global_there source pages calls c.active.function n few)).1 (record { kind = kind; value = v }) (ap (contents w.objects) is_n ∙ holds);
+        is = (facts.0.4 n (global_there source pages calls c.active.function n few)).1 (record { kind = kind; value = v }) (ap (contents w.objects) is_n ∙ holds);
       }
   reads_side (CellSide x) s d object offset kind v k e w c shared facts found there same has single points tt here =
       let address = add_of (c.active.slots s) 0 in
@@ -148,25 +150,25 @@ module _ (source : Program) (pages calls : ℕ) where
       }
 
   -- the data of all calls stay where a temporary is written
-  data_put : (t : Tables) (d word : ℕ) (k : List Entry) (e : Environment) (w : World) (c : Configuration) → base_of source c.active.function ≤ d → DataIn source t c.active.slots k e w c
+  data_put : (t : Tables) (d word : ℕ) (k : List Entry) (e : Environment) (w : World) (c : Configuration) → floor source c.active.function k ≤ d → DataIn source t c.active.slots k e w c
       → DataIn source t (put c.active.slots d word) k e w c
   data_put t d word k e w c above facts =
-      data_above t source c.active.function w.objects e.locals (callers k) c.active.slots (put c.active.slots d word) c.globals c.frames d 1 above (λ m out. put_elsewhere c.active.slots d word 1 m (omega arith) out) facts
+      data_written source t c.active.function w.objects e.locals k c.active.slots (put c.active.slots d word) c.active.handlers c.globals c.frames d 1 above (λ m out. put_elsewhere c.active.slots d word 1 m (omega arith) out) facts
 
   -- ---- both sides are read
 
-  below_base : (g : ℕ) (a : Side) → base_of source g ≤ right_slot a (base_of source g)
-  below_base g (VariableSide l ty) = omega arith
-  below_base g (CellSide x) = omega arith
+  below_base : (base : ℕ) (a : Side) → base ≤ right_slot a base
+  below_base base (VariableSide l ty) = omega arith
+  below_base base (CellSide x) = omega arith
 
-  right_below : (g : ℕ) (a : Side) → right_slot a (base_of source g) < base_of source g + 2
-  right_below g (VariableSide l ty) = omega arith
-  right_below g (CellSide x) = omega arith
+  right_below : (base : ℕ) (a : Side) → right_slot a base < base + 2
+  right_below base (VariableSide l ty) = omega arith
+  right_below base (CellSide x) = omega arith
 
   pub swapping : (kind : Kind) (left right : Value) (before : Option Kinded) (k : List Entry) (e : Environment) (w : World) (c : Configuration) → IsStep source pages calls (Swapping kind left right before) k e w c
   swapping kind (Thin object offset) (Thin other beside) None k e w c well (shared, facts, (exits, q, a, b, single, has_a, has_b, is_a, is_b, (read, next, first, second, end), stack)) =
       let g = c.active.function in
-      let base = base_of source g in
+      let base = floor source g k in
       let d = base + 2 in
       let found = is_swapped kind (cell_at w object offset) (Thin object offset) (Thin other beside) None k e w well in
       let reads = reads_side a base d object offset kind found.value k e w c shared facts found.at found.there found.same found.has single is_a has_a read in
@@ -184,7 +186,7 @@ module _ (source : Program) (pages calls : ℕ) where
           has_a,
           has_b,
           side_same shared.tables e.locals c.active.slots slots a base object offset (put-other c.active.slots d base reads.word (λ same. omega (arith, same))) is_a,
-          side_same shared.tables e.locals c.active.slots slots b (right_slot a base) other beside (put-other c.active.slots d (right_slot a base) reads.word (λ same. omega (arith, same, right_below g a))) is_b,
+          side_same shared.tables e.locals c.active.slots slots b (right_slot a base) other beside (put-other c.active.slots d (right_slot a base) reads.word (λ same. omega (arith, same, right_below base a))) is_b,
           refl,
           subst (IsWord shared.tables kind found.value) (sym (put-same c.active.slots d reads.word)) reads.is,
           next,
@@ -196,8 +198,9 @@ module _ (source : Program) (pages calls : ℕ) where
       ))
   swapping kind (Thin object offset) (Thin other beside) (Some before) k e w c well (shared, facts, (exits, q, a, b, single, has_a, has_b, is_a, is_b, same_before, is_before, read, first, second, end, stack)) =
       let g = c.active.function in
-      let base = base_of source g in
+      let base = floor source g k in
       let d = base + 3 in
+      let above = behind-least k (base_of source g) in
       let found = is_swapped kind (cell_at w other beside) (Thin object offset) (Thin other beside) (Some before) k e w well in
       let reads = reads_side b (right_slot a base) d other beside kind found.value k e w c shared facts found.at found.there found.same found.has single is_b has_b read in
       let slots = put c.active.slots d reads.word in
@@ -220,8 +223,8 @@ module _ (source : Program) (pages calls : ℕ) where
             first,
             has_a,
             single,
-            omega arith,
-            omega arith,
+            above,
+            omega (arith, above),
             refl,
             side_same shared.tables e.locals c.active.slots slots a base object offset (put-other c.active.slots d base reads.word (λ same. omega (arith, same))) is_a,
             subst (IsWord shared.tables kind found.value) (sym (put-same c.active.slots d reads.word)) reads.is,
@@ -234,10 +237,10 @@ module _ (source : Program) (pages calls : ℕ) where
               second,
               has_before,
               single_before,
-              below_base g a,
-              omega arith,
+              omega (arith, above, below_base base a),
+              omega (arith, above),
               refl,
-              side_same shared.tables e.locals c.active.slots slots b (right_slot a base) other beside (put-other c.active.slots d (right_slot a base) reads.word (λ same. omega (arith, same, right_below g a))) is_b,
+              side_same shared.tables e.locals c.active.slots slots b (right_slot a base) other beside (put-other c.active.slots d (right_slot a base) reads.word (λ same. omega (arith, same, right_below base a))) is_b,
               subst (IsWord shared.tables before.kind before.value) (sym (put-other c.active.slots d (base + 2) reads.word (λ same. omega (arith, same)))) is_before,
               end,
             ),
@@ -260,18 +263,21 @@ module _ (source : Program) (pages calls : ℕ) where
       let slot = slot_of (starts_at source g) n in
       let does : stored_at x.place x.operand (Writing writes None) k e w ≡ stored_at (Thin object 0) x.operand (Writing writes None) k e w = ap (λ p. stored_at p x.operand (Writing writes None) k e w) (place ∙ ap (Thin object) first) in
       let stored = is_stored object x.operand (Writing writes None) k e w (subst IsWell does well) in
-      let inside = slot-room (types_at source g) n (facts.2.within n object found).0 in
+      let inside = slot-room (types_at source g) n (facts.0.2.within n object found).0 in
       let slots = put c.active.slots slot (c.active.slots v) in
       let elsewhere : (m : ℕ) → Outside slot (words_of_kind x.operand.kind) m → slots m ≡ c.active.slots m = λ m out. put_elsewhere c.active.slots slot (c.active.slots v) (words_of_kind x.operand.kind) m (omega (arith, single)) out in
       let after : Configuration = advanced (with_slots c slots) in
       let next = written w object 0 stored.at x.operand.value in
       by_one source pages calls (does ∙ stored.gives) shared here
       (λ choice. (
-        shared_written source pages calls k e w after shared object stored.at x.operand.value stored.object_there stored.cell_there (facts.2.rows n object found),
-        data_assigned shared.tables source g w.objects next.objects e.locals (callers k) c.active.slots slots c.globals c.frames n object x.operand found
-            (written_here w object stored.at x.operand.value stored.object_there stored.cell_there x.operand.kind stored.same) (written_elsewhere w object stored.at x.operand.value stored.object_there stored.cell_there)
-            (written_length w object stored.at x.operand.value stored.object_there stored.cell_there) room
-            (IsWord-is shared.tables x.operand.kind x.operand.value (c.active.slots v) slots slot (put-same c.active.slots slot (c.active.slots v)) word) elsewhere facts,
+        shared_written source pages calls k e w after shared object stored.at x.operand.value stored.object_there stored.cell_there (facts.0.2.rows n object found),
+        (
+          data_assigned shared.tables source g w.objects next.objects e.locals (callers k) c.active.slots slots c.globals c.frames n object x.operand found
+              (written_here w object stored.at x.operand.value stored.object_there stored.cell_there x.operand.kind stored.same) (written_elsewhere w object stored.at x.operand.value stored.object_there stored.cell_there)
+              (written_length w object stored.at x.operand.value stored.object_there stored.cell_there) room
+              (IsWord-is shared.tables x.operand.kind x.operand.value (c.active.slots v) slots slot (put-same c.active.slots slot (c.active.slots v)) word) elsewhere facts.0,
+          handlers_beside source g c.active.slots slots c.active.handlers c.frames k slot (words_of_kind x.operand.kind) (omega (arith, inside, room)) elsewhere facts.1,
+        ),
         (exits, q, writes_same shared.tables e.locals g c.active.slots slots writes (c.active.next + 1) q (λ m least. elsewhere m (inr (omega (arith, inside, room, least)))) rest, stack),
       ))
   writing_sides (x ∷ writes) k e w c words well (shared, facts, (exits, q, (VariableSide (Global n) ty, object, offset, s, v, here, few, single, high, above, place, (first, found), word, rest), stack)) =
@@ -283,12 +289,15 @@ module _ (source : Program) (pages calls : ℕ) where
       let next = written w object 0 stored.at x.operand.value in
       by_one source pages calls (does ∙ stored.gives) shared here
       (λ choice. (
-        shared_written source pages calls k e w after shared object stored.at x.operand.value stored.object_there stored.cell_there (ap (slice_get shared.tables.rows) (sym same) ∙ (facts.4 n (global_there source pages calls g n few)).0),
-        data_assigned_global shared.tables source g w.objects next.objects e.locals (callers k) c.active.slots c.globals c.frames n x.operand (c.active.slots v)
-            (global_there source pages calls g n few)
-            (ap (contents next.objects) same ∙ written_here w object stored.at x.operand.value stored.object_there stored.cell_there x.operand.kind stored.same)
-            (λ i other. written_elsewhere w object stored.at x.operand.value stored.object_there stored.cell_there i (λ equal. other (equal ∙ sym same)))
-            (written_length w object stored.at x.operand.value stored.object_there stored.cell_there) word facts,
+        shared_written source pages calls k e w after shared object stored.at x.operand.value stored.object_there stored.cell_there (ap (slice_get shared.tables.rows) (sym same) ∙ (facts.0.4 n (global_there source pages calls g n few)).0),
+        (
+          data_assigned_global shared.tables source g w.objects next.objects e.locals (callers k) c.active.slots c.globals c.frames n x.operand (c.active.slots v)
+              (global_there source pages calls g n few)
+              (ap (contents next.objects) same ∙ written_here w object stored.at x.operand.value stored.object_there stored.cell_there x.operand.kind stored.same)
+              (λ i other. written_elsewhere w object stored.at x.operand.value stored.object_there stored.cell_there i (λ equal. other (equal ∙ sym same)))
+              (written_length w object stored.at x.operand.value stored.object_there stored.cell_there) word facts.0,
+          facts.1,
+        ),
         (exits, q, rest, stack),
       ))
   writing_sides (x ∷ writes) k e w c words well (shared, facts, (exits, q, (CellSide y, object, offset, s, v, here, has, single, high, above, place, points, word, rest), stack)) =
@@ -330,21 +339,21 @@ module _ (source : Program) (pages calls : ℕ) where
   left_there kind None right k e w well = absurd (well refl)
   left_there kind (Some object) right k e w well = (object, refl)
 
-  slots_above : (t : Tables) (d q : ℕ) (slots : Words) (k : List Entry) (e : Environment) (w : World) (c : Configuration) → base_of source c.active.function ≤ d → ((m : ℕ) → Outside d 1 m → slots m ≡ c.active.slots m)
+  slots_above : (t : Tables) (d q : ℕ) (slots : Words) (k : List Entry) (e : Environment) (w : World) (c : Configuration) → floor source c.active.function k ≤ d → ((m : ℕ) → Outside d 1 m → slots m ≡ c.active.slots m)
       → DataIn source t c.active.slots k e w c → DataIn source t slots k e w (at (with_slots c slots) q)
-  slots_above t d q slots k e w c above same facts = data_above t source c.active.function w.objects e.locals (callers k) c.active.slots slots c.globals c.frames d 1 above same facts
+  slots_above t d q slots k e w c above same facts = data_written source t c.active.function w.objects e.locals k c.active.slots slots c.active.handlers c.globals c.frames d 1 above same facts
 
   -- the left one is a cell, and the right one is sought
   pub left_found : (object offset : ℕ) (kind : Kind) (peek : Option ℕ) (right : Side) (k : List Entry) (e : Environment) (w : World) (c : Configuration) {m : ℕ}
       → IsWell (step source (Running (GivenPlace (Thin object offset)) (NeedsPlace (SwapLeft kind peek right) ∷ k) e w)) → (shared : SharedAt source pages calls k e w c) → DataIn source shared.tables c.active.slots k e w c
-      → Brought source shared.tables object offset (base_of source c.active.function) m c
+      → Brought source shared.tables object offset (floor source c.active.function k) m c
       → (let g = c.active.function in (exits : Exits) × (x : Dereference) × (r : ℕ) × (q : ℕ) × (words_of_kind kind ≡ 1) × HasSide (code_of source g) (bounds_at source g) (types_at source g) right kind
-      × (waits_for peek right ≡ true) × SideAt (code_of source g) (bounds_at source g) (types_at source g) right (base_of source g + 1) m r
-      × ExchangeAt (code_of source g) (bounds_at source g) (types_at source g) (CellSide x) right (base_of source g) r q × StatementStack source g exits q c.frames k)
+      × (waits_for peek right ≡ true) × SideAt (code_of source g) (bounds_at source g) (types_at source g) right (floor source g k + 1) m r
+      × ExchangeAt (code_of source g) (bounds_at source g) (types_at source g) (CellSide x) right (floor source g k) r q × StatementStack source g exits q c.frames k)
       → IsMatched source pages calls (Running (GivenPlace (Thin object offset)) (NeedsPlace (SwapLeft kind peek right) ∷ k) e w) (plain.Running c)
   left_found object offset kind peek (VariableSide l ty) k e w c {m} well shared facts brought (exits, x, r, q, single, has, waits, end, exchange, stack) =
       let g = c.active.function in
-      let base = base_of source g in
+      let base = floor source g k in
       let (other, found) = right_there kind (Thin object offset) (object_of e l) k e w well in
       comes_to (GivenPlace (Thin object offset)) (Swapping kind (Thin object offset) (Thin other 0) None) (NeedsPlace (SwapLeft kind peek (VariableSide l ty)) ∷ k) k e w c object offset base m shared
       (ap (λ y. finds_right_object kind (Thin object offset) y k e w) found) (omega arith) brought
@@ -367,7 +376,7 @@ module _ (source : Program) (pages calls : ℕ) where
       ))
   left_found object offset kind (Some n) (CellSide y) k e w c {m} well shared facts brought (exits, x, r, q, single, has, waits, (o, more, s, at_y, address), exchange, stack) =
       let g = c.active.function in
-      let base = base_of source g in
+      let base = floor source g k in
       comes_to (GivenPlace (Thin object offset)) (Locating y) (NeedsPlace (SwapLeft kind (Some n) (CellSide y)) ∷ k) (NeedsPlace (SwapRight kind (Some n) (Thin object offset)) ∷ k) e w c object offset base m shared
       refl (omega arith) brought
       (λ slots same points. (
@@ -379,13 +388,13 @@ module _ (source : Program) (pages calls : ℕ) where
 
   -- both are found
   pub right_found : (object offset : ℕ) (kind : Kind) (peek : Option ℕ) (left : Value) (a : Side) (k : List Entry) (e : Environment) (w : World) (c : Configuration) {m : ℕ}
-      (shared : SharedAt source pages calls k e w c) → DataIn source shared.tables c.active.slots k e w c → Holds shared.tables c.active.slots (base_of source c.active.function) (held (NeedsPlace (SwapRight kind peek left) ∷ k))
-      → Brought source shared.tables object offset (right_slot a (base_of source c.active.function)) m c → IsLeft source e.locals peek a left
+      (shared : SharedAt source pages calls k e w c) → DataIn source shared.tables c.active.slots k e w c → Holds shared.tables c.active.slots (floor source c.active.function k) (held (NeedsPlace (SwapRight kind peek left) ∷ k))
+      → Brought source shared.tables object offset (right_slot a (floor source c.active.function k)) m c → IsLeft source e.locals peek a left
       → (let g = c.active.function in (exits : Exits) × (y : Dereference) × (q : ℕ) × (words_of_kind kind ≡ 1) × HasSide (code_of source g) (bounds_at source g) (types_at source g) a kind
-      × ExchangeAt (code_of source g) (bounds_at source g) (types_at source g) a (CellSide y) (base_of source g) m q × StatementStack source g exits q c.frames k)
+      × ExchangeAt (code_of source g) (bounds_at source g) (types_at source g) a (CellSide y) (floor source g k) m q × StatementStack source g exits q c.frames k)
       → IsMatched source pages calls (Running (GivenPlace (Thin object offset)) (NeedsPlace (SwapRight kind peek left) ∷ k) e w) (plain.Running c)
   right_found object offset kind None (Thin first start) (VariableSide l ty) k e w c {m} shared facts holds brought is_left (exits, y, q, single, has, exchange, stack) =
-      let base = base_of source c.active.function in
+      let base = floor source c.active.function k in
       comes_to (GivenPlace (Thin object offset)) (Swapping kind (Thin first start) (Thin object offset) None) (NeedsPlace (SwapRight kind None (Thin first start)) ∷ k) k e w c object offset base m shared refl (omega arith) brought
       (λ slots same points. (
         shared,
@@ -393,7 +402,7 @@ module _ (source : Program) (pages calls : ℕ) where
         (exits, q, VariableSide l ty, CellSide y, single, has, tt, is_left, points, exchange, stack),
       ))
   right_found object offset kind (Some n) (Thin first start) (CellSide x) k e w c {m} shared facts (is_first, none) brought is_left (exits, y, q, single, has, exchange, stack) =
-      let base = base_of source c.active.function in
+      let base = floor source c.active.function k in
       comes_to (GivenPlace (Thin object offset)) (Swapping kind (Thin first start) (Thin object offset) None) (NeedsPlace (SwapRight kind (Some n) (Thin first start)) ∷ k) k e w c object offset (base + 1) m shared refl (omega arith) brought
       (λ slots same points. (
         shared,
@@ -428,7 +437,7 @@ module _ (source : Program) (pages calls : ℕ) where
           has_b,
           (refl, object_of_same l e ∙ found),
           (refl, object_of_same l' e ∙ found_right),
-          subst (λ p. ExchangeAt (code_of source g) (bounds_at source g) (types_at source g) (VariableSide l ty) (VariableSide l' ty') (base_of source g) p q) (sym (start ∙ end)) exchange,
+          subst (λ p. ExchangeAt (code_of source g) (bounds_at source g) (types_at source g) (VariableSide l ty) (VariableSide l' ty') (floor source g k) p q) (sym (start ∙ end)) exchange,
           stack,
         ),
       )
@@ -445,7 +454,7 @@ module _ (source : Program) (pages calls : ℕ) where
           o,
           more,
           s,
-          subst (λ p. PlaceAt (code_of source g) (bounds_at source g) (types_at source g) y o more (base_of source g) p s) (sym start) at_y,
+          subst (λ p. PlaceAt (code_of source g) (bounds_at source g) (types_at source g) y o more (floor source g k) p s) (sym start) at_y,
           tt,
           (exits, VariableSide l ty, y, r, q, type_words ty ∙ single, has_a, (refl, object_of_same l e ∙ found), address, exchange, stack),
         ),

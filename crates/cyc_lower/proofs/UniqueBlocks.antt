@@ -1,12 +1,14 @@
 -- The steps that free objects: nothing happens to null, and the store gets any other block back, which is that of a live object.
-use Rattle.std.proofs.Common.{◌≡◌, ◌≢◌, ℕ, ◌+◌, ◌*◌, Bool, true, false, List, [], ◌∷◌, length, set, Option, None, Some, slice_get, refl, sym, ap, subst, ◌∙◌, arith, length-set}
+use Rattle.std.proofs.Common.{◌≡◌, ◌≢◌, ℕ, ◌+◌, ◌*◌, ◌≤◌, Bool, true, false, List, [], ◌∷◌, length, set, Option, None, Some, slice_get, refl, sym, ap, subst, ◌∙◌, arith, length-set}
 use Rattle.std.specs.Prelude.{◌==◌, if◌then◌else◌}
 use Rattle.std.proofs.lemmas.Bool.{eqb-true, false_from_ne_true}
 use Rattle.cyc_types.specs.declared.typed.Kind.{Kind}
 use Rattle.cyc_types.specs.declared.typed.Kind.TheVariants as kinds
 use Rattle.cyc_types.specs.TypedTrees.{Program}
+use Rattle.cyc_store.specs.State.{StoreState}
 use Rattle.cyc_store.specs.Services as services
 use Rattle.cyc_store.specs.Services.{Free, refusal, served}
+use Rattle.cyc_plain.specs.declared.instruction.Comparison.TheVariants as comparisons
 use Rattle.cyc_plain.specs.declared.instruction.Operand.{Operand}
 use Rattle.cyc_plain.specs.declared.instruction.Operand.TheVariants as operands
 use Rattle.cyc_plain.specs.declared.instruction.Instruction.{Instruction}
@@ -22,17 +24,18 @@ use Rattle.cyc_plain.specs.Straight.{At}
 use Rattle.cyc_plain.proofs.Steps.{step_serves}
 use Rattle.cyc_meaning.specs.Values.{Value, Int, Null, Thin, Fat, Handle, Key, Operand as Kinded}
 use Rattle.cyc_meaning.specs.Objects.{freed}
-use Rattle.cyc_meaning.specs.Regions.{frees_in_region, frees_owned, frees_object}
+use Rattle.cyc_meaning.specs.Regions.{frees_in_region, frees_owned, frees_object, frees}
 use Rattle.cyc_meaning.specs.State.{Region, Owner, InRegion, Unique, Object, World, Access, Found, Closed, Missing, region_at, Environment, FreeObject, Entry, Needs, Focus, Given, Proceeding, State, Running}
 use Rattle.cyc_meaning.specs.Step.{wrong, step}
-use Rattle.cyc_objects.specs.Tables.{Placed, Tables}
-use Rattle.cyc_objects.specs.Words.{before, IsPartOf, Is}
+use Rattle.cyc_objects.specs.Tables.{Variable, Placed, Tables}
+use Rattle.cyc_objects.specs.Words.{before, Points, IsPartOf, Is}
 use Rattle.cyc_objects.proofs.Cells.{not-placed}
 use Rattle.cyc_objects.proofs.Pointers.{not-null, part-not-null}
 use Rattle.cyc_objects.proofs.Services.{refusal-free, freed-unique}
 use Rattle.cyc_lower.specs.Lowering.{lower_program}
-use Rattle.cyc_lower.proofs.Relation.{IsIn, content_of, callers, in_temporary, in_local, behind_call, behind_wrong, ProceedingAt, DataIn, SharedAt, LandsStack, ValueStack, Matches, code_of}
-use Rattle.cyc_lower.proofs.Data.{in_words, get_set_other, null_is, points_in}
+use Rattle.cyc_lower.proofs.Stands.{FreedAt}
+use Rattle.cyc_lower.proofs.Relation.{IsIn, content_of, callers, in_temporary, in_local, behind_call, behind_wrong, ProceedingAt, DataIn, SharedAt, LandsStack, ValueStack, Matches, code_of, bounds_at, types_at}
+use Rattle.cyc_lower.proofs.Data.{calls_counted, in_words, get_set_other, null_is, points_in}
 use Rattle.cyc_lower.proofs.Accesses.{IsWell, is_fitting}
 use Rattle.cyc_lower.proofs.CellWrites.{SameVariables, data_beside}
 use Rattle.cyc_lower.proofs.Matched.{IsMatched, by_places, by_one, executes, shared_way, shared_within, place_in, known, apart, Executes}
@@ -117,7 +120,7 @@ module _ (source : Program) (pages calls : ℕ) where
   proceeds : (t : Tables) (d : ℕ) (k : List Entry) (e : Environment) (w : World) (c : Configuration) → DataIn source t c.active.slots k e w c
       → LandsStack source c.active.function e.locals kinds.Int d c.active.next c.frames k → ProceedingAt source t k e w c
   proceeds t d k e w c facts (in_temporary least stack) = behind_call kinds.Int (operands.Slot d) facts stack
-  proceeds t d k e w c facts (in_local below stack) = behind_wrong kinds.Int d stack
+  proceeds t d k e w c facts (in_local below stack) = behind_wrong kinds.Int d (calls_counted source c.active.function c.active.slots c.active.handlers c.frames k facts.1) stack
 
   module _ (k : List Entry) (e : Environment) (w : World) (c : Configuration) (shared : SharedAt source pages calls k e w c) (facts : DataIn source shared.tables c.active.slots k e w c)
       (number word : ℕ) (x : Object) (ks : List Kind) (there : slice_get w.objects number ≡ Some x) (owned : x.owner ≡ Unique true) (row : slice_get shared.tables.rows number ≡ Some (Placed word ks))
@@ -144,7 +147,7 @@ module _ (source : Program) (pages calls : ℕ) where
     pub data_freed : DataIn source shared.tables c.active.slots k e (freed w number x) after
     data_freed =
         let many : length (set w.objects number gone) ≡ length w.objects = length-set w.objects number gone in
-        data_beside shared.tables source c.active.function w.objects (set w.objects number gone) e.locals (callers k) c.active.slots c.globals c.frames (omega (arith, many)) beside facts
+        (data_beside shared.tables source c.active.function w.objects (set w.objects number gone) e.locals (callers k) c.active.slots c.globals c.frames (omega (arith, many)) beside facts.0, facts.1)
       where
         beside : SameVariables shared.tables w.objects (set w.objects number gone)
         beside o variable = ap content_of (get_set_other w.objects number o gone (λ same. not-placed (sym (ap (slice_get shared.tables.rows) same) ∙ variable) row))

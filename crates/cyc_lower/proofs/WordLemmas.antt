@@ -1,5 +1,5 @@
 -- A lowered program has words wherever its source has.
-use Rattle.std.proofs.Common.{ℕ, zero, suc, ◌+◌, ◌*◌, ◌≤◌, max, Bool, true, false, List, [], ◌∷◌, ◌++◌, length, map, Option, None, Some, All, arith, slice_get}
+use Rattle.std.proofs.Common.{◌≡◌, ℕ, zero, suc, ◌+◌, ◌*◌, ◌≤◌, max, Bool, true, false, List, [], ◌∷◌, ◌++◌, length, map, Option, None, Some, All, refl, arith, slice_get}
 use Rattle.cyc_meaning.specs.Operators.{null_exception, division_by_zero}
 use Rattle.std.specs.List.{AllByRecursion}
 use Rattle.cyc_words.proofs.WordLemmas.{IsWord-add_of}
@@ -14,14 +14,16 @@ use Rattle.cyc_types.specs.declared.typed.PointerOperator.{PointerOperator}
 use Rattle.cyc_types.specs.declared.typed.PointerOperator.TheVariants as pointers
 use Rattle.cyc_types.specs.declared.typed.LogicalOperator.{LogicalOperator}
 use Rattle.cyc_types.specs.declared.typed.LogicalOperator.TheVariants as logical
-use Rattle.cyc_types.specs.TypedTrees.{Load, New, OnHeap, AsUnique, ByHandle, Initial, Plain, Fields, Dereference, Target, Lvalue, Local, Global, Expression, Number, NullPointer, Copy, Call, Unary, Binary, Assign, Converted, Convert, Arguments, NoArguments, MoreArguments, Operations, NoOperations, ThenCompute, ThenTest, ThenPointer, Statement, Block, Empty, Evaluate, If, While, Return, Break, Continue, Items, NoItems, MoreItems, Execute, Declare, Constant, Word, Null, GlobalVariable, StructType, Function, Program, Move, Peek, ThenPointerPeek, AddressOfCell, Store, Member, Element, FreeUnique, Side, VariableSide, CellSide, Swap}
+use Rattle.cyc_types.specs.TypedTrees.{Load, New, OnHeap, AsUnique, ByHandle, Initial, Plain, Fields, Dereference, Target, Lvalue, Local, Global, Expression, Number, NullPointer, Copy, Call, Unary, Binary, Assign, Converted, Convert, Arguments, NoArguments, MoreArguments, Operations, NoOperations, ThenCompute, ThenTest, ThenPointer, Statement, Block, Empty, Evaluate, If, While, Return, Break, Continue, Items, NoItems, MoreItems, Execute, Declare, Constant, Word, Null, GlobalVariable, StructType, Function, Program, Move, Peek, ThenPointerPeek, AddressOfCell, Store, Member, Element, FreeUnique, Side, VariableSide, CellSide, Swap, Throw, Try, Clauses, NoClauses, Default, Case}
 use Rattle.cyc_plain.specs.declared.instruction.Comparison.{Comparison}
+use Rattle.cyc_plain.specs.declared.instruction.Comparison.TheVariants as comparisons
 use Rattle.cyc_plain.specs.declared.instruction.Operand.{Operand}
 use Rattle.cyc_plain.specs.declared.instruction.Operand.TheVariants as operands
 use Rattle.cyc_plain.specs.declared.instruction.Instruction.{Instruction}
 use Rattle.cyc_plain.specs.declared.instruction.Instruction.TheVariants as instructions
-use Rattle.cyc_plain.specs.WellFormed.{IsOfWord, HasWord, HasWords}
-use Rattle.cyc_lower.specs.Words.{IsOfWords, IsOfWordsCell, IsOfWordsObject, IsOfWordsConverted, AreOfWordsArguments, AreOfWordsOperations, IsOfWordsInitial, IsOfWordsStatement, AreOfWordsItems, IsOfWordsConstant, AreOfWordsGlobals, AreOfWordsFunctions, IsOfWordsProgram, IsOfWordsSide}
+use Rattle.cyc_plain.specs.WellFormed.{IsOfWord, HasWord, HasWords, is_return}
+use Rattle.cyc_lower.specs.Words.{IsOfWords, IsOfWordsCell, IsOfWordsObject, IsOfWordsConverted, AreOfWordsArguments, AreOfWordsOperations, IsOfWordsInitial, IsOfWordsStatement, AreOfWordsItems, IsOfWordsConstant, AreOfWordsGlobals, AreOfWordsFunctions, IsOfWordsProgram, IsOfWordsSide, IsOfWordsThrown, AreOfWordsClauses}
+use Rattle.cyc_plain.specs.declared.limits.TheConstants.{RECORD_WORDS}
 use Rattle.cyc_lower.specs.declared.statements.Exits.{Exits}
 use Rattle.cyc_lower.specs.Slots.{starts_of, slot_of, Starts, bytes_from, field_in}
 use Rattle.std.specs.Prelude.{◌==◌, if◌then◌else◌}
@@ -29,14 +31,43 @@ use Rattle.cyc_types.specs.Types.{words_of, Ty}
 use Rattle.cyc_types.specs.Numbered.{argument_count}
 use Rattle.cyc_store.specs.declared.range.TheConstants.{HEAP, UNIQUE}
 use Rattle.cyc_meaning.specs.Values.{words_of_kind}
-use Rattle.cyc_lower.specs.Lowering.{types_of, are_as_wide, converts_there, passed_words, source_of, source_slot, converted_by, moved_by, move_of, operand_of, operand_or, code_unless, slot_or, code_unless_slot, left_with, left_of, value_slot, next_slot, left_slot, value_operand, converted_operand, printed_operand, check_code, conversion_code, divisor_code, checked_code, operator_code, truth_code, load_code, test_code, is_in, copy_code, expression_code, arguments_code, converted_code, converted_operand_code, printed_code, initial_code, assignment_code, operations_code, discarded_code, failing_comparison, compared_or, compared_of, slot_with, first_code, second_code, pair_code, condition_code, condition_of, return_code, declaration_code, statement_code, items_code, first_temporary, initial_word, lower_function, lower_global, lower_program, behind_left, pointer_code, outside_loops, inside_loop, index_of, first_two, pointer_instructions, stores_code, object_code, made_code, place_operand, place_offset, place_code, address_code, addressed_by, store_address_code, store_code, right_slot, side_code, read_side, write_side, exchange_code, swap_code}
-use Rattle.cyc_lower.proofs.WellFormed.{all_append, all_of}
+use Rattle.cyc_lower.specs.Lowering.{types_of, are_as_wide, converts_there, passed_words, source_of, source_slot, converted_by, moved_by, move_of, operand_of, operand_or, code_unless, slot_or, code_unless_slot, left_with, left_of, value_slot, next_slot, left_slot, value_operand, converted_operand, printed_operand, check_code, conversion_code, divisor_code, checked_code, operator_code, truth_code, load_code, test_code, is_in, copy_code, expression_code, arguments_code, converted_code, converted_operand_code, printed_code, initial_code, assignment_code, operations_code, discarded_code, failing_comparison, compared_or, compared_of, slot_with, first_code, second_code, pair_code, condition_code, condition_of, return_code, declaration_code, statement_code, items_code, first_temporary, initial_word, lower_function, lower_global, lower_program, behind_left, pointer_code, outside_loops, inside_loop, index_of, first_two, pointer_instructions, stores_code, object_code, made_code, place_operand, place_offset, place_code, address_code, addressed_by, store_address_code, store_code, guard_code, blocks, leave_code, clause_code, caught_code, clauses_code, function_code, break_target, continue_target, right_slot, side_code, read_side, write_side, exchange_code, swap_code}
+
+-- ---- lists
+
+pub all_append : {X : Type 0} (P : X → Type 0) (xs ys : List X) → AllByRecursion P xs → AllByRecursion P ys → AllByRecursion P (xs ++ ys)
+all_append P [] ys all more = more
+all_append P (x ∷ xs) ys (first, rest) more = (first, all_append P xs ys rest more)
+
+pub all_of : {X : Type 0} (P : X → Type 0) (xs : List X) → AllByRecursion P xs → All P xs
+all_of P [] all k d below = absurd (omega arith)
+all_of P (x ∷ xs) (first, rest) zero d below = first
+all_of P (x ∷ xs) (first, rest) (suc k) d below = all_of P xs rest k d (omega arith)
+
+all_told : {X : Type 0} (P Q : X → Type 0) → ((x : X) → P x → Q x) → (xs : List X) → AllByRecursion P xs → AllByRecursion Q xs
+all_told P Q tells [] all = tt
+all_told P Q tells (x ∷ xs) (first, rest) = (tells x first, all_told P Q tells xs rest)
+
+-- ---- instructions
+
+-- an instruction that is made: it has words, and is no return that leaves handlers open
+abbrev IsMade : Instruction → Type 0
+IsMade (instructions.Return value) = ⊥
+IsMade i = HasWord i
+
+made_word : (i : Instruction) → IsMade i → HasWord i
+made_word (instructions.Return value) made = absurd made
+made_word i made = made
+
+made_no_return : (i : Instruction) → IsMade i → is_return i ≡ false
+made_no_return (instructions.Return value) made = absurd made
+made_no_return i made = refl
 
 abbrev HaveWords : List Instruction → Type 0
-HaveWords code = AllByRecursion HasWord code
+HaveWords code = AllByRecursion IsMade code
 
 append : (x y : List Instruction) → HaveWords x → HaveWords y → HaveWords (x ++ y)
-append x y first rest = all_append HasWord x y first rest
+append x y first rest = all_append IsMade x y first rest
 
 -- ---- operands
 
@@ -51,25 +82,32 @@ unless_slot_words None x words = words
 
 -- ---- expressions
 
-check_words : (tag : ℕ) (o : Operand) (p : ℕ) → IsWord tag → IsOfWord o → HaveWords (check_code tag o p)
-check_words tag o p fits word = ((word, omega arith), ((fits, word), tt))
+guard_words : (starts : Starts) (tag : ℕ) (failing : Comparison) (l r : Operand) → IsOfWord l → IsOfWord r → HaveWords (guard_code starts tag failing l r)
+guard_words starts tag failing l r left right = ((left, right), tt)
 
-conversion_words : (to : Kind) (o : Operand) (p : ℕ) → IsOfWord o → HaveWords (conversion_code to o p)
-conversion_words kinds.NonNull o p word = check_words null_exception o p (omega arith) word
-conversion_words to o p word = tt
+check_words : (starts : Starts) (tag : ℕ) (o : Operand) → IsOfWord o → HaveWords (check_code starts tag o)
+check_words starts tag o word = guard_words starts tag comparisons.Equal o (operands.Word 0) word (omega arith)
 
-divisor_words : (o : Operand) (p : ℕ) → IsOfWord o → HaveWords (divisor_code o p)
-divisor_words (operands.Word (suc n)) p word = tt
-divisor_words (operands.Word zero) p word = check_words division_by_zero (operands.Word zero) p (omega arith) word
-divisor_words (operands.Slot n) p word = check_words division_by_zero (operands.Slot n) p (omega arith) word
+conversion_words : (starts : Starts) (to : Kind) (o : Operand) (p : ℕ) → IsOfWord o → HaveWords (conversion_code starts to o p)
+conversion_words starts kinds.NonNull o p word = check_words starts null_exception o word
+conversion_words starts to o p word = tt
 
-checked_words : (o : Operator) (l r : Operand) (p d : ℕ) → IsOfWord l → IsOfWord r → HaveWords (checked_code o l r p d)
-checked_words o l r p d left right = append (divisor_code r p) _ (divisor_words r p right) ((left, right), tt)
+divisor_words : (starts : Starts) (o : Operand) → IsOfWord o → HaveWords (divisor_code starts o)
+divisor_words starts (operands.Word (suc n)) word = tt
+divisor_words starts (operands.Word zero) word = check_words starts division_by_zero (operands.Word zero) word
+divisor_words starts (operands.Slot n) word = check_words starts division_by_zero (operands.Slot n) word
 
-operator_words : (o : Operator) (l r : Operand) (p d : ℕ) → IsOfWord l → IsOfWord r → HaveWords (operator_code o l r p d)
-operator_words operators.Divide l r p d left right = checked_words operators.Divide l r p d left right
-operator_words operators.Remainder l r p d left right = checked_words operators.Remainder l r p d left right
-operator_words o l r p d left right = ((left, right), tt)
+checked_words : (starts : Starts) (o : Operator) (l r : Operand) (d : ℕ) → IsOfWord l → IsOfWord r → HaveWords (checked_code starts o l r d)
+checked_words starts o l r d left right = append (divisor_code starts r) _ (divisor_words starts r right) ((left, right), tt)
+
+operator_words : (starts : Starts) (o : Operator) (l r : Operand) (d : ℕ) → IsOfWord l → IsOfWord r → HaveWords (operator_code starts o l r d)
+operator_words starts operators.Divide l r d left right = checked_words starts operators.Divide l r d left right
+operator_words starts operators.Remainder l r d left right = checked_words starts operators.Remainder l r d left right
+operator_words starts o l r d left right = ((left, right), tt)
+
+-- what raises exceptions, behind a function's body
+blocks_words : HaveWords blocks
+blocks_words = ((omega arith, omega arith), ((omega arith, omega arith), ((omega arith, omega arith), ((omega arith, omega arith), tt))))
 
 move_words : (words d : ℕ) (o : Operand) → IsOfWord o → HaveWords (move_of words d o ∷ [])
 move_words words d (operands.Word n) word = (word, tt)
@@ -96,15 +134,15 @@ field_word : (s : Option StructType) (field : ℕ) → IsWord (field_in s field)
 field_word None field = omega arith
 field_word (Some s) field = bytes_word s.fields field 0 (omega arith)
 
-converted_by_words : (known : Option Operand) (inner : List Instruction) (to : Kind) (o : Operand) (p : ℕ) → HaveWords inner → IsOfWord o → HaveWords (converted_by known inner to o p)
-converted_by_words known inner to o p all word =
+converted_by_words : (starts : Starts) (known : Option Operand) (inner : List Instruction) (to : Kind) (o : Operand) (p : ℕ) → HaveWords inner → IsOfWord o → HaveWords (converted_by starts known inner to o p)
+converted_by_words starts known inner to o p all word =
     let front = code_unless known inner in
-    append front (conversion_code to o (p + length front)) (unless_words known inner all) (conversion_words to o (p + length front) word)
+    append front (conversion_code starts to o (p + length front)) (unless_words known inner all) (conversion_words starts to o (p + length front) word)
 
-initial_by_words : (there : Bool) (known : Option Operand) (at_once inner : List Instruction) (to : Kind) (o : Operand) (p d : ℕ) → HaveWords at_once → HaveWords inner → IsOfWord o
-    → HaveWords (if there then at_once else moved_by known inner to o p d)
-initial_by_words true known at_once inner to o p d all other word = all
-initial_by_words false known at_once inner to o p d all other word = append (converted_by known inner to o p) _ (converted_by_words known inner to o p other word) (move_words (words_of_kind to) d o word)
+initial_by_words : (starts : Starts) (there : Bool) (known : Option Operand) (at_once inner : List Instruction) (to : Kind) (o : Operand) (p d : ℕ) → HaveWords at_once → HaveWords inner → IsOfWord o
+    → HaveWords (if there then at_once else moved_by starts known inner to o p d)
+initial_by_words starts true known at_once inner to o p d all other word = all
+initial_by_words starts false known at_once inner to o p d all other word = append (converted_by starts known inner to o p) _ (converted_by_words starts known inner to o p other word) (move_words (words_of_kind to) d o word)
 
 index_word : (l : Operand) → IsOfWord l → IsOfWord (index_of l)
 index_word (operands.Slot n) word = tt
@@ -244,10 +282,10 @@ module _ (starts : Starts) where
     place_words : (x : Dereference) (p t : ℕ) → IsOfWordsCell x → HaveWords (place_code starts x p t)
     place_words (Target k a ty) p t words =
         let slot = value_slot starts a t in
-        converted_by_words (operand_of starts a) (expression_code starts a p slot t) kinds.NonNull (value_operand starts a t) p (expression_words a p slot t words) (known_word a slot words)
+        converted_by_words starts (operand_of starts a) (expression_code starts a p slot t) kinds.NonNull (value_operand starts a t) p (expression_words a p slot t words) (known_word a slot words)
     place_words (Member k a s f ty) p t words =
         let slot = value_slot starts a t in
-        converted_by_words (operand_of starts a) (expression_code starts a p slot t) kinds.NonNull (value_operand starts a t) p (expression_words a p slot t words) (known_word a slot words)
+        converted_by_words starts (operand_of starts a) (expression_code starts a p slot t) kinds.NonNull (value_operand starts a t) p (expression_words a p slot t words) (known_word a slot words)
     place_words x p t words = absurd words
 
     -- its address comes to a slot
@@ -256,32 +294,32 @@ module _ (starts : Starts) where
         let slot = value_slot starts a t in
         let o = value_operand starts a t in
         append (place_code starts (Target k a ty) p t) _
-        (converted_by_words (operand_of starts a) (expression_code starts a p slot t) kinds.NonNull o p (expression_words a p slot t words) (known_word a slot words))
+        (converted_by_words starts (operand_of starts a) (expression_code starts a p slot t) kinds.NonNull o p (expression_words a p slot t words) (known_word a slot words))
         (address_words o 0 d (known_word a slot words) (omega arith))
     address_of_words (Member k a s f ty) p d t words =
         let slot = value_slot starts a t in
         let o = value_operand starts a t in
         let x = Member k a s f ty in
         append (place_code starts x p t) _
-        (converted_by_words (operand_of starts a) (expression_code starts a p slot t) kinds.NonNull o p (expression_words a p slot t words) (known_word a slot words))
+        (converted_by_words starts (operand_of starts a) (expression_code starts a p slot t) kinds.NonNull o p (expression_words a p slot t words) (known_word a slot words))
         (address_words o (place_offset starts x) d (known_word a slot words) (offset_word x))
     address_of_words x p d t words = absurd words
 
     initial_words : (c : Converted) (p d t : ℕ) → IsOfWordsConverted c → HaveWords (initial_code starts c p d t)
     initial_words (Convert from to a) p d t words =
         let slot = source_slot starts (Convert from to a) t in
-        initial_by_words (converts_there from to) (source_of starts (Convert from to a)) (expression_code starts a p d t) (expression_code starts a p slot t) to (converted_operand starts (Convert from to a) t) p d
+        initial_by_words starts (converts_there from to) (source_of starts (Convert from to a)) (expression_code starts a p d t) (expression_code starts a p slot t) to (converted_operand starts (Convert from to a) t) p d
         (expression_words a p d t words) (expression_words a p slot t words) (converted_word (Convert from to a) t words)
 
     converted_words : (c : Converted) (p t : ℕ) → IsOfWordsConverted c → HaveWords (converted_code starts c p t)
     converted_words (Convert from to a) p t words =
         let q = p + length (expression_code starts a p t t) in
-        append (expression_code starts a p t t) (conversion_code to (operands.Slot t) q) (expression_words a p t t words) (conversion_words to (operands.Slot t) q tt)
+        append (expression_code starts a p t t) (conversion_code starts to (operands.Slot t) q) (expression_words a p t t words) (conversion_words starts to (operands.Slot t) q tt)
 
     converted_operand_words : (c : Converted) (p t : ℕ) → IsOfWordsConverted c → HaveWords (converted_operand_code starts c p t)
     converted_operand_words (Convert from to a) p t words =
         let slot = source_slot starts (Convert from to a) t in
-        converted_by_words (source_of starts (Convert from to a)) (expression_code starts a p slot t) to (converted_operand starts (Convert from to a) t) p (expression_words a p slot t words) (converted_word (Convert from to a) t words)
+        converted_by_words starts (source_of starts (Convert from to a)) (expression_code starts a p slot t) to (converted_operand starts (Convert from to a) t) p (expression_words a p slot t words) (converted_word (Convert from to a) t words)
 
     printed_words : (cs : Arguments) (p t : ℕ) → AreOfWordsArguments cs → HaveWords (printed_code starts cs p t)
     printed_words NoArguments p t words = tt
@@ -301,11 +339,11 @@ module _ (starts : Starts) where
         let inner = expression_code starts a p (value_slot starts a (suc t)) (suc t) in
         let operand = code_unless (operand_of starts a) inner in
         let next = next_slot os d t in
-        let operator = operator_code o l (value_operand starts a (suc t)) (p + length operand) next in
+        let operator = operator_code starts o l (value_operand starts a (suc t)) next in
         let q = p + length (operand ++ operator) in
         append (operand ++ operator) (operations_code starts os q (operands.Slot next) d t)
         (append operand operator (unless_words (operand_of starts a) inner (expression_words a p (value_slot starts a (suc t)) (suc t) first))
-        (operator_words o l (value_operand starts a (suc t)) (p + length operand) next left (known_word a (value_slot starts a (suc t)) first)))
+        (operator_words starts o l (value_operand starts a (suc t)) next left (known_word a (value_slot starts a (suc t)) first)))
         (operations_words os q (operands.Slot next) d t tt rest)
     operations_words (ThenTest o a os) p l d t left (first, rest) =
         let operand = expression_code starts a (p + 1) t t in
@@ -377,16 +415,25 @@ module _ (starts : Starts) where
       let right = (compared_of a).right in
       (left_with_word (operand_of starts right) left (slot_with starts (operand_of starts right) left t) first, known_word right (value_slot starts right (suc t)) second)
 
-  return_words : (v : Option Converted) (p t : ℕ) → IsOfWordsInitial v → HaveWords (return_code starts v p t)
-  return_words None p t words = (tt, tt)
-  return_words (Some (Convert from to a)) p t words =
+  leave_words : (first t : ℕ) → HaveWords (leave_code first t)
+  leave_words first t = by (first == t)
+    where
+      by : (none : Bool) → HaveWords (if none then [] else instructions.Leave first ∷ [])
+      by true = tt
+      by false = (tt, tt)
+
+  return_words : (v : Option Converted) (p : ℕ) (exits : Exits) (t : ℕ) → IsOfWordsInitial v → HaveWords (return_code starts v p exits t)
+  return_words None p exits t words = append (leave_code exits.first_record t) _ (leave_words exits.first_record t) (tt, tt)
+  return_words (Some (Convert from to a)) p exits t words =
       let known = source_of starts (Convert from to a) in
       let inner = expression_code starts a p t t in
       let front = code_unless_slot known inner in
       let s = slot_or known t in
-      let conversion = conversion_code to (operands.Slot s) (p + length front) in
-      append (front ++ conversion) _
-      (append front conversion (unless_slot_words known inner (expression_words a p t t words)) (conversion_words to (operands.Slot s) (p + length front) tt)) (tt, tt)
+      let conversion = conversion_code starts to (operands.Slot s) (p + length front) in
+      append ((front ++ conversion) ++ leave_code exits.first_record t) _
+      (append (front ++ conversion) (leave_code exits.first_record t)
+      (append front conversion (unless_slot_words known inner (expression_words a p t t words)) (conversion_words starts to (operands.Slot s) (p + length front) tt)) (leave_words exits.first_record t))
+      (tt, tt)
 
   declaration_words : (n : ℕ) (v : Option Converted) (p t : ℕ) → IsOfWordsInitial v → HaveWords (declaration_code starts n v p t)
   declaration_words n None p t words = tt
@@ -396,12 +443,12 @@ module _ (starts : Starts) where
   side_words (VariableSide l ty) p t words = tt
   side_words (CellSide x) p t words = address_of_words x p t t words
 
-  read_words : (a : Side) (s d : ℕ) → HasWord (read_side starts a s d)
+  read_words : (a : Side) (s d : ℕ) → IsMade (read_side starts a s d)
   read_words (VariableSide (Local w n) ty) s d = tt
   read_words (VariableSide (Global n) ty) s d = tt
   read_words (CellSide x) s d = (tt, omega arith)
 
-  write_words : (a : Side) (s v : ℕ) → HasWord (write_side starts a s v)
+  write_words : (a : Side) (s v : ℕ) → IsMade (write_side starts a s v)
   write_words (VariableSide (Local w n) ty) s v = tt
   write_words (VariableSide (Global n) ty) s v = tt
   write_words (CellSide x) s v = (tt, omega arith, tt)
@@ -414,6 +461,18 @@ module _ (starts : Starts) where
       append front (middle ++ back) (side_words x p t words_x)
       (append middle back (side_words y (p + length front) (right_slot x t) words_y)
       (read_words x t (t + 2), (read_words y (right_slot x t) (t + 3), (write_words x t (t + 3), (write_words y (right_slot x t) (t + 2), tt)))))
+
+  -- the number of an exception is less than 2 ^ 32 in an operand, whatever it is
+  throw_words : (tag : ℕ) (v : Option Expression) (p : ℕ) (exits : Exits) (t : ℕ) → IsOfWordsThrown v → HaveWords (statement_code starts (Throw tag v) p exits t)
+  throw_words tag None p exits t words = ((omega arith, omega arith), tt)
+  throw_words tag (Some a) p exits t words =
+      let slot = value_slot starts a t in
+      let inner = expression_code starts a p slot t in
+      append (code_unless (operand_of starts a) inner) _ (unless_words (operand_of starts a) inner (expression_words a p slot t words)) ((omega arith, known_word a slot words), tt)
+
+  caught_words : (x : Option ℕ) (t : ℕ) → HaveWords (caught_code starts x t)
+  caught_words None t = tt
+  caught_words (Some n) t = (tt, tt)
 
   mutual
     statement_words : (s : Statement) (p : ℕ) (exits : Exits) (t : ℕ) → IsOfWordsStatement s → HaveWords (statement_code starts s p exits t)
@@ -433,10 +492,15 @@ module _ (starts : Starts) where
         let m = p + 2 + length condition in
         let body = statement_code starts s (m + 1) (inside_loop p t exits) t in
         (tt, (tt, append (condition ++ _ ∷ body) _ (append condition (_ ∷ body) (condition_words a (p + 2) t first) (condition_word a t first, statement_words s (m + 1) (inside_loop p t exits) t second)) (tt, tt)))
-    statement_words (Return v) p exits t words = return_words v p t words
-    statement_words Break p exits t words = (tt, tt)
-    statement_words Continue p exits t words = (tt, tt)
-    statement_words s p exits t words = absurd words
+    statement_words (Return v) p exits t words = return_words v p exits t words
+    statement_words Break p exits t words = append (leave_code exits.loop_record t) _ (leave_words exits.loop_record t) (tt, tt)
+    statement_words Continue p exits t words = append (leave_code exits.loop_record t) _ (leave_words exits.loop_record t) (tt, tt)
+    statement_words (Throw tag v) p exits t words = throw_words tag v p exits t words
+    statement_words (Try s cs) p exits t (first, rest) =
+        let body = statement_code starts s (p + 1) exits (t + RECORD_WORDS) in
+        let close = instructions.Leave t ∷ [] in
+        let out = p + 1 + length (body ++ close) in
+        (tt, append (body ++ close) (_ ∷ clauses_code starts cs (out + 1) out exits t) (append body close (statement_words s (p + 1) exits (t + RECORD_WORDS) first) (tt, tt)) (tt, clauses_words cs (out + 1) out exits t rest))
 
     items_words : (js : Items) (p : ℕ) (exits : Exits) (t : ℕ) → AreOfWordsItems js → HaveWords (items_code starts js p exits t)
     items_words NoItems p exits t words = tt
@@ -448,13 +512,32 @@ module _ (starts : Starts) where
         append (declaration_code starts n v p t) (items_code starts js q exits t) (declaration_words n v p t first) (items_words js q exits t rest)
     items_words js p exits t words = absurd words
 
+    clauses_words : (cs : Clauses) (p out : ℕ) (exits : Exits) (t : ℕ) → AreOfWordsClauses cs → HaveWords (clauses_code starts cs p out exits t)
+    clauses_words NoClauses p out exits t words = ((tt, tt), tt)
+    clauses_words (Default r js) p out exits t words = items_words js p exits t words
+    clauses_words (Case tag x r js cs) p out exits t (first, rest) =
+        let caught = caught_code starts x t in
+        let items = items_code starts js (p + 1 + length caught) exits t in
+        let clause = clause_code tag t (caught ++ items) p out in
+        append clause (clauses_code starts cs (p + length clause) out exits t)
+        ((tt, omega arith), append (caught ++ items) (instructions.Jump out ∷ []) (append caught items (caught_words x t) (items_words js (p + 1 + length caught) exits t first)) (tt, tt))
+        (clauses_words cs (p + length clause) out exits t rest)
+
+function_words : (structs : List StructType) (h : Function) → AreOfWordsItems h.body → HaveWords (function_code structs h)
+function_words structs h words =
+    let d = first_temporary h in
+    let starts = starts_of (types_of structs h) in
+    append (items_code starts h.body 0 (outside_loops d) d) (instructions.Finish d ∷ blocks) (items_words starts h.body 0 (outside_loops d) d words) (tt, blocks_words)
+
+-- no function returns while handlers are open
+pub no_return : (structs : List StructType) (h : Function) → AreOfWordsItems h.body → All (λ i. is_return i ≡ false) (function_code structs h)
+no_return structs h words =
+    all_of (λ i. is_return i ≡ false) (function_code structs h) (all_told IsMade (λ i. is_return i ≡ false) made_no_return (function_code structs h) (function_words structs h words))
+
 functions_words : (structs : List StructType) (hs : List Function) → AreOfWordsFunctions hs → AllByRecursion (λ r. All HasWord r.code) (map (lower_function structs) hs)
 functions_words structs [] words = tt
 functions_words structs (h ∷ hs) (first, rest) =
-    let d = first_temporary h in
-    let starts = starts_of (types_of structs h) in
-    let body = items_code starts h.body 0 (outside_loops d) d in
-    (all_of HasWord (body ++ instructions.Return d ∷ []) (append body (instructions.Return d ∷ []) (items_words starts h.body 0 (outside_loops d) d first) (tt, tt)), functions_words structs hs rest)
+    (all_of HasWord (function_code structs h) (all_told IsMade HasWord made_word (function_code structs h) (function_words structs h first)), functions_words structs hs rest)
 
 constant_word : (c : Constant) → IsOfWordsConstant c → IsWord (initial_word c)
 constant_word (Word n) word = word

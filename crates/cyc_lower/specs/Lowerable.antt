@@ -4,7 +4,8 @@ use Rattle.std.specs.Prelude.{◌≡◌, ℕ, ◌<◌, Bool, true, false, not, �
 use Rattle.cyc_types.specs.declared.typed.PointerOperator.{PointerOperator}
 use Rattle.cyc_types.specs.declared.typed.PointerOperator.TheVariants as pointers
 use Rattle.cyc_types.specs.Types.{Ty, words_of}
-use Rattle.cyc_types.specs.TypedTrees.{Load, New, OnHeap, AsUnique, Initial, Plain, Fields, Dereference, Target, Lvalue, Local, Global, Expression, Number, NullPointer, Copy, Call, Unary, Binary, Assign, Converted, Convert, Arguments, NoArguments, MoreArguments, Operations, NoOperations, ThenCompute, ThenTest, ThenPointer, Statement, Block, Empty, Evaluate, If, While, Return, Break, Continue, Items, NoItems, MoreItems, Execute, Declare, Signature, Function, Program, Move, Peek, ThenPointerPeek, AddressOfCell, Store, Member, FreeUnique, Side, VariableSide, CellSide, Swap, peeked}
+use Rattle.cyc_types.specs.TypedTrees.{Load, New, OnHeap, AsUnique, Initial, Plain, Fields, Dereference, Target, Lvalue, Local, Global, Expression, Number, NullPointer, Copy, Call, Unary, Binary, Assign, Converted, Convert, Arguments, NoArguments, MoreArguments, Operations, NoOperations, ThenCompute, ThenTest, ThenPointer, Statement, Block, Empty, Evaluate, If, While, Return, Break, Continue, Items, NoItems, MoreItems, Execute, Declare, Signature, Function, Program, Move, Peek, ThenPointerPeek, AddressOfCell, Store, Member, FreeUnique, Side, VariableSide, CellSide, Swap, peeked, Throw, Try, Clauses, NoClauses, Default, Case}
+use Rattle.cyc_words.specs.Word.{IsWord}
 use Rattle.cyc_types.specs.typing.Scopes.{signature_of_ints}
 use Rattle.cyc_types.specs.Numbered.{Numbering, IsSignature, IsWithin, argument_count, numbering_of, signatures_of}
 use Rattle.cyc_store.specs.declared.range.TheConstants.{MOST_BLOCK_WORDS}
@@ -107,6 +108,16 @@ abbrev pub IsLowerableInitial : Numbering → Option Converted → Type 0
 IsLowerableInitial b None = Unit {0}
 IsLowerableInitial b (Some c) = IsLowerableConverted b c
 
+-- what an exception tells, and the local of a clause that gets it
+abbrev pub IsLowerableThrown : Numbering → Option Expression → Type 0
+IsLowerableThrown b None = Unit {0}
+IsLowerableThrown b (Some a) = IsLowerable b a
+
+abbrev pub IsLowerableCaught : Numbering → Option ℕ → Type 0
+IsLowerableCaught b None = Unit {0}
+IsLowerableCaught b (Some n) = n < b.locals
+
+-- the numbers of exceptions are words
 abbrev mutual
   pub IsLowerableStatement : Numbering → (in_loop : Bool) → Statement → Type 0
   IsLowerableStatement b l (Block r js) = AreLowerableItems b l js
@@ -118,13 +129,19 @@ abbrev mutual
   IsLowerableStatement b l (Return v) = IsLowerableReturn b b.result v
   IsLowerableStatement b l Break = l ≡ true
   IsLowerableStatement b l Continue = l ≡ true
-  IsLowerableStatement b l s = ⊥
+  IsLowerableStatement b l (Throw tag v) = IsWord tag × IsLowerableThrown b v
+  IsLowerableStatement b l (Try s cs) = IsLowerableStatement b l s × AreLowerableClauses b l cs
 
   pub AreLowerableItems : Numbering → Bool → Items → Type 0
   AreLowerableItems b l NoItems = Unit {0}
   AreLowerableItems b l (MoreItems (Execute s) js) = IsLowerableStatement b l s × AreLowerableItems b l js
   AreLowerableItems b l (MoreItems (Declare n t v) js) = (n < b.locals) × IsLowerableInitial b v × AreLowerableItems b l js
   AreLowerableItems b l js = ⊥
+
+  pub AreLowerableClauses : Numbering → Bool → Clauses → Type 0
+  AreLowerableClauses b l NoClauses = Unit {0}
+  AreLowerableClauses b l (Default r js) = AreLowerableItems b l js
+  AreLowerableClauses b l (Case tag x r js cs) = IsWord tag × IsLowerableCaught b x × AreLowerableItems b l js × AreLowerableClauses b l cs
 
 abbrev pub AreLowerableFunctions : ℕ → List Signature → List Function → Type 0
 AreLowerableFunctions globals functions [] = Unit {0}

@@ -4,7 +4,7 @@
 --
 -- A value has as many slots as its kind has words, one behind the other. A global has one word yet, the first of its value. There is
 -- code for the int language and more; a form that is not built has a constant in its place, which nothing runs.
-use Rattle.std.specs.Prelude.{ℕ, zero, suc, ◌+◌, max, ◌==◌, Bool, false, if◌then◌else◌, List, [], ◌∷◌, ◌++◌, length, map, Option, None, Some}
+use Rattle.std.specs.Prelude.{ℕ, zero, suc, ◌+◌, ◌%◌, ◌^◌, max, ◌==◌, Bool, false, if◌then◌else◌, List, [], ◌∷◌, ◌++◌, length, map, Option, None, Some}
 use Rattle.cyc_words.specs.declared.span.Span.{Span}
 use Rattle.cyc_syntax.specs.Symbols.{Place}
 use Rattle.cyc_types.specs.declared.typed.Kind.{Kind}
@@ -20,7 +20,7 @@ use Rattle.cyc_types.specs.declared.typed.LogicalOperator.{LogicalOperator}
 use Rattle.cyc_types.specs.declared.typed.LogicalOperator.TheVariants as logical
 use Rattle.cyc_types.specs.Types.{Ty, words_of}
 use Rattle.cyc_types.specs.Numbered.{argument_count}
-use Rattle.cyc_types.specs.TypedTrees.{Load, New, OnHeap, AsUnique, Initial, Plain, Fields, Dereference, Target, Lvalue, Local, Global, Expression, Number, NullPointer, Copy, Call, Unary, Binary, Assign, Converted, Convert, Arguments, NoArguments, MoreArguments, Operations, NoOperations, ThenCompute, ThenTest, ThenPointer, ThenPointerPeek, Statement, Block, Empty, Evaluate, If, While, Return, Break, Continue, Items, NoItems, MoreItems, Execute, Declare, Constant, Word, Null, GlobalVariable, StructType, Function, Program, Move, Peek, AddressOfCell, Store, Member, Element, FreeUnique, Side, VariableSide, CellSide, Swap}
+use Rattle.cyc_types.specs.TypedTrees.{Load, New, OnHeap, AsUnique, Initial, Plain, Fields, Dereference, Target, Lvalue, Local, Global, Expression, Number, NullPointer, Copy, Call, Unary, Binary, Assign, Converted, Convert, Arguments, NoArguments, MoreArguments, Operations, NoOperations, ThenCompute, ThenTest, ThenPointer, ThenPointerPeek, Statement, Block, Empty, Evaluate, If, While, Return, Break, Continue, Items, NoItems, MoreItems, Execute, Declare, Constant, Word, Null, GlobalVariable, StructType, Function, Program, Move, Peek, AddressOfCell, Store, Member, Element, FreeUnique, Side, VariableSide, CellSide, Swap, Throw, Try, Clauses, NoClauses, Default, Case}
 use Rattle.cyc_plain.specs.declared.instruction.UnaryOperator.{UnaryOperator as PlainUnary}
 use Rattle.cyc_plain.specs.declared.instruction.UnaryOperator.TheVariants as plain_unary
 use Rattle.cyc_plain.specs.declared.instruction.BinaryOperator.{BinaryOperator as PlainBinary}
@@ -34,9 +34,10 @@ use Rattle.cyc_plain.specs.declared.instruction.Instruction.{Instruction}
 use Rattle.cyc_plain.specs.declared.instruction.Instruction.TheVariants as instructions
 use Rattle.cyc_plain.specs.Program.{Routine, Program as PlainProgram}
 use Rattle.cyc_store.specs.declared.range.TheConstants.{HEAP, UNIQUE}
+use Rattle.cyc_plain.specs.declared.limits.TheConstants.{RECORD_WORDS}
 use Rattle.cyc_meaning.specs.Values.{words_of_kind}
-use Rattle.cyc_meaning.specs.Operators.{null_exception, division_by_zero}
-use Rattle.cyc_meaning.specs.FrameCount.{frame_count, items_need, words_of_all}
+use Rattle.cyc_meaning.specs.Operators.{null_exception, division_by_zero, array_bounds, array_size}
+use Rattle.cyc_meaning.specs.FrameCount.{frame_count, items_need, kept_by_items, words_of_all}
 use Rattle.cyc_lower.specs.Slots.{Types, Starts, starts_of, slot_of, field_of}
 use Rattle.cyc_lower.specs.declared.operands.Condition.{Condition}
 use Rattle.cyc_lower.specs.declared.statements.Exits.{Exits}
@@ -46,10 +47,6 @@ use Rattle.cyc_lower.specs.declared.statements.Exits.{Exits}
 -- the types by which a function's locals have their slots
 abbrev pub slot_types : Function → List Ty
 slot_types h = h.parameters ++ h.locals
-
--- those by which its code is made, in a program with these structs
-abbrev pub types_of : List StructType → Function → Types
-types_of structs h = record { locals = slot_types h; structs = structs }
 
 -- the first slot behind the locals of a function
 abbrev pub first_temporary : Function → ℕ
@@ -157,9 +154,21 @@ jump_if_zero o target = instructions.Branch comparisons.Equal o (operands.Word 0
 abbrev pub jump_if_nonzero : Operand → (target : ℕ) → Instruction
 jump_if_nonzero o target = instructions.Branch comparisons.NotEqual o (operands.Word 0) target
 
--- where a word is 0, an exception is raised, which tells that 0
-abbrev pub check_code : (tag : ℕ) → Operand → (p : ℕ) → List Instruction
-check_code tag o p = jump_if_nonzero o (p + 2) ∷ instructions.Uncaught tag o ∷ []
+-- what raises an exception, which tells 0
+abbrev pub raising : (tag : ℕ) → Instruction
+raising tag = instructions.Throw (operands.Word tag) (operands.Word 0)
+
+-- Such an instruction stands behind a function's body for each exception that the language itself raises, in the order of their tags.
+abbrev pub blocks : List Instruction
+blocks = raising null_exception ∷ raising array_bounds ∷ raising array_size ∷ raising division_by_zero ∷ []
+
+-- where this comparison of two operands holds, an exception is raised
+abbrev pub guard_code : Starts → (tag : ℕ) → Comparison → (l r : Operand) → List Instruction
+guard_code starts tag failing l r = instructions.Branch failing l r (starts.raises + tag) ∷ []
+
+-- where a word is 0
+abbrev pub check_code : Starts → (tag : ℕ) → Operand → List Instruction
+check_code starts tag o = guard_code starts tag comparisons.Equal o (operands.Word 0)
 
 -- A value of so many words comes to a slot and those behind it. A number has one word: where there are more, it is that of a null
 -- pointer, whose others may be anything.
@@ -168,22 +177,22 @@ move_of words d (operands.Slot n) = if words == 1 then instructions.Move d (oper
 move_of words d (operands.Word n) = instructions.Move d (operands.Word n)
 
 -- a value that may not be null is tested
-abbrev pub conversion_code : (to : Kind) → Operand → (p : ℕ) → List Instruction
-conversion_code kinds.NonNull o p = check_code null_exception o p
-conversion_code to o p = []
+abbrev pub conversion_code : Starts → (to : Kind) → Operand → (p : ℕ) → List Instruction
+conversion_code starts kinds.NonNull o p = check_code starts null_exception o
+conversion_code starts to o p = []
 
 -- a divisor is tested, but a number other than 0
-abbrev pub divisor_code : Operand → (p : ℕ) → List Instruction
-divisor_code (operands.Word (suc n)) p = []
-divisor_code o p = check_code division_by_zero o p
+abbrev pub divisor_code : Starts → Operand → List Instruction
+divisor_code starts (operands.Word (suc n)) = []
+divisor_code starts o = check_code starts division_by_zero o
 
-abbrev pub checked_code : Operator → (l r : Operand) → (p d : ℕ) → List Instruction
-checked_code o l r p d = divisor_code r p ++ instructions.Binary (binary_operator o) d l r ∷ []
+abbrev pub checked_code : Starts → Operator → (l r : Operand) → (d : ℕ) → List Instruction
+checked_code starts o l r d = divisor_code starts r ++ instructions.Binary (binary_operator o) d l r ∷ []
 
-abbrev pub operator_code : Operator → (l r : Operand) → (p d : ℕ) → List Instruction
-operator_code operators.Divide l r p d = checked_code operators.Divide l r p d
-operator_code operators.Remainder l r p d = checked_code operators.Remainder l r p d
-operator_code o l r p d = instructions.Binary (binary_operator o) d l r ∷ []
+abbrev pub operator_code : Starts → Operator → (l r : Operand) → (d : ℕ) → List Instruction
+operator_code starts operators.Divide l r d = checked_code starts operators.Divide l r d
+operator_code starts operators.Remainder l r d = checked_code starts operators.Remainder l r d
+operator_code starts o l r d = instructions.Binary (binary_operator o) d l r ∷ []
 
 -- where the value in t decides, the next operand is jumped over
 abbrev pub test_jump : LogicalOperator → (t target : ℕ) → Instruction
@@ -219,9 +228,9 @@ truth_code t d =
 abbrev pub low_byte : Operand → (d : ℕ) → Instruction
 low_byte o d = instructions.Binary plain_binary.And d o (operands.Word 255)
 
--- an operator with its right operand, whose code stands at place p
-abbrev pub compute_code : Operator → (l r : Operand) → (operand : List Instruction) → (p d : ℕ) → List Instruction
-compute_code o l r operand p d = operand ++ operator_code o l r (p + length operand) d
+-- an operator with its right operand
+abbrev pub compute_code : Starts → Operator → (l r : Operand) → (operand : List Instruction) → (d : ℕ) → List Instruction
+compute_code starts o l r operand d = operand ++ operator_code starts o l r d
 
 -- an operator on pointers with its right operand
 abbrev pub pointer_code : PointerOperator → (l r : Operand) → (operand : List Instruction) → (d : ℕ) → List Instruction
@@ -267,12 +276,12 @@ all_passed NoArguments = 0
 all_passed (MoreArguments c cs) = passed_words c + all_passed cs
 
 -- code that brings a value, and its conversion where it is then
-abbrev pub converted_by : Option Operand → (code : List Instruction) → (to : Kind) → Operand → (p : ℕ) → List Instruction
-converted_by known code to o p = code_unless known code ++ conversion_code to o (p + length (code_unless known code))
+abbrev pub converted_by : Starts → Option Operand → (code : List Instruction) → (to : Kind) → Operand → (p : ℕ) → List Instruction
+converted_by starts known code to o p = code_unless known code ++ conversion_code starts to o (p + length (code_unless known code))
 
 -- the same, and the value comes to slot d
-abbrev pub moved_by : Option Operand → (code : List Instruction) → (to : Kind) → Operand → (p d : ℕ) → List Instruction
-moved_by known code to o p d = converted_by known code to o p ++ move_of (words_of_kind to) d o ∷ []
+abbrev pub moved_by : Starts → Option Operand → (code : List Instruction) → (to : Kind) → Operand → (p d : ℕ) → List Instruction
+moved_by starts known code to o p d = converted_by starts known code to o p ++ move_of (words_of_kind to) d o ∷ []
 
 -- ---- new objects
 
@@ -354,6 +363,37 @@ while_code condition jump body p =
     ∷ body
     ++ instructions.Jump (continue_target p)
     ∷ []
+
+-- ---- handlers
+
+-- The slot of a handler's record is the first behind the locals and the records of those that are open round it, and temporaries begin
+-- behind the last record. So where the first of some records is not t, there are such, and one instruction closes all of them.
+abbrev pub leave_code : (first t : ℕ) → List Instruction
+leave_code first t = if first == t then [] else instructions.Leave first ∷ []
+
+-- the word of an exception's number, which is less than 2 ^ 32 in every text
+abbrev pub tag_operand : (tag : ℕ) → Operand
+tag_operand tag = operands.Word (tag % 2 ^ 32)
+
+-- A `try` at place p with its record in slot t. Behind its body stands the jump over its clauses, to which an exception comes.
+abbrev pub try_code : (t : ℕ) → (body clauses : List Instruction) → (p : ℕ) → List Instruction
+try_code t body clauses p =
+    instructions.Try t (p + 1 + length body + 1)
+    ∷ body
+    ++ instructions.Jump (p + 1 + length body + 1 + length clauses)
+    ∷ clauses
+
+-- the jump over a clause, where the number of the exception in slot t is another
+abbrev pub other_jump : (tag t target : ℕ) → Instruction
+other_jump tag t target = instructions.Branch comparisons.NotEqual (operands.Slot t) (tag_operand tag) target
+
+-- A clause at place p. Behind it is a jump to that over all clauses.
+abbrev pub clause_code : (tag t : ℕ) → (items : List Instruction) → (p out : ℕ) → List Instruction
+clause_code tag t items p out = other_jump tag t (p + 1 + length items + 1) ∷ items ++ instructions.Jump out ∷ []
+
+-- an exception that no clause catches goes on
+abbrev pub goes_on : (t : ℕ) → Instruction
+goes_on t = instructions.Throw (operands.Slot t) (operands.Slot (t + 1))
 
 -- The ways out of a statement: what is known of the loop and the function round it. Here they are outside any loop, and records of
 -- handlers begin at slot t.
@@ -475,8 +515,8 @@ module _ (starts : Starts) where
 
     -- a place that a pointer leads to, which is tested
     pub place_code : Dereference → (p t : ℕ) → List Instruction
-    place_code (Target k a ty) p t = converted_by (operand_of a) (expression_code a p (value_slot a t) t) kinds.NonNull (value_operand a t) p
-    place_code (Member k a s f ty) p t = converted_by (operand_of a) (expression_code a p (value_slot a t) t) kinds.NonNull (value_operand a t) p
+    place_code (Target k a ty) p t = converted_by starts (operand_of a) (expression_code a p (value_slot a t) t) kinds.NonNull (value_operand a t) p
+    place_code (Member k a s f ty) p t = converted_by starts (operand_of a) (expression_code a p (value_slot a t) t) kinds.NonNull (value_operand a t) p
     place_code (Element a i ty) p t = instructions.Move t (operands.Word 0) ∷ []
 
     -- A new object in the region of this handle. Each of its cells has one word yet.
@@ -493,12 +533,12 @@ module _ (starts : Starts) where
     -- the value comes to slot t and is converted there
     pub converted_code : Converted → (p t : ℕ) → List Instruction
     converted_code (Convert from to a) p t =
-        expression_code a p t t ++ conversion_code to (operands.Slot t) (p + length (expression_code a p t t))
+        expression_code a p t t ++ conversion_code starts to (operands.Slot t) (p + length (expression_code a p t t))
 
     -- the value is converted where it is
     pub converted_operand_code : Converted → (p t : ℕ) → List Instruction
     converted_operand_code (Convert from to a) p t =
-        converted_by (source_of (Convert from to a)) (expression_code a p (source_slot (Convert from to a) t) t) to (converted_operand (Convert from to a) t) p
+        converted_by starts (source_of (Convert from to a)) (expression_code a p (source_slot (Convert from to a) t) t) to (converted_operand (Convert from to a) t) p
 
     -- the arguments of `putchar`, of which there is one
     pub printed_code : Arguments → (p t : ℕ) → List Instruction
@@ -511,15 +551,15 @@ module _ (starts : Starts) where
     initial_code (Convert from to a) p d t =
         if converts_there from to
         then expression_code a p d t
-        else moved_by (source_of (Convert from to a)) (expression_code a p (source_slot (Convert from to a) t) t) to (converted_operand (Convert from to a) t) p d
+        else moved_by starts (source_of (Convert from to a)) (expression_code a p (source_slot (Convert from to a) t) t) to (converted_operand (Convert from to a) t) p d
 
     -- The left operand is l. It is t where an operator is a test, or where the right operand has code.
     pub operations_code : Operations → (p : ℕ) → (l : Operand) → (d t : ℕ) → List Instruction
     operations_code NoOperations p l d t = []
     operations_code (ThenCompute o b os) p l d t =
-        compute_code o l (value_operand b (suc t)) (code_unless (operand_of b) (expression_code b p (value_slot b (suc t)) (suc t))) p (next_slot os d t)
+        compute_code starts o l (value_operand b (suc t)) (code_unless (operand_of b) (expression_code b p (value_slot b (suc t)) (suc t))) (next_slot os d t)
         ++ operations_code os
-        (p + length (compute_code o l (value_operand b (suc t)) (code_unless (operand_of b) (expression_code b p (value_slot b (suc t)) (suc t))) p (next_slot os d t)))
+        (p + length (compute_code starts o l (value_operand b (suc t)) (code_unless (operand_of b) (expression_code b p (value_slot b (suc t)) (suc t))) (next_slot os d t)))
         (operands.Slot (next_slot os d t)) d t
     operations_code (ThenTest o b os) p l d t =
         test_code o (expression_code b (p + 1) t t) p (next_slot os d t) t
@@ -588,13 +628,14 @@ module _ (starts : Starts) where
     right = value_operand (compared_of a).right (suc t);
   }
 
-  -- a value is returned from a slot: that of a local, or t
-  abbrev pub return_code : Option Converted → (p t : ℕ) → List Instruction
-  return_code None p t = instructions.Return t ∷ []
-  return_code (Some (Convert from to a)) p t =
+  -- A value is returned from a slot: that of a local, or t. It is converted before handlers are closed.
+  abbrev pub return_code : Option Converted → (p : ℕ) → Exits → (t : ℕ) → List Instruction
+  return_code None p exits t = leave_code exits.first_record t ++ instructions.Finish t ∷ []
+  return_code (Some (Convert from to a)) p exits t =
       code_unless_slot (source_of (Convert from to a)) (expression_code a p t t)
-      ++ conversion_code to (operands.Slot (slot_or (source_of (Convert from to a)) t)) (p + length (code_unless_slot (source_of (Convert from to a)) (expression_code a p t t)))
-      ++ instructions.Return (slot_or (source_of (Convert from to a)) t)
+      ++ conversion_code starts to (operands.Slot (slot_or (source_of (Convert from to a)) t)) (p + length (code_unless_slot (source_of (Convert from to a)) (expression_code a p t t)))
+      ++ leave_code exits.first_record t
+      ++ instructions.Finish (slot_or (source_of (Convert from to a)) t)
       ∷ []
 
   -- The address of a side of a swap that is a cell comes to slot t. A variable has no code.
@@ -628,6 +669,20 @@ module _ (starts : Starts) where
   declaration_code n None p t = []
   declaration_code n (Some c) p t = initial_code c p (slot_of starts n) t
 
+  -- what an exception tells, which is 0 where it has no int
+  abbrev pub thrown_operand : Option Expression → (t : ℕ) → Operand
+  thrown_operand None t = operands.Word 0
+  thrown_operand (Some a) t = value_operand a t
+
+  abbrev pub thrown_code : Option Expression → (p t : ℕ) → List Instruction
+  thrown_code None p t = []
+  thrown_code (Some a) p t = code_unless (operand_of a) (expression_code a p (value_slot a t) t)
+
+  -- the local of a clause gets it
+  abbrev pub caught_code : (number : Option ℕ) → (t : ℕ) → List Instruction
+  caught_code None t = []
+  caught_code (Some n) t = instructions.Move (slot_of starts n) (operands.Slot (t + 1)) ∷ []
+
   -- The code of a statement that begins at place p, with its ways out and the first slot for temporaries.
   abbrev mutual
     pub statement_code : Statement → (p : ℕ) → Exits → (t : ℕ) → List Instruction
@@ -642,10 +697,15 @@ module _ (starts : Starts) where
         p
     statement_code (While w a s) p exits t =
         while_code (condition_code a (p + 2) t) (failing_jump (condition_of a t)) (statement_code s (p + 2 + length (condition_code a (p + 2) t) + 1) (inside_loop p t exits) t) p
-    statement_code (Return v) p exits t = return_code v p t
-    statement_code Break p exits t = instructions.Jump (break_target exits.head) ∷ []
-    statement_code Continue p exits t = instructions.Jump (continue_target exits.head) ∷ []
-    statement_code s p exits t = []
+    statement_code (Return v) p exits t = return_code v p exits t
+    statement_code Break p exits t = leave_code exits.loop_record t ++ instructions.Jump (break_target exits.head) ∷ []
+    statement_code Continue p exits t = leave_code exits.loop_record t ++ instructions.Jump (continue_target exits.head) ∷ []
+    statement_code (Throw n v) p exits t = thrown_code v p t ++ instructions.Throw (tag_operand n) (thrown_operand v t) ∷ []
+    statement_code (Try s cs) p exits t =
+        try_code t (statement_code s (p + 1) exits (t + RECORD_WORDS) ++ instructions.Leave t ∷ [])
+        (clauses_code cs (p + 1 + length (statement_code s (p + 1) exits (t + RECORD_WORDS) ++ instructions.Leave t ∷ []) + 1)
+        (p + 1 + length (statement_code s (p + 1) exits (t + RECORD_WORDS) ++ instructions.Leave t ∷ [])) exits t)
+        p
 
     pub items_code : Items → (p : ℕ) → Exits → (t : ℕ) → List Instruction
     items_code NoItems p exits t = []
@@ -655,12 +715,37 @@ module _ (starts : Starts) where
         declaration_code n v p t ++ items_code js (p + length (declaration_code n v p t)) exits t
     items_code (MoreItems j js) p exits t = items_code js p exits t
 
+    -- the clauses of a `try`, where an exception has its number and its word in the slots from t on
+    pub clauses_code : Clauses → (p out : ℕ) → Exits → (t : ℕ) → List Instruction
+    clauses_code NoClauses p out exits t = goes_on t ∷ []
+    clauses_code (Default r js) p out exits t = items_code js p exits t
+    clauses_code (Case n x r js cs) p out exits t =
+        clause_code n t (caught_code x t ++ items_code js (p + 1 + length (caught_code x t)) exits t) p out
+        ++ clauses_code cs
+        (p + length (clause_code n t (caught_code x t ++ items_code js (p + 1 + length (caught_code x t)) exits t) p out))
+        out exits t
+
 -- ---- programs
 
--- The code of a function ends in a return, which is the end of a void function. In any other it is never reached, and
--- stands there so that no code runs off its end.
+-- by which the code of a function is made, in a program with these structs, where blocks stand behind this place
+abbrev pub types_with : (raises : ℕ) → List StructType → Function → Types
+types_with raises structs h = record { locals = slot_types h; structs = structs; raises = raises }
+
+-- the code of its body
+abbrev pub body_code : Types → Function → List Instruction
+body_code types h = items_code (starts_of types) h.body 0 (outside_loops (first_temporary h)) (first_temporary h)
+
+-- Blocks stand behind the code. How long that is does not depend on where they stand: so it is made twice, and at first for any place.
+abbrev pub raises_of : List StructType → Function → ℕ
+raises_of structs h = length (body_code (types_with 0 structs h) h)
+
+abbrev pub types_of : List StructType → Function → Types
+types_of structs h = types_with (raises_of structs h) structs h
+
+-- A body's code ends in a return, which is the end of a void function. In any other it is never reached, and stands there so that no
+-- code runs off its end. The blocks stand behind it.
 abbrev pub function_code : List StructType → Function → List Instruction
-function_code structs h = items_code (starts_of (types_of structs h)) h.body 0 (outside_loops (first_temporary h)) (first_temporary h) ++ instructions.Return (first_temporary h) ∷ []
+function_code structs h = body_code (types_of structs h) h ++ instructions.Finish (first_temporary h) ∷ blocks
 
 -- the words that a function returns
 abbrev pub results_of : Option Ty → ℕ
@@ -674,13 +759,14 @@ span_of_place p = record { line = p.line; column = p.column }
 abbrev pub spare_slots : ℕ
 spare_slots = 3
 
--- its slots are the locals and as many temporaries as its expressions need, and those of one value more, such as what it returns
+-- its slots are the locals, the records of its handlers, as many temporaries as its expressions need, and those of one value more,
+-- such as what it returns
 abbrev pub lower_function : List StructType → Function → Routine
 lower_function structs h = record {
   name = span_of_place h.place;
   parameters = words_of_all h.parameters;
   results = results_of h.result;
-  slots = first_temporary h + items_need h.body + spare_slots;
+  slots = first_temporary h + kept_by_items h.body + items_need h.body + spare_slots;
   frame_count = frame_count h;
   code = function_code structs h;
 }

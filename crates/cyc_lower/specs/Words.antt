@@ -4,7 +4,7 @@ use Rattle.std.specs.Prelude.{◌≤◌, List, [], ◌∷◌, Option, None, Some
 use Rattle.cyc_words.specs.Word.{IsWord}
 use Rattle.cyc_types.specs.Numbered.{argument_count}
 use Rattle.cyc_store.specs.declared.range.TheConstants.{MOST_BLOCK_WORDS}
-use Rattle.cyc_types.specs.TypedTrees.{Load, New, OnHeap, AsUnique, Initial, Plain, Fields, Dereference, Target, Expression, Number, NullPointer, Copy, Call, Unary, Binary, Assign, Converted, Convert, Arguments, NoArguments, MoreArguments, Operations, NoOperations, ThenCompute, ThenTest, ThenPointer, Statement, Block, Empty, Evaluate, If, While, Return, Break, Continue, Items, NoItems, MoreItems, Execute, Declare, Constant, Word, Null, GlobalVariable, Function, Program, Move, Peek, ThenPointerPeek, AddressOfCell, Store, Member, FreeUnique, Side, VariableSide, CellSide, Swap}
+use Rattle.cyc_types.specs.TypedTrees.{Load, New, OnHeap, AsUnique, Initial, Plain, Fields, Dereference, Target, Expression, Number, NullPointer, Copy, Call, Unary, Binary, Assign, Converted, Convert, Arguments, NoArguments, MoreArguments, Operations, NoOperations, ThenCompute, ThenTest, ThenPointer, Statement, Block, Empty, Evaluate, If, While, Return, Break, Continue, Items, NoItems, MoreItems, Execute, Declare, Constant, Word, Null, GlobalVariable, Function, Program, Move, Peek, ThenPointerPeek, AddressOfCell, Store, Member, FreeUnique, Side, VariableSide, CellSide, Swap, Throw, Try, Clauses, NoClauses, Default, Case}
 
 abbrev mutual
   pub IsOfWords : Expression → Type 0
@@ -58,6 +58,10 @@ abbrev pub IsOfWordsInitial : Option Converted → Type 0
 IsOfWordsInitial None = Unit {0}
 IsOfWordsInitial (Some c) = IsOfWordsConverted c
 
+abbrev pub IsOfWordsThrown : Option Expression → Type 0
+IsOfWordsThrown None = Unit {0}
+IsOfWordsThrown (Some a) = IsOfWords a
+
 abbrev mutual
   pub IsOfWordsStatement : Statement → Type 0
   IsOfWordsStatement (Block r js) = AreOfWordsItems js
@@ -69,13 +73,19 @@ abbrev mutual
   IsOfWordsStatement (Return v) = IsOfWordsInitial v
   IsOfWordsStatement Break = Unit {0}
   IsOfWordsStatement Continue = Unit {0}
-  IsOfWordsStatement s = ⊥
+  IsOfWordsStatement (Throw tag v) = IsOfWordsThrown v
+  IsOfWordsStatement (Try s cs) = IsOfWordsStatement s × AreOfWordsClauses cs
 
   pub AreOfWordsItems : Items → Type 0
   AreOfWordsItems NoItems = Unit {0}
   AreOfWordsItems (MoreItems (Execute s) js) = IsOfWordsStatement s × AreOfWordsItems js
   AreOfWordsItems (MoreItems (Declare n t v) js) = IsOfWordsInitial v × AreOfWordsItems js
   AreOfWordsItems js = ⊥
+
+  pub AreOfWordsClauses : Clauses → Type 0
+  AreOfWordsClauses NoClauses = Unit {0}
+  AreOfWordsClauses (Default r js) = AreOfWordsItems js
+  AreOfWordsClauses (Case tag n r js cs) = AreOfWordsItems js × AreOfWordsClauses cs
 
 abbrev pub IsOfWordsConstant : Constant → Type 0
 IsOfWordsConstant (Word n) = IsWord n
