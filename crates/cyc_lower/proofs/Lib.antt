@@ -9,6 +9,7 @@ pub mod Routines
 -- a run of the plain program is one of the source
 pub mod Relation
 pub mod Matched
+pub mod Paths
 pub mod Stands
 pub mod Fitting
 pub mod Bridge
