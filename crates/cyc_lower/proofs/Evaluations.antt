@@ -26,7 +26,7 @@ use Rattle.cyc_plain.proofs.SlotLaws.{put-same}
 use Rattle.cyc_meaning.specs.Values.{Int, Null, Thin, Operand as Kinded, kind_of, words_of_kind}
 use Rattle.cyc_store.specs.declared.range.TheConstants.{HEAP}
 use Rattle.cyc_meaning.specs.SourceMachine.{status_in}
-use Rattle.cyc_meaning.specs.State.{status_of, InRegion, World, heap_number, Environment, ConvertTo, Operate, Chain, Apply, Store, Pass, MakePlain, MakeFields, Choose, Test, Follow, LoadFrom, Entry, Needs, NeedsPlace, Discard, Focus, Evaluating, Locating, Given, Running, FollowMember, TakeAddress, StoreTo}
+use Rattle.cyc_meaning.specs.State.{status_of, InRegion, World, heap_number, Environment, ConvertTo, Operate, Chain, Apply, Store, Pass, MakePlain, MakeFields, Choose, Test, Follow, LoadFrom, Entry, Needs, NeedsPlace, Discard, Focus, Evaluating, Locating, Given, Running, FollowMember, TakeAddress, StoreTo, CountElements}
 use Rattle.cyc_meaning.specs.Step.{target_of, target_by, object_of, assigned, passes, step, loaded_from}
 use Rattle.cyc_lower.specs.Slots.{slot_of, field_in}
 use Rattle.cyc_meaning.specs.Places.{locates_member}
@@ -36,7 +36,7 @@ use Rattle.cyc_lower.proofs.Widths.{kind_positive, type_words, HasRoom, Outside}
 use Rattle.cyc_lower.proofs.Moves.{moved_slots, moves, put_elsewhere, moved_elsewhere, moved_is}
 use Rattle.cyc_lower.specs.Lowering.{failing_comparison, operand_of, value_slot, source_of, source_slot, are_as_wide, converts_there, all_passed, move_of, left_with, slot_with, compared_or, compared_of, lower_program}
 use Rattle.cyc_lower.proofs.Weights.{weight, stack_weight, expression_weight, arguments_weight}
-use Rattle.cyc_lower.proofs.Stands.{CopyBy, CopyAt, OperandBy, InitialBy, ExpressionAt, ArgumentsAt, ObjectAt, ValueAt, PairAt, ConditionAt, AssignmentAt, PrintedAt, DiscardedAt, StoredAt}
+use Rattle.cyc_lower.proofs.Stands.{CopyBy, CopyAt, OperandBy, InitialBy, ExpressionAt, ArgumentsAt, ObjectAt, ValueAt, PairAt, ConditionAt, AssignmentAt, PrintedAt, DiscardedAt, StoredAt, CountAt}
 use Rattle.cyc_objects.specs.Tables.{Tables}
 use Rattle.cyc_objects.specs.Words.{Is}
 use Rattle.cyc_lower.proofs.Relation.{IsIn, types_at, starts_at, given_at, called_at, words_held, height, Holds, held, contents, callers, in_temporary, in_local, drops, leaves, copies, prints_only, gives_byte, DataIn, SharedAt, CallAt, to_slot, to_jump, ValueStack, PlaceStack, ConditionStack, DroppedStack, AheadStack, LandsStack, HandsOnStack, PrintsStack, RightAt, EvaluatingAt, as_operand, into_slot, for_effect, as_right, as_condition, in_operand, ahead, with_left, Related, Matches, code_of, bounds_in, bounds_at, base_of, top}
@@ -366,6 +366,10 @@ module _ (source : Program) (pages calls : ℕ) where
       prints cs t k e w c o m known at (write, gives_byte d low (lands_at c.active.function e.locals kinds.Int d (m + 1 + 1) q c.frames k end lands))
   comes (Call callees.Getchar cs t) k e w c d q known (m, at, here, end) lands = calls_out callees.Getchar cs t k e w c d m q known at (here, end) lands
   comes (Call (callees.Function n) cs t) k e w c d q known (m, at, here, end) lands = calls_out (callees.Function n) cs t k e w c d m q known at (here, end) lands
+  comes (typed.NumberOfElements a) k e w c d q (well, shared, facts, holds) (r, m, at_a, at) lands =
+      silently source pages calls (Running (Evaluating (typed.NumberOfElements a)) k e w) (Running (Evaluating a) (Needs CountElements ∷ k) e w) (plain.Running c) refl
+      (shared, facts, as_operand r m at_a holds (d, q, at, lands))
+      (omega arith)
   comes (Unary o a) k e w c d q (well, shared, facts, holds) (r, m, at_a, at, end) lands =
       silently source pages calls (Running (Evaluating (Unary o a)) k e w) (Running (Evaluating a) (Needs (Operate o) ∷ k) e w) (plain.Running c) refl
       (shared, facts, as_operand r m at_a holds (to_slot (d, at, lands_at c.active.function e.locals kinds.Int d (m + 1) q c.frames k end lands)))
@@ -438,6 +442,7 @@ module _ (source : Program) (pages calls : ℕ) where
   operand (typed.Peek p n t) k e w c o q known (is, end) stack = known_operand (typed.Peek p n t) o k e w c q (ap Some (sym is)) end known stack
   operand (Copy (Global n) t) k e w c o q known at stack = in_top (Copy (Global n) t) k e w c o q known at stack
   operand (Call f cs t) k e w c o q known at stack = in_top (Call f cs t) k e w c o q known at stack
+  operand (typed.NumberOfElements a) k e w c o q known at stack = in_top (typed.NumberOfElements a) k e w c o q known at stack
   operand (Unary u a) k e w c o q known at stack = in_top (Unary u a) k e w c o q known at stack
   operand (Binary a os t) k e w c o q known at stack = in_top (Binary a os t) k e w c o q known at stack
   operand (Assign (Local p n) (Convert from to a) t) k e w c o q known (is, (there, m, (is_there, room, at), copy)) stack =
@@ -474,7 +479,7 @@ module _ (source : Program) (pages calls : ℕ) where
   for_its_effect (typed.Load x) k e w c q known (o, at) stack = in_top (typed.Load x) k e w c o q known at (dropped_value c.active.function e.locals (given_at source c.active.function (typed.Load x)) o q c.frames k stack)
   for_its_effect (typed.AddressOf l t) k e w c q known (o, (is, at)) stack = absurd at
   for_its_effect (typed.AddressOfCell x t) k e w c q known (o, at) stack = in_top (typed.AddressOfCell x t) k e w c o q known at (dropped_value c.active.function e.locals (given_at source c.active.function (typed.AddressOfCell x t)) o q c.frames k stack)
-  for_its_effect (typed.NumberOfElements a) k e w c q known (o, (is, at)) stack = absurd at
+  for_its_effect (typed.NumberOfElements a) k e w c q known (o, at) stack = in_top (typed.NumberOfElements a) k e w c o q known at (dropped_value c.active.function e.locals (given_at source c.active.function (typed.NumberOfElements a)) o q c.frames k stack)
   for_its_effect (typed.FreeUnique a) k e w c q known (o, (is, at)) stack = absurd at
   for_its_effect (typed.FreeKey a) k e w c q known (o, (is, at)) stack = absurd at
   for_its_effect (typed.Store x (Convert from to a) t) k e w c q known (o, at) stack = cell_begins x from to a t k e w c o q known at (drops stack)

@@ -54,6 +54,7 @@ module _ (b : Numbering) (types : Types) where
     Fits (Call f cs t) =
         (s : Signature) × IsSignature b f s × (argument_count cs ≡ length s.parameters) × (all_passed cs ≡ words_of_all s.parameters)
         × (results_of s.result ≤ result_words t) × FitArguments cs
+    Fits (NumberOfElements a) = (given b.functions a ≡ kinds.Fat) × Fits a
     Fits (Unary o a) = Fits a
     Fits (Binary a os t) = Fits a × FitOperations (operand_words (type_of a)) t os
     Fits (Assign l c t) = FitsStored l (passed_kind c) × FitsConverted c
@@ -357,6 +358,9 @@ module _ (b : Numbering) (types : Types) where
             fitting,
           ),
         )
+    fits (NumberOfElements a) c v suits numbered (u, r, well, is) =
+        let fat = Value (type_forms.Pointer marks.Fat u r) in
+        (subst (IsGiven kinds.Int) (sym is) refl, looked_fits a c fat suits numbered (λ h. fits a c fat suits numbered h) well)
     fits (Unary unary.Not a) c v suits numbered (w, (well, tested), is) = (subst (IsGiven kinds.Int) (sym is) refl, (looked_fits a c w suits numbered (λ h. fits a c w suits numbered h) well).1)
     fits (Unary unary.Negate a) c v suits numbered (w, (well, int), is) = (subst (IsGiven kinds.Int) (sym is) refl, (fits a c w suits numbered well).1)
     fits (Unary unary.Complement a) c v suits numbered (w, (well, int), is) = (subst (IsGiven kinds.Int) (sym is) refl, (fits a c w suits numbered well).1)

@@ -21,6 +21,7 @@ pub mod PlaceWords
 pub mod PlaceSteps
 pub mod Values
 pub mod PointerSteps
+pub mod FatSteps
 pub mod Evaluations
 pub mod Accesses
 pub mod Branching

@@ -27,7 +27,7 @@ use Rattle.cyc_words.proofs.Matching.{by_none, way_before}
 use Rattle.cyc_plain.proofs.Steps.{step_performs, place_known}
 use Rattle.cyc_plain.specs.Straight.{At}
 use Rattle.cyc_words.specs.Demand.{demand_of}
-use Rattle.cyc_meaning.specs.State.{World, Environment, ConvertTo, Operate, Chain, Apply, ApplyPointer, Follow, LoadFrom, Decide, Store, Pass, MakePlain, MakeFields, Initialise, Choose, Test, Return, Entry, Needs, NeedsPlace, Discard, Rest, Join, Loop, CloseRegion, Caller, Main, counted, calls_in, Focus, Evaluating, Locating, Given, Executing, Proceeding, Calling, Entering, Binding, Writing, Breaking, Continuing, Returning, Throwing, State, Running, Ended, Dead, Wrong, output_of, input_of, status_of, GivenPlace, FollowMember, TakeAddress, StoreTo, StoreCell}
+use Rattle.cyc_meaning.specs.State.{World, Environment, ConvertTo, Operate, Chain, Apply, ApplyPointer, Follow, LoadFrom, Decide, Store, Pass, MakePlain, MakeFields, Initialise, Choose, Test, Return, Entry, Needs, NeedsPlace, Discard, Rest, Join, Loop, CloseRegion, Caller, Main, counted, calls_in, Focus, Evaluating, Locating, Given, Executing, Proceeding, Calling, Entering, Binding, Writing, Breaking, Continuing, Returning, Throwing, State, Running, Ended, Dead, Wrong, output_of, input_of, status_of, GivenPlace, FollowMember, TakeAddress, StoreTo, StoreCell, CountElements}
 use Rattle.cyc_meaning.specs.Step.{step}
 use Rattle.cyc_meaning.specs.Run.{is_within, limited_step}
 use Rattle.cyc_objects.specs.Tables.{Tables}
@@ -80,6 +80,8 @@ module _ (source : Program) where
     value_depth g locals kind o p frames (Needs (Apply u left) ∷ k) (to_jump (failing, is, stack)) = condition_depth g failing (operands.Slot (top source g k)) o p frames k stack
     value_depth g locals kind o p frames (Needs (ApplyPointer peek u left) ∷ k) (d, q, at, lands) =
         by_lands lands (λ stack. value_depth g locals (operator_kind u) (operands.Slot d) q frames k stack) (λ stack. ahead_depth g locals (operator_kind u) d q frames k stack)
+    value_depth g locals kind o p frames (Needs CountElements ∷ k) (d, q, at, lands) =
+        by_lands lands (λ stack. value_depth g locals kinds.Int (operands.Slot d) q frames k stack) (λ stack. ahead_depth g locals kinds.Int d q frames k stack)
     value_depth g locals kind o p frames (Needs Decide ∷ k) (d, q, is, at, lands) =
         by_lands lands (λ stack. value_depth g locals kinds.Int (operands.Slot d) q frames k stack) (λ stack. ahead_depth g locals kinds.Int d q frames k stack)
     value_depth g locals kind o p frames (Needs (Store place) ∷ k) (l, to, q, at, is, hands) =
@@ -167,6 +169,8 @@ module _ (source : Program) where
     value_plain g locals kind o p frames (Needs (Apply u left) ∷ k) (to_jump (failing, is, stack)) = condition_plain g failing (operands.Slot (top source g k)) o p frames k stack
     value_plain g locals kind o p frames (Needs (ApplyPointer peek u left) ∷ k) (d, q, at, lands) =
         by_lands lands (λ stack. value_plain g locals (operator_kind u) (operands.Slot d) q frames k stack) (λ stack. ahead_plain g locals (operator_kind u) d q frames k stack)
+    value_plain g locals kind o p frames (Needs CountElements ∷ k) (d, q, at, lands) =
+        by_lands lands (λ stack. value_plain g locals kinds.Int (operands.Slot d) q frames k stack) (λ stack. ahead_plain g locals kinds.Int d q frames k stack)
     value_plain g locals kind o p frames (Needs Decide ∷ k) (d, q, is, at, lands) =
         by_lands lands (λ stack. value_plain g locals kinds.Int (operands.Slot d) q frames k stack) (λ stack. ahead_plain g locals kinds.Int d q frames k stack)
     value_plain g locals kind o p frames (Needs (Store place) ∷ k) (l, to, q, at, is, hands) =

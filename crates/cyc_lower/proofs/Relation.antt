@@ -29,7 +29,7 @@ use Rattle.cyc_plain.specs.State as plain
 use Rattle.cyc_plain.specs.Straight.{At}
 use Rattle.cyc_meaning.specs.Values.{Value, Null, Thin, Operand as Kinded, Cell, kinds_of, words_of_kind, is_thin}
 use Rattle.cyc_meaning.specs.Allocation.{writes_from, blanks_of}
-use Rattle.cyc_meaning.specs.State.{Owner, InRegion, Unique, Object, World, heap_number, globals_number, Environment, ConvertTo, Operate, Chain, Apply, ApplyPointer, Follow, LoadFrom, Decide, Store, Pass, MakePlain, MakeFields, Initialise, Choose, Test, Return, Entry, Needs, NeedsPlace, Discard, Rest, Join, Loop, CloseRegion, CloseLexical, EndLoan, Handler, Caller, Main, calls_in, Focus, Evaluating, Locating, Given, Executing, Proceeding, Calling, Entering, Binding, Writing, Breaking, Continuing, Returning, Throwing, State, Running, Ended, GivenPlace, FollowMember, TakeAddress, StoreTo, StoreCell}
+use Rattle.cyc_meaning.specs.State.{Owner, InRegion, Unique, Object, World, heap_number, globals_number, Environment, ConvertTo, Operate, Chain, Apply, ApplyPointer, Follow, LoadFrom, Decide, Store, Pass, MakePlain, MakeFields, Initialise, Choose, Test, Return, Entry, Needs, NeedsPlace, Discard, Rest, Join, Loop, CloseRegion, CloseLexical, EndLoan, Handler, Caller, Main, calls_in, Focus, Evaluating, Locating, Given, Executing, Proceeding, Calling, Entering, Binding, Writing, Breaking, Continuing, Returning, Throwing, State, Running, Ended, GivenPlace, FollowMember, TakeAddress, StoreTo, StoreCell, CountElements}
 use Rattle.cyc_meaning.specs.Step.{object_of}
 use Rattle.cyc_meaning.specs.Operators.{null_exception, is_zero}
 use Rattle.cyc_meaning.specs.FrameCount.{words_of_all}
@@ -38,7 +38,7 @@ use Rattle.cyc_meaning.specs.Pointers.{result_kind as operator_kind}
 use Rattle.cyc_lower.specs.Slots.{Types, Starts, starts_of, slot_of}
 use Rattle.cyc_lower.specs.Lowering.{unary_operator, failing_comparison, operand_of, move_of, low_byte, converts_there, all_passed, compared_of, break_target, continue_target, results_of, lower_program, outside_loops, slot_types}
 use Rattle.cyc_lower.proofs.Widths.{kind_of_result, given, called_kind, HasRoom, Outside, chain_kind}
-use Rattle.cyc_lower.proofs.Stands.{CheckAt, ConversionAt, PlaceAt, OperatorAt, TruthAt, CopyAt, ExpressionAt, ArgumentsAt, OperationsAt, ValueAt, ConditionAt, FailingAt, ComparesAt, DiscardedAt, StatementAt, ItemsAt, PointerAt, StoresAt, ObjectAt, AddressAt, ConvertedOperandAt}
+use Rattle.cyc_lower.proofs.Stands.{CheckAt, ConversionAt, PlaceAt, OperatorAt, TruthAt, CopyAt, ExpressionAt, ArgumentsAt, OperationsAt, ValueAt, ConditionAt, FailingAt, ComparesAt, DiscardedAt, StatementAt, ItemsAt, PointerAt, StoresAt, ObjectAt, AddressAt, ConvertedOperandAt, CountAt}
 
 -- ---- values in slots
 
@@ -80,6 +80,7 @@ held (Needs (Chain rest) ∷ k) = held k
 held (Needs (Apply operator left) ∷ k) = left ∷ held k
 held (Needs (ApplyPointer peek operator left) ∷ k) = left ∷ held k
 held (Needs Decide ∷ k) = held k
+held (Needs CountElements ∷ k) = held k
 held (Needs (Store place) ∷ k) = held k
 -- the address of the cell waits for what is stored in it
 held (Needs (StoreCell peek place) ∷ k) = record { kind = kinds.NonNull; value = place } ∷ held k
@@ -363,6 +364,9 @@ module _ (source : Program) where
         (d : ℕ) × (q : ℕ) × PointerAt (code_of g) (bounds_at g) (types_at g) operator o (top g k) d p q
         × Lands (base_of g) (top g k) d (words_of_kind (operator_kind operator)) (ValueStack g locals (operator_kind operator) (operands.Slot d) q frames k)
         (AheadStack g locals (operator_kind operator) d q frames k)
+    ValueStack g locals kind o p frames (Needs CountElements ∷ k) =
+        (d : ℕ) × (q : ℕ) × CountAt (code_of g) (bounds_at g) (types_at g) o d p q
+        × Lands (base_of g) (top g k) d 1 (ValueStack g locals kinds.Int (operands.Slot d) q frames k) (AheadStack g locals kinds.Int d q frames k)
     ValueStack g locals kind o p frames (Needs Decide ∷ k) =
         (d : ℕ) × (q : ℕ) × (o ≡ operands.Slot (top g k)) × TruthAt (code_of g) (bounds_at g) (types_at g) (top g k) d p q
         × Lands (base_of g) (top g k) d 1 (ValueStack g locals kinds.Int (operands.Slot d) q frames k) (AheadStack g locals kinds.Int d q frames k)

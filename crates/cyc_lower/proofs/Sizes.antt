@@ -12,7 +12,7 @@ use Rattle.cyc_types.specs.declared.typed.PointerOperator.{PointerOperator}
 use Rattle.cyc_types.specs.declared.typed.PointerOperator.TheVariants as pointers
 use Rattle.cyc_types.specs.declared.typed.LogicalOperator.{LogicalOperator}
 use Rattle.cyc_types.specs.declared.typed.LogicalOperator.TheVariants as logical
-use Rattle.cyc_types.specs.TypedTrees.{Load, New, OnHeap, AsUnique, ByHandle, Initial, Plain, Fields, Array, Dereference, Target, Member, Element, Lvalue, Local, Global, Expression, Number, Copy, Call, Unary, Binary, Assign, Converted, Convert, Arguments, NoArguments, MoreArguments, Operations, NoOperations, ThenCompute, ThenTest, ThenPointer, ThenPointerPeek, Statement, Block, Empty, Evaluate, If, While, Return, Break, Continue, Items, NoItems, MoreItems, Execute, Declare, StructType, Function, Move, Peek, AddressOfCell, Store}
+use Rattle.cyc_types.specs.TypedTrees.{Load, New, OnHeap, AsUnique, ByHandle, Initial, Plain, Fields, Array, Dereference, Target, Member, Element, Lvalue, Local, Global, Expression, Number, Copy, Call, Unary, Binary, Assign, Converted, Convert, Arguments, NoArguments, MoreArguments, Operations, NoOperations, ThenCompute, ThenTest, ThenPointer, ThenPointerPeek, Statement, Block, Empty, Evaluate, If, While, Return, Break, Continue, Items, NoItems, MoreItems, Execute, Declare, StructType, Function, Move, Peek, AddressOfCell, Store, NumberOfElements}
 use Rattle.cyc_types.specs.Types.{Ty, words_of}
 use Rattle.cyc_types.specs.Numbered.{argument_count}
 use Rattle.cyc_types.proofs.WeightLemmas.{some_token}
@@ -29,7 +29,7 @@ use Rattle.cyc_lower.specs.Slots.{starts_of, slot_of, Starts}
 use Rattle.cyc_store.specs.declared.range.TheConstants.{HEAP}
 use Rattle.cyc_meaning.specs.Values.{kind_of, words_of_kind}
 use Rattle.cyc_lower.proofs.Widths.{kind_few, type_words}
-use Rattle.cyc_lower.specs.Lowering.{types_of, converts_there, passed_words, all_passed, source_of, source_slot, converted_by, moved_by, move_of, unary_operator, binary_operator, operand_of, operand_or, code_unless, slot_or, code_unless_slot, left_of, value_slot, next_slot, left_slot, value_operand, converted_operand, printed_operand, conversion_code, divisor_code, checked_code, operator_code, truth_code, load_code, low_byte, test_code, is_in, copy_code, expression_code, arguments_code, converted_code, converted_operand_code, printed_code, initial_code, assignment_code, operations_code, discarded_code, failing_comparison, compared_or, left_with, slot_with, first_code, second_code, pair_code, condition_code, condition_of, failing_jump, break_target, continue_target, return_code, declaration_code, statement_code, items_code, first_temporary, jump_if_zero, jump_if_nonzero, lower_function, behind_left, pointer_code, outside_loops, inside_loop, pointer_operator, index_of, first_two, pointer_instructions, stores_code, object_code, made_code, place_operand, place_offset, place_code, address_code, store_address_code, store_code}
+use Rattle.cyc_lower.specs.Lowering.{types_of, converts_there, passed_words, all_passed, source_of, source_slot, converted_by, moved_by, move_of, unary_operator, binary_operator, operand_of, operand_or, code_unless, slot_or, code_unless_slot, left_of, value_slot, next_slot, left_slot, value_operand, converted_operand, printed_operand, conversion_code, divisor_code, checked_code, operator_code, truth_code, load_code, low_byte, test_code, is_in, copy_code, expression_code, arguments_code, converted_code, converted_operand_code, printed_code, initial_code, assignment_code, operations_code, discarded_code, failing_comparison, compared_or, left_with, slot_with, first_code, second_code, pair_code, condition_code, condition_of, failing_jump, break_target, continue_target, return_code, declaration_code, statement_code, items_code, first_temporary, jump_if_zero, jump_if_nonzero, lower_function, behind_left, pointer_code, outside_loops, inside_loop, pointer_operator, index_of, first_two, pointer_instructions, stores_code, object_code, made_code, place_operand, place_offset, place_code, address_code, store_address_code, store_code, count_code}
 use Rattle.cyc_lower.specs.Lowered.{size_per_weight}
 
 abbrev code_size : List Instruction → ℕ
@@ -136,6 +136,10 @@ pointer_size pointers.NullIsNot l r d = omega arith
 pointer_size pointers.EqualThin l r d = omega arith
 pointer_size pointers.NotEqualThin l r d = omega arith
 
+count_size : (o : Operand) (p d : ℕ) → code_size (count_code o p d) ≤ 41
+count_size (operands.Word n) p d = omega arith
+count_size (operands.Slot n) p d = omega arith
+
 test_size : (o : LogicalOperator) (operand : List Instruction) (p d t : ℕ) → code_size (test_code o operand p d t) ≤ 25 + code_size operand
 test_size logical.AndThen operand p d t = omega (arith, both operand (truth_code t d), cons (jump_if_zero (operands.Slot t) (p + 1 + length operand)) (operand ++ truth_code t d))
 test_size logical.OrElse operand p d t = omega (arith, both operand (truth_code t d), cons (jump_if_nonzero (operands.Slot t) (p + 1 + length operand)) (operand ++ truth_code t d))
@@ -191,6 +195,11 @@ module _ (starts : Starts) where
         omega (arith, both (arguments_code starts cs p t) (instructions.ReadByte d ∷ []), arguments_size cs p t)
     expression_size (Call (callees.Function n) cs ty) p d t =
         omega (arith, both (arguments_code starts cs p t) (instructions.Call n t (all_passed cs) d ∷ []), arguments_size cs p t)
+    expression_size (NumberOfElements a) p d t =
+        let inner = expression_code starts a p (value_slot starts a t) t in
+        let front = code_unless (operand_of starts a) inner in
+        let count = count_code (value_operand starts a t) (p + length front) d in
+        omega (arith, both front count, unless_size (operand_of starts a) inner, expression_size a p (value_slot starts a t) t, count_size (value_operand starts a t) (p + length front) d)
     expression_size (Unary o a) p d t =
         let inner = expression_code starts a p (value_slot starts a t) t in
         omega (arith, both (code_unless (operand_of starts a) inner) (instructions.Unary (unary_operator o) d (value_operand starts a t) ∷ []), unless_size (operand_of starts a) inner, expression_size a p (value_slot starts a t) t)

@@ -42,7 +42,7 @@ use Rattle.cyc_meaning.specs.Operators.{Result, Gives, Raises, Misfits, has_no_r
 use Rattle.cyc_meaning.specs.Pointers.{takes_kind, followed, result_kind as operator_kind}
 use Rattle.cyc_meaning.specs.Places.{arrives, member_of}
 use Rattle.cyc_meaning.specs.Conversion.{conversion}
-use Rattle.cyc_meaning.specs.State.{Region, World, Environment, with_local, made, variable, written, region_at, Awaiting, ConvertTo, Operate, Chain, Apply, ApplyPointer, Follow, Decide, Store, Pass, MakePlain, MakeFields, Initialise, Choose, Test, Return, Entry, Needs, Discard, Rest, Join, Loop, Focus, Evaluating, Given, GivenPlace, Executing, Proceeding, Calling, Returning, Throwing, State, Running, cell_at, FollowMember, StoreCell}
+use Rattle.cyc_meaning.specs.State.{Region, World, Environment, with_local, made, variable, written, region_at, Awaiting, ConvertTo, Operate, Chain, Apply, ApplyPointer, Follow, Decide, Store, Pass, MakePlain, MakeFields, Initialise, Choose, Test, Return, Entry, Needs, Discard, Rest, Join, Loop, Focus, Evaluating, Given, GivenPlace, Executing, Proceeding, Calling, Returning, Throwing, State, Running, cell_at, FollowMember, StoreCell, CountElements}
 use Rattle.cyc_meaning.specs.Step.{leads_to, wrong, object_of, computed, stored_at, declared, passes, tested, awaits_right, chosen, looped, step}
 use Rattle.cyc_meaning.specs.State.{status_of}
 use Rattle.cyc_meaning.specs.SourceMachine.{status_in}
@@ -68,6 +68,7 @@ use Rattle.cyc_lower.proofs.Weights.{weight}
 use Rattle.cyc_lower.proofs.Relation.{StatementStack}
 use Rattle.cyc_lower.proofs.Matched.{IsMatched, silently, by_one, by_two, by_three, shared_way, shared_within, lands_depth, value_depth, place_depth, lands_plain, value_plain, place_plain, by_two_known, output_way}
 use Rattle.cyc_lower.proofs.PointerSteps.{applies_pointers, right_follows}
+use Rattle.cyc_lower.proofs.FatSteps.{counts}
 use Rattle.cyc_lower.proofs.Allocations.{plain_made, fields_made}
 use Rattle.cyc_lower.proofs.Evaluations.{IsStep, landed_word, landed_moved, lands_at, passes_related, passes_weight, object_of_same, global_there}
 
@@ -1095,6 +1096,7 @@ module _ (source : Program) (pages calls : ℕ) where
       applies u left v k e w c well shared facts (operands.Slot (top source c.active.function k), o, is_left, is, holds, applied)
   stands_given v o (Needs (ApplyPointer peek u left) ∷ k) e w c of_words words well (shared, facts, is, (is_left, holds)) (d, q, here, lands) =
       applies_pointers source pages calls u peek left v o d q k e w c well shared facts is is_left holds here lands
+  stands_given v o (Needs CountElements ∷ k) e w c of_words words well (shared, facts, is, holds) (d, q, here, lands) = counts source pages calls v o d q k e w c words well shared facts is holds here lands
   stands_given v o (Needs Decide ∷ k) e w c of_words words well stands stack = decides_truth v o k e w c well stands stack
   stands_given v o (Needs (Store place) ∷ k) e w c of_words words well stands stack = stores_at place v o k e w c well stands stack
   stands_given v o (Needs (StoreCell peek place) ∷ k) e w c of_words words well stands stack = stores_cell peek place v o k e w c of_words words well stands stack

@@ -13,7 +13,7 @@ use Rattle.cyc_types.specs.declared.typed.PointerOperator.TheVariants as pointer
 use Rattle.cyc_types.specs.declared.typed.LogicalOperator.{LogicalOperator}
 use Rattle.cyc_types.specs.declared.typed.LogicalOperator.TheVariants as logical
 use Rattle.cyc_types.specs.Types.{Ty, words_of, ValueType, Void, Null, Value}
-use Rattle.cyc_types.specs.TypedTrees.{Load, New, OnHeap, AsUnique, ByHandle, Initial, Plain, Fields, Array, Dereference, Target, type_of_place, Lvalue, Local, Global, Expression, Number, NullPointer, Copy, Call, Unary, Binary, Assign, Converted, Convert, Arguments, NoArguments, MoreArguments, Operations, NoOperations, ThenCompute, ThenTest, ThenPointer, type_of, Statement, Block, Empty, Evaluate, If, While, Return, Break, Continue, Items, NoItems, MoreItems, Execute, Declare, GlobalVariable, Signature, StructType, Function, Program, Move, Peek, ThenPointerPeek, AddressOfCell, Store, Member}
+use Rattle.cyc_types.specs.TypedTrees.{Load, New, OnHeap, AsUnique, ByHandle, Initial, Plain, Fields, Array, Dereference, Target, type_of_place, Lvalue, Local, Global, Expression, Number, NullPointer, Copy, Call, Unary, Binary, Assign, Converted, Convert, Arguments, NoArguments, MoreArguments, Operations, NoOperations, ThenCompute, ThenTest, ThenPointer, type_of, Statement, Block, Empty, Evaluate, If, While, Return, Break, Continue, Items, NoItems, MoreItems, Execute, Declare, GlobalVariable, Signature, StructType, Function, Program, Move, Peek, ThenPointerPeek, AddressOfCell, Store, Member, NumberOfElements}
 use Rattle.cyc_types.specs.typing.WellTyped.{signature_of}
 use Rattle.cyc_types.specs.Numbered.{Numbering, argument_count, signatures_of, numbering_of}
 use Rattle.cyc_plain.specs.declared.instruction.Comparison.{Comparison}
@@ -34,7 +34,7 @@ use Rattle.cyc_meaning.specs.FrameCount.{result_words, operand_words, converted_
 use Rattle.cyc_lower.specs.declared.statements.Exits.{Exits}
 use Rattle.cyc_meaning.specs.Pointers.{result_kind as operator_kind}
 use Rattle.cyc_lower.specs.Slots.{starts_of, slot_of, Types}
-use Rattle.cyc_lower.specs.Lowering.{types_of, spare_slots, are_as_wide, converts_there, passed_words, all_passed, source_of, source_slot, moved_by, move_of, unary_operator, binary_operator, operand_of, operand_or, code_unless, slot_or, code_unless_slot, left_with, left_of, value_slot, next_slot, slot_with, left_slot, value_operand, converted_operand, printed_operand, check_code, conversion_code, divisor_code, checked_code, operator_code, truth_code, load_code, low_byte, test_code, is_in, copy_code, expression_code, arguments_code, converted_code, converted_operand_code, printed_code, initial_code, assignment_code, operations_code, discarded_code, failing_comparison, compared_or, first_operand, first_code, second_code, pair_code, condition_code, condition_of, failing_jump, break_target, continue_target, return_code, declaration_code, statement_code, items_code, first_temporary, results_of, lower_function, lower_global, lower_program, pointer_operator, left_kind, behind_left, pointer_code, outside_loops, inside_loop, index_code, pointer_instructions, stores_code, object_code, made_code, place_operand, place_offset, place_code, address_code, addressed_by, store_address_code, store_code}
+use Rattle.cyc_lower.specs.Lowering.{types_of, spare_slots, are_as_wide, converts_there, passed_words, all_passed, source_of, source_slot, moved_by, move_of, unary_operator, binary_operator, operand_of, operand_or, code_unless, slot_or, code_unless_slot, left_with, left_of, value_slot, next_slot, slot_with, left_slot, value_operand, converted_operand, printed_operand, check_code, conversion_code, divisor_code, checked_code, operator_code, truth_code, load_code, low_byte, test_code, is_in, copy_code, expression_code, arguments_code, converted_code, converted_operand_code, printed_code, initial_code, assignment_code, operations_code, discarded_code, failing_comparison, compared_or, first_operand, first_code, second_code, pair_code, condition_code, condition_of, failing_jump, break_target, continue_target, return_code, declaration_code, statement_code, items_code, first_temporary, results_of, lower_function, lower_global, lower_program, pointer_operator, left_kind, behind_left, pointer_code, outside_loops, inside_loop, index_code, pointer_instructions, stores_code, object_code, made_code, place_operand, place_offset, place_code, address_code, addressed_by, store_address_code, store_code, count_code}
 use Rattle.cyc_lower.proofs.Widths.{kind_positive, kind_few, type_words, kind_of_result, result_kind, given, passed_kind, words_in, chain_kind, made_kind}
 use Rattle.cyc_lower.proofs.Fitting.{FitsPlace, FitsStored, FitsCell, Fits, FitsConverted, FitArguments, FitOperations, FitsReturn, FitsInitial, FitsStatement, FitItems, AreFitting, IsFitting, FitsObject}
 use Rattle.cyc_lower.proofs.Values.{as_wide}
@@ -166,6 +166,7 @@ module _ (program : PlainProgram) (r : Routine) (b : Numbering) (types : Types) 
   given_needs (Call callees.Getchar cs t) numbered = omega arith
   given_needs (Call (callees.Function n) cs t) (s, signature, many, passed, result, numbered) =
       omega (arith, ap (λ (o : Option Signature). words_of_kind (result_kind o)) signature, (result_least s.result).1, result)
+  given_needs (NumberOfElements a) numbered = omega arith
   given_needs (Unary o a) numbered = omega arith
   given_needs (Binary a os t) (numbered, rest) = omega (arith, given_needs a numbered, chain_needs os (kind_at a) t (operand_words (type_of a)) rest)
   given_needs (Assign l (Convert from to a) t) numbered = omega arith
@@ -355,6 +356,14 @@ module _ (program : PlainProgram) (r : Routine) (b : Numbering) (types : Types) 
   pointer_in pointers.EqualThin l m d few wide left right = ((omega (arith, few), left, right), tt)
   pointer_in pointers.NotEqualThin l m d few wide left right = ((omega (arith, few), left, right), tt)
 
+  count_in : (o : Operand) (p d : ℕ) → HasOperand o 3 → d < r.slots → p + length (count_code o p d) < length r.code → AreIn (count_code o p d)
+  count_in (operands.Word n) p d inside few short = ((few, tt), tt)
+  count_in (operands.Slot n) p d inside few short =
+      let first : n < r.slots = omega (arith, inside) in
+      let second : n + 1 < r.slots = omega (arith, inside) in
+      let third : n + 2 < r.slots = omega (arith, inside) in
+      ((first, tt, omega (arith, short)), ((second, third, omega (arith, short)), ((few, second, third), (omega (arith, short), ((few, tt), tt)))))
+
   test_in : (o : LogicalOperator) (operand : List Instruction) (p d t : ℕ) → d < r.slots → t < r.slots → p + length (test_code o operand p d t) < length r.code → AreIn operand → AreIn (test_code o operand p d t)
   test_in logical.AndThen operand p d t few room short inside =
       let long = length-append operand (truth_code t d) in
@@ -482,6 +491,16 @@ module _ (program : PlainProgram) (r : Routine) (b : Numbering) (types : Types) 
           },
           tt,
         )
+    expression_in (NumberOfElements a) p d t (fat, numbered) room few short =
+        let slot = value_slot (starts_of types) a t in
+        let inner = expression_code (starts_of types) a p slot t in
+        let front = code_unless (operand_of (starts_of types) a) inner in
+        let o = value_operand (starts_of types) a t in
+        let back = count_code o (p + length front) d in
+        let free : t + words_of_kind (kind_at a) ≤ r.slots = omega (arith, few, given_needs a numbered) in
+        append front back
+        (unless_in (operand_of (starts_of types) a) inner p (omega (arith, short, length-append front back)) (λ less. expression_in a p slot t numbered (slot_fits a t numbered free) (omega (arith, few)) less))
+        (count_in o (p + length front) d (subst (λ kind. HasOperand o (words_of_kind kind)) fat (value_room a t numbered free)) (omega (arith, room)) (omega (arith, short, length-append front back)))
     expression_in (Unary o a) p d t numbered room few short =
         let inner = expression_code (starts_of types) a p (value_slot (starts_of types) a t) t in
         let front = code_unless (operand_of (starts_of types) a) inner in

@@ -20,7 +20,7 @@ use Rattle.cyc_types.specs.declared.typed.LogicalOperator.{LogicalOperator}
 use Rattle.cyc_types.specs.declared.typed.LogicalOperator.TheVariants as logical
 use Rattle.cyc_types.specs.Types.{Ty, words_of}
 use Rattle.cyc_types.specs.Numbered.{argument_count}
-use Rattle.cyc_types.specs.TypedTrees.{Load, New, OnHeap, Initial, Plain, Fields, Dereference, Target, Lvalue, Local, Global, Expression, Number, NullPointer, Copy, Call, Unary, Binary, Assign, Converted, Convert, Arguments, NoArguments, MoreArguments, Operations, NoOperations, ThenCompute, ThenTest, ThenPointer, ThenPointerPeek, Statement, Block, Empty, Evaluate, If, While, Return, Break, Continue, Items, NoItems, MoreItems, Execute, Declare, Constant, Word, Null, GlobalVariable, StructType, Function, Program, Move, Peek, AddressOfCell, Store, Member, Element}
+use Rattle.cyc_types.specs.TypedTrees.{Load, New, OnHeap, Initial, Plain, Fields, Dereference, Target, Lvalue, Local, Global, Expression, Number, NullPointer, Copy, Call, Unary, Binary, Assign, Converted, Convert, Arguments, NoArguments, MoreArguments, Operations, NoOperations, ThenCompute, ThenTest, ThenPointer, ThenPointerPeek, Statement, Block, Empty, Evaluate, If, While, Return, Break, Continue, Items, NoItems, MoreItems, Execute, Declare, Constant, Word, Null, GlobalVariable, StructType, Function, Program, Move, Peek, AddressOfCell, Store, Member, Element, NumberOfElements}
 use Rattle.cyc_plain.specs.declared.instruction.UnaryOperator.{UnaryOperator as PlainUnary}
 use Rattle.cyc_plain.specs.declared.instruction.UnaryOperator.TheVariants as plain_unary
 use Rattle.cyc_plain.specs.declared.instruction.BinaryOperator.{BinaryOperator as PlainBinary}
@@ -207,6 +207,17 @@ abbrev pub pointer_instructions : PointerOperator → (l r : Operand) → (d : �
 pointer_instructions pointers.AddFat l r d = index_code (pointer_operator pointers.AddFat) l r d
 pointer_instructions pointers.SubtractFat l r d = index_code (pointer_operator pointers.SubtractFat) l r d
 pointer_instructions o l r d = instructions.Binary (pointer_operator o) d l r ∷ []
+
+-- How many elements a fat pointer has from its index on: none where it is null, or its index is past its length.
+abbrev pub count_code : Operand → (p d : ℕ) → List Instruction
+count_code (operands.Slot n) p d =
+    jump_if_zero (operands.Slot n) (p + 4)
+    ∷ instructions.Branch comparisons.LessUnsigned (operands.Slot (n + 1)) (operands.Slot (n + 2)) (p + 4)
+    ∷ instructions.Binary plain_binary.Subtract d (operands.Slot (n + 1)) (operands.Slot (n + 2))
+    ∷ instructions.Jump (p + 5)
+    ∷ instructions.Move d (operands.Word 0)
+    ∷ []
+count_code (operands.Word n) p d = instructions.Move d (operands.Word 0) ∷ []
 
 -- 0 stays 0, and any other word becomes 1
 abbrev pub truth_code : (t d : ℕ) → List Instruction
@@ -437,6 +448,9 @@ module _ (starts : Starts) where
     expression_code (Call callees.Getchar cs ty) p d t = arguments_code cs p t ++ instructions.ReadByte d ∷ []
     expression_code (Call (callees.Function n) cs ty) p d t =
         arguments_code cs p t ++ instructions.Call n t (all_passed cs) d ∷ []
+    expression_code (NumberOfElements a) p d t =
+        code_unless (operand_of a) (expression_code a p (value_slot a t) t)
+        ++ count_code (value_operand a t) (p + length (code_unless (operand_of a) (expression_code a p (value_slot a t) t))) d
     expression_code (Unary o a) p d t =
         code_unless (operand_of a) (expression_code a p (value_slot a t) t)
         ++ instructions.Unary (unary_operator o) d (value_operand a t)
