@@ -24,12 +24,13 @@ use Rattle.cyc_plain.specs.Program.{Routine, no_routine, routine_at}
 use Rattle.cyc_plain.specs.Straight.{At, HasAt}
 use Rattle.cyc_plain.proofs.Straight.{has_front, has_back, has_whole}
 use Rattle.cyc_store.specs.declared.range.TheConstants.{MOST_BLOCK_WORDS, HEAP}
-use Rattle.cyc_meaning.specs.Values.{kind_of, words_of_kind}
+use Rattle.cyc_meaning.specs.Values.{kind_of, words_of_kind, is_kind}
 use Rattle.cyc_meaning.specs.FrameCount.{words_of_all, operand_words}
 use Rattle.cyc_lower.specs.Slots.{Types, starts_of, slot_of}
-use Rattle.cyc_lower.specs.Lowering.{types_of, are_as_wide, converts_there, passed_words, source_of, source_slot, moved_by, move_of, operand_of, operand_or, code_unless, slot_or, code_unless_slot, left_with, left_of, value_slot, next_slot, slot_with, left_slot, value_operand, converted_operand, printed_operand, jump_if_nonzero, check_code, conversion_code, divisor_code, checked_code, operator_code, truth_code, load_code, low_byte, test_code, is_in, copy_code, expression_code, arguments_code, converted_code, converted_operand_code, printed_code, initial_code, assignment_code, assigned_operand, operations_code, discarded_code, failing_comparison, compared_or, compared_of, first_operand, first_code, second_code, pair_code, condition_code, condition_of, failing_jump, break_target, continue_target, return_code, declaration_code, statement_code, items_code, function_code, first_temporary, results_of, lower_function, lower_program, behind_left, pointer_code, outside_loops, inside_loop, pointer_operator, index_code, pointer_instructions, stores_code, object_code, made_code, place_operand, place_offset, place_code, address_code, count_code}
+use Rattle.cyc_lower.specs.Lowering.{types_of, are_as_wide, converts_there, passed_words, source_of, source_slot, moved_by, move_of, operand_of, operand_or, code_unless, slot_or, code_unless_slot, left_with, left_of, value_slot, next_slot, slot_with, left_slot, value_operand, converted_operand, printed_operand, jump_if_nonzero, check_code, conversion_code, divisor_code, checked_code, operator_code, truth_code, load_code, low_byte, test_code, is_in, copy_code, expression_code, arguments_code, converted_code, converted_operand_code, printed_code, initial_code, assignment_code, assigned_operand, operations_code, discarded_code, failing_comparison, compared_or, compared_of, first_operand, first_code, second_code, pair_code, condition_code, condition_of, failing_jump, break_target, continue_target, return_code, declaration_code, statement_code, items_code, function_code, first_temporary, results_of, lower_function, lower_program, behind_left, pointer_code, outside_loops, inside_loop, pointer_operator, index_code, pointer_instructions, stores_code, object_code, made_code, place_operand, place_offset, place_code, address_code, count_code, span_of, null_of, tested_code, widened_code, conversion_by}
+use Rattle.cyc_lower.specs.Lowerable.{is_converted}
 use Rattle.cyc_lower.specs.declared.statements.Exits.{Exits}
-use Rattle.cyc_lower.proofs.Stands.{OperandBy, CheckAt, ConversionBy, ConversionAt, DivisorAt, CheckedAt, OperatorAt, LoadAt, CopyBy, ExpressionAt, InitialAt, InitialBy, ConvertedAt, ConvertedOperandAt, PrintedAt, ArgumentsAt, OperationsAt, PairAt, ConditionAt, AssignmentAt, DiscardedAt, ReturnedAt, ReturnAt, DeclarationAt, StatementAt, ItemsAt, FirstTwoAt, IndexAt, PointerAt, StoresAt, ObjectAt, MadeAt, AddressAt, PlaceAt, CountAt}
+use Rattle.cyc_lower.proofs.Stands.{OperandBy, CheckAt, ConversionBy, ConversionAt, DivisorAt, CheckedAt, OperatorAt, LoadAt, CopyBy, ExpressionAt, InitialAt, InitialBy, ConvertedAt, ConvertedOperandAt, PrintedAt, ArgumentsAt, OperationsAt, PairAt, ConditionAt, AssignmentAt, DiscardedAt, ReturnedAt, ReturnAt, DeclarationAt, StatementAt, ItemsAt, FirstTwoAt, IndexAt, PointerAt, StoresAt, ObjectAt, MadeAt, AddressAt, PlaceAt, CountAt, TestedAt, WidenedAt}
 use Rattle.cyc_lower.proofs.Widths.{kind_of_result, given, passed_kind, type_words}
 use Rattle.cyc_lower.proofs.Fitting.{FitsPlace, FitsStored, FitsCell, FitsObject, Fits, FitsConverted, FitArguments, FitOperations, FitsReturn, FitsInitial, FitsStatement, FitItems, AreFitting, IsFitting}
 use Rattle.cyc_lower.proofs.Values.{as_wide}
@@ -93,12 +94,43 @@ module _ (code : List Instruction) (b : Numbering) (types : Types) where
   check_stands : (tag : ℕ) (o : Operand) (p q : ℕ) → p + 2 ≡ q → HasAt code p (check_code tag o p) → CheckAt code b types tag o p q
   check_stands tag o p q end (jump, (uncaught, none)) = (subst (λ t. At code p (jump_if_nonzero o t)) end jump, uncaught, end)
 
-  conversion_by : (to : Kind) (o : Operand) (p q : ℕ) → p + length (conversion_code to o p) ≡ q → HasAt code p (conversion_code to o p) → ConversionBy code b types to o p q
-  conversion_by kinds.NonNull o p q end has = check_stands null_exception o p q end has
-  conversion_by to o p q end has = omega (arith, end)
+  tested_stands : (to : Kind) (o : Operand) (p q : ℕ) → p + length (tested_code to o p) ≡ q → HasAt code p (tested_code to o p) → TestedAt code b types to o p q
+  tested_stands kinds.NonNull o p q end has = check_stands null_exception o p q end has
+  tested_stands to o p q end has = omega (arith, end)
 
-  conversion_stands : (from to : Kind) (o : Operand) (p q : ℕ) → are_as_wide from to ≡ true → p + length (conversion_code to o p) ≡ q → HasAt code p (conversion_code to o p) → ConversionAt code b types from to o p q
-  conversion_stands from to o p q wide end has = (wide, conversion_by to o p q end has)
+  -- what changes its words is in slot t, or is null
+  abbrev IsBrought : Operand → (t : ℕ) → Type 0
+  IsBrought (operands.Slot n) t = n ≡ t
+  IsBrought (operands.Word w) t = w ≡ 0
+
+  null_brought : (a : Expression) (t : ℕ) → IsBrought (operand_or (null_of a) t) t
+  null_brought NullPointer t = refl
+  null_brought a t = refl
+
+  source_brought : (from to : Kind) (a : Expression) (t : ℕ) → are_as_wide from to ≡ false → IsBrought (converted_operand (starts_of types) (Convert from to a) t) t
+  source_brought from to a t narrow =
+      subst (λ (same : Bool). IsBrought (operand_or (if same then operand_of (starts_of types) a else null_of a) (if same then value_slot (starts_of types) a t else t)) t) (sym narrow) (null_brought a t)
+
+  returned_null : (a : Expression) (t : ℕ) → slot_or (null_of a) t ≡ t
+  returned_null NullPointer t = refl
+  returned_null a t = refl
+
+  returned_brought : (from to : Kind) (a : Expression) (t : ℕ) → are_as_wide from to ≡ false → slot_or (source_of (starts_of types) (Convert from to a)) t ≡ t
+  returned_brought from to a t narrow = subst (λ (same : Bool). slot_or (if same then operand_of (starts_of types) a else null_of a) t ≡ t) (sym narrow) (returned_null a t)
+
+  widened_stands : (o : Operand) (t p q : ℕ) → IsBrought o t → p + length (widened_code o) ≡ q → HasAt code p (widened_code o) → WidenedAt code b types o t p q
+  widened_stands (operands.Slot n) t p q brought end (first, (second, none)) = (brought, first, second, end)
+  widened_stands (operands.Word w) t p q brought end has = (brought, omega (arith, end))
+
+  conversion_by_stands : (wide : Bool) (to : Kind) (span : Option ℕ) (o : Operand) (t p q : ℕ) → (if wide then true else is_kind to kinds.Fat) ≡ true → (wide ≡ false → IsBrought o t)
+      → p + length (conversion_by wide to span o p) ≡ q → HasAt code p (conversion_by wide to span o p) → ConversionBy code b types wide to span o t p q
+  conversion_by_stands true to span o t p q known brought end has = tested_stands to o p q end has
+  conversion_by_stands false kinds.Fat span o t p q known brought end has = widened_stands o t p q (brought refl) end has
+  conversion_by_stands false to span o t p q known brought end has = absurd (let f : false ≡ true = known in cc)
+
+  conversion_stands : (from to : Kind) (span : Option ℕ) (o : Operand) (t p q : ℕ) → is_converted from to ≡ true → (are_as_wide from to ≡ false → IsBrought o t)
+      → p + length (conversion_code from to span o p) ≡ q → HasAt code p (conversion_code from to span o p) → ConversionAt code b types from to span o t p q
+  conversion_stands from to span o t p q known brought end has = conversion_by_stands (are_as_wide from to) to span o t p q known brought end has
 
   divisor_stands : (o : Operand) (p q : ℕ) → p + length (divisor_code o p) ≡ q → HasAt code p (divisor_code o p) → DivisorAt code b types o p q
   divisor_stands (operands.Word (suc n)) p q end has = omega (arith, end)
@@ -189,10 +221,10 @@ module _ (code : List Instruction) (b : Numbering) (types : Types) where
   words_kept : (from to : Kind) (a : Expression) → from ≡ given b.functions a → converts_there from to ≡ true → words_of_kind (given b.functions a) ≡ words_of_kind to
   words_kept from to a kind lands = ap words_of_kind (sym kind) ∙ as_wide from to lands
 
-  initial_by : (there : Bool) (from to : Kind) (a : Expression) (d t p q : ℕ) → from ≡ given b.functions a → are_as_wide from to ≡ true → converts_there from to ≡ there
+  initial_by : (there : Bool) (from to : Kind) (a : Expression) (d t p q : ℕ) → from ≡ given b.functions a → is_converted from to ≡ true → converts_there from to ≡ there
       → ((slot r : ℕ) → p + length (expression_code (starts_of types) a p slot t) ≡ r → HasAt code p (expression_code (starts_of types) a p slot t) → ExpressionAt code b types a slot t p r)
-      → p + length (if there then expression_code (starts_of types) a p d t else moved_by (source_of (starts_of types) (Convert from to a)) (expression_code (starts_of types) a p (source_slot (starts_of types) (Convert from to a) t) t) to (converted_operand (starts_of types) (Convert from to a) t) p d) ≡ q
-      → HasAt code p (if there then expression_code (starts_of types) a p d t else moved_by (source_of (starts_of types) (Convert from to a)) (expression_code (starts_of types) a p (source_slot (starts_of types) (Convert from to a) t) t) to (converted_operand (starts_of types) (Convert from to a) t) p d)
+      → p + length (if there then expression_code (starts_of types) a p d t else moved_by (source_of (starts_of types) (Convert from to a)) (expression_code (starts_of types) a p (source_slot (starts_of types) (Convert from to a) t) t) from to (span_of a) (converted_operand (starts_of types) (Convert from to a) t) p d) ≡ q
+      → HasAt code p (if there then expression_code (starts_of types) a p d t else moved_by (source_of (starts_of types) (Convert from to a)) (expression_code (starts_of types) a p (source_slot (starts_of types) (Convert from to a) t) t) from to (span_of a) (converted_operand (starts_of types) (Convert from to a) t) p d)
       → InitialBy code b types there from to a d t p q
   initial_by true from to a d t p q kind wide lands stands end has = (words_kept from to a kind lands, stands d q end has)
   initial_by false from to a d t p q kind wide lands stands end has =
@@ -202,12 +234,12 @@ module _ (code : List Instruction) (b : Numbering) (types : Types) where
       let inner = expression_code (starts_of types) a p slot t in
       let front = code_unless known inner in
       let m = p + length front in
-      let conversion = conversion_code to o m in
+      let conversion = conversion_code from to (span_of a) o m in
       let both = front ++ conversion in
       let r = p + length both in
       let has_both = has_front code p both _ has in
       let (here, none) = has_back code p both _ has in
-      (o, m, r, operand_by known _ inner slot p m refl (has_front code p front conversion has_both) (λ e h. stands slot m e h), conversion_stands from to o m r wide (cut p r front conversion refl) (has_back code p front conversion has_both), here, cut p q both _ end)
+      (o, m, r, operand_by known _ inner slot p m refl (has_front code p front conversion has_both) (λ e h. stands slot m e h), conversion_stands from to (span_of a) o t m r wide (λ narrow. source_brought from to a t narrow) (cut p r front conversion refl) (has_back code p front conversion has_both), here, cut p q both _ end)
 
   mutual
     expression_stands : (a : Expression) (d t p q : ℕ) → Fits b types a → p + length (expression_code (starts_of types) a p d t) ≡ q → HasAt code p (expression_code (starts_of types) a p d t) → ExpressionAt code b types a d t p q
@@ -376,8 +408,8 @@ module _ (code : List Instruction) (b : Numbering) (types : Types) where
     converted_stands : (c : Converted) (t p q : ℕ) → FitsConverted b types c → p + length (converted_code (starts_of types) c p t) ≡ q → HasAt code p (converted_code (starts_of types) c p t) → ConvertedAt code b types c t p q
     converted_stands (Convert from to a) t p q (kind, wide, numbered) end has =
         let front = expression_code (starts_of types) a p t t in
-        let back = conversion_code to (operands.Slot t) (p + length front) in
-        (p + length front, expression_stands a t t p (p + length front) numbered refl (has_front code p front back has), conversion_stands from to (operands.Slot t) (p + length front) q wide (cut p q front back end) (has_back code p front back has))
+        let back = conversion_code from to (span_of a) (operands.Slot t) (p + length front) in
+        (p + length front, expression_stands a t t p (p + length front) numbered refl (has_front code p front back has), conversion_stands from to (span_of a) (operands.Slot t) t (p + length front) q wide (λ narrow. refl) (cut p q front back end) (has_back code p front back has))
 
     converted_operand_stands : (c : Converted) (t p q : ℕ) → FitsConverted b types c → p + length (converted_operand_code (starts_of types) c p t) ≡ q → HasAt code p (converted_operand_code (starts_of types) c p t) → ConvertedOperandAt code b types c t (converted_operand (starts_of types) c t) p q
     converted_operand_stands (Convert from to a) t p q (kind, wide, numbered) end has =
@@ -386,8 +418,8 @@ module _ (code : List Instruction) (b : Numbering) (types : Types) where
         let inner = expression_code (starts_of types) a p slot t in
         let front = code_unless known inner in
         let m = p + length front in
-        let back = conversion_code to (converted_operand (starts_of types) (Convert from to a) t) m in
-        (m, operand_by known _ inner slot p m refl (has_front code p front back has) (λ e h. expression_stands a slot t p m numbered e h), conversion_stands from to (converted_operand (starts_of types) (Convert from to a) t) m q wide (cut p q front back end) (has_back code p front back has))
+        let back = conversion_code from to (span_of a) (converted_operand (starts_of types) (Convert from to a) t) m in
+        (m, operand_by known _ inner slot p m refl (has_front code p front back has) (λ e h. expression_stands a slot t p m numbered e h), conversion_stands from to (span_of a) (converted_operand (starts_of types) (Convert from to a) t) t m q wide (λ narrow. source_brought from to a t narrow) (cut p q front back end) (has_back code p front back has))
 
     printed_stands : (cs : Arguments) (o : Operand) (t p q : ℕ) → argument_count cs ≡ 1 → FitArguments b types cs → p + length (printed_code (starts_of types) cs p t) ≡ q → HasAt code p (printed_code (starts_of types) cs p t) → PrintedAt code b types cs t (printed_operand (starts_of types) cs o t) p q
     printed_stands NoArguments o t p q single numbered end has = absurd (omega (arith, single))
@@ -570,7 +602,7 @@ module _ (code : List Instruction) (b : Numbering) (types : Types) where
       let front = code_unless_slot known inner in
       let m = p + length front in
       let s = slot_or known t in
-      let conversion = conversion_code to (operands.Slot s) m in
+      let conversion = conversion_code from to (span_of a) (operands.Slot s) m in
       let both = front ++ conversion in
       let r = p + length both in
       let has_both = has_front code p both _ has in
@@ -581,7 +613,7 @@ module _ (code : List Instruction) (b : Numbering) (types : Types) where
         m,
         r,
         returned_by known _ inner t p m refl (has_front code p front conversion has_both) (λ e h. expression_stands a t t p m fitting e h),
-        conversion_stands from to (operands.Slot s) m r wide (cut p r front conversion refl) (has_back code p front conversion has_both),
+        conversion_stands from to (span_of a) (operands.Slot s) t m r wide (λ narrow. returned_brought from to a t narrow) (cut p r front conversion refl) (has_back code p front conversion has_both),
         here,
         words,
         kind,

@@ -29,7 +29,7 @@ use Rattle.cyc_types.specs.Numbered.{argument_count}
 use Rattle.cyc_store.specs.declared.range.TheConstants.{HEAP}
 use Rattle.cyc_types.specs.Types.{ValueType, Void, words_of}
 use Rattle.cyc_types.specs.TypeView.{view_ty, view_value_type}
-use Rattle.cyc_types.specs.TypedTrees.{Load, New, OnHeap, AsUnique, ByHandle, Initial, Plain, Fields, Array, Dereference, Target, Lvalue, Local, Global, Expression, Number, Copy, Call, Unary, Binary, Assign, Converted, Convert, Arguments, Operations, NoOperations, ThenCompute, ThenTest, Move, Peek, AddressOfCell, Store, Member, Element}
+use Rattle.cyc_types.specs.TypedTrees.{Load, New, OnHeap, AsUnique, ByHandle, Initial, Plain, Fields, Array, Dereference, Target, Lvalue, Local, Global, Expression, Number, Copy, Call, Unary, Binary, Assign, Converted, Convert, Arguments, Operations, NoOperations, ThenCompute, ThenTest, Move, Peek, AddressOfCell, Store, Member, Element, NumberOfElements}
 use Rattle.cyc_types.specs.TypedTreeView.{view_lvalue, view_initial, view_expression, view_converted, arguments_of, operations_of, view_dereference}
 use Rattle.cyc_types.specs.declared.typed.Kind.{Kind}
 use Rattle.cyc_types.specs.declared.typed.Kind.TheVariants as kinds
@@ -40,7 +40,7 @@ use Rattle.cyc_plain.specs.declared.instruction.Operand.TheVariants as operands
 use Rattle.cyc_plain.specs.declared.instruction.Instruction.{Instruction}
 use Rattle.cyc_plain.specs.declared.instruction.Instruction.TheVariants as instructions
 use Rattle.cyc_lower.specs.Slots.{slot_of, Starts}
-use Rattle.cyc_lower.specs.Lowering.{passed_words, all_passed, converts_there, source_of, source_slot, converted_by, moved_by, move_of, operand_of, operand_or, code_unless, left_with, left_of, slot_with, left_slot, low_byte, value_operand, next_slot, converted_operand, printed_operand, operator_code, load_code, compute_code, test_jump, truth_code, test_code, copy_code, expression_code, value_slot, arguments_code, converted_code, converted_operand_code, printed_code, initial_code, assignment_code, assigned_operand, operations_code, discarded_code, binary_operator, behind_left, pointer_instructions, stores_code, object_code, made_code, address_code, addressed_by, place_operand, place_offset, place_code, store_address_code, store_code}
+use Rattle.cyc_lower.specs.Lowering.{passed_words, all_passed, converts_there, source_of, source_slot, converted_by, moved_by, move_of, operand_of, operand_or, code_unless, left_with, left_of, slot_with, left_slot, low_byte, value_operand, next_slot, converted_operand, printed_operand, operator_code, load_code, compute_code, test_jump, truth_code, test_code, copy_code, expression_code, value_slot, arguments_code, converted_code, converted_operand_code, printed_code, initial_code, assignment_code, assigned_operand, operations_code, discarded_code, binary_operator, behind_left, pointer_instructions, stores_code, object_code, made_code, address_code, addressed_by, place_operand, place_offset, place_code, store_address_code, store_code, count_code, span_of}
 use Rattle.cyc_lower.specs.Emission.{most_locals, value_code, print_code, left_code, takes_operand, HasRoom, operation_code}
 
 behind : (xs ys : List Instruction) → 0 < length ys → 0 < length (xs ++ ys)
@@ -48,6 +48,10 @@ behind xs ys some = omega (arith, length-append xs ys)
 
 before : (xs ys : List Instruction) → 0 < length xs → 0 < length (xs ++ ys)
 before xs ys some = omega (arith, length-append xs ys)
+
+counted_some : (o : Operand) (p d : ℕ) → 0 < length (count_code o p d)
+counted_some (operands.Slot n) p d = omega arith
+counted_some (operands.Word n) p d = omega arith
 
 operates : (o : Operator) (l r : Operand) (p d : ℕ) → 0 < length (operator_code o l r p d)
 operates operators.Divide l r p d = behind _ (instructions.Binary (binary_operator operators.Divide) d l r ∷ []) (omega arith)
@@ -227,10 +231,10 @@ module _ (starts : Starts) where
   tests : (o : LogicalOperator) (b : Expression) (os : Operations) (p : ℕ) (l : Operand) (d t : ℕ) → 0 < length (operations_code starts (ThenTest o b os) p l d t)
   tests o b os p l d t = before (test_code o (expression_code starts b (p + 1) t t) p (next_slot os d t) t) _ (omega arith)
 
-  initial_by : (there : Bool) (known : Option Operand) (at_once inner : List Instruction) (to : Kind) (o : Operand) (p d : ℕ) → 0 < length at_once
-      → 0 < length (if there then at_once else moved_by known inner to o p d)
-  initial_by true known at_once inner to o p d some = some
-  initial_by false known at_once inner to o p d some = behind (converted_by known inner to o p) (move_of (words_of_kind to) d o ∷ []) (omega arith)
+  initial_by : (there : Bool) (known : Option Operand) (at_once inner : List Instruction) (from to : Kind) (span : Option ℕ) (o : Operand) (p d : ℕ) → 0 < length at_once
+      → 0 < length (if there then at_once else moved_by known inner from to span o p d)
+  initial_by true known at_once inner from to span o p d some = some
+  initial_by false known at_once inner from to span o p d some = behind (converted_by known inner from to span o p) (move_of (words_of_kind to) d o ∷ []) (omega arith)
 
   place_some : (x : Dereference) (p t : ℕ) → 0 < length (place_code starts x p t)
   place_some (Target k a ty) p t = behind (code_unless (operand_of starts a) (expression_code starts a p (value_slot starts a t) t)) _ (omega arith)
@@ -246,6 +250,7 @@ module _ (starts : Starts) where
     expression_some (Call callees.Putchar cs ty) p d t = behind (printed_code starts cs p t) _ (omega arith)
     expression_some (Call callees.Getchar cs ty) p d t = behind (arguments_code starts cs p t) _ (omega arith)
     expression_some (Call (callees.Function n) cs ty) p d t = behind (arguments_code starts cs p t) _ (omega arith)
+    expression_some (NumberOfElements a) p d t = behind (value_code starts a p t) _ (counted_some (value_operand starts a t) (p + length (value_code starts a p t)) d)
     expression_some (Unary o a) p d t = behind (value_code starts a p t) _ (omega arith)
     expression_some (Binary a NoOperations ty) p d t = before (expression_code starts a p d t) _ (expression_some a p d t)
     expression_some (Binary a (ThenCompute o b os) ty) p d t =
@@ -274,7 +279,7 @@ module _ (starts : Starts) where
     initial_some : (c : Converted) (p d t : ℕ) → 0 < length (initial_code starts c p d t)
     initial_some (Convert from to a) p d t =
         let slot = source_slot starts (Convert from to a) t in
-        initial_by (converts_there from to) (source_of starts (Convert from to a)) (expression_code starts a p d t) (expression_code starts a p slot t) to (converted_operand starts (Convert from to a) t) p d (expression_some a p d t)
+        initial_by (converts_there from to) (source_of starts (Convert from to a)) (expression_code starts a p d t) (expression_code starts a p slot t) from to (span_of a) (converted_operand starts (Convert from to a) t) p d (expression_some a p d t)
 
   -- arguments: the state is the slot of the next
   abbrev pub all_arguments : List ConvertedCode → (p t : ℕ) → List Instruction

@@ -34,7 +34,7 @@ use Rattle.cyc_lower.proofs.PlaceWords.{field_bytes}
 use Rattle.cyc_lower.proofs.Slots.{slot-room}
 use Rattle.cyc_lower.proofs.Widths.{kind_positive, type_words, HasRoom, Outside}
 use Rattle.cyc_lower.proofs.Moves.{moved_slots, moves, put_elsewhere, moved_elsewhere, moved_is}
-use Rattle.cyc_lower.specs.Lowering.{failing_comparison, operand_of, value_slot, source_of, source_slot, are_as_wide, converts_there, all_passed, move_of, left_with, slot_with, compared_or, compared_of, lower_program}
+use Rattle.cyc_lower.specs.Lowering.{failing_comparison, operand_of, value_slot, source_of, source_slot, are_as_wide, converts_there, all_passed, move_of, left_with, slot_with, compared_or, compared_of, lower_program, null_of}
 use Rattle.cyc_lower.proofs.Weights.{weight, stack_weight, expression_weight, arguments_weight}
 use Rattle.cyc_lower.proofs.Stands.{CopyBy, CopyAt, OperandBy, InitialBy, ExpressionAt, ArgumentsAt, ObjectAt, ValueAt, PairAt, ConditionAt, AssignmentAt, PrintedAt, DiscardedAt, StoredAt, CountAt}
 use Rattle.cyc_objects.specs.Tables.{Tables}
@@ -224,6 +224,17 @@ module _ (source : Program) (pages calls : ℕ) where
       )
       (omega (arith, found.some))
 
+  -- a value whose words change is brought to a temporary, but null
+  brought : (t : Tables) (a : Expression) (k : List Entry) (e : Environment) (w : World) (c : Configuration) (o : Operand) (m : ℕ)
+      → OperandBy (code_of source c.active.function) (bounds_at source c.active.function) (types_at source c.active.function) (null_of a)
+      (ExpressionAt (code_of source c.active.function) (bounds_at source c.active.function) (types_at source c.active.function) a (top source c.active.function k) (top source c.active.function k) c.active.next m)
+      (top source c.active.function k) o c.active.next m
+      → Holds t c.active.slots (base_of source c.active.function) (held k) → ValueStack source c.active.function e.locals (given_at source c.active.function a) o m c.frames k
+      → EvaluatingAt source t a e.locals c.active.function c.active.next c.active.slots c.frames k
+  brought t typed.NullPointer k e w c o m at holds stack = as_operand o m at holds stack
+  brought t a k e w c o m (is, at) holds stack =
+      into_slot (top source c.active.function k) m at holds (in_temporary (omega arith) (subst (λ x. ValueStack source c.active.function e.locals (given_at source c.active.function a) x m c.frames k) is stack))
+
   -- a value that is to be converted: in an operand, or in a temporary where its words change
   pub sources : (t : Tables) (from to : Kind) (a : Expression) (k : List Entry) (e : Environment) (w : World) (c : Configuration) (o : Operand) (m : ℕ)
       → OperandBy (code_of source c.active.function) (bounds_at source c.active.function) (types_at source c.active.function) (source_of (starts_at source c.active.function) (Convert from to a))
@@ -234,12 +245,12 @@ module _ (source : Program) (pages calls : ℕ) where
   sources t from to a k e w c o m at holds stack = by (are_as_wide from to) at
     where
       by : (same : Bool)
-          → OperandBy (code_of source c.active.function) (bounds_at source c.active.function) (types_at source c.active.function) (if same then operand_of (starts_at source c.active.function) a else None)
+          → OperandBy (code_of source c.active.function) (bounds_at source c.active.function) (types_at source c.active.function) (if same then operand_of (starts_at source c.active.function) a else null_of a)
           (ExpressionAt (code_of source c.active.function) (bounds_at source c.active.function) (types_at source c.active.function) a (if same then value_slot (starts_at source c.active.function) a (top source c.active.function k) else top source c.active.function k) (top source c.active.function k) c.active.next m)
           (if same then value_slot (starts_at source c.active.function) a (top source c.active.function k) else top source c.active.function k) o c.active.next m
           → EvaluatingAt source t a e.locals c.active.function c.active.next c.active.slots c.frames k
       by true at = as_operand o m at holds stack
-      by false (is, at) = into_slot (top source c.active.function k) m at holds (in_temporary (omega arith) (subst (λ x. ValueStack source c.active.function e.locals (given_at source c.active.function a) x m c.frames k) is stack))
+      by false at = brought t a k e w c o m at holds stack
 
   -- what is assigned to a local comes to its slots at once, or is moved there once it is converted
   assigns_local : (there : Bool) (n : ℕ) (from to : Kind) (a : Expression) (k : List Entry) (e : Environment) (w : World) (c : Configuration) (object : ℕ) (o : Operand) (m : ℕ)

@@ -1,6 +1,6 @@
 -- A well typed program that is built is lowered.
-use Rattle.std.proofs.Common.{◌≡◌, ◌⊎◌, inl, inr, ℕ, suc, ◌<◌, true, ◌&&◌, List, [], ◌∷◌, Option, Some, None, map, length, slice_get, refl, ap, subst, ◌∙◌, arith, length-append}
-use Rattle.std.specs.Prelude.{◌==◌, nat_le}
+use Rattle.std.proofs.Common.{◌≡◌, ◌⊎◌, inl, inr, ℕ, suc, ◌<◌, true, ◌&&◌, List, [], ◌∷◌, Option, Some, None, map, length, slice_get, refl, ap, subst, ◌∙◌, arith, length-append, Bool}
+use Rattle.std.specs.Prelude.{◌==◌, nat_le, if◌then◌else◌}
 use Rattle.std.specs.List.{list_all}
 use Rattle.std.proofs.lemmas.Bool.{and_parts, leb-true}
 use Rattle.std.proofs.lemmas.Option.{slice_get_within}
@@ -23,9 +23,9 @@ use Rattle.cyc_types.specs.IntPart.{is_empty}
 use Rattle.cyc_types.specs.Numbered.{signatures_of, Numbering, IsSignature, argument_count, IsWithin, numbering_of}
 use Rattle.cyc_types.specs.typing.Tests.{kind_of_mark}
 use Rattle.cyc_types.specs.typing.WellTyped.{Context, IsVariable, IsPlace, IsCallee, WellTyped, IsPeek, IsLeft, IsUnaryOperand, IsConverted, ArePassed, IsCell, IsMade, IsChain, IsCondition, behind, in_block, in_body, with_local, IsInitial, IsReturned, WellTypedStatement, WellTypedItems, body_context, AreWellTypedFunctions, IsWellTypedProgram}
-use Rattle.cyc_meaning.specs.Values.{is_thin, words_of_kind}
-use Rattle.cyc_lower.specs.Lowering.{are_as_wide, passed_words, all_passed}
-use Rattle.cyc_lower.specs.Lowerable.{stands_alone, HasPlace, IsLowerable, IsLowerableObject, IsLowerableCell, IsLowerableConverted, AreLowerableArguments, AreLowerableOperations, IsLowerableReturn, IsLowerableInitial, IsLowerableStatement, AreLowerableItems, AreLowerableFunctions, IsLowerableProgram}
+use Rattle.cyc_meaning.specs.Values.{is_thin, words_of_kind, is_kind}
+use Rattle.cyc_lower.specs.Lowering.{passed_words, all_passed}
+use Rattle.cyc_lower.specs.Lowerable.{stands_alone, HasPlace, IsLowerable, IsLowerableObject, IsLowerableCell, IsLowerableConverted, AreLowerableArguments, AreLowerableOperations, IsLowerableReturn, IsLowerableInitial, IsLowerableStatement, AreLowerableItems, AreLowerableFunctions, IsLowerableProgram, is_converted}
 
 -- ---- what is built has one word
 
@@ -35,8 +35,8 @@ single_kind kinds.Nullable i = refl
 single_kind kinds.NonNull i = refl
 single_kind k i = absurd (cc)
 
-as_wide : (from to : Kind) → is_built_kind from ≡ true → is_built_kind to ≡ true → are_as_wide from to ≡ true
-as_wide from to i j = ap (λ n. n == words_of_kind to) (single_kind from i) ∙ ap (λ n. 1 == n) (single_kind to j)
+converted_kinds : (from to : Kind) → is_built_kind from ≡ true → is_built_kind to ≡ true → is_converted from to ≡ true
+converted_kinds from to i j = ap (λ (b : Bool). if b then true else is_kind to kinds.Fat) (ap (λ n. n == words_of_kind to) (single_kind from i) ∙ ap (λ n. 1 == n) (single_kind to j))
 
 single_type : (t : Ty) → is_built_type t ≡ true → words_of t ≡ 1
 single_type Int i = refl
@@ -169,7 +169,7 @@ module _ (b : Numbering) where
     converted_lowerable : (c : Context) → Agrees b c → (d : Converted) (t : Ty) → is_built_converted d ≡ true → IsConverted c d t → IsLowerableConverted b d
     converted_lowerable c k (Convert from to a) t i (v, w, converts, given, wanted) =
         let (value, both) = and_parts (is_built_expression a) (is_built_kind from && is_built_kind to) i in
-        let (first, second) = and_parts (is_built_kind from) (is_built_kind to) both in (as_wide from to first second, lowerable c k a v value w)
+        let (first, second) = and_parts (is_built_kind from) (is_built_kind to) both in (converted_kinds from to first second, lowerable c k a v value w)
 
     passed_lowerable : (c : Context) → Agrees b c → (ts : List Ty) (ds : Arguments) → are_built_arguments ds ≡ true → ArePassed c ts ds → (argument_count ds ≡ length ts) × AreLowerableArguments b ds
     passed_lowerable c k [] NoArguments i w = (refl, tt)

@@ -28,8 +28,9 @@ use Rattle.cyc_lower.specs.declared.statements.Exits.{Exits}
 use Rattle.cyc_lower.specs.Slots.{starts_of, slot_of, Starts}
 use Rattle.cyc_store.specs.declared.range.TheConstants.{HEAP}
 use Rattle.cyc_meaning.specs.Values.{kind_of, words_of_kind}
+use Rattle.cyc_meaning.specs.Operators.{null_exception}
 use Rattle.cyc_lower.proofs.Widths.{kind_few, type_words}
-use Rattle.cyc_lower.specs.Lowering.{types_of, converts_there, passed_words, all_passed, source_of, source_slot, converted_by, moved_by, move_of, unary_operator, binary_operator, operand_of, operand_or, code_unless, slot_or, code_unless_slot, left_of, value_slot, next_slot, left_slot, value_operand, converted_operand, printed_operand, conversion_code, divisor_code, checked_code, operator_code, truth_code, load_code, low_byte, test_code, is_in, copy_code, expression_code, arguments_code, converted_code, converted_operand_code, printed_code, initial_code, assignment_code, operations_code, discarded_code, failing_comparison, compared_or, left_with, slot_with, first_code, second_code, pair_code, condition_code, condition_of, failing_jump, break_target, continue_target, return_code, declaration_code, statement_code, items_code, first_temporary, jump_if_zero, jump_if_nonzero, lower_function, behind_left, pointer_code, outside_loops, inside_loop, pointer_operator, index_of, first_two, pointer_instructions, stores_code, object_code, made_code, place_operand, place_offset, place_code, address_code, store_address_code, store_code, count_code}
+use Rattle.cyc_lower.specs.Lowering.{types_of, converts_there, passed_words, all_passed, source_of, source_slot, converted_by, moved_by, move_of, unary_operator, binary_operator, operand_of, operand_or, code_unless, slot_or, code_unless_slot, left_of, value_slot, next_slot, left_slot, value_operand, converted_operand, printed_operand, conversion_code, divisor_code, checked_code, operator_code, truth_code, load_code, low_byte, test_code, is_in, copy_code, expression_code, arguments_code, converted_code, converted_operand_code, printed_code, initial_code, assignment_code, operations_code, discarded_code, failing_comparison, compared_or, left_with, slot_with, first_code, second_code, pair_code, condition_code, condition_of, failing_jump, break_target, continue_target, return_code, declaration_code, statement_code, items_code, first_temporary, jump_if_zero, jump_if_nonzero, lower_function, behind_left, pointer_code, outside_loops, inside_loop, pointer_operator, index_of, first_two, pointer_instructions, stores_code, object_code, made_code, place_operand, place_offset, place_code, address_code, store_address_code, store_code, count_code, span_of, tested_code, widened_code, conversion_by, tested_by, check_code, are_as_wide}
 use Rattle.cyc_lower.specs.Lowered.{size_per_weight}
 
 abbrev code_size : List Instruction → ℕ
@@ -52,9 +53,21 @@ unless_slot_size (Some (operands.Slot n)) x = omega arith
 unless_slot_size (Some (operands.Word n)) x = omega arith
 unless_slot_size None x = omega arith
 
-conversion_size : (to : Kind) (o : Operand) (p : ℕ) → code_size (conversion_code to o p) ≤ 18
-conversion_size kinds.NonNull o p = omega arith
-conversion_size to o p = omega arith
+tested_size : (to : Kind) (o : Operand) (p : ℕ) → code_size (tested_code to o p) ≤ 18
+tested_size kinds.NonNull o p = omega arith
+tested_size to o p = omega arith
+
+widened_size : (o : Operand) → code_size (widened_code o) ≤ 18
+widened_size (operands.Slot n) = omega arith
+widened_size (operands.Word w) = omega arith
+
+conversion_by_size : (wide : Bool) (to : Kind) (span : Option ℕ) (o : Operand) (p : ℕ) → code_size (conversion_by wide to span o p) ≤ 18
+conversion_by_size true to span o p = tested_size to o p
+conversion_by_size false kinds.Fat span o p = widened_size o
+conversion_by_size false to span o p = omega arith
+
+conversion_size : (from to : Kind) (span : Option ℕ) (o : Operand) (p : ℕ) → code_size (conversion_code from to span o p) ≤ 18
+conversion_size from to span o p = conversion_by_size (are_as_wide from to) to span o p
 
 divisor_size : (o : Operand) (p : ℕ) → code_size (divisor_code o p) ≤ 18
 divisor_size (operands.Word (suc n)) p = omega arith
@@ -105,16 +118,26 @@ address_size : (o : Operand) (bytes d : ℕ) → code_size (address_code o bytes
 address_size o zero d = omega (arith, copied_address_size o d)
 address_size o (suc bytes) d = omega arith
 
-converted_by_size : (known : Option Operand) (inner : List Instruction) (to : Kind) (o : Operand) (p bound : ℕ) → code_size inner ≤ bound → code_size (converted_by known inner to o p) ≤ bound + 18
-converted_by_size known inner to o p bound few =
+converted_by_size : (known : Option Operand) (inner : List Instruction) (from to : Kind) (span : Option ℕ) (o : Operand) (p bound : ℕ) → code_size inner ≤ bound → code_size (converted_by known inner from to span o p) ≤ bound + 18
+converted_by_size known inner from to span o p bound few =
     let front = code_unless known inner in
-    omega (arith, both front (conversion_code to o (p + length front)), unless_size known inner, few, conversion_size to o (p + length front))
+    omega (arith, both front (conversion_code from to span o (p + length front)), unless_size known inner, few, conversion_size from to span o (p + length front))
 
-initial_by_size : (there : Bool) (known : Option Operand) (at_once inner : List Instruction) (to : Kind) (o : Operand) (p d bound : ℕ) → code_size at_once ≤ bound → code_size inner ≤ bound
-    → code_size (if there then at_once else moved_by known inner to o p d) ≤ bound + 38
-initial_by_size true known at_once inner to o p d bound few other = omega (arith, few)
-initial_by_size false known at_once inner to o p d bound few other =
-    omega (arith, both (converted_by known inner to o p) (move_of (words_of_kind to) d o ∷ []), converted_by_size known inner to o p bound other, move_size (words_of_kind to) d o (kind_few to))
+tested_by_size : (known : Option Operand) (inner : List Instruction) (o : Operand) (p bound : ℕ) → code_size inner ≤ bound → code_size (tested_by known inner o p) ≤ bound + 18
+tested_by_size known inner o p bound few =
+    let front = code_unless known inner in
+    omega (arith, both front (check_code null_exception o (p + length front)), unless_size known inner, few)
+
+initial_by_size : (there : Bool) (known : Option Operand) (at_once inner : List Instruction) (from to : Kind) (span : Option ℕ) (o : Operand) (p d bound : ℕ) → code_size at_once ≤ bound → code_size inner ≤ bound
+    → code_size (if there then at_once else moved_by known inner from to span o p d) ≤ bound + 38
+initial_by_size true known at_once inner from to span o p d bound few other = omega (arith, few)
+initial_by_size false known at_once inner from to span o p d bound few other =
+    omega (
+      arith,
+      both (converted_by known inner from to span o p) (move_of (words_of_kind to) d o ∷ []),
+      converted_by_size known inner from to span o p bound other,
+      move_size (words_of_kind to) d o (kind_few to),
+    )
 
 first_two_size : (l : Operand) (d : ℕ) → code_size (first_two l d) ≤ 14
 first_two_size (operands.Word n) d = omega arith
@@ -250,10 +273,10 @@ module _ (starts : Starts) where
     place_size : (x : Dereference) (p t : ℕ) → code_size (place_code starts x p t) + 18 ≤ size_per_weight * dereference_weight x
     place_size (Target k a ty) p t =
         let slot = value_slot starts a t in
-        omega (arith, converted_by_size (operand_of starts a) (expression_code starts a p slot t) kinds.NonNull (value_operand starts a t) p (size_per_weight * expression_weight a) (expression_size a p slot t))
+        omega (arith, tested_by_size (operand_of starts a) (expression_code starts a p slot t) (value_operand starts a t) p (size_per_weight * expression_weight a) (expression_size a p slot t))
     place_size (Member k a n f ty) p t =
         let slot = value_slot starts a t in
-        omega (arith, converted_by_size (operand_of starts a) (expression_code starts a p slot t) kinds.NonNull (value_operand starts a t) p (size_per_weight * expression_weight a) (expression_size a p slot t))
+        omega (arith, tested_by_size (operand_of starts a) (expression_code starts a p slot t) (value_operand starts a t) p (size_per_weight * expression_weight a) (expression_size a p slot t))
     place_size (Element a i ty) p t = omega (arith, some_token a)
 
     -- with the address in a slot
@@ -265,7 +288,7 @@ module _ (starts : Starts) where
         omega (
           arith,
           both front (copy_code 1 o t),
-          converted_by_size (operand_of starts a) (expression_code starts a p slot t) kinds.NonNull o p (size_per_weight * expression_weight a) (expression_size a p slot t),
+          tested_by_size (operand_of starts a) (expression_code starts a p slot t) o p (size_per_weight * expression_weight a) (expression_size a p slot t),
           copied_address_size o t,
         )
     store_address_size (Member k a n f ty) p t =
@@ -276,7 +299,7 @@ module _ (starts : Starts) where
         omega (
           arith,
           both front (address_code o (place_offset starts x) t),
-          converted_by_size (operand_of starts a) (expression_code starts a p slot t) kinds.NonNull o p (size_per_weight * expression_weight a) (expression_size a p slot t),
+          tested_by_size (operand_of starts a) (expression_code starts a p slot t) o p (size_per_weight * expression_weight a) (expression_size a p slot t),
           address_size o (place_offset starts x) t,
         )
     store_address_size (Element a i ty) p t =
@@ -285,18 +308,18 @@ module _ (starts : Starts) where
     initial_size : (c : Converted) (p d t : ℕ) → code_size (initial_code starts c p d t) ≤ size_per_weight * converted_weight c + 38
     initial_size (Convert from to a) p d t =
         let slot = source_slot starts (Convert from to a) t in
-        initial_by_size (converts_there from to) (source_of starts (Convert from to a)) (expression_code starts a p d t) (expression_code starts a p slot t) to (converted_operand starts (Convert from to a) t) p d
+        initial_by_size (converts_there from to) (source_of starts (Convert from to a)) (expression_code starts a p d t) (expression_code starts a p slot t) from to (span_of a) (converted_operand starts (Convert from to a) t) p d
         (size_per_weight * expression_weight a) (expression_size a p d t) (expression_size a p slot t)
 
     converted_size : (c : Converted) (p t : ℕ) → code_size (converted_code starts c p t) ≤ size_per_weight * converted_weight c + 18
     converted_size (Convert from to a) p t =
         let front = expression_code starts a p t t in
-        omega (arith, both front (conversion_code to (operands.Slot t) (p + length front)), expression_size a p t t, conversion_size to (operands.Slot t) (p + length front))
+        omega (arith, both front (conversion_code from to (span_of a) (operands.Slot t) (p + length front)), expression_size a p t t, conversion_size from to (span_of a) (operands.Slot t) (p + length front))
 
     converted_operand_size : (c : Converted) (p t : ℕ) → code_size (converted_operand_code starts c p t) ≤ size_per_weight * converted_weight c + 18
     converted_operand_size (Convert from to a) p t =
         let slot = source_slot starts (Convert from to a) t in
-        converted_by_size (source_of starts (Convert from to a)) (expression_code starts a p slot t) to (converted_operand starts (Convert from to a) t) p
+        converted_by_size (source_of starts (Convert from to a)) (expression_code starts a p slot t) from to (span_of a) (converted_operand starts (Convert from to a) t) p
         (size_per_weight * expression_weight a) (expression_size a p slot t)
 
     printed_size : (cs : Arguments) (p t : ℕ) → code_size (printed_code starts cs p t) ≤ size_per_weight * arguments_weight cs + 18
@@ -415,8 +438,8 @@ module _ (starts : Starts) where
       let inner = expression_code starts a p t t in
       let front = code_unless_slot known inner in
       let s = slot_or known t in
-      let conversion = conversion_code to (operands.Slot s) (p + length front) in
-      omega (arith, both (front ++ conversion) (instructions.Return s ∷ []), both front conversion, unless_slot_size known inner, expression_size a p t t, conversion_size to (operands.Slot s) (p + length front))
+      let conversion = conversion_code from to (span_of a) (operands.Slot s) (p + length front) in
+      omega (arith, both (front ++ conversion) (instructions.Return s ∷ []), both front conversion, unless_slot_size known inner, expression_size a p t t, conversion_size from to (span_of a) (operands.Slot s) (p + length front))
 
   else_size : (t : Statement) (p : ℕ) (exits : Exits) (d : ℕ) → code_size (statement_code starts t p exits d) ≤ size_per_weight * statement_weight t → code_size (statement_code starts t p exits d) ≤ size_per_weight * else_weight t (statement_weight t)
   else_size Empty p exits d bound = omega arith

@@ -26,7 +26,7 @@ use Rattle.cyc_meaning.specs.Operators.{null_exception, division_by_zero}
 use Rattle.cyc_meaning.specs.Values.{is_thin, words_of_kind}
 use Rattle.cyc_lower.specs.declared.statements.Exits.{Exits}
 use Rattle.cyc_lower.specs.Slots.{Types, starts_of, slot_of, field_of}
-use Rattle.cyc_lower.specs.Lowering.{unary_operator, binary_operator, operand_of, source_of, source_slot, failing_comparison, left_with, left_of, value_slot, next_slot, slot_with, left_slot, is_in, jump_if_nonzero, move_of, test_jump, are_as_wide, converts_there, passed_words, all_passed, compared_of, low_byte, break_target, continue_target, results_of, behind_left, inside_loop, pointer_operator, jump_if_zero}
+use Rattle.cyc_lower.specs.Lowering.{unary_operator, binary_operator, operand_of, source_of, source_slot, failing_comparison, left_with, left_of, value_slot, next_slot, slot_with, left_slot, is_in, jump_if_nonzero, move_of, test_jump, are_as_wide, converts_there, passed_words, all_passed, compared_of, low_byte, break_target, continue_target, results_of, behind_left, inside_loop, pointer_operator, jump_if_zero, span_of}
 use Rattle.cyc_lower.proofs.Widths.{kind_of_result, given, passed_kind, HasRoom, HasField}
 
 -- ---- expressions
@@ -61,13 +61,24 @@ module _ (code : List Instruction) (bounds : Numbering) (types : Types) where
   abbrev pub CheckAt : (tag : ℕ) → Operand → (p q : ℕ) → Type 0
   CheckAt tag o p q = At code p (jump_if_nonzero o q) × At code (p + 1) (instructions.Uncaught tag o) × (p + 2 ≡ q)
 
-  abbrev pub ConversionBy : (to : Kind) → Operand → (p q : ℕ) → Type 0
-  ConversionBy kinds.NonNull o p q = CheckAt null_exception o p q
-  ConversionBy to o p q = p ≡ q
+  abbrev pub TestedAt : (to : Kind) → Operand → (p q : ℕ) → Type 0
+  TestedAt kinds.NonNull o p q = CheckAt null_exception o p q
+  TestedAt to o p q = p ≡ q
 
-  -- a value is converted where it is, and keeps its number of words
-  abbrev pub ConversionAt : (from to : Kind) → Operand → (p q : ℕ) → Type 0
-  ConversionAt from to o p q = (are_as_wide from to ≡ true) × ConversionBy to o p q
+  -- a value that gets more words is in slot t, or is null
+  abbrev pub WidenedAt : Operand → (t p q : ℕ) → Type 0
+  WidenedAt (operands.Slot n) t p q =
+      (n ≡ t) × At code p (instructions.Move (n + 1) (operands.Word 1)) × At code (p + 1) (instructions.Move (n + 2) (operands.Word 0)) × (p + 2 ≡ q)
+  WidenedAt (operands.Word w) t p q = (w ≡ 0) × (p ≡ q)
+
+  abbrev pub ConversionBy : (as_wide : Bool) → (to : Kind) → (span : Option ℕ) → Operand → (t p q : ℕ) → Type 0
+  ConversionBy true to span o t p q = TestedAt to o p q
+  ConversionBy false kinds.Fat span o t p q = WidenedAt o t p q
+  ConversionBy false to span o t p q = ⊥
+
+  -- a value is converted where it is, which is slot t where it changes its number of words
+  abbrev pub ConversionAt : (from to : Kind) → (span : Option ℕ) → Operand → (t p q : ℕ) → Type 0
+  ConversionAt from to span o t p q = ConversionBy (are_as_wide from to) to span o t p q
 
   abbrev pub DivisorAt : Operand → (p q : ℕ) → Type 0
   DivisorAt (operands.Word (suc n)) p q = p ≡ q
@@ -189,17 +200,17 @@ module _ (code : List Instruction) (bounds : Numbering) (types : Types) where
         EitherBy (converts_there from to) ((words_of_kind (given bounds.functions a) ≡ words_of_kind to) × ExpressionAt a d t p q)
         ((o : Operand) × (m : ℕ) × (r : ℕ)
         × OperandBy (source_of (starts_of types) (Convert from to a)) (ExpressionAt a (source_slot (starts_of types) (Convert from to a) t) t p m) (source_slot (starts_of types) (Convert from to a) t) o p m
-        × ConversionAt from to o m r × At code r (move_of (words_of_kind to) d o) × (r + 1 ≡ q))
+        × ConversionAt from to (span_of a) o t m r × At code r (move_of (words_of_kind to) d o) × (r + 1 ≡ q))
 
     -- the value comes to slot t and is converted there
     pub ConvertedAt : Converted → (t p q : ℕ) → Type 0
-    ConvertedAt (Convert from to a) t p q = (m : ℕ) × ExpressionAt a t t p m × ConversionAt from to (operands.Slot t) m q
+    ConvertedAt (Convert from to a) t p q = (m : ℕ) × ExpressionAt a t t p m × ConversionAt from to (span_of a) (operands.Slot t) t m q
 
     -- the value is converted where it is
     pub ConvertedOperandAt : Converted → (t : ℕ) → Operand → (p q : ℕ) → Type 0
     ConvertedOperandAt (Convert from to a) t o p q =
         (m : ℕ) × OperandBy (source_of (starts_of types) (Convert from to a)) (ExpressionAt a (source_slot (starts_of types) (Convert from to a) t) t p m) (source_slot (starts_of types) (Convert from to a) t) o p m
-        × ConversionAt from to o m q
+        × ConversionAt from to (span_of a) o t m q
 
     -- the only argument of `putchar`
     pub PrintedAt : Arguments → (t : ℕ) → Operand → (p q : ℕ) → Type 0
@@ -235,7 +246,7 @@ module _ (code : List Instruction) (bounds : Numbering) (types : Types) where
       EitherBy there ((words_of_kind (given bounds.functions a) ≡ words_of_kind to) × ExpressionAt a d t p q)
       ((o : Operand) × (m : ℕ) × (r : ℕ)
       × OperandBy (source_of (starts_of types) (Convert from to a)) (ExpressionAt a (source_slot (starts_of types) (Convert from to a) t) t p m) (source_slot (starts_of types) (Convert from to a) t) o p m
-      × ConversionAt from to o m r × At code r (move_of (words_of_kind to) d o) × (r + 1 ≡ q))
+      × ConversionAt from to (span_of a) o t m r × At code r (move_of (words_of_kind to) d o) × (r + 1 ≡ q))
 
   -- where the value of an expression stands that is an operand
   abbrev pub ValueAt : Expression → (t : ℕ) → Operand → (p q : ℕ) → Type 0
@@ -291,7 +302,7 @@ module _ (code : List Instruction) (bounds : Numbering) (types : Types) where
   abbrev pub ReturnAt : Option Converted → (t p : ℕ) → Type 0
   ReturnAt None t p = (s : ℕ) × At code p (instructions.Return s)
   ReturnAt (Some (Convert from to a)) t p =
-      (s : ℕ) × (m : ℕ) × (r : ℕ) × ReturnedAt (source_of (starts_of types) (Convert from to a)) (ExpressionAt a t t p m) t s p m × ConversionAt from to (operands.Slot s) m r
+      (s : ℕ) × (m : ℕ) × (r : ℕ) × ReturnedAt (source_of (starts_of types) (Convert from to a)) (ExpressionAt a t t p m) t s p m × ConversionAt from to (span_of a) (operands.Slot s) t m r
       × At code r (instructions.Return s) × (results_of bounds.result ≡ words_of_kind to) × (to ≡ kind_of_result bounds.result)
 
   abbrev pub DeclarationAt : ℕ → Option Converted → (t p q : ℕ) → Type 0

@@ -1,8 +1,8 @@
 -- The steps that hand a value on.
 use Rattle.std.proofs.Common.{◌≡◌, ◌≢◌, ℕ, zero, suc, ◌+◌, ◌<◌, Bool, true, false, not, List, [], ◌∷◌, Option, None, Some, slice_get, refl, sym, ap, subst, ◌∙◌, arith, inl, inr, length}
-use Rattle.std.specs.Prelude.{ℤ, nat_lt, ◌==◌, ◌&&◌, ◌<ℤ◌, ◌≤ℤ◌, int_le, int_lt, if◌then◌else◌}
+use Rattle.std.specs.Prelude.{ℤ, nat_lt, ◌==◌, ◌&&◌, ◌<ℤ◌, ◌≤ℤ◌, int_le, int_lt, if◌then◌else◌, option_map}
 use Rattle.std.proofs.lemmas.Int.{ints}
-use Rattle.std.proofs.lemmas.Bool.{eqb-true, false_from_ne_true}
+use Rattle.std.proofs.lemmas.Bool.{eqb-true, false_from_ne_true, eqb-false}
 use Rattle.std.proofs.lemmas.Option.{same_Some, none-some}
 use Rattle.cyc_words.specs.Word.{signed, slt_of, add_of}
 use Rattle.cyc_words.specs.Word.{IsWord as IsMachineWord}
@@ -51,8 +51,8 @@ use Rattle.cyc_lower.specs.Slots.{slot_of, Types}
 use Rattle.cyc_lower.proofs.Slots.{slot-room, room-inside}
 use Rattle.cyc_lower.proofs.Widths.{kind_positive, same_kind, HasRoom, Outside, chain_kind}
 use Rattle.cyc_lower.proofs.Moves.{moved_slots, moves, put_elsewhere, moved_elsewhere, moved_is}
-use Rattle.cyc_lower.specs.Lowering.{unary_operator, binary_operator, failing_comparison, operand_of, value_slot, next_slot, is_in, jump_if_zero, jump_if_nonzero, move_of, converts_there, break_target, lower_program}
-use Rattle.cyc_lower.proofs.Stands.{OperandBy, CopyBy, CopyAt, CheckAt, CheckedAt, OperatorAt, TruthAt, ExpressionAt, OperationsAt}
+use Rattle.cyc_lower.specs.Lowering.{unary_operator, binary_operator, failing_comparison, operand_of, value_slot, next_slot, is_in, jump_if_zero, jump_if_nonzero, move_of, converts_there, break_target, lower_program, are_as_wide}
+use Rattle.cyc_lower.proofs.Stands.{OperandBy, CopyBy, CopyAt, CheckAt, CheckedAt, OperatorAt, TruthAt, ExpressionAt, OperationsAt, TestedAt, ConversionBy}
 use Rattle.cyc_objects.specs.Tables.{Tables}
 use Rattle.cyc_objects.specs.Words.{Points, Is}
 use Rattle.cyc_objects.proofs.Pointers.{not-null, part-not-null, pointer-word}
@@ -68,7 +68,7 @@ use Rattle.cyc_lower.proofs.Weights.{weight}
 use Rattle.cyc_lower.proofs.Relation.{StatementStack}
 use Rattle.cyc_lower.proofs.Matched.{IsMatched, silently, by_one, by_two, by_three, shared_way, shared_within, lands_depth, value_depth, place_depth, lands_plain, value_plain, place_plain, by_two_known, output_way}
 use Rattle.cyc_lower.proofs.PointerSteps.{applies_pointers, right_follows}
-use Rattle.cyc_lower.proofs.FatSteps.{counts}
+use Rattle.cyc_lower.proofs.FatSteps.{counts, widens}
 use Rattle.cyc_lower.proofs.Allocations.{plain_made, fields_made}
 use Rattle.cyc_lower.proofs.Evaluations.{IsStep, landed_word, landed_moved, lands_at, passes_related, passes_weight, object_of_same, global_there}
 
@@ -315,11 +315,11 @@ module _ (source : Program) (pages calls : ℕ) where
 
   converted : (from to : Kind) (target : Option Kind) (i : Kind) (v : Value) (o : Operand) (k : List Entry) (e : Environment) (w : World) (c : Configuration) → IsWell (computed to (conversion to v) k e w)
       → step source (Running (Given (of_kind i v)) (Needs (ConvertTo from to target) ∷ k) e w) ≡ computed to (conversion to v) k e w → words_of_kind i ≡ words_of_kind to → Stands (of_kind i v) o k e w c
-      → ValueStack source c.active.function e.locals i o c.active.next c.frames (Needs (ConvertTo from to target) ∷ k) → GoesBehind (of_kind i v) (Needs (ConvertTo from to target) ∷ k) e w c
-  converted from kinds.Int target i (Int a) o k e w c well does wide stands (q, (same, end), stack) = kept_value from kinds.Int target i (Int a) o k e w c q refl does stands end stack
-  converted from kinds.Nullable target i Null o k e w c well does wide stands (q, (same, end), stack) = kept_value from kinds.Nullable target i Null o k e w c q refl does stands end stack
-  converted from kinds.Fat target i Null o k e w c well does wide stands (q, (same, end), stack) = kept_value from kinds.Fat target i Null o k e w c q refl does stands end stack
-  converted from kinds.NonNull target i Null o k e w c well does wide (shared, facts, is, holds) (q, (same, (jump, uncaught, end)), stack) =
+      → (q : ℕ) × TestedAt (code_of source c.active.function) (bounds_at source c.active.function) (types_at source c.active.function) to o c.active.next q × ValueStack source c.active.function e.locals to o q c.frames k → GoesBehind (of_kind i v) (Needs (ConvertTo from to target) ∷ k) e w c
+  converted from kinds.Int target i (Int a) o k e w c well does wide stands (q, end, stack) = kept_value from kinds.Int target i (Int a) o k e w c q refl does stands end stack
+  converted from kinds.Nullable target i Null o k e w c well does wide stands (q, end, stack) = kept_value from kinds.Nullable target i Null o k e w c q refl does stands end stack
+  converted from kinds.Fat target i Null o k e w c well does wide stands (q, end, stack) = kept_value from kinds.Fat target i Null o k e w c q refl does stands end stack
+  converted from kinds.NonNull target i Null o k e w c well does wide (shared, facts, is, holds) (q, (jump, uncaught, end), stack) =
       let zero_word = null_is shared.tables i c.active.slots o is in
       by_one source pages calls does shared jump
       (λ choice. not_taken (Running (Throwing 1 0) k e w) c (not (operand_word c.active.slots o == 0)) q (ap (λ x. not (x == 0)) zero_word) (
@@ -330,8 +330,8 @@ module _ (source : Program) (pages calls : ℕ) where
         uncaught,
         zero_word,
       ))
-  converted from kinds.Nullable target i (Thin object offset) o k e w c well does wide stands (q, (same, end), stack) = kept_value from kinds.Nullable target i (Thin object offset) o k e w c q refl does stands end stack
-  converted from kinds.NonNull target i (Thin object offset) o k e w c well does wide (shared, facts, is, holds) (q, (same, (jump, uncaught, end)), stack) =
+  converted from kinds.Nullable target i (Thin object offset) o k e w c well does wide stands (q, end, stack) = kept_value from kinds.Nullable target i (Thin object offset) o k e w c q refl does stands end stack
+  converted from kinds.NonNull target i (Thin object offset) o k e w c well does wide (shared, facts, is, holds) (q, (jump, uncaught, end), stack) =
       by_one source pages calls does shared jump
       (λ choice. taken (Running (Given (of_kind kinds.NonNull (Thin object offset))) k e w) c (not (operand_word c.active.slots o == 0)) q
       (ap not (not_zero shared.tables i object offset c.active.slots o is))
@@ -339,7 +339,7 @@ module _ (source : Program) (pages calls : ℕ) where
   converted from kinds.Fat target i (Thin object offset) o k e w c well does wide (shared, facts, is, holds) stack =
       let (words, p, same, is_it) = in_words shared.tables (of_kind i (Thin object offset)) c.active.slots o is in
       absurd (not_widened shared.tables i object offset words p is_it wide)
-  converted from kinds.Fat target i (Fat object start many index) o k e w c well does wide stands (q, (same, end), stack) =
+  converted from kinds.Fat target i (Fat object start many index) o k e w c well does wide stands (q, end, stack) =
       kept_value from kinds.Fat target i (Fat object start many index) o k e w c q refl does stands end stack
   converted from kinds.Nullable target i (Fat object start many index) o k e w c well does wide (shared, facts, is, holds) stack =
       let (words, p, same, is_it) = in_words shared.tables (of_kind i (Fat object start many index)) c.active.slots o is in
@@ -347,18 +347,27 @@ module _ (source : Program) (pages calls : ℕ) where
   converted from kinds.NonNull target i (Fat object start many index) o k e w c well does wide (shared, facts, is, holds) stack =
       let (words, p, same, is_it) = in_words shared.tables (of_kind i (Fat object start many index)) c.active.slots o is in
       absurd (not_narrowed shared.tables i object start many index words p is_it wide)
-  converted from kinds.Handle target i (Handle region) o k e w c well does wide stands (q, (same, end), stack) = kept_value from kinds.Handle target i (Handle region) o k e w c q refl does stands end stack
-  converted from kinds.Key target i (Key region) o k e w c well does wide stands (q, (same, end), stack) = kept_value from kinds.Key target i (Key region) o k e w c q refl does stands end stack
+  converted from kinds.Handle target i (Handle region) o k e w c well does wide stands (q, end, stack) = kept_value from kinds.Handle target i (Handle region) o k e w c q refl does stands end stack
+  converted from kinds.Key target i (Key region) o k e w c well does wide stands (q, end, stack) = kept_value from kinds.Key target i (Key region) o k e w c q refl does stands end stack
   converted from to target i v o k e w c well does wide stands stack = absurd (well refl)
+
+  -- where it keeps its number of words, or gets more
+  converts_by : (wide : Bool) (from to : Kind) (target : Option Kind) (v : Kinded) (o : Operand) (q : ℕ) (k : List Entry) (e : Environment) (w : World) (c : Configuration) → are_as_wide from to ≡ wide
+      → step source (Running (Given v) (Needs (ConvertTo from to target) ∷ k) e w) ≡ computed to (conversion to v.value) k e w → v.kind ≡ from → IsWell (computed to (conversion to v.value) k e w) → Stands v o k e w c
+      → ConversionBy (code_of source c.active.function) (bounds_at source c.active.function) (types_at source c.active.function) wide to (option_map words_of_kind target) o (top source c.active.function k) c.active.next q
+      → ValueStack source c.active.function e.locals to o q c.frames k → GoesBehind v (Needs (ConvertTo from to target) ∷ k) e w c
+  converts_by true from to target v o q k e w c wide does kind well stands at stack =
+      converted from to target v.kind v.value o k e w c well does (ap words_of_kind kind ∙ eqb-true (words_of_kind from) (words_of_kind to) wide) stands (q, at, stack)
+  converts_by false from kinds.Fat target v o q k e w c narrow does kind well (shared, facts, is, holds) at stack =
+      widens source pages calls from target v o q k e w c does well (λ three. eqb-false (words_of_kind from) 3 narrow (ap words_of_kind (sym kind) ∙ three)) shared facts is holds at stack
+  converts_by false from to target v o q k e w c narrow does kind well stands at stack = absurd at
 
   converts : (from to : Kind) (target : Option Kind) (v : Kinded) (o : Operand) (k : List Entry) (e : Environment) (w : World) (c : Configuration)
       → IsWell (step source (Running (Given v) (Needs (ConvertTo from to target) ∷ k) e w)) → Stands v o k e w c
       → ValueStack source c.active.function e.locals v.kind o c.active.next c.frames (Needs (ConvertTo from to target) ∷ k) → GoesBehind v (Needs (ConvertTo from to target) ∷ k) e w c
-  converts from to target v o k e w c well stands (q, (wide, at), stack) =
-      let does = converts_kind from to target v k e w well in
-      converted from to target v.kind v.value o k e w c (subst IsWell does well) does
-      (ap words_of_kind (converted_from from to target v k e w well) ∙ eqb-true (words_of_kind from) (words_of_kind to) wide)
-      stands (q, (wide, at), stack)
+  converts from to target v o k e w c well stands (q, at, stack) =
+      converts_by (are_as_wide from to) from to target v o q k e w c refl (converts_kind from to target v k e w well) (converted_from from to target v k e w well)
+      (subst IsWell (converts_kind from to target v k e w well) well) stands at stack
 
   -- a conversion that raises nothing, of a value in the slots of a local that is about to get it
   converted_ahead : (t : Tables) (from to i : Kind) (v : Value) (words : Words) (n : ℕ) (k : List Entry) (e : Environment) (w : World)

@@ -34,7 +34,8 @@ use Rattle.cyc_meaning.specs.FrameCount.{result_words, operand_words, converted_
 use Rattle.cyc_lower.specs.declared.statements.Exits.{Exits}
 use Rattle.cyc_meaning.specs.Pointers.{result_kind as operator_kind}
 use Rattle.cyc_lower.specs.Slots.{starts_of, slot_of, Types}
-use Rattle.cyc_lower.specs.Lowering.{types_of, spare_slots, are_as_wide, converts_there, passed_words, all_passed, source_of, source_slot, moved_by, move_of, unary_operator, binary_operator, operand_of, operand_or, code_unless, slot_or, code_unless_slot, left_with, left_of, value_slot, next_slot, slot_with, left_slot, value_operand, converted_operand, printed_operand, check_code, conversion_code, divisor_code, checked_code, operator_code, truth_code, load_code, low_byte, test_code, is_in, copy_code, expression_code, arguments_code, converted_code, converted_operand_code, printed_code, initial_code, assignment_code, operations_code, discarded_code, failing_comparison, compared_or, first_operand, first_code, second_code, pair_code, condition_code, condition_of, failing_jump, break_target, continue_target, return_code, declaration_code, statement_code, items_code, first_temporary, results_of, lower_function, lower_global, lower_program, pointer_operator, left_kind, behind_left, pointer_code, outside_loops, inside_loop, index_code, pointer_instructions, stores_code, object_code, made_code, place_operand, place_offset, place_code, address_code, addressed_by, store_address_code, store_code, count_code}
+use Rattle.cyc_lower.specs.Lowering.{types_of, spare_slots, are_as_wide, converts_there, passed_words, all_passed, source_of, source_slot, moved_by, move_of, unary_operator, binary_operator, operand_of, operand_or, code_unless, slot_or, code_unless_slot, left_with, left_of, value_slot, next_slot, slot_with, left_slot, value_operand, converted_operand, printed_operand, check_code, conversion_code, divisor_code, checked_code, operator_code, truth_code, load_code, low_byte, test_code, is_in, copy_code, expression_code, arguments_code, converted_code, converted_operand_code, printed_code, initial_code, assignment_code, operations_code, discarded_code, failing_comparison, compared_or, first_operand, first_code, second_code, pair_code, condition_code, condition_of, failing_jump, break_target, continue_target, return_code, declaration_code, statement_code, items_code, first_temporary, results_of, lower_function, lower_global, lower_program, pointer_operator, left_kind, behind_left, pointer_code, outside_loops, inside_loop, index_code, pointer_instructions, stores_code, object_code, made_code, place_operand, place_offset, place_code, address_code, addressed_by, store_address_code, store_code, count_code, span_of, null_of, tested_code, widened_code, conversion_by, tested_by}
+use Rattle.cyc_lower.specs.Lowerable.{is_converted}
 use Rattle.cyc_lower.proofs.Widths.{kind_positive, kind_few, type_words, kind_of_result, result_kind, given, passed_kind, words_in, chain_kind, made_kind}
 use Rattle.cyc_lower.proofs.Fitting.{FitsPlace, FitsStored, FitsCell, Fits, FitsConverted, FitArguments, FitOperations, FitsReturn, FitsInitial, FitsStatement, FitItems, AreFitting, IsFitting, FitsObject}
 use Rattle.cyc_lower.proofs.Values.{as_wide}
@@ -207,15 +208,19 @@ module _ (program : PlainProgram) (r : Routine) (b : Numbering) (types : Types) 
       by true = slot_fits a t numbered (omega (arith, few, ap words_of_kind kind))
       by false = omega (arith, few, ap words_of_kind kind)
 
+  null_room : (a : Expression) (t words : ℕ) → t + words ≤ r.slots → HasOperand (operand_or (null_of a) t) words
+  null_room NullPointer t words few = tt
+  null_room a t words few = few
+
   converted_room : (c : Converted) (t : ℕ) → FitsConverted b types c → t + converted_words c ≤ r.slots → HasOperand (converted_operand (starts_of types) c t) (words_of_kind (passed_kind c))
   converted_room (Convert from to a) t (kind, wide, numbered) few = by (are_as_wide from to) refl
     where
       by : (same : Bool) → are_as_wide from to ≡ same
-          → HasOperand (operand_or (if same then operand_of (starts_of types) a else None) (if same then value_slot (starts_of types) a t else t)) (words_of_kind to)
+          → HasOperand (operand_or (if same then operand_of (starts_of types) a else null_of a) (if same then value_slot (starts_of types) a t else t)) (words_of_kind to)
       by true wide =
           subst (HasOperand (value_operand (starts_of types) a t)) (ap words_of_kind (sym kind) ∙ eqb-true (words_of_kind from) (words_of_kind to) wide)
           (value_room a t numbered (omega (arith, few, ap words_of_kind kind)))
-      by false wide = omega (arith, few)
+      by false wide = null_room a t (words_of_kind to) (omega (arith, few))
 
   converted_value_in : (c : Converted) (t : ℕ) → FitsConverted b types c → t + converted_words c ≤ r.slots → IsOperand r (converted_operand (starts_of types) c t)
   converted_value_in c t numbered few = operand_in (converted_operand (starts_of types) c t) (passed_kind c) (converted_room c t numbered few)
@@ -307,9 +312,21 @@ module _ (program : PlainProgram) (r : Routine) (b : Numbering) (types : Types) 
   check_in : (tag : ℕ) (o : Operand) (p : ℕ) → IsOperand r o → p + 2 < length r.code → AreIn (check_code tag o p)
   check_in tag o p inside short = ((inside, tt, short), (inside, tt))
 
-  conversion_in : (to : Kind) (o : Operand) (p : ℕ) → IsOperand r o → p + length (conversion_code to o p) < length r.code → AreIn (conversion_code to o p)
-  conversion_in kinds.NonNull o p inside short = check_in null_exception o p inside short
-  conversion_in to o p inside short = tt
+  tested_in : (to : Kind) (o : Operand) (p : ℕ) → IsOperand r o → p + length (tested_code to o p) < length r.code → AreIn (tested_code to o p)
+  tested_in kinds.NonNull o p inside short = check_in null_exception o p inside short
+  tested_in to o p inside short = tt
+
+  widened_in : (o : Operand) → HasOperand o 3 → AreIn (widened_code o)
+  widened_in (operands.Slot n) inside = ((omega (arith, inside), tt), ((omega (arith, inside), tt), tt))
+  widened_in (operands.Word w) inside = tt
+
+  conversion_by_in : (wide : Bool) (to : Kind) (span : Option ℕ) (o : Operand) (p : ℕ) → HasOperand o (words_of_kind to) → p + length (conversion_by wide to span o p) < length r.code → AreIn (conversion_by wide to span o p)
+  conversion_by_in true to span o p inside short = tested_in to o p (operand_in o to inside) short
+  conversion_by_in false kinds.Fat span o p inside short = widened_in o inside
+  conversion_by_in false to span o p inside short = tt
+
+  conversion_in : (from to : Kind) (span : Option ℕ) (o : Operand) (p : ℕ) → HasOperand o (words_of_kind to) → p + length (conversion_code from to span o p) < length r.code → AreIn (conversion_code from to span o p)
+  conversion_in from to span o p inside short = conversion_by_in (are_as_wide from to) to span o p inside short
 
   divisor_in : (o : Operand) (p : ℕ) → IsOperand r o → p + length (divisor_code o p) < length r.code → AreIn (divisor_code o p)
   divisor_in (operands.Word (suc n)) p inside short = tt
@@ -439,10 +456,10 @@ module _ (program : PlainProgram) (r : Routine) (b : Numbering) (types : Types) 
       (unless_in (operand_of (starts_of types) a) inner p (omega (arith, short, length-append operand back)) (λ less. computed slot (slot_fits a u numbered free) less))
       (pointer_in o l m d room all inside (value_in a u numbered free))
 
-  initial_by : (there : Bool) (from to : Kind) (a : Expression) (p d t : ℕ) → from ≡ kind_at a → are_as_wide from to ≡ true → Fits b types a → d + words_of_kind to ≤ r.slots → t + converted_words (Convert from to a) ≤ r.slots → converts_there from to ≡ there
+  initial_by : (there : Bool) (from to : Kind) (a : Expression) (p d t : ℕ) → from ≡ kind_at a → is_converted from to ≡ true → Fits b types a → d + words_of_kind to ≤ r.slots → t + converted_words (Convert from to a) ≤ r.slots → converts_there from to ≡ there
       → ((slot : ℕ) → slot + words_of_kind (kind_at a) ≤ r.slots → p + length (expression_code (starts_of types) a p slot t) < length r.code → AreIn (expression_code (starts_of types) a p slot t))
-      → p + length (if there then expression_code (starts_of types) a p d t else moved_by (source_of (starts_of types) (Convert from to a)) (expression_code (starts_of types) a p (source_slot (starts_of types) (Convert from to a) t) t) to (converted_operand (starts_of types) (Convert from to a) t) p d) < length r.code
-      → AreIn (if there then expression_code (starts_of types) a p d t else moved_by (source_of (starts_of types) (Convert from to a)) (expression_code (starts_of types) a p (source_slot (starts_of types) (Convert from to a) t) t) to (converted_operand (starts_of types) (Convert from to a) t) p d)
+      → p + length (if there then expression_code (starts_of types) a p d t else moved_by (source_of (starts_of types) (Convert from to a)) (expression_code (starts_of types) a p (source_slot (starts_of types) (Convert from to a) t) t) from to (span_of a) (converted_operand (starts_of types) (Convert from to a) t) p d) < length r.code
+      → AreIn (if there then expression_code (starts_of types) a p d t else moved_by (source_of (starts_of types) (Convert from to a)) (expression_code (starts_of types) a p (source_slot (starts_of types) (Convert from to a) t) t) from to (span_of a) (converted_operand (starts_of types) (Convert from to a) t) p d)
   initial_by true from to a p d t kind wide numbered room free lands inside short = inside d (omega (arith, room, ap words_of_kind kind, as_wide from to lands)) short
   initial_by false from to a p d t kind wide numbered room free lands inside short =
       let c = Convert from to a in
@@ -451,13 +468,13 @@ module _ (program : PlainProgram) (r : Routine) (b : Numbering) (types : Types) 
       let inner = expression_code (starts_of types) a p slot t in
       let o = converted_operand (starts_of types) c t in
       let front = code_unless known inner in
-      let conversion = conversion_code to o (p + length front) in
+      let conversion = conversion_code from to (span_of a) o (p + length front) in
       let move = move_of (words_of_kind to) d o ∷ [] in
       let long = length-append (front ++ conversion) move in
       let long_front = length-append front conversion in
       append (front ++ conversion) move
       (append front conversion (unless_in known inner p (omega (arith, short, long, long_front)) (λ less. inside slot (source_fits from to a t (kind, wide, numbered) free) less))
-      (conversion_in to o (p + length front) (converted_value_in c t (kind, wide, numbered) free) (omega (arith, short, long, long_front)))) (move_in to d o room (converted_room c t (kind, wide, numbered) free), tt)
+      (conversion_in from to (span_of a) o (p + length front) (converted_room c t (kind, wide, numbered) free) (omega (arith, short, long, long_front)))) (move_in to d o room (converted_room c t (kind, wide, numbered) free), tt)
 
   mutual
     expression_in : (a : Expression) (p d t : ℕ) → Fits b types a → d + words_of_kind (kind_at a) ≤ r.slots → t + expression_need a ≤ r.slots → p + length (expression_code (starts_of types) a p d t) < length r.code → AreIn (expression_code (starts_of types) a p d t)
@@ -603,9 +620,9 @@ module _ (program : PlainProgram) (r : Routine) (b : Numbering) (types : Types) 
     converted_in : (c : Converted) (p t : ℕ) → FitsConverted b types c → t + converted_words c ≤ r.slots → t + converted_need c ≤ r.slots → p + length (converted_code (starts_of types) c p t) < length r.code → AreIn (converted_code (starts_of types) c p t)
     converted_in (Convert from to a) p t (kind, wide, numbered) room few short =
         let front = expression_code (starts_of types) a p t t in
-        let back = conversion_code to (operands.Slot t) (p + length front) in
+        let back = conversion_code from to (span_of a) (operands.Slot t) (p + length front) in
         append front back (expression_in a p t t numbered (omega (arith, room, ap words_of_kind kind)) few (omega (arith, short, length-append front back)))
-        (conversion_in to (operands.Slot t) (p + length front) (omega (arith, room, kind_positive to)) (omega (arith, short, length-append front back)))
+        (conversion_in from to (span_of a) (operands.Slot t) (p + length front) (omega (arith, room)) (omega (arith, short, length-append front back)))
 
     converted_operand_in : (c : Converted) (p t : ℕ) → FitsConverted b types c → t + converted_words c ≤ r.slots → t + converted_need c ≤ r.slots → p + length (converted_operand_code (starts_of types) c p t) < length r.code → AreIn (converted_operand_code (starts_of types) c p t)
     converted_operand_in (Convert from to a) p t (kind, wide, numbered) room few short =
@@ -614,10 +631,10 @@ module _ (program : PlainProgram) (r : Routine) (b : Numbering) (types : Types) 
         let o = converted_operand (starts_of types) (Convert from to a) t in
         let inner = expression_code (starts_of types) a p slot t in
         let front = code_unless known inner in
-        let back = conversion_code to o (p + length front) in
+        let back = conversion_code from to (span_of a) o (p + length front) in
         append front back
         (unless_in known inner p (omega (arith, short, length-append front back)) (λ less. expression_in a p slot t numbered (source_fits from to a t (kind, wide, numbered) room) few less))
-        (conversion_in to o (p + length front) (converted_value_in (Convert from to a) t (kind, wide, numbered) room) (omega (arith, short, length-append front back)))
+        (conversion_in from to (span_of a) o (p + length front) (converted_room (Convert from to a) t (kind, wide, numbered) room) (omega (arith, short, length-append front back)))
 
     -- the arguments of `putchar`, which all are evaluated with the same temporaries
     printed_in : (cs : Arguments) (p t first before : ℕ) → FitArguments b types cs → t + argument_words cs ≤ r.slots → t ≤ first + before → first + arguments_need cs before ≤ r.slots → p + length (printed_code (starts_of types) cs p t) < length r.code → AreIn (printed_code (starts_of types) cs p t)
@@ -767,7 +784,7 @@ module _ (program : PlainProgram) (r : Routine) (b : Numbering) (types : Types) 
       let s = slot_or known t in
       let inner = expression_code (starts_of types) a p t t in
       let front = code_unless_slot known inner in
-      let conversion = conversion_code to (operands.Slot s) (p + length front) in
+      let conversion = conversion_code from to (span_of a) (operands.Slot s) (p + length front) in
       let back = instructions.Return s ∷ [] in
       let long = length-append (front ++ conversion) back in
       let long_front = length-append front conversion in
@@ -775,7 +792,7 @@ module _ (program : PlainProgram) (r : Routine) (b : Numbering) (types : Types) 
       let there : s + words_of_kind to ≤ r.slots = returned_in (are_as_wide from to) kind is refl in
       append (front ++ conversion) back
       (append front conversion (unless_slot_in known inner p (omega (arith, short, long, long_front)) (λ less. expression_in a p t t is (omega (arith, few, kind_few (kind_at a))) (omega (arith, few)) less))
-      (conversion_in to (operands.Slot s) (p + length front) (omega (arith, there, kind_positive to)) (omega (arith, short, long, long_front)))) (omega (arith, there, results, words), tt)
+      (conversion_in from to (span_of a) (operands.Slot s) (p + length front) there (omega (arith, short, long, long_front)))) (omega (arith, there, results, words), tt)
     where
       value_of : (result : Option Ty) → FitsReturn b types result (Some (Convert from to a)) → (results_of result ≡ words_of_kind to) × (from ≡ kind_at a) × Fits b types a
       value_of None numbered = absurd numbered
@@ -793,9 +810,13 @@ module _ (program : PlainProgram) (r : Routine) (b : Numbering) (types : Types) 
           (subst (λ (x : Option Operand). HasOperand (operand_or x (value_slot (starts_of types) a t)) (words_of_kind (kind_at a))) there (value_room a t is (omega (arith, few, kind_few (kind_at a))))))
       wide_room kind is wide None there = omega (arith, few, kind_few to)
 
-      returned_in : (same : Bool) → from ≡ kind_at a → Fits b types a → are_as_wide from to ≡ same → slot_or (if same then operand_of (starts_of types) a else None) t + words_of_kind to ≤ r.slots
+      null_slot : (x : Expression) → slot_or (null_of x) t ≡ t
+      null_slot NullPointer = refl
+      null_slot x = refl
+
+      returned_in : (same : Bool) → from ≡ kind_at a → Fits b types a → are_as_wide from to ≡ same → slot_or (if same then operand_of (starts_of types) a else null_of a) t + words_of_kind to ≤ r.slots
       returned_in true kind is wide = wide_room kind is (eqb-true (words_of_kind from) (words_of_kind to) wide) (operand_of (starts_of types) a) refl
-      returned_in false kind is wide = omega (arith, few, kind_few to)
+      returned_in false kind is wide = omega (arith, few, kind_few to, null_slot a)
 
   declaration_in : (n : ℕ) (v : Option Converted) (p t : ℕ) → n < b.locals → FitsInitial b types n v → t + initial_need v + spare_slots ≤ r.slots → p + length (declaration_code (starts_of types) n v p t) < length r.code → AreIn (declaration_code (starts_of types) n v p t)
   declaration_in n None p t within numbered few short = tt

@@ -29,7 +29,7 @@ use Rattle.cyc_types.specs.Types.{words_of, Ty}
 use Rattle.cyc_types.specs.Numbered.{argument_count}
 use Rattle.cyc_store.specs.declared.range.TheConstants.{HEAP}
 use Rattle.cyc_meaning.specs.Values.{words_of_kind}
-use Rattle.cyc_lower.specs.Lowering.{types_of, are_as_wide, converts_there, passed_words, source_of, source_slot, converted_by, moved_by, move_of, operand_of, operand_or, code_unless, slot_or, code_unless_slot, left_with, left_of, value_slot, next_slot, left_slot, value_operand, converted_operand, printed_operand, check_code, conversion_code, divisor_code, checked_code, operator_code, truth_code, load_code, test_code, is_in, copy_code, expression_code, arguments_code, converted_code, converted_operand_code, printed_code, initial_code, assignment_code, operations_code, discarded_code, failing_comparison, compared_or, compared_of, slot_with, first_code, second_code, pair_code, condition_code, condition_of, return_code, declaration_code, statement_code, items_code, first_temporary, initial_word, lower_function, lower_global, lower_program, behind_left, pointer_code, outside_loops, inside_loop, index_of, first_two, pointer_instructions, stores_code, object_code, made_code, place_operand, place_offset, place_code, address_code, addressed_by, store_address_code, store_code, count_code}
+use Rattle.cyc_lower.specs.Lowering.{types_of, are_as_wide, converts_there, passed_words, source_of, source_slot, converted_by, moved_by, move_of, operand_of, operand_or, code_unless, slot_or, code_unless_slot, left_with, left_of, value_slot, next_slot, left_slot, value_operand, converted_operand, printed_operand, check_code, conversion_code, divisor_code, checked_code, operator_code, truth_code, load_code, test_code, is_in, copy_code, expression_code, arguments_code, converted_code, converted_operand_code, printed_code, initial_code, assignment_code, operations_code, discarded_code, failing_comparison, compared_or, compared_of, slot_with, first_code, second_code, pair_code, condition_code, condition_of, return_code, declaration_code, statement_code, items_code, first_temporary, initial_word, lower_function, lower_global, lower_program, behind_left, pointer_code, outside_loops, inside_loop, index_of, first_two, pointer_instructions, stores_code, object_code, made_code, place_operand, place_offset, place_code, address_code, addressed_by, store_address_code, store_code, count_code, span_of, null_of, tested_code, widened_code, conversion_by, tested_by}
 use Rattle.cyc_lower.proofs.WellFormed.{all_append, all_of}
 
 abbrev HaveWords : List Instruction → Type 0
@@ -54,9 +54,21 @@ unless_slot_words None x words = words
 check_words : (tag : ℕ) (o : Operand) (p : ℕ) → IsWord tag → IsOfWord o → HaveWords (check_code tag o p)
 check_words tag o p fits word = ((word, omega arith), ((fits, word), tt))
 
-conversion_words : (to : Kind) (o : Operand) (p : ℕ) → IsOfWord o → HaveWords (conversion_code to o p)
-conversion_words kinds.NonNull o p word = check_words null_exception o p (omega arith) word
-conversion_words to o p word = tt
+tested_words : (to : Kind) (o : Operand) (p : ℕ) → IsOfWord o → HaveWords (tested_code to o p)
+tested_words kinds.NonNull o p word = check_words null_exception o p (omega arith) word
+tested_words to o p word = tt
+
+widened_words : (o : Operand) → HaveWords (widened_code o)
+widened_words (operands.Slot n) = (omega arith, (omega arith, tt))
+widened_words (operands.Word w) = tt
+
+conversion_by_words : (wide : Bool) (to : Kind) (span : Option ℕ) (o : Operand) (p : ℕ) → IsOfWord o → HaveWords (conversion_by wide to span o p)
+conversion_by_words true to span o p word = tested_words to o p word
+conversion_by_words false kinds.Fat span o p word = widened_words o
+conversion_by_words false to span o p word = tt
+
+conversion_words : (from to : Kind) (span : Option ℕ) (o : Operand) (p : ℕ) → IsOfWord o → HaveWords (conversion_code from to span o p)
+conversion_words from to span o p word = conversion_by_words (are_as_wide from to) to span o p word
 
 divisor_words : (o : Operand) (p : ℕ) → IsOfWord o → HaveWords (divisor_code o p)
 divisor_words (operands.Word (suc n)) p word = tt
@@ -96,15 +108,21 @@ field_word : (s : Option StructType) (field : ℕ) → IsWord (field_in s field)
 field_word None field = omega arith
 field_word (Some s) field = bytes_word s.fields field 0 (omega arith)
 
-converted_by_words : (known : Option Operand) (inner : List Instruction) (to : Kind) (o : Operand) (p : ℕ) → HaveWords inner → IsOfWord o → HaveWords (converted_by known inner to o p)
-converted_by_words known inner to o p all word =
+converted_by_words : (known : Option Operand) (inner : List Instruction) (from to : Kind) (span : Option ℕ) (o : Operand) (p : ℕ) → HaveWords inner → IsOfWord o → HaveWords (converted_by known inner from to span o p)
+converted_by_words known inner from to span o p all word =
     let front = code_unless known inner in
-    append front (conversion_code to o (p + length front)) (unless_words known inner all) (conversion_words to o (p + length front) word)
+    append front (conversion_code from to span o (p + length front)) (unless_words known inner all) (conversion_words from to span o (p + length front) word)
 
-initial_by_words : (there : Bool) (known : Option Operand) (at_once inner : List Instruction) (to : Kind) (o : Operand) (p d : ℕ) → HaveWords at_once → HaveWords inner → IsOfWord o
-    → HaveWords (if there then at_once else moved_by known inner to o p d)
-initial_by_words true known at_once inner to o p d all other word = all
-initial_by_words false known at_once inner to o p d all other word = append (converted_by known inner to o p) _ (converted_by_words known inner to o p other word) (move_words (words_of_kind to) d o word)
+tested_by_words : (known : Option Operand) (inner : List Instruction) (o : Operand) (p : ℕ) → HaveWords inner → IsOfWord o → HaveWords (tested_by known inner o p)
+tested_by_words known inner o p all word =
+    let front = code_unless known inner in
+    append front (check_code null_exception o (p + length front)) (unless_words known inner all) (check_words null_exception o (p + length front) (omega arith) word)
+
+initial_by_words : (there : Bool) (known : Option Operand) (at_once inner : List Instruction) (from to : Kind) (span : Option ℕ) (o : Operand) (p d : ℕ) → HaveWords at_once → HaveWords inner → IsOfWord o
+    → HaveWords (if there then at_once else moved_by known inner from to span o p d)
+initial_by_words true known at_once inner from to span o p d all other word = all
+initial_by_words false known at_once inner from to span o p d all other word =
+    append (converted_by known inner from to span o p) _ (converted_by_words known inner from to span o p other word) (move_words (words_of_kind to) d o word)
 
 index_word : (l : Operand) → IsOfWord l → IsOfWord (index_of l)
 index_word (operands.Slot n) word = tt
@@ -158,9 +176,13 @@ module _ (starts : Starts) where
   converted_word : (c : Converted) (t : ℕ) → IsOfWordsConverted c → IsOfWord (converted_operand starts c t)
   converted_word (Convert from to a) t words = by (are_as_wide from to)
     where
-      by : (same : Bool) → IsOfWord (operand_or (if same then operand_of starts a else None) (if same then value_slot starts a t else t))
+      null_word : (x : Expression) → IsOfWord (operand_or (null_of x) t)
+      null_word NullPointer = omega arith
+      null_word x = tt
+
+      by : (same : Bool) → IsOfWord (operand_or (if same then operand_of starts a else null_of a) (if same then value_slot starts a t else t))
       by true = known_word a (value_slot starts a t) words
-      by false = tt
+      by false = null_word a
 
   printed_word : (cs : Arguments) (o : Operand) (t : ℕ) → AreOfWordsArguments cs → IsOfWord o → IsOfWord (printed_operand starts cs o t)
   printed_word NoArguments o t words word = word
@@ -247,10 +269,10 @@ module _ (starts : Starts) where
     place_words : (x : Dereference) (p t : ℕ) → IsOfWordsCell x → HaveWords (place_code starts x p t)
     place_words (Target k a ty) p t words =
         let slot = value_slot starts a t in
-        converted_by_words (operand_of starts a) (expression_code starts a p slot t) kinds.NonNull (value_operand starts a t) p (expression_words a p slot t words) (known_word a slot words)
+        tested_by_words (operand_of starts a) (expression_code starts a p slot t) (value_operand starts a t) p (expression_words a p slot t words) (known_word a slot words)
     place_words (Member k a s f ty) p t words =
         let slot = value_slot starts a t in
-        converted_by_words (operand_of starts a) (expression_code starts a p slot t) kinds.NonNull (value_operand starts a t) p (expression_words a p slot t words) (known_word a slot words)
+        tested_by_words (operand_of starts a) (expression_code starts a p slot t) (value_operand starts a t) p (expression_words a p slot t words) (known_word a slot words)
     place_words x p t words = absurd words
 
     -- its address comes to a slot
@@ -259,32 +281,32 @@ module _ (starts : Starts) where
         let slot = value_slot starts a t in
         let o = value_operand starts a t in
         append (place_code starts (Target k a ty) p t) _
-        (converted_by_words (operand_of starts a) (expression_code starts a p slot t) kinds.NonNull o p (expression_words a p slot t words) (known_word a slot words))
+        (tested_by_words (operand_of starts a) (expression_code starts a p slot t) o p (expression_words a p slot t words) (known_word a slot words))
         (address_words o 0 d (known_word a slot words) (omega arith))
     address_of_words (Member k a s f ty) p d t words =
         let slot = value_slot starts a t in
         let o = value_operand starts a t in
         let x = Member k a s f ty in
         append (place_code starts x p t) _
-        (converted_by_words (operand_of starts a) (expression_code starts a p slot t) kinds.NonNull o p (expression_words a p slot t words) (known_word a slot words))
+        (tested_by_words (operand_of starts a) (expression_code starts a p slot t) o p (expression_words a p slot t words) (known_word a slot words))
         (address_words o (place_offset starts x) d (known_word a slot words) (offset_word x))
     address_of_words x p d t words = absurd words
 
     initial_words : (c : Converted) (p d t : ℕ) → IsOfWordsConverted c → HaveWords (initial_code starts c p d t)
     initial_words (Convert from to a) p d t words =
         let slot = source_slot starts (Convert from to a) t in
-        initial_by_words (converts_there from to) (source_of starts (Convert from to a)) (expression_code starts a p d t) (expression_code starts a p slot t) to (converted_operand starts (Convert from to a) t) p d
+        initial_by_words (converts_there from to) (source_of starts (Convert from to a)) (expression_code starts a p d t) (expression_code starts a p slot t) from to (span_of a) (converted_operand starts (Convert from to a) t) p d
         (expression_words a p d t words) (expression_words a p slot t words) (converted_word (Convert from to a) t words)
 
     converted_words : (c : Converted) (p t : ℕ) → IsOfWordsConverted c → HaveWords (converted_code starts c p t)
     converted_words (Convert from to a) p t words =
         let q = p + length (expression_code starts a p t t) in
-        append (expression_code starts a p t t) (conversion_code to (operands.Slot t) q) (expression_words a p t t words) (conversion_words to (operands.Slot t) q tt)
+        append (expression_code starts a p t t) (conversion_code from to (span_of a) (operands.Slot t) q) (expression_words a p t t words) (conversion_words from to (span_of a) (operands.Slot t) q tt)
 
     converted_operand_words : (c : Converted) (p t : ℕ) → IsOfWordsConverted c → HaveWords (converted_operand_code starts c p t)
     converted_operand_words (Convert from to a) p t words =
         let slot = source_slot starts (Convert from to a) t in
-        converted_by_words (source_of starts (Convert from to a)) (expression_code starts a p slot t) to (converted_operand starts (Convert from to a) t) p (expression_words a p slot t words) (converted_word (Convert from to a) t words)
+        converted_by_words (source_of starts (Convert from to a)) (expression_code starts a p slot t) from to (span_of a) (converted_operand starts (Convert from to a) t) p (expression_words a p slot t words) (converted_word (Convert from to a) t words)
 
     printed_words : (cs : Arguments) (p t : ℕ) → AreOfWordsArguments cs → HaveWords (printed_code starts cs p t)
     printed_words NoArguments p t words = tt
@@ -387,9 +409,9 @@ module _ (starts : Starts) where
       let inner = expression_code starts a p t t in
       let front = code_unless_slot known inner in
       let s = slot_or known t in
-      let conversion = conversion_code to (operands.Slot s) (p + length front) in
+      let conversion = conversion_code from to (span_of a) (operands.Slot s) (p + length front) in
       append (front ++ conversion) _
-      (append front conversion (unless_slot_words known inner (expression_words a p t t words)) (conversion_words to (operands.Slot s) (p + length front) tt)) (tt, tt)
+      (append front conversion (unless_slot_words known inner (expression_words a p t t words)) (conversion_words from to (span_of a) (operands.Slot s) (p + length front) tt)) (tt, tt)
 
   declaration_words : (n : ℕ) (v : Option Converted) (p t : ℕ) → IsOfWordsInitial v → HaveWords (declaration_code starts n v p t)
   declaration_words n None p t words = tt

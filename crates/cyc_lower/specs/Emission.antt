@@ -14,7 +14,7 @@ use Rattle.cyc_plain.specs.declared.instruction.Operand.TheVariants.{Slot, Word}
 use Rattle.cyc_plain.specs.declared.instruction.Instruction.{Instruction}
 use Rattle.cyc_plain.specs.declared.instruction.Instruction.TheVariants.{WriteByte}
 use Rattle.cyc_lower.specs.Slots.{Starts}
-use Rattle.cyc_lower.specs.Lowering.{operand_of, source_of, source_slot, code_unless, slot_or, code_unless_slot, printed_operand, conversion_code, printed_code, left_of, value_slot, left_slot, value_operand, expression_code, compute_code, test_code, condition_code, failing_jump, while_code, statement_code, declaration_code, condition_of, behind_left, pointer_code, inside_loop}
+use Rattle.cyc_lower.specs.Lowering.{operand_of, source_of, source_slot, code_unless, slot_or, code_unless_slot, printed_operand, conversion_code, printed_code, left_of, value_slot, left_slot, value_operand, expression_code, compute_code, test_code, condition_code, failing_jump, while_code, statement_code, declaration_code, condition_of, behind_left, pointer_code, inside_loop, span_of}
 use Rattle.cyc_meaning.specs.FrameCount.{operand_words, argument_words, arguments_need, expression_need, initial_need, statement_need, kept_by, frame_count}
 use Rattle.cyc_plain.specs.declared.instruction.Comparison.{Comparison}
 use Rattle.cyc_lower.specs.declared.emitter.Emitter.{Emitter}
@@ -73,7 +73,7 @@ module _ (starts : Starts) where
   abbrev pub converted_slot_code : Converted → (p t : ℕ) → List Instruction
   converted_slot_code (Convert from to a) p t =
       code_unless_slot (source_of starts (Convert from to a)) (expression_code starts a p t t)
-      ++ conversion_code to (Slot (slot_or (source_of starts (Convert from to a)) t)) (p + length (code_unless_slot (source_of starts (Convert from to a)) (expression_code starts a p t t)))
+      ++ conversion_code from to (span_of a) (Slot (slot_or (source_of starts (Convert from to a)) t)) (p + length (code_unless_slot (source_of starts (Convert from to a)) (expression_code starts a p t t)))
 
   -- what brings the left operand of a chain
   abbrev pub left_code : Expression → Operations → (p d t : ℕ) → List Instruction

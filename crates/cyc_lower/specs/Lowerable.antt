@@ -1,6 +1,8 @@
 -- Which typed trees are lowered: those whose forms have code. Each number that such a tree has names something that is there, each call passes
 -- as many arguments as its function has parameters, and a break or a continue stands in a loop. A tree of the int language is one.
-use Rattle.std.specs.Prelude.{◌≡◌, ℕ, ◌<◌, Bool, true, false, not, ◌&&◌, List, [], ◌∷◌, Option, Some, None, length, slice_get, ◌≤◌}
+use Rattle.std.specs.Prelude.{◌≡◌, ℕ, ◌<◌, Bool, true, false, not, ◌&&◌, List, [], ◌∷◌, Option, Some, None, length, slice_get, ◌≤◌, if◌then◌else◌}
+use Rattle.cyc_types.specs.declared.typed.Kind.{Kind}
+use Rattle.cyc_types.specs.declared.typed.Kind.TheVariants as kinds
 use Rattle.cyc_types.specs.declared.typed.PointerOperator.{PointerOperator}
 use Rattle.cyc_types.specs.declared.typed.PointerOperator.TheVariants as pointers
 use Rattle.cyc_types.specs.Types.{Ty, words_of}
@@ -8,7 +10,7 @@ use Rattle.cyc_types.specs.TypedTrees.{Load, New, OnHeap, Initial, Plain, Fields
 use Rattle.cyc_types.specs.typing.Scopes.{signature_of_ints}
 use Rattle.cyc_types.specs.Numbered.{Numbering, IsSignature, IsWithin, argument_count, numbering_of, signatures_of}
 use Rattle.cyc_store.specs.declared.range.TheConstants.{MOST_BLOCK_WORDS}
-use Rattle.cyc_meaning.specs.Values.{is_thin, words_of_kind}
+use Rattle.cyc_meaning.specs.Values.{is_thin, words_of_kind, is_kind}
 use Rattle.cyc_lower.specs.Lowering.{are_as_wide, passed_words, all_passed}
 
 -- pointers are compared, with one another or with `NULL`
@@ -34,7 +36,11 @@ abbrev pub HasPlace : Numbering → Lvalue → (words : ℕ) → Type 0
 HasPlace b (Local p n) words = n < b.locals
 HasPlace b (Global n) words = (n < b.globals) × (words ≡ 1)
 
--- Conversions keep the number of words yet, and the cells that pointers lead to have one.
+-- a conversion keeps the number of words, or makes a fat pointer of a thin one
+abbrev pub is_converted : (from to : Kind) → Bool
+is_converted from to = if are_as_wide from to then true else is_kind to kinds.Fat
+
+-- The cells that pointers lead to have one word yet.
 abbrev mutual
   pub IsLowerable : Numbering → Expression → Type 0
   IsLowerable b (Number n) = Unit {0}
@@ -66,7 +72,7 @@ abbrev mutual
   IsLowerableObject b i = ⊥
 
   pub IsLowerableConverted : Numbering → Converted → Type 0
-  IsLowerableConverted b (Convert from to a) = (are_as_wide from to ≡ true) × IsLowerable b a
+  IsLowerableConverted b (Convert from to a) = (is_converted from to ≡ true) × IsLowerable b a
 
   pub AreLowerableArguments : Numbering → Arguments → Type 0
   AreLowerableArguments b NoArguments = Unit {0}

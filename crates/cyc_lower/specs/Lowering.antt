@@ -4,7 +4,7 @@
 --
 -- A value has as many slots as its kind has words, one behind the other. A global has one word yet, the first of its value. There is
 -- code for the int language and more; a form that is not built has a constant in its place, which nothing runs.
-use Rattle.std.specs.Prelude.{ℕ, zero, suc, ◌+◌, max, ◌==◌, Bool, false, if◌then◌else◌, List, [], ◌∷◌, ◌++◌, length, map, Option, None, Some}
+use Rattle.std.specs.Prelude.{ℕ, zero, suc, ◌+◌, max, ◌==◌, Bool, false, if◌then◌else◌, List, [], ◌∷◌, ◌++◌, length, map, Option, None, Some, true, option_map}
 use Rattle.cyc_words.specs.declared.span.Span.{Span}
 use Rattle.cyc_syntax.specs.Symbols.{Place}
 use Rattle.cyc_types.specs.declared.typed.Kind.{Kind}
@@ -36,6 +36,7 @@ use Rattle.cyc_plain.specs.Program.{Routine, Program as PlainProgram}
 use Rattle.cyc_store.specs.declared.range.TheConstants.{HEAP}
 use Rattle.cyc_meaning.specs.Values.{words_of_kind}
 use Rattle.cyc_meaning.specs.Operators.{null_exception, division_by_zero}
+use Rattle.cyc_meaning.specs.Parts.{target_by}
 use Rattle.cyc_meaning.specs.FrameCount.{frame_count, items_need, words_of_all}
 use Rattle.cyc_lower.specs.Slots.{Types, Starts, starts_of, slot_of, field_of}
 use Rattle.cyc_lower.specs.declared.operands.Condition.{Condition}
@@ -168,9 +169,32 @@ move_of words d (operands.Slot n) = if words == 1 then instructions.Move d (oper
 move_of words d (operands.Word n) = instructions.Move d (operands.Word n)
 
 -- a value that may not be null is tested
-abbrev pub conversion_code : (to : Kind) → Operand → (p : ℕ) → List Instruction
-conversion_code kinds.NonNull o p = check_code null_exception o p
-conversion_code to o p = []
+abbrev pub tested_code : (to : Kind) → Operand → (p : ℕ) → List Instruction
+tested_code kinds.NonNull o p = check_code null_exception o p
+tested_code to o p = []
+
+-- A thin pointer gets the length and the index of a fat one that leads to one cell. Of null the first word tells.
+abbrev pub widened_code : Operand → List Instruction
+widened_code (operands.Slot n) = instructions.Move (n + 1) (operands.Word 1) ∷ instructions.Move (n + 2) (operands.Word 0) ∷ []
+widened_code (operands.Word n) = []
+
+-- A value is converted where it is, with as many words as before or not. The cells that it leads to, if it is a pointer to cells, have so
+-- many words each.
+abbrev pub conversion_by : (as_wide : Bool) → (to : Kind) → (span : Option ℕ) → Operand → (p : ℕ) → List Instruction
+conversion_by true to span o p = tested_code to o p
+conversion_by false kinds.Fat span o p = widened_code o
+conversion_by false to span o p = []
+
+abbrev pub conversion_code : (from to : Kind) → (span : Option ℕ) → Operand → (p : ℕ) → List Instruction
+conversion_code from to span o p = conversion_by (words_of_kind from == words_of_kind to) to span o p
+
+abbrev pub span_of : Expression → Option ℕ
+span_of a = option_map words_of_kind (target_by a)
+
+-- null is an operand also where its words change
+abbrev pub null_of : Expression → Option Operand
+null_of NullPointer = Some (operands.Word 0)
+null_of a = None
 
 -- a divisor is tested, but a number other than 0
 abbrev pub divisor_code : Operand → (p : ℕ) → List Instruction
@@ -278,12 +302,16 @@ all_passed NoArguments = 0
 all_passed (MoreArguments c cs) = passed_words c + all_passed cs
 
 -- code that brings a value, and its conversion where it is then
-abbrev pub converted_by : Option Operand → (code : List Instruction) → (to : Kind) → Operand → (p : ℕ) → List Instruction
-converted_by known code to o p = code_unless known code ++ conversion_code to o (p + length (code_unless known code))
+abbrev pub converted_by : Option Operand → (code : List Instruction) → (from to : Kind) → (span : Option ℕ) → Operand → (p : ℕ) → List Instruction
+converted_by known code from to span o p = code_unless known code ++ conversion_code from to span o (p + length (code_unless known code))
 
 -- the same, and the value comes to slot d
-abbrev pub moved_by : Option Operand → (code : List Instruction) → (to : Kind) → Operand → (p d : ℕ) → List Instruction
-moved_by known code to o p d = converted_by known code to o p ++ move_of (words_of_kind to) d o ∷ []
+abbrev pub moved_by : Option Operand → (code : List Instruction) → (from to : Kind) → (span : Option ℕ) → Operand → (p d : ℕ) → List Instruction
+moved_by known code from to span o p d = converted_by known code from to span o p ++ move_of (words_of_kind to) d o ∷ []
+
+-- code that brings a pointer, which is tested where it is then
+abbrev pub tested_by : Option Operand → (code : List Instruction) → Operand → (p : ℕ) → List Instruction
+tested_by known code o p = code_unless known code ++ check_code null_exception o (p + length (code_unless known code))
 
 -- ---- new objects
 
@@ -402,7 +430,7 @@ module _ (starts : Starts) where
 
   -- A value is converted where it is, but where it changes its words: then it is brought to slot t.
   abbrev pub source_of : Converted → Option Operand
-  source_of (Convert from to a) = if are_as_wide from to then operand_of a else None
+  source_of (Convert from to a) = if are_as_wide from to then operand_of a else null_of a
 
   abbrev pub source_slot : Converted → (t : ℕ) → ℕ
   source_slot (Convert from to a) t = if are_as_wide from to then value_slot a t else t
@@ -474,8 +502,8 @@ module _ (starts : Starts) where
 
     -- a place that a pointer leads to, which is tested
     pub place_code : Dereference → (p t : ℕ) → List Instruction
-    place_code (Target k a ty) p t = converted_by (operand_of a) (expression_code a p (value_slot a t) t) kinds.NonNull (value_operand a t) p
-    place_code (Member k a s f ty) p t = converted_by (operand_of a) (expression_code a p (value_slot a t) t) kinds.NonNull (value_operand a t) p
+    place_code (Target k a ty) p t = tested_by (operand_of a) (expression_code a p (value_slot a t) t) (value_operand a t) p
+    place_code (Member k a s f ty) p t = tested_by (operand_of a) (expression_code a p (value_slot a t) t) (value_operand a t) p
     place_code (Element a i ty) p t = instructions.Move t (operands.Word 0) ∷ []
 
     -- A new object in the region of this handle. Each of its cells has one word yet.
@@ -492,12 +520,12 @@ module _ (starts : Starts) where
     -- the value comes to slot t and is converted there
     pub converted_code : Converted → (p t : ℕ) → List Instruction
     converted_code (Convert from to a) p t =
-        expression_code a p t t ++ conversion_code to (operands.Slot t) (p + length (expression_code a p t t))
+        expression_code a p t t ++ conversion_code from to (span_of a) (operands.Slot t) (p + length (expression_code a p t t))
 
     -- the value is converted where it is
     pub converted_operand_code : Converted → (p t : ℕ) → List Instruction
     converted_operand_code (Convert from to a) p t =
-        converted_by (source_of (Convert from to a)) (expression_code a p (source_slot (Convert from to a) t) t) to (converted_operand (Convert from to a) t) p
+        converted_by (source_of (Convert from to a)) (expression_code a p (source_slot (Convert from to a) t) t) from to (span_of a) (converted_operand (Convert from to a) t) p
 
     -- the arguments of `putchar`, of which there is one
     pub printed_code : Arguments → (p t : ℕ) → List Instruction
@@ -510,7 +538,7 @@ module _ (starts : Starts) where
     initial_code (Convert from to a) p d t =
         if converts_there from to
         then expression_code a p d t
-        else moved_by (source_of (Convert from to a)) (expression_code a p (source_slot (Convert from to a) t) t) to (converted_operand (Convert from to a) t) p d
+        else moved_by (source_of (Convert from to a)) (expression_code a p (source_slot (Convert from to a) t) t) from to (span_of a) (converted_operand (Convert from to a) t) p d
 
     -- The left operand is l. It is t where an operator is a test, or where the right operand has code.
     pub operations_code : Operations → (p : ℕ) → (l : Operand) → (d t : ℕ) → List Instruction
@@ -592,7 +620,7 @@ module _ (starts : Starts) where
   return_code None p t = instructions.Return t ∷ []
   return_code (Some (Convert from to a)) p t =
       code_unless_slot (source_of (Convert from to a)) (expression_code a p t t)
-      ++ conversion_code to (operands.Slot (slot_or (source_of (Convert from to a)) t)) (p + length (code_unless_slot (source_of (Convert from to a)) (expression_code a p t t)))
+      ++ conversion_code from to (span_of a) (operands.Slot (slot_or (source_of (Convert from to a)) t)) (p + length (code_unless_slot (source_of (Convert from to a)) (expression_code a p t t)))
       ++ instructions.Return (slot_or (source_of (Convert from to a)) t)
       ∷ []
 

@@ -7,7 +7,7 @@ ghost use Rattle.cyc_types.specs.TypedTrees.{Call};
 ghost use Rattle.cyc_meaning.specs.Values.{words_of_kind};
 ghost use Rattle.cyc_plain.specs.declared.instruction.Operand.TheVariants as operands;
 ghost use Rattle.cyc_plain.specs.declared.instruction.Instruction.TheVariants as instructions;
-ghost use Rattle.cyc_lower.specs.Lowering.{operand_of, operand_or, left_of, left_slot, value_operand, converted_operand, printed_operand, check_code, conversion_code, divisor_code, operator_code, truth_code, copy_code, all_passed, expression_code, arguments_code, converted_operand_code, printed_code, initial_code, assignment_code, assigned_operand, operations_code, discarded_code, condition_of, condition_code, first_two, index_code, pointer_instructions, stores_code, object_code, made_code, address_code, place_operand, place_offset, place_code, addressed_by};
+ghost use Rattle.cyc_lower.specs.Lowering.{operand_of, operand_or, left_of, left_slot, value_operand, converted_operand, printed_operand, check_code, conversion_code, divisor_code, operator_code, truth_code, copy_code, all_passed, expression_code, arguments_code, converted_operand_code, printed_code, initial_code, assignment_code, assigned_operand, operations_code, discarded_code, condition_of, condition_code, first_two, index_code, pointer_instructions, stores_code, object_code, made_code, address_code, place_operand, place_offset, place_code, addressed_by, count_code};
 ghost use Rattle.cyc_lower.specs.Emission.{Appends, Gives, HasRoom, HasRoomFor, most_locals, value_code, source_code, slot_code, print_code, converted_slot, converted_slot_code, left_code, operation_code, IsChain, zero_condition, view_starts, pointer_operation_code};
 
 use crate::emitter::Emitter;
@@ -18,7 +18,7 @@ use crate::operands::{
     takes_operand, value_slot,
 };
 use crate::operators::{
-    binary_operator, failing_comparison, jump_if_nonzero, left_kind, move_of, pointer_operator,
+    binary_operator, failing_comparison, jump_if_nonzero, jump_if_zero, left_kind, move_of, pointer_operator,
     test_jump, unary_operator,
 };
 use cyc_plain::{BinaryOperator, Comparison, Instruction, Operand, Request, UnaryOperator};
@@ -195,6 +195,36 @@ impl Emitter {
         }
     }
 
+    /// How many elements a fat pointer has from its index on: none where it is null, or its index is past its length.
+    fn count_elements(&mut self, pointer: Operand, slot: usize) -> Result<(), AllocError>
+        ensures { Appends result self.old self.new (count_code pointer (length self.old.code.items) slot) }
+    {
+        if let Operand::Slot { number } = pointer {
+            let behind = slot_behind(number, Kind::Fat)?;
+            let length = Operand::Slot { number: behind - 2 };
+            let index = Operand::Slot { number: behind - 1 };
+            let none = self.place() + 4;
+            self.emit(jump_if_zero(pointer, none))?;
+            self.emit(Instruction::Branch {
+                comparison: Comparison::LessUnsigned,
+                left: length,
+                right: index,
+                target: none,
+            })?;
+            self.emit(Instruction::Binary {
+                operator: BinaryOperator::Subtract,
+                destination: slot,
+                left: length,
+                right: index,
+            })?;
+            self.emit(Instruction::Jump { target: none + 1 })?;
+        }
+        self.emit(Instruction::Move {
+            destination: slot,
+            source: Operand::Word { word: 0 },
+        })
+    }
+
     /// What stands for a form that is not built yet, and is never run.
     fn emit_missing(&mut self, slot: usize) -> Result<(), AllocError>
         ensures { Appends result self.old self.new (instructions.Move slot (operands.Word 0) ∷ []) }
@@ -230,6 +260,10 @@ impl Emitter {
                 arguments,
                 ..
             } => self.call(starts, *callee, arguments, slot, free),
+            Expr::NumberOfElements { pointer } => {
+                let pointer = self.lower_operand(starts, pointer, free)?;
+                self.count_elements(pointer, slot)
+            }
             Expr::Unary { operator, operand } => {
                 let operand = self.lower_operand(starts, operand, free)?;
                 self.emit(Instruction::Unary {
@@ -289,7 +323,6 @@ impl Emitter {
             | Expr::HeapRegion
             | Expr::Counter { .. }
             | Expr::AddressOf { .. }
-            | Expr::NumberOfElements { .. }
             | Expr::FreeUnique { .. }
             | Expr::FreeKey { .. } => self.emit_missing(slot),
         }
