@@ -7,14 +7,14 @@ ghost use Rattle.cyc_types.specs.TypedTrees.{Call};
 ghost use Rattle.cyc_meaning.specs.Values.{words_of_kind};
 ghost use Rattle.cyc_plain.specs.declared.instruction.Operand.TheVariants as operands;
 ghost use Rattle.cyc_plain.specs.declared.instruction.Instruction.TheVariants as instructions;
-ghost use Rattle.cyc_lower.specs.Lowering.{operand_of, operand_or, left_of, left_slot, value_operand, converted_operand, printed_operand, check_code, conversion_code, divisor_code, operator_code, truth_code, copy_code, all_passed, expression_code, arguments_code, converted_operand_code, printed_code, initial_code, assignment_code, assigned_operand, operations_code, discarded_code, condition_of, condition_code, first_two, index_code, pointer_instructions, stores_code, object_code, made_code, address_code, place_operand, place_offset, place_code, addressed_by, count_code};
+ghost use Rattle.cyc_lower.specs.Lowering.{operand_of, operand_or, left_of, left_slot, value_operand, converted_operand, printed_operand, check_code, conversion_code, divisor_code, operator_code, truth_code, copy_code, all_passed, expression_code, arguments_code, converted_operand_code, printed_code, initial_code, assignment_code, assigned_operand, operations_code, discarded_code, condition_of, condition_code, first_two, index_code, pointer_instructions, stores_code, object_code, made_code, address_code, place_operand, place_offset, place_code, addressed_by, count_code, widened_code, span_of};
 ghost use Rattle.cyc_lower.specs.Emission.{Appends, Gives, HasRoom, HasRoomFor, most_locals, value_code, source_code, slot_code, print_code, converted_slot, converted_slot_code, left_code, operation_code, IsChain, zero_condition, view_starts, pointer_operation_code};
 
 use crate::emitter::Emitter;
 use crate::frame_count::{words_of, words_of_kind};
 use crate::locals::{Starts, field_of, slot_of};
 use crate::operands::{
-    Condition, are_as_wide, converts_there, index_of, is_in, operand_of, slot_behind,
+    Condition, are_as_wide, converts_there, index_of, is_in, null_of, operand_of, slot_behind,
     takes_operand, value_slot,
 };
 use crate::operators::{
@@ -58,12 +58,37 @@ impl Emitter {
         self.emit(Instruction::Uncaught { tag, value })
     }
 
-    /// A conversion of a value where it is: where it may not be null, it is tested.
-    fn convert(&mut self, to: Kind, value: Operand) -> Result<(), AllocError>
-        ensures { Appends result self.old self.new (conversion_code to value (length self.old.code.items)) }
+    /// A conversion of a value where it is: where it may not be null, it is tested, and a thin pointer gets the other words of a fat
+    /// one.
+    fn convert(&mut self, conversion: &Converted, value: Operand) -> Result<(), AllocError>
+        ensures { Appends result self.old self.new (conversion_code conversion.now.from conversion.now.to (span_of (view_expression conversion.now.value)) value (length self.old.code.items)) }
     {
-        if matches!(to, Kind::NonNull) {
-            return self.check(NULL_EXCEPTION, value);
+        if are_as_wide(conversion.from, conversion.to) {
+            if matches!(conversion.to, Kind::NonNull) {
+                return self.check(NULL_EXCEPTION, value);
+            }
+            return Ok(());
+        }
+        if matches!(conversion.to, Kind::Fat) {
+            return self.widen(value);
+        }
+        Ok(())
+    }
+
+    /// A thin pointer gets the length and the index of a fat one that leads to one cell. Of null the first word tells.
+    fn widen(&mut self, pointer: Operand) -> Result<(), AllocError>
+        ensures { Appends result self.old self.new (widened_code pointer) }
+    {
+        if let Operand::Slot { number } = pointer {
+            let behind = slot_behind(number, Kind::Fat)?;
+            self.emit(Instruction::Move {
+                destination: behind - 2,
+                source: Operand::Word { word: 1 },
+            })?;
+            self.emit(Instruction::Move {
+                destination: behind - 1,
+                source: Operand::Word { word: 0 },
+            })?;
         }
         Ok(())
     }
@@ -508,7 +533,7 @@ impl Emitter {
         let mut slot = first;
         for argument in arguments {
             self.lower_expression(starts, &argument.value, slot, slot)?;
-            self.convert(argument.to, Operand::Slot { number: slot })?;
+            self.convert(argument, Operand::Slot { number: slot })?;
             slot = slot_behind(slot, argument.to)?;
         }
         Ok(slot - first)
@@ -528,6 +553,9 @@ impl Emitter {
         if are_as_wide(value.from, value.to) {
             return self.lower_operand(starts, &value.value, free);
         }
+        if let Some(null) = null_of(&value.value) {
+            return Ok(null);
+        }
         self.lower_expression(starts, &value.value, free, free)?;
         Ok(Operand::Slot { number: free })
     }
@@ -544,7 +572,7 @@ impl Emitter {
         ensures { Gives (converted_operand (view_starts starts.now) (view_converted value.now) free) result self.old self.new (converted_operand_code (view_starts starts.now) (view_converted value.now) (length self.old.code.items) free) }
     {
         let operand = self.lower_source(starts, value, free)?;
-        self.convert(value.to, operand)?;
+        self.convert(value, operand)?;
         Ok(operand)
     }
 
@@ -909,7 +937,7 @@ impl Emitter {
         ensures { Gives (converted_slot (view_starts starts.now) (view_converted value.now) free) result self.old self.new (converted_slot_code (view_starts starts.now) (view_converted value.now) (length self.old.code.items) free) }
     {
         let slot = self.lower_to_slot(starts, value, free)?;
-        self.convert(value.to, Operand::Slot { number: slot })?;
+        self.convert(value, Operand::Slot { number: slot })?;
         Ok(slot)
     }
 }

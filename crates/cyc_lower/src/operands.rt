@@ -2,7 +2,7 @@
 ghost use Rattle.std.specs.Prelude.{◌≡◌, ◌+◌, ◌≤◌, IfOk};
 ghost use Rattle.cyc_types.specs.TypedTreeView.{view_expression, operations_of};
 ghost use Rattle.cyc_meaning.specs.Values.{words_of_kind};
-ghost use Rattle.cyc_lower.specs.Lowering.{operand_of, value_slot, is_in, index_of, are_as_wide, converts_there};
+ghost use Rattle.cyc_lower.specs.Lowering.{operand_of, null_of, value_slot, is_in, index_of, are_as_wide, converts_there};
 ghost use Rattle.cyc_lower.specs.Emission.{most_locals, takes_operand, view_starts};
 
 use crate::frame_count::words_of_kind;
@@ -38,6 +38,16 @@ pub(crate) fn operand_of(starts: &Starts, value: &Expr) -> Option<Operand>
         Expr::Move { number, .. } | Expr::Peek { number, .. } => Some(Operand::Slot {
             number: slot_of(starts, *number),
         }),
+        _ => None,
+    }
+}
+
+/// Null is an operand also where its words change.
+pub(crate) fn null_of(value: &Expr) -> Option<Operand>
+    ensures { result ≡ null_of (view_expression value.now) }
+{
+    match value {
+        Expr::NullPointer => Some(Operand::Word { word: 0 }),
         _ => None,
     }
 }
