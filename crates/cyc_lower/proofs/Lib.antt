@@ -16,6 +16,7 @@ pub mod Bridge
 pub mod Data
 pub mod Sharing
 pub mod CellWrites
+pub mod WideCells
 pub mod Allocations
 pub mod PlaceWords
 pub mod PlaceSteps
