@@ -27,11 +27,11 @@ use Rattle.cyc_store.specs.declared.range.TheConstants.{MOST_BLOCK_WORDS, HEAP}
 use Rattle.cyc_meaning.specs.Values.{kind_of, words_of_kind, is_kind}
 use Rattle.cyc_meaning.specs.FrameCount.{words_of_all, operand_words}
 use Rattle.cyc_lower.specs.Slots.{Types, starts_of, slot_of}
-use Rattle.cyc_lower.specs.Lowering.{types_of, are_as_wide, converts_there, passed_words, source_of, source_slot, moved_by, move_of, operand_of, operand_or, code_unless, slot_or, code_unless_slot, left_with, left_of, value_slot, next_slot, slot_with, left_slot, value_operand, converted_operand, printed_operand, jump_if_nonzero, check_code, conversion_code, divisor_code, checked_code, operator_code, truth_code, load_code, low_byte, test_code, is_in, copy_code, expression_code, arguments_code, converted_code, converted_operand_code, printed_code, initial_code, assignment_code, assigned_operand, operations_code, discarded_code, failing_comparison, compared_or, compared_of, first_operand, first_code, second_code, pair_code, condition_code, condition_of, failing_jump, break_target, continue_target, return_code, declaration_code, statement_code, items_code, function_code, first_temporary, results_of, lower_function, lower_program, behind_left, pointer_code, outside_loops, inside_loop, pointer_operator, index_code, pointer_instructions, stores_code, object_code, made_code, place_operand, place_offset, place_code, address_code, count_code, span_of, null_of, tested_code, widened_code, conversion_by}
+use Rattle.cyc_lower.specs.Lowering.{types_of, are_as_wide, converts_there, passed_words, source_of, source_slot, moved_by, move_of, operand_of, operand_or, code_unless, slot_or, code_unless_slot, left_with, left_of, value_slot, next_slot, slot_with, left_slot, value_operand, converted_operand, printed_operand, jump_if_nonzero, check_code, conversion_code, divisor_code, checked_code, operator_code, truth_code, load_code, low_byte, test_code, is_in, copy_code, expression_code, arguments_code, converted_code, converted_operand_code, printed_code, initial_code, assignment_code, assigned_operand, operations_code, discarded_code, failing_comparison, compared_or, compared_of, first_operand, first_code, second_code, pair_code, condition_code, condition_of, failing_jump, break_target, continue_target, return_code, declaration_code, statement_code, items_code, function_code, first_temporary, results_of, lower_function, lower_program, behind_left, pointer_code, outside_loops, inside_loop, pointer_operator, index_code, pointer_instructions, stores_code, object_code, made_code, place_operand, place_offset, place_code, address_code, count_code, span_of, null_of, tested_code, widened_code, conversion_by, loaded_code, saved_code, all_passed}
 use Rattle.cyc_lower.specs.Lowerable.{is_converted}
 use Rattle.cyc_lower.specs.declared.statements.Exits.{Exits}
-use Rattle.cyc_lower.proofs.Stands.{OperandBy, CheckAt, ConversionBy, ConversionAt, DivisorAt, CheckedAt, OperatorAt, LoadAt, CopyBy, ExpressionAt, InitialAt, InitialBy, ConvertedAt, ConvertedOperandAt, PrintedAt, ArgumentsAt, OperationsAt, PairAt, ConditionAt, AssignmentAt, DiscardedAt, ReturnedAt, ReturnAt, DeclarationAt, StatementAt, ItemsAt, FirstTwoAt, IndexAt, PointerAt, StoresAt, ObjectAt, MadeAt, AddressAt, PlaceAt, CountAt, TestedAt, WidenedAt}
-use Rattle.cyc_lower.proofs.Widths.{kind_of_result, given, passed_kind, type_words}
+use Rattle.cyc_lower.proofs.Stands.{OperandBy, CheckAt, ConversionBy, ConversionAt, DivisorAt, CheckedAt, OperatorAt, LoadAt, CopyBy, ExpressionAt, InitialAt, InitialBy, ConvertedAt, ConvertedOperandAt, PrintedAt, ArgumentsAt, OperationsAt, PairAt, ConditionAt, AssignmentAt, DiscardedAt, ReturnedAt, ReturnAt, DeclarationAt, StatementAt, ItemsAt, FirstTwoAt, IndexAt, PointerAt, StoresAt, ObjectAt, MadeAt, AddressAt, PlaceAt, CountAt, TestedAt, WidenedAt, LoadedBy, SavedAt}
+use Rattle.cyc_lower.proofs.Widths.{kind_of_result, given, passed_kind, type_words, kind_positive, kind_few}
 use Rattle.cyc_lower.proofs.Fitting.{FitsPlace, FitsStored, FitsCell, FitsObject, Fits, FitsConverted, FitArguments, FitOperations, FitsReturn, FitsInitial, FitsStatement, FitItems, AreFitting, IsFitting}
 use Rattle.cyc_lower.proofs.Values.{as_wide}
 use Rattle.cyc_lower.proofs.Relation.{bounds_in, types_in}
@@ -196,14 +196,23 @@ module _ (code : List Instruction) (b : Numbering) (types : Types) where
   stores_stand zero address offset slot p q end has = omega (arith, end)
   stores_stand (suc many) address offset slot p q end (here, rest) = (here, stores_stand many address (offset + 4) (suc slot) (p + 1) q (omega (arith, end)) rest)
 
-  object_stands : (handle words d t p q : ℕ) → 1 ≤ words → words ≤ MOST_BLOCK_WORDS → p + length (object_code handle words d t) ≡ q → HasAt code p (object_code handle words d t)
-      → ObjectAt code b types handle words words t d p q
-  object_stands handle words d t p q some few end (ask, rest) =
+  saved_stands : (words address : ℕ) (o : Operand) (p q : ℕ) → p + length (saved_code words address o) ≡ q → HasAt code p (saved_code words address o) → SavedAt code b types words address o p q
+  saved_stands words address (operands.Slot n) p q end has = stores_stand words address 0 n p q end has
+  saved_stands words address (operands.Word n) p q end (here, none) = (here, end)
+
+  -- each value that is passed has a word or more
+  passed_least : (cs : Arguments) → argument_count cs ≤ all_passed cs
+  passed_least NoArguments = omega arith
+  passed_least (MoreArguments (Convert from to a) cs) = omega (arith, passed_least cs, kind_positive to)
+
+  object_stands : (handle cells words d t p q : ℕ) → cells ≤ words → 1 ≤ words → words ≤ MOST_BLOCK_WORDS → p + length (object_code handle words d t) ≡ q → HasAt code p (object_code handle words d t)
+      → ObjectAt code b types handle cells words t d p q
+  object_stands handle cells words d t p q least some few end (ask, rest) =
       let stores = stores_code words (t + words) 0 t in
       let move = instructions.Move d (operands.Slot (t + words)) ∷ [] in
       let m = p + 1 + length stores in
       let (here, none) = has_back code (p + 1) stores move rest in
-      (m, refl, some, few, ask, stores_stand words (t + words) 0 t (p + 1) m refl (has_front code (p + 1) stores move rest), here, omega (arith, end, length-append stores move))
+      (m, least, some, few, ask, stores_stand words (t + words) 0 t (p + 1) m refl (has_front code (p + 1) stores move rest), here, omega (arith, end, length-append stores move))
 
   copy_by : (is : Bool) (words : ℕ) (o : Operand) (d p q : ℕ) → p + length (if is then [] else move_of words d o ∷ []) ≡ q → HasAt code p (if is then [] else move_of words d o ∷ []) → CopyBy code is words o d p q
   copy_by true words o d p q end has = omega (arith, end)
@@ -213,10 +222,17 @@ module _ (code : List Instruction) (b : Numbering) (types : Types) where
   address_stands o zero d p q end has = copy_by (is_in o d) 1 o d p q end has
   address_stands o (suc bytes) d p q end (here, none) = (here, end)
 
-  cell_single : (x : Dereference) → FitsCell b types x → words_of (type_of_place x) ≡ 1
-  cell_single (Target k a ty) (thin, single, numbered) = single
-  cell_single (Member k a s f ty) (thin, single, there, numbered) = single
-  cell_single x numbered = absurd numbered
+  loaded_stands : (narrow : Bool) (o : Operand) (bytes d p q : ℕ)
+      → p + length (if narrow then instructions.Load d o bytes ∷ [] else address_code o bytes d ++ (instructions.Load (d + 2) (operands.Slot d) 8 ∷ instructions.Load (d + 1) (operands.Slot d) 4 ∷ instructions.Load d (operands.Slot d) 0 ∷ [])) ≡ q
+      → HasAt code p (if narrow then instructions.Load d o bytes ∷ [] else address_code o bytes d ++ (instructions.Load (d + 2) (operands.Slot d) 8 ∷ instructions.Load (d + 1) (operands.Slot d) 4 ∷ instructions.Load d (operands.Slot d) 0 ∷ []))
+      → LoadedBy code narrow o bytes d p q
+  loaded_stands true o bytes d p q end (here, none) = (here, end)
+  loaded_stands false o bytes d p q end has =
+      let front = address_code o bytes d in
+      let back = instructions.Load (d + 2) (operands.Slot d) 8 ∷ instructions.Load (d + 1) (operands.Slot d) 4 ∷ instructions.Load d (operands.Slot d) 0 ∷ [] in
+      let r = p + length front in
+      let (first, (second, (third, none))) = has_back code p front back has in
+      (r, address_stands o bytes d p r refl (has_front code p front back has), first, second, third, omega (arith, cut p q front back end))
 
   words_kept : (from to : Kind) (a : Expression) → from ≡ given b.functions a → converts_there from to ≡ true → words_of_kind (given b.functions a) ≡ words_of_kind to
   words_kept from to a kind lands = ap words_of_kind (sym kind) ∙ as_wide from to lands
@@ -300,16 +316,22 @@ module _ (code : List Instruction) (b : Numbering) (types : Types) where
         (o, m, (p + length front, converted_operand_stands c t p (p + length front) numbered refl (has_front code p front _ has_both), few, single, here, cut p m front _ refl), copy_by (is_in o d) (passed_words c) o d m q (cut p q both back end) (has_back code p both back has))
     expression_stands (Load x) d t p q numbered end has =
         let front = place_code (starts_of types) x p t in
-        let r = p + length front in
-        let (here, none) = has_back code p front _ has in
-        (place_operand (starts_of types) x t, place_offset (starts_of types) x, r, place_stands x t p r numbered refl (has_front code p front _ has), cell_single x numbered, here, cut p q front _ end)
+        let o = place_operand (starts_of types) x t in
+        let back = loaded_code (words_of (type_of_place x)) o (place_offset (starts_of types) x) d in
+        let r = p + length front in (
+          o,
+          place_offset (starts_of types) x,
+          r,
+          place_stands x t p r numbered refl (has_front code p front back has),
+          loaded_stands (words_of (type_of_place x) == 1) o (place_offset (starts_of types) x) d r q (cut p q front back end) (has_back code p front back has),
+        )
     expression_stands (AddressOfCell x ty) d t p q numbered end has =
         let o = place_operand (starts_of types) x t in
         let front = place_code (starts_of types) x p t in
         let back = address_code o (place_offset (starts_of types) x) d in
         let r = p + length front in
         (o, place_offset (starts_of types) x, r, place_stands x t p r numbered refl (has_front code p front back has), address_stands o (place_offset (starts_of types) x) d r q (cut p q front back end) (has_back code p front back has))
-    expression_stands (Store x c ty) d t p q (place, single, numbered) end has =
+    expression_stands (Store x c ty) d t p q (place, numbered) end has =
         let a = place_operand (starts_of types) x t in
         let bytes = place_offset (starts_of types) x in
         let o = converted_operand (starts_of types) c (t + 1) in
@@ -320,14 +342,14 @@ module _ (code : List Instruction) (b : Numbering) (types : Types) where
         let s = p + length address in
         let value = converted_operand_code (starts_of types) c s (t + 1) in
         let u = s + length value in
-        let write = instructions.Store (operands.Slot t) 0 o ∷ [] in
+        let write = saved_code (passed_words c) t o in
         let both = address ++ (value ++ write) in
         let back = copy_code (passed_words c) o d in
         let m = p + length both in
         let has_both = has_front code p both back has in
         let has_address = has_front code p address (value ++ write) has_both in
         let has_value = has_back code p address (value ++ write) has_both in
-        let (here, none) = has_back code s value write has_value in (
+        (
           o,
           m,
           (
@@ -339,9 +361,7 @@ module _ (code : List Instruction) (b : Numbering) (types : Types) where
             place_stands x t p r place refl (has_front code p front bring has_address),
             address_stands a bytes t r s (cut p s front bring refl) (has_back code p front bring has_address),
             converted_operand_stands c (t + 1) s u numbered refl (has_front code s value write has_value),
-            single,
-            here,
-            cut s m value write (cut p m address (value ++ write) refl),
+            saved_stands (passed_words c) t o u m (cut s m value write (cut p m address (value ++ write) refl)) (has_back code s value write has_value),
           ),
           copy_by (is_in o d) (passed_words c) o d m q (cut p q both back end) (has_back code p both back has),
         )
@@ -352,7 +372,7 @@ module _ (code : List Instruction) (b : Numbering) (types : Types) where
 
     place_stands : (x : Dereference) (t p q : ℕ) → FitsCell b types x → p + length (place_code (starts_of types) x p t) ≡ q → HasAt code p (place_code (starts_of types) x p t)
         → PlaceAt code b types x (place_operand (starts_of types) x t) (place_offset (starts_of types) x) t p q
-    place_stands (Target k a ty) t p q (thin, single, numbered) end has =
+    place_stands (Target k a ty) t p q (thin, numbered) end has =
         let slot = value_slot (starts_of types) a t in
         let o = value_operand (starts_of types) a t in
         let inner = expression_code (starts_of types) a p slot t in
@@ -365,7 +385,7 @@ module _ (code : List Instruction) (b : Numbering) (types : Types) where
           check_stands null_exception o m q (cut p q front check end) (has_back code p front check has),
           refl,
         )
-    place_stands (Member k a s f ty) t p q (thin, single, there, numbered) end has =
+    place_stands (Member k a s f ty) t p q (thin, there, numbered) end has =
         let slot = value_slot (starts_of types) a t in
         let o = value_operand (starts_of types) a t in
         let inner = expression_code (starts_of types) a p slot t in
@@ -382,22 +402,22 @@ module _ (code : List Instruction) (b : Numbering) (types : Types) where
     place_stands x t p q numbered end has = absurd numbered
 
     made_stands : (i : Initial) (handle d t p q : ℕ) → FitsObject b types i → p + length (made_code (starts_of types) i handle p d t) ≡ q → HasAt code p (made_code (starts_of types) i handle p d t) → MadeAt code b types i handle d t p q
-    made_stands (Plain kind a) handle d t p q (single, kind_is, numbered) end has =
+    made_stands (Plain kind a) handle d t p q (kind_is, numbered) end has =
         let front = expression_code (starts_of types) a p t t in
-        let back = object_code handle 1 d t in
+        let back = object_code handle (words_of_kind kind) d t in
         let m = p + length front in (
           m,
           expression_stands a t t p m numbered refl (has_front code p front back has),
           ap words_of_kind (sym kind_is),
-          subst (λ n. ObjectAt code b types handle 1 n t d m q) (sym single) (object_stands handle 1 d t m q (omega arith) (omega arith) (cut p q front back end) (has_back code p front back has)),
+          object_stands handle 1 (words_of_kind kind) d t m q (kind_positive kind) (kind_positive kind) (omega (arith, kind_few kind)) (cut p q front back end) (has_back code p front back has),
         )
-    made_stands (Fields cs) handle d t p q (single, some, few, numbered) end has =
+    made_stands (Fields cs) handle d t p q (some, few, numbered) end has =
         let front = arguments_code (starts_of types) cs p t in
-        let back = object_code handle (argument_count cs) d t in
+        let back = object_code handle (all_passed cs) d t in
         let m = p + length front in (
           m,
           arguments_stand cs t p m numbered refl (has_front code p front back has),
-          subst (λ n. ObjectAt code b types handle (argument_count cs) n t d m q) single (object_stands handle (argument_count cs) d t m q some few (cut p q front back end) (has_back code p front back has)),
+          object_stands handle (argument_count cs) (all_passed cs) d t m q (passed_least cs) (omega (arith, some, passed_least cs)) few (cut p q front back end) (has_back code p front back has),
         )
     made_stands i handle d t p q numbered end has = absurd numbered
 
@@ -521,7 +541,7 @@ module _ (code : List Instruction) (b : Numbering) (types : Types) where
       let single : argument_count cs ≡ 1 = many ∙ ap (λ (x : Signature). length x.parameters) signature in
       (printed_operand (starts_of types) cs (operands.Slot t) t, p + length front, printed_stands cs (operands.Slot t) t p (p + length front) single numbered refl (has_front code p front _ has), write, cut p q front _ end)
   discarded_stands (Assign l c ty) t p q (few, numbered) end has = (assigned_operand (starts_of types) l c t, assignment_stands l c t p q few numbered end has)
-  discarded_stands (Store x c ty) t p q (place, single, numbered) end has =
+  discarded_stands (Store x c ty) t p q (place, numbered) end has =
       let a = place_operand (starts_of types) x t in
       let bytes = place_offset (starts_of types) x in
       let o = converted_operand (starts_of types) c (t + 1) in
@@ -532,10 +552,10 @@ module _ (code : List Instruction) (b : Numbering) (types : Types) where
       let s = p + length address in
       let value = converted_operand_code (starts_of types) c s (t + 1) in
       let u = s + length value in
-      let write = instructions.Store (operands.Slot t) 0 o ∷ [] in
+      let write = saved_code (passed_words c) t o in
       let has_address = has_front code p address (value ++ write) has in
       let has_value = has_back code p address (value ++ write) has in
-      let (here, none) = has_back code s value write has_value in (
+      (
         o,
         (
           a,
@@ -546,9 +566,7 @@ module _ (code : List Instruction) (b : Numbering) (types : Types) where
           place_stands x t p r place refl (has_front code p front bring has_address),
           address_stands a bytes t r s (cut p s front bring refl) (has_back code p front bring has_address),
           converted_operand_stands c (t + 1) s u numbered refl (has_front code s value write has_value),
-          single,
-          here,
-          cut s q value write (cut p q address (value ++ write) end),
+          saved_stands (passed_words c) t o u q (cut s q value write (cut p q address (value ++ write) end)) (has_back code s value write has_value),
         ),
       )
   discarded_stands a t p q numbered end has =

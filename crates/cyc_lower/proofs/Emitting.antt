@@ -29,7 +29,7 @@ use Rattle.cyc_types.specs.Numbered.{argument_count}
 use Rattle.cyc_store.specs.declared.range.TheConstants.{HEAP}
 use Rattle.cyc_types.specs.Types.{ValueType, Void, words_of}
 use Rattle.cyc_types.specs.TypeView.{view_ty, view_value_type}
-use Rattle.cyc_types.specs.TypedTrees.{Load, New, OnHeap, AsUnique, ByHandle, Initial, Plain, Fields, Array, Dereference, Target, Lvalue, Local, Global, Expression, Number, Copy, Call, Unary, Binary, Assign, Converted, Convert, Arguments, Operations, NoOperations, ThenCompute, ThenTest, Move, Peek, AddressOfCell, Store, Member, Element, NumberOfElements}
+use Rattle.cyc_types.specs.TypedTrees.{Load, New, OnHeap, AsUnique, ByHandle, Initial, Plain, Fields, Array, Dereference, Target, Lvalue, Local, Global, Expression, Number, Copy, Call, Unary, Binary, Assign, Converted, Convert, Arguments, Operations, NoOperations, ThenCompute, ThenTest, Move, Peek, AddressOfCell, Store, Member, Element, NumberOfElements, type_of_place}
 use Rattle.cyc_types.specs.TypedTreeView.{view_lvalue, view_initial, view_expression, view_converted, arguments_of, operations_of, view_dereference}
 use Rattle.cyc_types.specs.declared.typed.Kind.{Kind}
 use Rattle.cyc_types.specs.declared.typed.Kind.TheVariants as kinds
@@ -40,7 +40,7 @@ use Rattle.cyc_plain.specs.declared.instruction.Operand.TheVariants as operands
 use Rattle.cyc_plain.specs.declared.instruction.Instruction.{Instruction}
 use Rattle.cyc_plain.specs.declared.instruction.Instruction.TheVariants as instructions
 use Rattle.cyc_lower.specs.Slots.{slot_of, Starts}
-use Rattle.cyc_lower.specs.Lowering.{passed_words, all_passed, converts_there, source_of, source_slot, converted_by, moved_by, move_of, operand_of, operand_or, code_unless, left_with, left_of, slot_with, left_slot, low_byte, value_operand, next_slot, converted_operand, printed_operand, operator_code, load_code, compute_code, test_jump, truth_code, test_code, copy_code, expression_code, value_slot, arguments_code, converted_code, converted_operand_code, printed_code, initial_code, assignment_code, assigned_operand, operations_code, discarded_code, binary_operator, behind_left, pointer_instructions, stores_code, object_code, made_code, address_code, addressed_by, place_operand, place_offset, place_code, store_address_code, store_code, count_code, span_of}
+use Rattle.cyc_lower.specs.Lowering.{passed_words, all_passed, converts_there, source_of, source_slot, converted_by, moved_by, move_of, operand_of, operand_or, code_unless, left_with, left_of, slot_with, left_slot, low_byte, value_operand, next_slot, converted_operand, printed_operand, operator_code, load_code, compute_code, test_jump, truth_code, test_code, copy_code, expression_code, value_slot, arguments_code, converted_code, converted_operand_code, printed_code, initial_code, assignment_code, assigned_operand, operations_code, discarded_code, binary_operator, behind_left, pointer_instructions, stores_code, object_code, made_code, address_code, addressed_by, place_operand, place_offset, place_code, store_address_code, store_code, count_code, span_of, saved_code, loaded_code}
 use Rattle.cyc_lower.specs.Emission.{most_locals, value_code, print_code, left_code, takes_operand, HasRoom, operation_code}
 
 behind : (xs ys : List Instruction) → 0 < length ys → 0 < length (xs ++ ys)
@@ -48,6 +48,11 @@ behind xs ys some = omega (arith, length-append xs ys)
 
 before : (xs ys : List Instruction) → 0 < length xs → 0 < length (xs ++ ys)
 before xs ys some = omega (arith, length-append xs ys)
+
+loaded_some : (narrow : Bool) (o : Operand) (bytes d : ℕ)
+    → 0 < length (if narrow then instructions.Load d o bytes ∷ [] else address_code o bytes d ++ (instructions.Load (d + 2) (operands.Slot d) 8 ∷ instructions.Load (d + 1) (operands.Slot d) 4 ∷ instructions.Load d (operands.Slot d) 0 ∷ []))
+loaded_some true o bytes d = omega arith
+loaded_some false o bytes d = behind (address_code o bytes d) _ (omega arith)
 
 counted_some : (o : Operand) (p d : ℕ) → 0 < length (count_code o p d)
 counted_some (operands.Slot n) p d = omega arith
@@ -263,7 +268,7 @@ module _ (starts : Starts) where
     expression_some (Assign (Local w n) c ty) p d t = before (initial_code starts c p (slot_of starts n) t) _ (initial_some c p (slot_of starts n) t)
     expression_some (Assign (Global n) c ty) p d t =
         before (converted_operand_code starts c p t ++ _) (copy_code (passed_words c) (converted_operand starts c t) d) (behind (converted_operand_code starts c p t) _ (omega arith))
-    expression_some (Load x) p d t = behind (place_code starts x p t) _ (omega arith)
+    expression_some (Load x) p d t = behind (place_code starts x p t) _ (loaded_some (words_of (type_of_place x) == 1) (place_operand starts x t) (place_offset starts x) d)
     expression_some (AddressOfCell x ty) p d t = before (place_code starts x p t) _ (place_some x p t)
     expression_some (Store x c ty) p d t = before (store_code starts x c p t) _ (before (store_address_code starts x p t) _ (before (place_code starts x p t) _ (place_some x p t)))
     expression_some (New OnHeap i ty) p d t = made_some i HEAP p d t
@@ -559,15 +564,15 @@ module _ (starts : Starts) where
   -- the address, and behind it what is stored there
   made_store : (x : Dereference) (c : Converted) (old m1 m2 : List Instruction) (t : ℕ)
       → m1 ≡ old ++ addressed_by (place_code starts x (length old) t) (place_operand starts x t) (place_offset starts x) t
-      → m2 ≡ m1 ++ (converted_operand_code starts c (length m1) (t + 1) ++ instructions.Store (operands.Slot t) 0 (converted_operand starts c (t + 1)) ∷ []) → m2 ≡ old ++ store_code starts x c (length old) t
+      → m2 ≡ m1 ++ (converted_operand_code starts c (length m1) (t + 1) ++ saved_code (passed_words c) t (converted_operand starts c (t + 1))) → m2 ≡ old ++ store_code starts x c (length old) t
   made_store x c old m1 m2 t e1 e2 =
-      joined old (store_address_code starts x (length old) t) (λ p. converted_operand_code starts c p (t + 1) ++ instructions.Store (operands.Slot t) 0 (converted_operand starts c (t + 1)) ∷ []) m1 m2 e1 e2
+      joined old (store_address_code starts x (length old) t) (λ p. converted_operand_code starts c p (t + 1) ++ saved_code (passed_words c) t (converted_operand starts c (t + 1))) m1 m2 e1 e2
 
   -- a value that is stored in a cell comes to a slot then
   pub made_stored : (value : Expr) (b : Box DereferenceCode Heap) (b' : Box ConvertedCode Heap) (ty : ValueTypeCode) → value ≡ expr.Store b b' ty → (x : DereferenceCode) → x ≡ b.value → (y : ConvertedCode) → y ≡ b'.value
       → (old m1 m2 m3 : List Instruction) (o : Operand) (d t : ℕ) → o ≡ converted_operand starts (view_converted y) (t + 1)
       → m1 ≡ old ++ addressed_by (place_code starts (view_dereference x) (length old) t) (place_operand starts (view_dereference x) t) (place_offset starts (view_dereference x)) t
-      → m2 ≡ m1 ++ (converted_operand_code starts (view_converted y) (length m1) (t + 1) ++ instructions.Store (operands.Slot t) 0 (converted_operand starts (view_converted y) (t + 1)) ∷ [])
+      → m2 ≡ m1 ++ (converted_operand_code starts (view_converted y) (length m1) (t + 1) ++ saved_code (words_of_kind y.to) t (converted_operand starts (view_converted y) (t + 1)))
       → m3 ≡ m2 ++ copy_code (words_of_kind y.to) o d → m3 ≡ old ++ expression_code starts (view_expression value) (length old) d t
   made_stored value b b' ty is x x_at y y_at old m1 m2 m3 o d t o_is e1 e2 e3 =
       let front = store_code starts (view_dereference x) (view_converted y) (length old) t in
@@ -579,7 +584,7 @@ module _ (starts : Starts) where
   pub made_stored_only : (value : Expr) (b : Box DereferenceCode Heap) (b' : Box ConvertedCode Heap) (ty : ValueTypeCode) → value ≡ expr.Store b b' ty → (x : DereferenceCode) → x ≡ b.value → (y : ConvertedCode) → y ≡ b'.value
       → (old m1 m2 : List Instruction) (t : ℕ)
       → m1 ≡ old ++ addressed_by (place_code starts (view_dereference x) (length old) t) (place_operand starts (view_dereference x) t) (place_offset starts (view_dereference x)) t
-      → m2 ≡ m1 ++ (converted_operand_code starts (view_converted y) (length m1) (t + 1) ++ instructions.Store (operands.Slot t) 0 (converted_operand starts (view_converted y) (t + 1)) ∷ [])
+      → m2 ≡ m1 ++ (converted_operand_code starts (view_converted y) (length m1) (t + 1) ++ saved_code (words_of_kind y.to) t (converted_operand starts (view_converted y) (t + 1)))
       → m2 ≡ old ++ discarded_code starts (view_expression value) (length old) t
   made_stored_only value b b' ty is x x_at y y_at old m1 m2 t e1 e2 =
       made_store (view_dereference x) (view_converted y) old m1 m2 t e1 e2

@@ -36,7 +36,7 @@ use Rattle.cyc_lower.proofs.Widths.{kind_positive, type_words, HasRoom, Outside}
 use Rattle.cyc_lower.proofs.Moves.{moved_slots, moves, put_elsewhere, moved_elsewhere, moved_is}
 use Rattle.cyc_lower.specs.Lowering.{failing_comparison, operand_of, value_slot, source_of, source_slot, are_as_wide, converts_there, all_passed, move_of, left_with, slot_with, compared_or, compared_of, lower_program, null_of}
 use Rattle.cyc_lower.proofs.Weights.{weight, stack_weight, expression_weight, arguments_weight}
-use Rattle.cyc_lower.proofs.Stands.{CopyBy, CopyAt, OperandBy, InitialBy, ExpressionAt, ArgumentsAt, ObjectAt, ValueAt, PairAt, ConditionAt, AssignmentAt, PrintedAt, DiscardedAt, StoredAt, CountAt}
+use Rattle.cyc_lower.proofs.Stands.{CopyBy, CopyAt, OperandBy, InitialBy, ExpressionAt, ArgumentsAt, ObjectAt, ValueAt, PairAt, ConditionAt, AssignmentAt, PrintedAt, DiscardedAt, StoredAt, CountAt, LoadedAt}
 use Rattle.cyc_objects.specs.Tables.{Tables}
 use Rattle.cyc_objects.specs.Words.{Is}
 use Rattle.cyc_lower.proofs.Relation.{IsIn, types_at, starts_at, given_at, called_at, words_held, height, Holds, held, contents, callers, in_temporary, in_local, drops, leaves, copies, prints_only, gives_byte, DataIn, SharedAt, CallAt, to_slot, to_jump, ValueStack, PlaceStack, ConditionStack, DroppedStack, AheadStack, LandsStack, HandsOnStack, PrintsStack, RightAt, EvaluatingAt, as_operand, into_slot, for_effect, as_right, as_condition, in_operand, ahead, with_left, Related, Matches, code_of, bounds_in, bounds_at, base_of, top}
@@ -297,9 +297,9 @@ module _ (source : Program) (pages calls : ℕ) where
       → At_step (typed.Store x (Convert from to a) t) k e w c
       → StoredAt (code_of source c.active.function) (bounds_at source c.active.function) (types_at source c.active.function) x (Convert from to a) (top source c.active.function k) o c.active.next m
       → HandsOnStack source c.active.function e.locals to o m c.frames k → IsBegun (typed.Store x (Convert from to a) t) k e w c
-  cell_begins x from to a t k e w c o m (well, shared, facts, holds) (b, offset, r, s, u, at, address, at_a, single, store, end) hands =
+  cell_begins x from to a t k e w c o m (well, shared, facts, holds) (b, offset, r, s, u, at, address, at_a, store) hands =
       silently source pages calls (Running (Evaluating (typed.Store x (Convert from to a) t)) k e w) (Running (Locating x) (NeedsPlace (StoreTo (peeked x) (Convert from to a)) ∷ k) e w) (plain.Running c) refl
-      (shared, facts, (b, offset, r, at, holds, (o, s, u, address, at_a, store, single, subst (λ q. HandsOnStack source c.active.function e.locals to o q c.frames k) (sym end) hands)))
+      (shared, facts, (b, offset, r, at, holds, (o, s, u, m, address, at_a, store, hands)))
       (omega arith)
 
   -- a byte is printed
@@ -398,10 +398,11 @@ module _ (source : Program) (pages calls : ℕ) where
       chain_begins None a (ThenPointerPeek n o b os) t k e w c l m known at_a (to_slot (d, q, at, lands))
   comes (Assign (Local p n) (Convert from to a) t) k e w c d q known (o, m, at, copy) lands = assigns (Local p n) from to a t k e w c (object_of e (Local p n)) o m refl known at (copies d q copy lands)
   comes (Assign (Global n) (Convert from to a) t) k e w c d q known (o, m, at, copy) lands = assigns (Global n) from to a t k e w c (object_of e (Global n)) o m refl known at (copies d q copy lands)
-  comes (typed.Load x) k e w c d q (well, shared, facts, holds) (o, offset, r, at, single, load, end) lands =
+  comes (typed.Load x) k e w c d q (well, shared, facts, holds) (o, offset, r, at, load) lands =
+      let g = c.active.function in
       let kind = kind_of (type_of_place x) in
       silently source pages calls (Running (Evaluating (typed.Load x)) k e w) (Running (Locating x) (NeedsPlace (LoadFrom kind) ∷ k) e w) (plain.Running c) refl
-      (shared, facts, (o, offset, r, at, holds, (d, load, type_words (type_of_place x) ∙ single, lands_at c.active.function e.locals kind d (r + 1) q c.frames k end lands)))
+      (shared, facts, (o, offset, r, at, holds, (d, q, subst (λ n. LoadedAt (code_of source g) n o offset d r q) (sym (type_words (type_of_place x))) load, lands)))
       (omega arith)
   comes (typed.AddressOfCell x t) k e w c d q (well, shared, facts, holds) (o, offset, r, at, address) lands =
       silently source pages calls (Running (Evaluating (typed.AddressOfCell x t)) k e w) (Running (Locating x) (NeedsPlace TakeAddress ∷ k) e w) (plain.Running c) refl

@@ -61,18 +61,18 @@ module _ (b : Numbering) (types : Types) where
     Fits (Load x) = FitsCell x
     Fits (New OnHeap i t) = FitsObject i
     Fits (AddressOfCell x t) = FitsCell x
-    Fits (Store x c t) = FitsCell x × (words_of_kind (passed_kind c) ≡ 1) × FitsConverted c
+    Fits (Store x c t) = FitsCell x × FitsConverted c
     Fits a = ⊥
 
     pub FitsCell : Dereference → Type 0
-    FitsCell (Target k a t) = (is_thin k ≡ true) × (words_of t ≡ 1) × Fits a
-    FitsCell (Member k a s f t) = (is_thin k ≡ true) × (words_of t ≡ 1) × HasField types s f × Fits a
+    FitsCell (Target k a t) = (is_thin k ≡ true) × Fits a
+    FitsCell (Member k a s f t) = (is_thin k ≡ true) × HasField types s f × Fits a
     FitsCell x = ⊥
 
     -- what a new object holds
     pub FitsObject : Initial → Type 0
-    FitsObject (Plain kind a) = (words_of_kind kind ≡ 1) × (kind ≡ given b.functions a) × Fits a
-    FitsObject (Fields cs) = (argument_count cs ≡ all_passed cs) × (1 ≤ argument_count cs) × (argument_count cs ≤ MOST_BLOCK_WORDS) × FitArguments cs
+    FitsObject (Plain kind a) = (kind ≡ given b.functions a) × Fits a
+    FitsObject (Fields cs) = (1 ≤ argument_count cs) × (all_passed cs ≤ MOST_BLOCK_WORDS) × FitArguments cs
     FitsObject i = ⊥
 
     pub FitsConverted : Converted → Type 0
@@ -321,11 +321,6 @@ module _ (b : Numbering) (types : Types) where
   stored_given : (x : Dereference) (d : Converted) (u : ValueType) (t : Ty) (v : ValueType) → passed_kind d ≡ kind_of t → v ≡ (if tests.is_moved t then Void else Value t) → IsGiven (given b.functions (Store x d u)) v
   stored_given x (Convert from to a) u t v kind is = assigned_given (Global 0) (Convert from to a) u t v kind is
 
-  cell_single : (x : Dereference) → IsLowerableCell b x → words_of (type_of_place x) ≡ 1
-  cell_single (Target k a t) (thin, single, numbered) = single
-  cell_single (Member k a s f t) (thin, single, numbered) = single
-  cell_single x numbered = absurd numbered
-
   passed_is : (d : Converted) → passed_words d ≡ words_of_kind (passed_kind d)
   passed_is (Convert from to a) = refl
 
@@ -384,27 +379,25 @@ module _ (b : Numbering) (types : Types) where
     fits (Store x d u) c v suits (place, numbered) (t, r, cell, converted, u_is, is) =
         let (same, fits_place) = fits_cell x c t r suits place cell in
         let (kind, fitting) = fits_converted d c t suits numbered converted in
-        let single = ap words_of_kind kind ∙ type_words t ∙ ap words_of same ∙ cell_single x place in
-        (stored_given x d u t v kind (is ∙ u_is), (fits_place, single, fitting))
-    fits (New OnHeap (Plain kind a) t) c v suits (single, numbered) (mark, u, r, place, (well, unlocked, kind_is, mark_is), t_is, is) =
+        (stored_given x d u t v kind (is ∙ u_is), (fits_place, fitting))
+    fits (New OnHeap (Plain kind a) t) c v suits numbered (mark, u, r, place, (well, unlocked, kind_is, mark_is), t_is, is) =
         let (given_is, fitting) = fits a c (Value u) suits numbered well in
-        (pointer_given mark u r t v mark_is t_is is, (single, kind_is ∙ sym (kinds_same u) ∙ sym given_is, fitting))
-    fits (New OnHeap (Fields cs) t) c v suits (single, some, few, numbered) (mark, u, r, place, (n, rs, s, there, many, passed, u_is, mark_is), t_is, is) =
-        (pointer_given mark u r t v mark_is t_is is, (single, some, few, (fit_arguments cs c (map (substituted_ty rs) s.fields) suits numbered passed).1))
+        (pointer_given mark u r t v mark_is t_is is, (kind_is ∙ sym (kinds_same u) ∙ sym given_is, fitting))
+    fits (New OnHeap (Fields cs) t) c v suits (some, few, numbered) (mark, u, r, place, (n, rs, s, there, many, passed, u_is, mark_is), t_is, is) =
+        (pointer_given mark u r t v mark_is t_is is, (some, few, (fit_arguments cs c (map (substituted_ty rs) s.fields) suits numbered passed).1))
     fits (New OnHeap (Array p level n kind a) t) c v suits numbered well = absurd numbered
     fits (New AsUnique i t) c v suits numbered well = absurd numbered
     fits (New (ByHandle h) i t) c v suits numbered well = absurd numbered
     fits a c v suits numbered well = absurd numbered
 
     fits_cell : (x : Dereference) (c : Context) (t : Ty) (r : Region) → Suits c → IsLowerableCell b x → IsCell c x t r → (t ≡ type_of_place x) × FitsCell b types x
-    fits_cell (Target k a u) c t r suits (thin, single, numbered) (m, well, live, kind, same) =
-        (same, (thin, single, (looked_fits a c (Value (type_forms.Pointer m u r)) suits numbered (λ h. fits a c (Value (type_forms.Pointer m u r)) suits numbered h) well).1))
-    fits_cell (Member k a s f u) c t r suits (thin, single, numbered) (m, rs, st, w, well, mark, live, kind, there, field, is_u, same) =
+    fits_cell (Target k a u) c t r suits (thin, numbered) (m, well, live, kind, same) =
+        (same, (thin, (looked_fits a c (Value (type_forms.Pointer m u r)) suits numbered (λ h. fits a c (Value (type_forms.Pointer m u r)) suits numbered h) well).1))
+    fits_cell (Member k a s f u) c t r suits (thin, numbered) (m, rs, st, w, well, mark, live, kind, there, field, is_u, same) =
         let pointer = Value (type_forms.Pointer m (type_forms.Struct s rs) r) in (
           same,
           (
             thin,
-            single,
             (st, ap (λ (ss : List StructType). slice_get ss s) (sym suits.structs) ∙ there, below_of_get st.fields f w field),
             (looked_fits a c pointer suits numbered (λ h. fits a c pointer suits numbered h) well).1,
           ),

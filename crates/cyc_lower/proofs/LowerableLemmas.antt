@@ -150,20 +150,20 @@ module _ (b : Numbering) where
     cell_lowerable c k (Target l a u) t r i (m, seen, live, mark, eq) =
         let (pointer, more) = and_parts (is_built_expression a) (is_built_kind l && is_built_type u) i in
         let (kind, of_type) = and_parts (is_built_kind l) (is_built_type u) more in
-        (thin_kind l m mark kind, single_type u of_type, lowerable c k a (Value (Pointer m u r)) pointer (seen_well c a _ pointer seen))
+        (thin_kind l m mark kind, lowerable c k a (Value (Pointer m u r)) pointer (seen_well c a _ pointer seen))
     cell_lowerable c k (Member l a n f u) t r i (m, rs, s, v, seen, thin, live, mark, struct, field, is, eq) =
         let (pointer, more) = and_parts (is_built_expression a) (is_built_kind l && is_built_type u) i in
         let (kind, of_type) = and_parts (is_built_kind l) (is_built_type u) more in
-        (thin_kind l m mark kind, single_type u of_type, lowerable c k a (Value (Pointer m (Struct n rs) r)) pointer (seen_well c a _ pointer seen))
+        (thin_kind l m mark kind, lowerable c k a (Value (Pointer m (Struct n rs) r)) pointer (seen_well c a _ pointer seen))
     cell_lowerable c k d t r i w = absurd (cc)
 
     made_lowerable : (c : Context) → Agrees b c → (m : Initial) (l : PointerKind) (t : Ty) → is_built_initial m ≡ true → IsMade c m l t → IsLowerableObject b m
     made_lowerable c k (Plain l a) m t i (w, key, kind, mark) =
-        let (value, of_kind) = and_parts (is_built_expression a) (is_built_kind l) i in (single_kind l of_kind, lowerable c k a (Value t) value w)
+        let (value, of_kind) = and_parts (is_built_expression a) (is_built_kind l) i in lowerable c k a (Value t) value w
     made_lowerable c k (Fields ds) m t i (n, rs, s, struct, long, passed, is, mark) =
         let (size, values) = and_parts (is_built_size (argument_count ds)) (are_built_arguments ds) i in
         let (some, few) = and_parts (nat_le 1 (argument_count ds)) (nat_le (argument_count ds) 1000) size in
-        (all_single ds values, leb-true 1 (argument_count ds) some, leb-true (argument_count ds) 1000 few, (passed_lowerable c k (map (substituted_ty rs) s.fields) ds values passed).1)
+        (leb-true 1 (argument_count ds) some, omega (arith, leb-true (argument_count ds) 1000 few, all_single ds values), (passed_lowerable c k (map (substituted_ty rs) s.fields) ds values passed).1)
     made_lowerable c k n m t i w = absurd (cc)
 
     converted_lowerable : (c : Context) → Agrees b c → (d : Converted) (t : Ty) → is_built_converted d ≡ true → IsConverted c d t → IsLowerableConverted b d

@@ -87,8 +87,8 @@ module _ (source : Program) where
     value_depth g locals kind o p frames (Needs (Store place) ∷ k) (l, to, q, at, is, hands) =
         by_hands hands (λ stack. dropped_depth g q frames k stack) (λ stack. value_depth g locals kind to q frames k stack)
         (λ d r lands. by_lands lands (λ stack. value_depth g locals kind (operands.Slot d) r frames k stack) (λ stack. ahead_depth g locals kind d r frames k stack))
-    value_depth g locals kind o p frames (Needs (StoreCell peek place) ∷ k) (at, single, hands) =
-        by_hands hands (λ stack. dropped_depth g (p + 1) frames k stack) (λ stack. value_depth g locals kind o (p + 1) frames k stack)
+    value_depth g locals kind o p frames (Needs (StoreCell peek place) ∷ k) (q, at, hands) =
+        by_hands hands (λ stack. dropped_depth g q frames k stack) (λ stack. value_depth g locals kind o q frames k stack)
         (λ d r lands. by_lands lands (λ stack. value_depth g locals kind (operands.Slot d) r frames k stack) (λ stack. ahead_depth g locals kind d r frames k stack))
     value_depth g locals kind o p frames (Needs (Pass callees.Putchar before cs) ∷ k) (none, single, at, prints) =
         by_prints prints (λ stack. dropped_depth g (p + 1) frames k stack)
@@ -111,12 +111,12 @@ module _ (source : Program) where
     value_depth g locals kind o p frames (entry ∷ k) stack = absurd stack
 
     pub place_depth : (g : ℕ) (locals : ℕ → Option ℕ) (o : Operand) (c p : ℕ) (frames : List Frame) (k : List Entry) → PlaceStack source g locals o c p frames k → HasDepth frames k
-    place_depth g locals o c p frames (NeedsPlace (LoadFrom cell) ∷ k) (d, at, single, lands) =
-        by_lands lands (λ stack. value_depth g locals cell (operands.Slot d) (p + 1) frames k stack) (λ stack. ahead_depth g locals cell d (p + 1) frames k stack)
+    place_depth g locals o c p frames (NeedsPlace (LoadFrom cell) ∷ k) (d, q, at, lands) =
+        by_lands lands (λ stack. value_depth g locals cell (operands.Slot d) q frames k stack) (λ stack. ahead_depth g locals cell d q frames k stack)
     place_depth g locals o c p frames (NeedsPlace TakeAddress ∷ k) (d, q, at, lands) =
         by_lands lands (λ stack. value_depth g locals kinds.NonNull (operands.Slot d) q frames k stack) (λ stack. ahead_depth g locals kinds.NonNull d q frames k stack)
-    place_depth g locals o c p frames (NeedsPlace (StoreTo peek (Convert from to a)) ∷ k) (x, s, u, at, at_a, store, single, hands) =
-        by_hands hands (λ stack. dropped_depth g (u + 1) frames k stack) (λ stack. value_depth g locals to x (u + 1) frames k stack)
+    place_depth g locals o c p frames (NeedsPlace (StoreTo peek (Convert from to a)) ∷ k) (x, s, u, q, at, at_a, store, hands) =
+        by_hands hands (λ stack. dropped_depth g q frames k stack) (λ stack. value_depth g locals to x q frames k stack)
         (λ d r lands. by_lands lands (λ stack. value_depth g locals to (operands.Slot d) r frames k stack) (λ stack. ahead_depth g locals to d r frames k stack))
     place_depth g locals o c p frames k place = absurd place
 
@@ -176,8 +176,8 @@ module _ (source : Program) where
     value_plain g locals kind o p frames (Needs (Store place) ∷ k) (l, to, q, at, is, hands) =
         by_hands hands (λ stack. dropped_plain g q frames k stack) (λ stack. value_plain g locals kind to q frames k stack)
         (λ d r lands. by_lands lands (λ stack. value_plain g locals kind (operands.Slot d) r frames k stack) (λ stack. ahead_plain g locals kind d r frames k stack))
-    value_plain g locals kind o p frames (Needs (StoreCell peek place) ∷ k) (at, single, hands) =
-        by_hands hands (λ stack. dropped_plain g (p + 1) frames k stack) (λ stack. value_plain g locals kind o (p + 1) frames k stack)
+    value_plain g locals kind o p frames (Needs (StoreCell peek place) ∷ k) (q, at, hands) =
+        by_hands hands (λ stack. dropped_plain g q frames k stack) (λ stack. value_plain g locals kind o q frames k stack)
         (λ d r lands. by_lands lands (λ stack. value_plain g locals kind (operands.Slot d) r frames k stack) (λ stack. ahead_plain g locals kind d r frames k stack))
     value_plain g locals kind o p frames (Needs (Pass callees.Putchar before cs) ∷ k) (none, single, at, prints) =
         by_prints prints (λ stack. dropped_plain g (p + 1) frames k stack)
@@ -200,12 +200,12 @@ module _ (source : Program) where
     value_plain g locals kind o p frames (entry ∷ k) stack = absurd stack
 
     pub place_plain : (g : ℕ) (locals : ℕ → Option ℕ) (o : Operand) (c p : ℕ) (frames : List Frame) (k : List Entry) → PlaceStack source g locals o c p frames k → IsPlainStack k
-    place_plain g locals o c p frames (NeedsPlace (LoadFrom cell) ∷ k) (d, at, single, lands) =
-        by_lands lands (λ stack. value_plain g locals cell (operands.Slot d) (p + 1) frames k stack) (λ stack. ahead_plain g locals cell d (p + 1) frames k stack)
+    place_plain g locals o c p frames (NeedsPlace (LoadFrom cell) ∷ k) (d, q, at, lands) =
+        by_lands lands (λ stack. value_plain g locals cell (operands.Slot d) q frames k stack) (λ stack. ahead_plain g locals cell d q frames k stack)
     place_plain g locals o c p frames (NeedsPlace TakeAddress ∷ k) (d, q, at, lands) =
         by_lands lands (λ stack. value_plain g locals kinds.NonNull (operands.Slot d) q frames k stack) (λ stack. ahead_plain g locals kinds.NonNull d q frames k stack)
-    place_plain g locals o c p frames (NeedsPlace (StoreTo peek (Convert from to a)) ∷ k) (x, s, u, at, at_a, store, single, hands) =
-        by_hands hands (λ stack. dropped_plain g (u + 1) frames k stack) (λ stack. value_plain g locals to x (u + 1) frames k stack)
+    place_plain g locals o c p frames (NeedsPlace (StoreTo peek (Convert from to a)) ∷ k) (x, s, u, q, at, at_a, store, hands) =
+        by_hands hands (λ stack. dropped_plain g q frames k stack) (λ stack. value_plain g locals to x q frames k stack)
         (λ d r lands. by_lands lands (λ stack. value_plain g locals to (operands.Slot d) r frames k stack) (λ stack. ahead_plain g locals to d r frames k stack))
     place_plain g locals o c p frames k place = absurd place
 

@@ -1,4 +1,5 @@
--- The size of a function's code is at most three for each token that its spelling needs.
+-- The size of a function's code is bounded by the tokens that its spelling needs. A value through a fat pointer to fat pointers is one token,
+-- and takes some eighty words.
 use Rattle.std.proofs.Common.{◌≡◌, ℕ, zero, suc, ◌+◌, ◌*◌, ◌≤◌, Bool, true, false, List, [], ◌∷◌, ◌++◌, length, Option, None, Some, max, refl, arith}
 use Rattle.std.specs.Prelude.{◌==◌, sum_by, if◌then◌else◌}
 use Rattle.std.proofs.lemmas.List.Sums.{sum_by-append, sum_by-cons}
@@ -12,7 +13,7 @@ use Rattle.cyc_types.specs.declared.typed.PointerOperator.{PointerOperator}
 use Rattle.cyc_types.specs.declared.typed.PointerOperator.TheVariants as pointers
 use Rattle.cyc_types.specs.declared.typed.LogicalOperator.{LogicalOperator}
 use Rattle.cyc_types.specs.declared.typed.LogicalOperator.TheVariants as logical
-use Rattle.cyc_types.specs.TypedTrees.{Load, New, OnHeap, AsUnique, ByHandle, Initial, Plain, Fields, Array, Dereference, Target, Member, Element, Lvalue, Local, Global, Expression, Number, Copy, Call, Unary, Binary, Assign, Converted, Convert, Arguments, NoArguments, MoreArguments, Operations, NoOperations, ThenCompute, ThenTest, ThenPointer, ThenPointerPeek, Statement, Block, Empty, Evaluate, If, While, Return, Break, Continue, Items, NoItems, MoreItems, Execute, Declare, StructType, Function, Move, Peek, AddressOfCell, Store, NumberOfElements}
+use Rattle.cyc_types.specs.TypedTrees.{Load, New, OnHeap, AsUnique, ByHandle, Initial, Plain, Fields, Array, Dereference, Target, Member, Element, Lvalue, Local, Global, Expression, Number, Copy, Call, Unary, Binary, Assign, Converted, Convert, Arguments, NoArguments, MoreArguments, Operations, NoOperations, ThenCompute, ThenTest, ThenPointer, ThenPointerPeek, Statement, Block, Empty, Evaluate, If, While, Return, Break, Continue, Items, NoItems, MoreItems, Execute, Declare, StructType, Function, Move, Peek, AddressOfCell, Store, NumberOfElements, type_of_place}
 use Rattle.cyc_types.specs.Types.{Ty, words_of}
 use Rattle.cyc_types.specs.Numbered.{argument_count}
 use Rattle.cyc_types.proofs.WeightLemmas.{some_token}
@@ -30,7 +31,7 @@ use Rattle.cyc_store.specs.declared.range.TheConstants.{HEAP}
 use Rattle.cyc_meaning.specs.Values.{kind_of, words_of_kind}
 use Rattle.cyc_meaning.specs.Operators.{null_exception}
 use Rattle.cyc_lower.proofs.Widths.{kind_few, type_words}
-use Rattle.cyc_lower.specs.Lowering.{types_of, converts_there, passed_words, all_passed, source_of, source_slot, converted_by, moved_by, move_of, unary_operator, binary_operator, operand_of, operand_or, code_unless, slot_or, code_unless_slot, left_of, value_slot, next_slot, left_slot, value_operand, converted_operand, printed_operand, conversion_code, divisor_code, checked_code, operator_code, truth_code, load_code, low_byte, test_code, is_in, copy_code, expression_code, arguments_code, converted_code, converted_operand_code, printed_code, initial_code, assignment_code, operations_code, discarded_code, failing_comparison, compared_or, left_with, slot_with, first_code, second_code, pair_code, condition_code, condition_of, failing_jump, break_target, continue_target, return_code, declaration_code, statement_code, items_code, first_temporary, jump_if_zero, jump_if_nonzero, lower_function, behind_left, pointer_code, outside_loops, inside_loop, pointer_operator, index_of, first_two, pointer_instructions, stores_code, object_code, made_code, place_operand, place_offset, place_code, address_code, store_address_code, store_code, count_code, span_of, tested_code, widened_code, conversion_by, tested_by, check_code, are_as_wide}
+use Rattle.cyc_lower.specs.Lowering.{types_of, converts_there, passed_words, all_passed, source_of, source_slot, converted_by, moved_by, move_of, unary_operator, binary_operator, operand_of, operand_or, code_unless, slot_or, code_unless_slot, left_of, value_slot, next_slot, left_slot, value_operand, converted_operand, printed_operand, conversion_code, divisor_code, checked_code, operator_code, truth_code, load_code, low_byte, test_code, is_in, copy_code, expression_code, arguments_code, converted_code, converted_operand_code, printed_code, initial_code, assignment_code, operations_code, discarded_code, failing_comparison, compared_or, left_with, slot_with, first_code, second_code, pair_code, condition_code, condition_of, failing_jump, break_target, continue_target, return_code, declaration_code, statement_code, items_code, first_temporary, jump_if_zero, jump_if_nonzero, lower_function, behind_left, pointer_code, outside_loops, inside_loop, pointer_operator, index_of, first_two, pointer_instructions, stores_code, object_code, made_code, place_operand, place_offset, place_code, address_code, store_address_code, store_code, count_code, span_of, tested_code, widened_code, conversion_by, tested_by, check_code, are_as_wide, saved_code, loaded_code}
 use Rattle.cyc_lower.specs.Lowered.{size_per_weight}
 
 abbrev code_size : List Instruction → ℕ
@@ -172,6 +173,16 @@ stores_size zero address offset slot = refl
 stores_size (suc many) address offset slot =
     omega (arith, cons (instructions.Store (operands.Slot address) offset (operands.Slot slot)) (stores_code many address (offset + 4) (suc slot)), stores_size many address (offset + 4) (suc slot))
 
+saved_size : (words address : ℕ) (o : Operand) → words ≤ 3 → code_size (saved_code words address o) ≤ 30
+saved_size words address (operands.Slot n) few = omega (arith, stores_size words address 0 n, few)
+saved_size words address (operands.Word n) few = omega arith
+
+loaded_size : (narrow : Bool) (o : Operand) (bytes d : ℕ)
+    → code_size (if narrow then instructions.Load d o bytes ∷ [] else address_code o bytes d ++ (instructions.Load (d + 2) (operands.Slot d) 8 ∷ instructions.Load (d + 1) (operands.Slot d) 4 ∷ instructions.Load d (operands.Slot d) 0 ∷ [])) ≤ 50
+loaded_size true o bytes d = omega arith
+loaded_size false o bytes d =
+    omega (arith, both (address_code o bytes d) (instructions.Load (d + 2) (operands.Slot d) 8 ∷ instructions.Load (d + 1) (operands.Slot d) 4 ∷ instructions.Load d (operands.Slot d) 0 ∷ []), address_size o bytes d)
+
 object_size : (handle words d t : ℕ) → code_size (object_code handle words d t) ≡ 17 + 10 * words
 object_size handle words d t =
     let move = instructions.Move d (operands.Slot (t + words)) ∷ [] in
@@ -240,7 +251,9 @@ module _ (starts : Starts) where
         let store = instructions.StoreGlobal n o ∷ [] in
         omega (arith, both (front ++ store) (copy_code (passed_words c) o d), both front store, converted_operand_size c p t, copy_size c o d)
     expression_size (Load x) p d t =
-        omega (arith, both (place_code starts x p t) (instructions.Load d (place_operand starts x t) (place_offset starts x) ∷ []), place_size x p t)
+        let o = place_operand starts x t in
+        let words = words_of (type_of_place x) in
+        omega (arith, both (place_code starts x p t) (loaded_code words o (place_offset starts x) d), place_size x p t, loaded_size (words == 1) o (place_offset starts x) d)
     expression_size (AddressOfCell x ty) p d t =
         let address = address_code (place_operand starts x t) (place_offset starts x) d in
         omega (arith, both (place_code starts x p t) address, place_size x p t, address_size (place_operand starts x t) (place_offset starts x) d)
@@ -248,12 +261,13 @@ module _ (starts : Starts) where
         let address = store_address_code starts x p t in
         let value = converted_operand_code starts c (p + length address) (t + 1) in
         let o = converted_operand starts c (t + 1) in
-        let write = instructions.Store (operands.Slot t) 0 o ∷ [] in
+        let write = saved_code (passed_words c) t o in
         omega (
           arith,
           both (address ++ (value ++ write)) (copy_code (passed_words c) o d),
           both address (value ++ write),
           both value write,
+          saved_size (passed_words c) t o (passed_few c),
           store_address_size x p t,
           converted_operand_size c (p + length address) (t + 1),
           copy_size c o d,
@@ -265,12 +279,12 @@ module _ (starts : Starts) where
 
     made_size : (i : Initial) (handle p d t : ℕ) → code_size (made_code starts i handle p d t) ≤ size_per_weight * (1 + initial_weight i)
     made_size (Plain kind a) handle p d t =
-        omega (arith, both (expression_code starts a p t t) (object_code handle 1 d t), expression_size a p t t, object_size handle 1 d t)
+        omega (arith, both (expression_code starts a p t t) (object_code handle (words_of_kind kind) d t), expression_size a p t t, object_size handle (words_of_kind kind) d t, kind_few kind)
     made_size (Fields cs) handle p d t =
-        omega (arith, both (arguments_code starts cs p t) (object_code handle (argument_count cs) d t), fields_size cs p t, more_weight cs, object_size handle (argument_count cs) d t)
+        omega (arith, both (arguments_code starts cs p t) (object_code handle (all_passed cs) d t), fields_size cs p t, more_weight cs, object_size handle (all_passed cs) d t)
     made_size (Array w level n kind a) handle p d t = omega arith
 
-    place_size : (x : Dereference) (p t : ℕ) → code_size (place_code starts x p t) + 18 ≤ size_per_weight * dereference_weight x
+    place_size : (x : Dereference) (p t : ℕ) → code_size (place_code starts x p t) + 60 ≤ size_per_weight * dereference_weight x
     place_size (Target k a ty) p t =
         let slot = value_slot starts a t in
         omega (arith, tested_by_size (operand_of starts a) (expression_code starts a p slot t) (value_operand starts a t) p (size_per_weight * expression_weight a) (expression_size a p slot t))
@@ -334,12 +348,12 @@ module _ (starts : Starts) where
         let front = converted_operand_code starts c p t in
         omega (arith, both front (printed_code starts cs (p + length front) t), converted_operand_size c p t, more_printed_size cs (p + length front) t)
 
-    -- with a store for each field
-    fields_size : (cs : Arguments) (p t : ℕ) → code_size (arguments_code starts cs p t) + 18 * argument_count cs ≤ size_per_weight * more_arguments_weight cs
+    -- with a store for each word
+    fields_size : (cs : Arguments) (p t : ℕ) → code_size (arguments_code starts cs p t) + 10 * all_passed cs ≤ size_per_weight * more_arguments_weight cs
     fields_size NoArguments p t = omega arith
     fields_size (MoreArguments c cs) p t =
         let q = p + length (converted_code starts c p t) in
-        omega (arith, both (converted_code starts c p t) (arguments_code starts cs q (t + passed_words c)), converted_size c p t, fields_size cs q (t + passed_words c))
+        omega (arith, both (converted_code starts c p t) (arguments_code starts cs q (t + passed_words c)), converted_size c p t, passed_few c, fields_size cs q (t + passed_words c))
 
     -- with the words that are passed
     arguments_size : (cs : Arguments) (p t : ℕ) → code_size (arguments_code starts cs p t) + 4 * all_passed cs ≤ size_per_weight * arguments_weight cs + 30
@@ -401,8 +415,8 @@ module _ (starts : Starts) where
   discarded_size (Store x c ty) p t =
       let address = store_address_code starts x p t in
       let value = converted_operand_code starts c (p + length address) (t + 1) in
-      let write = instructions.Store (operands.Slot t) 0 (converted_operand starts c (t + 1)) ∷ [] in
-      omega (arith, both address (value ++ write), both value write, store_address_size x p t, converted_operand_size c (p + length address) (t + 1))
+      let write = saved_code (passed_words c) t (converted_operand starts c (t + 1)) in
+      omega (arith, both address (value ++ write), both value write, saved_size (passed_words c) t (converted_operand starts c (t + 1)) (passed_few c), store_address_size x p t, converted_operand_size c (p + length address) (t + 1))
   discarded_size a p t = omega (arith, unless_size (operand_of starts a) (expression_code starts a p t t), expression_size a p t t)
 
   -- ---- statements

@@ -45,6 +45,17 @@ module _ (code : List Instruction) where
   AddressAt o zero d p q = CopyAt 1 o d p q
   AddressAt o (suc bytes) d p q = At code p (instructions.Binary plain_binary.Add d o (operands.Word (suc bytes))) × (p + 1 ≡ q)
 
+-- a cell comes to a slot and those behind it, whose address stands in an operand but for so many bytes
+module _ (code : List Instruction) where
+  abbrev pub LoadedBy : (narrow : Bool) → Operand → (bytes d p q : ℕ) → Type 0
+  LoadedBy true o bytes d p q = At code p (instructions.Load d o bytes) × (p + 1 ≡ q)
+  LoadedBy false o bytes d p q =
+      (r : ℕ) × AddressAt code o bytes d p r × At code r (instructions.Load (d + 2) (operands.Slot d) 8) × At code (r + 1) (instructions.Load (d + 1) (operands.Slot d) 4)
+      × At code (r + 1 + 1) (instructions.Load d (operands.Slot d) 0) × (r + 1 + 1 + 1 ≡ q)
+
+  abbrev pub LoadedAt : (words : ℕ) → Operand → (bytes d p q : ℕ) → Type 0
+  LoadedAt words o bytes d p q = LoadedBy (words == 1) o bytes d p q
+
 -- In a code of a function with these bounds, whose locals have these types, from p to q stands the code of this, with temporaries from
 -- slot t on.
 module _ (code : List Instruction) (bounds : Numbering) (types : Types) where
@@ -130,10 +141,15 @@ module _ (code : List Instruction) (bounds : Numbering) (types : Types) where
   StoresAt (suc many) address offset slot p q =
       At code p (instructions.Store (operands.Slot address) offset (operands.Slot slot)) × StoresAt many address (offset + 4) (suc slot) (p + 1) q
 
-  -- An object of so many cells is made, each of one word, of the words that stand in the slots from t on. Its address comes to slot d.
+  -- a value of so many words comes to the cell whose address is in a slot
+  abbrev pub SavedAt : (words address : ℕ) → Operand → (p q : ℕ) → Type 0
+  SavedAt words address (operands.Slot n) p q = StoresAt words address 0 n p q
+  SavedAt words address (operands.Word n) p q = At code p (instructions.Store (operands.Slot address) 0 (operands.Word n)) × (p + 1 ≡ q)
+
+  -- An object of so many cells is made, of the words that stand in the slots from t on. Its address comes to slot d.
   abbrev pub ObjectAt : (handle cells words t d p q : ℕ) → Type 0
   ObjectAt handle cells words t d p q =
-      (m : ℕ) × (cells ≡ words) × (1 ≤ words) × (words ≤ MOST_BLOCK_WORDS)
+      (m : ℕ) × (cells ≤ words) × (1 ≤ words) × (words ≤ MOST_BLOCK_WORDS)
       × At code p (instructions.Ask (requests.Allocate (t + words) (operands.Word handle) (operands.Word (max 1 words))))
       × StoresAt words (t + words) 0 t (p + 1) m × At code m (instructions.Move d (operands.Slot (t + words))) × (m + 1 ≡ q)
 
@@ -167,13 +183,13 @@ module _ (code : List Instruction) (bounds : Numbering) (types : Types) where
         × ((r : ℕ) × ConvertedOperandAt c t o p r × (n < bounds.globals) × (words_of_kind (passed_kind c) ≡ 1) × At code r (instructions.StoreGlobal n o) × (r + 1 ≡ m))
         × CopyAt code (passed_words c) o d m q
     ExpressionAt (Load x) d t p q =
-        (o : Operand) × (c : ℕ) × (r : ℕ) × PlaceAt x o c t p r × (words_of (type_of_place x) ≡ 1) × At code r (instructions.Load d o c) × (r + 1 ≡ q)
+        (o : Operand) × (c : ℕ) × (r : ℕ) × PlaceAt x o c t p r × LoadedAt code (words_of (type_of_place x)) o c d r q
     ExpressionAt (New OnHeap i ty) d t p q = MadeAt i HEAP d t p q
     ExpressionAt (AddressOfCell x ty) d t p q = (o : Operand) × (c : ℕ) × (r : ℕ) × PlaceAt x o c t p r × AddressAt code o c d r q
     ExpressionAt (Store x v ty) d t p q =
         (o : Operand) × (m : ℕ)
         × ((a : Operand) × (c : ℕ) × (r : ℕ) × (s : ℕ) × (u : ℕ) × PlaceAt x a c t p r × AddressAt code a c t r s × ConvertedOperandAt v (t + 1) o s u
-        × (words_of_kind (passed_kind v) ≡ 1) × At code u (instructions.Store (operands.Slot t) 0 o) × (u + 1 ≡ m))
+        × SavedAt (passed_words v) t o u m)
         × CopyAt code (passed_words v) o d m q
     ExpressionAt a d t p q = ⊥
 
@@ -283,7 +299,7 @@ module _ (code : List Instruction) (bounds : Numbering) (types : Types) where
   abbrev pub StoredAt : Dereference → Converted → (t : ℕ) → Operand → (p q : ℕ) → Type 0
   StoredAt x v t o p q =
       (a : Operand) × (c : ℕ) × (r : ℕ) × (s : ℕ) × (u : ℕ) × PlaceAt x a c t p r × AddressAt code a c t r s × ConvertedOperandAt v (t + 1) o s u
-      × (words_of_kind (passed_kind v) ≡ 1) × At code u (instructions.Store (operands.Slot t) 0 o) × (u + 1 ≡ q)
+      × SavedAt (passed_words v) t o u q
 
   -- the value of an expression is dropped
   abbrev pub DiscardedAt : Expression → (t p q : ℕ) → Type 0

@@ -1,5 +1,5 @@
 -- The steps that hand a value on.
-use Rattle.std.proofs.Common.{◌≡◌, ◌≢◌, ℕ, zero, suc, ◌+◌, ◌<◌, Bool, true, false, not, List, [], ◌∷◌, Option, None, Some, slice_get, refl, sym, ap, subst, ◌∙◌, arith, inl, inr, length}
+use Rattle.std.proofs.Common.{◌≡◌, ◌≢◌, ℕ, zero, suc, ◌+◌, ◌*◌, ◌++◌, ◌<◌, Bool, true, false, not, List, [], ◌∷◌, Option, None, Some, slice_get, refl, sym, ap, subst, ◌∙◌, arith, inl, inr, length}
 use Rattle.std.specs.Prelude.{ℤ, nat_lt, ◌==◌, ◌&&◌, ◌<ℤ◌, ◌≤ℤ◌, int_le, int_lt, if◌then◌else◌, option_map}
 use Rattle.std.proofs.lemmas.Int.{ints}
 use Rattle.std.proofs.lemmas.Bool.{eqb-true, false_from_ne_true, eqb-false}
@@ -49,10 +49,10 @@ use Rattle.cyc_meaning.specs.SourceMachine.{status_in}
 use Rattle.cyc_lower.specs.declared.statements.Exits.{Exits}
 use Rattle.cyc_lower.specs.Slots.{slot_of, Types}
 use Rattle.cyc_lower.proofs.Slots.{slot-room, room-inside}
-use Rattle.cyc_lower.proofs.Widths.{kind_positive, same_kind, HasRoom, Outside, chain_kind}
+use Rattle.cyc_lower.proofs.Widths.{kind_positive, same_kind, HasRoom, Outside, chain_kind, wide_kind}
 use Rattle.cyc_lower.proofs.Moves.{moved_slots, moves, put_elsewhere, moved_elsewhere, moved_is}
 use Rattle.cyc_lower.specs.Lowering.{unary_operator, binary_operator, failing_comparison, operand_of, value_slot, next_slot, is_in, jump_if_zero, jump_if_nonzero, move_of, converts_there, break_target, lower_program, are_as_wide}
-use Rattle.cyc_lower.proofs.Stands.{OperandBy, CopyBy, CopyAt, CheckAt, CheckedAt, OperatorAt, TruthAt, ExpressionAt, OperationsAt, TestedAt, ConversionBy}
+use Rattle.cyc_lower.proofs.Stands.{OperandBy, CopyBy, CopyAt, CheckAt, CheckedAt, OperatorAt, TruthAt, ExpressionAt, OperationsAt, TestedAt, ConversionBy, StoresAt}
 use Rattle.cyc_objects.specs.Tables.{Tables}
 use Rattle.cyc_objects.specs.Words.{Points, Is}
 use Rattle.cyc_objects.proofs.Pointers.{not-null, part-not-null, pointer-word}
@@ -62,13 +62,15 @@ use Rattle.cyc_lower.proofs.Sharing.{shared_declared, row_declared, shared_writt
 use Rattle.cyc_lower.proofs.Relation.{IsWord, IsIn, with_kind, types_at, starts_at, Holds, held, contents, callers, in_place, by_jump, in_temporary, in_local, drops, leaves, copies, DataIn, SharedAt, StoreAt, to_slot, to_jump, ValueStack, ConditionStack, DroppedStack, AheadStack, LandsStack, HandsOnStack, AppliedStack, ReadyAt, as_operand, into_slot, as_right, in_operand, nowhere, ahead, compared, with_left, behind_statement, Related, Matches, code_of, bounds_at, base_of, top}
 use Rattle.cyc_lower.proofs.Data.{in_words, IsWord-is, one_word, height-least, Holds-same, Holds-above, data_above, data_assigned, data_assigned_global, data_declared, data_grows}
 use Rattle.cyc_lower.proofs.Accesses.{IsWell, is_fitting, is_stored, written_here, written_elsewhere, written_length, is_declared, home_there, is_member}
-use Rattle.cyc_lower.proofs.PlaceWords.{stays, member_there}
+use Rattle.cyc_lower.proofs.PlaceWords.{stays, member_there, cell_kind, word_is}
 use Rattle.cyc_lower.proofs.CellWrites.{cell_is_there, saves_there, shared_saved, data_saved}
 use Rattle.cyc_lower.proofs.Weights.{weight}
 use Rattle.cyc_lower.proofs.Relation.{StatementStack}
 use Rattle.cyc_lower.proofs.Matched.{IsMatched, silently, by_one, by_two, by_three, shared_way, shared_within, lands_depth, value_depth, place_depth, lands_plain, value_plain, place_plain, by_two_known, output_way}
 use Rattle.cyc_lower.proofs.PointerSteps.{applies_pointers, right_follows}
 use Rattle.cyc_lower.proofs.FatSteps.{counts, widens}
+use Rattle.cyc_lower.proofs.Paths.{Link, IsPath, end_of, by_path}
+use Rattle.cyc_lower.proofs.WideCells.{stage_quiet, two_put, store_links, stored, store_path, store_last, shared_stored, data_stored}
 use Rattle.cyc_lower.proofs.Allocations.{plain_made, fields_made}
 use Rattle.cyc_lower.proofs.Evaluations.{IsStep, landed_word, landed_moved, lands_at, passes_related, passes_weight, object_of_same, global_there}
 
@@ -776,6 +778,23 @@ module _ (source : Program) (pages calls : ℕ) where
   hands_behind {focus} {before} {w0} {i} v k e w c d does shared shared_d here first other (by_copy j at goes) =
       by_two source pages calls d does shared shared_d here first at other goes
 
+  -- a value whose word stands in an operand now
+  abbrev IsWordNow : Configuration → Kinded → Operand → Type 0
+  IsWordNow c v o = (t : Tables) → IsIn t v c.active.slots o → IsWord t v.kind v.value (operand_word c.active.slots o)
+
+  -- the same behind several instructions
+  hands_stored : {i : Instruction} (v : Kinded) (before : List Entry) (k : List Entry) (e : Environment) (w0 w : World) (c d : Configuration) (links : List Link)
+      → step source (Running (Given v) before e w0) ≡ Running (Given v) k e w → SharedAt source pages calls before e w0 c → IsPath source c links
+      → At (code_of source (end_of c links).active.function) (end_of c links).active.next i → ((choice : Choice) → performed (lower_program source) choice (end_of c links) i ≡ plain.Running d)
+      → (IsPath source c links → IsPath source c (links ++ record { instruction = i; behind = d } ∷ [])) → end_of c (links ++ record { instruction = i; behind = d } ∷ []) ≡ d
+      → Handed v k e w d → IsMatched source pages calls (Running (Given v) before e w0) (plain.Running c)
+  hands_stored {i} v before k e w0 w c d links does shared path here last longer ends (at_once related) =
+      by_path source pages calls (Given v) before e w0 c (Running (Given v) k e w) links i does shared path here (λ choice. subst (Matches source pages calls (Running (Given v) k e w)) (sym (last choice)) related)
+  hands_stored {i} v before k e w0 w c d links does shared path here last longer ends (by_copy j at goes) =
+      by_path source pages calls (Given v) before e w0 c (Running (Given v) k e w) (links ++ record { instruction = i; behind = d } ∷ []) j does shared (longer path)
+      (subst (λ (x : Configuration). At (code_of source x.active.function) x.active.next j) (sym ends) at)
+      (λ choice. subst (λ (x : Configuration). Matches source pages calls (Running (Given v) k e w) (performed (lower_program source) choice x j)) (sym ends) (goes choice))
+
   -- the same where memory is another then
   hands_saved : {i : Instruction} (v : Kinded) (before : List Entry) (k : List Entry) (e : Environment) (w0 w : World) (c d : Configuration)
       → step source (Running (Given v) before e w0) ≡ Running (Given v) k e w → SharedAt source pages calls before e w0 c → plain_step.is_within pages calls (plain.Running d) ≡ true → d.output ≡ w0.output
@@ -852,27 +871,81 @@ module _ (source : Program) (pages calls : ℕ) where
       (holds_at HasWord (code_of source g) p (instructions.Store address bytes (operands.Word n))
       (of_words.functions g no_routine (function_known (lower_program source) place (instructions.Store address bytes (operands.Word n)) here)) here).2
 
-  -- a value is stored in a cell, whose address waits in a temporary, and then it is handed on
-  stores_cell : (peek : Option ℕ) (place : Value) (v : Kinded) (o : Operand) (k : List Entry) (e : Environment) (w : World) (c : Configuration) → HasWords (lower_program source) → plain.HoldsWords (plain.Running c)
-      → IsWell (step source (Running (Given v) (Needs (StoreCell peek place) ∷ k) e w)) → Stands v o (Needs (StoreCell peek place) ∷ k) e w c
-      → ValueStack source c.active.function e.locals v.kind o c.active.next c.frames (Needs (StoreCell peek place) ∷ k) → GoesBehind v (Needs (StoreCell peek place) ∷ k) e w c
-  stores_cell peek (Thin object offset) v o k e w c of_words words well (shared, facts, is, (is_place, holds)) (here, single, hands) =
+  -- a value is stored in a cell by the word that tells it, where its address waits in a temporary, and then it is handed on
+  stores_word : (peek : Option ℕ) (object offset : ℕ) (v : Kinded) (o : Operand) (q : ℕ) (k : List Entry) (e : Environment) (w : World) (c : Configuration) → HasWords (lower_program source) → plain.HoldsWords (plain.Running c)
+      → IsWell (step source (Running (Given v) (Needs (StoreCell peek (Thin object offset)) ∷ k) e w)) → Stands v o (Needs (StoreCell peek (Thin object offset)) ∷ k) e w c
+      → IsWordNow c v o → At (code_of source c.active.function) c.active.next (instructions.Store (operands.Slot (top source c.active.function k)) 0 o) → c.active.next + 1 ≡ q
+      → HandsOnStack source c.active.function e.locals v.kind o q c.frames k → GoesBehind v (Needs (StoreCell peek (Thin object offset)) ∷ k) e w c
+  stores_word peek object offset v o q k e w c of_words words well (shared, facts, is, (is_place, holds)) tells here end hands =
       let g = c.active.function in
       let free = top source g k in
       let address = add_of (c.active.slots free) 0 in
       let word = operand_word c.active.slots o in
       let points : Points shared.tables object offset address = stays is_place in
       let (at, found, same, gives) = cell_is_there (cell_at w object offset) object offset v (Given v) k e w well in
-      let one : words_of_kind at.cell.kind ≡ 1 = ap words_of_kind same ∙ single in
-      let is_word = subst (λ i. IsWord shared.tables i v.value word) (sym same) (first_word shared.tables v c.active.slots o single is) in
+      let is_word = subst (λ i. IsWord shared.tables i v.value word) (sym same) (tells shared.tables is) in
       let fits = stored_word c of_words words c.active.next (operands.Slot free) 0 o here in
       let after : Configuration = advanced (with_memory c address word) in
       let next = written w object offset at v.value in
-      let saved = saves_there source pages calls k e w c shared object offset address word at v.value found points one is_word fits in
-      let kept : SharedAt source pages calls k e next after = shared_saved source pages calls k e w c shared object offset address word at v.value found points one is_word fits in
-      let facts_kept : DataIn source shared.tables c.active.slots k e next after = data_saved source pages calls k e w c shared object offset address word at v.value found points one is_word fits facts in
+      let saved = saves_there source pages calls k e w c shared object offset address word at v.value found points is_word fits in
+      let kept : SharedAt source pages calls k e next after = shared_saved source pages calls k e w c shared object offset address word at v.value found points is_word fits in
+      let facts_kept : DataIn source shared.tables c.active.slots k e next after = data_saved source pages calls k e w c shared object offset address word at v.value found points is_word fits facts in
       hands_saved v (Needs (StoreCell peek (Thin object offset)) ∷ k) k e w next c after gives shared (shared_within source pages calls k e next after kept) shared.same_output here (λ choice. saved)
-      (λ equal. omega (arith, equal)) (handed v o k e next after (c.active.next + 1) refl (kept, facts_kept, is, holds) hands)
+      (λ equal. omega (arith, equal)) (handed v o k e next after q end (kept, facts_kept, is, holds) hands)
+
+  -- the same by three words
+  stores_words : (peek : Option ℕ) (object offset : ℕ) (v : Kinded) (n q : ℕ) (k : List Entry) (e : Environment) (w : World) (c : Configuration) → plain.HoldsWords (plain.Running c)
+      → IsWell (step source (Running (Given v) (Needs (StoreCell peek (Thin object offset)) ∷ k) e w)) → Stands v (operands.Slot n) (Needs (StoreCell peek (Thin object offset)) ∷ k) e w c
+      → v.kind ≡ kinds.Fat → StoresAt (code_of source c.active.function) (bounds_at source c.active.function) (types_at source c.active.function) 3 (top source c.active.function k) 0 n c.active.next q
+      → HandsOnStack source c.active.function e.locals v.kind (operands.Slot n) q c.frames k → GoesBehind v (Needs (StoreCell peek (Thin object offset)) ∷ k) e w c
+  stores_words peek object offset v n q k e w c words well (shared, facts, is, (is_place, holds)) fat (at_first, (at_second, (at_third, end))) hands =
+      let g = c.active.function in
+      let free = top source g k in
+      let place = c.active.slots free in
+      let (cell, found, same, gives) = cell_is_there (cell_at w object offset) object offset v (Given v) k e w well in
+      let wide = same ∙ fat in
+      let fat_is = subst (λ i. Is shared.tables i v.value c.active.slots n) fat is in
+      let there = cell_kind shared.related cell is_place found in
+      let behind : (j : ℕ) → j < 3 → add_of place (4 * j) ≡ place + 4 * j = λ j below. word_is is_place cell.cell.kind j there (omega (arith, below, ap words_of_kind wide)) in
+      let first = behind 0 (omega arith) in
+      let second = behind 1 (omega arith) in
+      let third = behind 2 (omega arith) in
+      let after = stored source pages calls k e w c shared object offset place free 0 n cell v.value found is_place wide fat_is words first second third in
+      let next = written w object offset cell v.value in
+      let kept : SharedAt source pages calls k e next after = shared_stored source pages calls k e w c shared object offset place free 0 n cell v.value found is_place wide fat_is words first second third in
+      let facts_kept : DataIn source shared.tables c.active.slots k e next after = data_stored source pages calls k e w c shared object offset place free 0 n cell v.value found is_place wide fat_is words first second third facts in
+      hands_stored v (Needs (StoreCell peek (Thin object offset)) ∷ k) k e w next c after
+      (store_links source pages calls k e w c shared object offset place free 0 n cell v.value found is_place wide fat_is words first second third)
+      gives shared
+      (store_path source pages calls k e w c shared object offset place free 0 n cell v.value found is_place wide fat_is words first second third at_first at_second)
+      at_third (store_last source pages calls k e w c shared object offset place free 0 n cell v.value found is_place wide fat_is words first second third)
+      (λ path. (path.0, path.1, path.2, path.3, (path.4.0, path.4.1, path.4.2, path.4.3, (
+        at_third,
+        store_last source pages calls k e w c shared object offset place free 0 n cell v.value found is_place wide fat_is words first second third,
+        omega arith,
+        stage_quiet c (two_put source pages calls k e w c shared object offset place free 0 n cell v.value found is_place wide fat_is words first second third) after.store.memory (c.active.next + 1 + 1) (c.active.next + 1 + 1 + 1),
+        tt,
+      )))) refl
+      (handed v (operands.Slot n) k e next after q end (kept, facts_kept, is, holds) hands)
+
+  stores_cell : (peek : Option ℕ) (place : Value) (v : Kinded) (o : Operand) (k : List Entry) (e : Environment) (w : World) (c : Configuration) → HasWords (lower_program source) → plain.HoldsWords (plain.Running c)
+      → IsWell (step source (Running (Given v) (Needs (StoreCell peek place) ∷ k) e w)) → Stands v o (Needs (StoreCell peek place) ∷ k) e w c
+      → ValueStack source c.active.function e.locals v.kind o c.active.next c.frames (Needs (StoreCell peek place) ∷ k) → GoesBehind v (Needs (StoreCell peek place) ∷ k) e w c
+  stores_cell peek (Thin object offset) v (operands.Word x) k e w c of_words words well stands (q, (here, end), hands) =
+      stores_word peek object offset v (operands.Word x) q k e w c of_words words well stands (λ t is. is) here end hands
+  stores_cell peek (Thin object offset) v (operands.Slot n) k e w c of_words words well stands (q, here, hands) = by (words_of_kind v.kind == 1) refl
+    where
+      by : (narrow : Bool) → (words_of_kind v.kind == 1) ≡ narrow → GoesBehind v (Needs (StoreCell peek (Thin object offset)) ∷ k) e w c
+      by true narrow =
+          let g = c.active.function in
+          let one = eqb-true (words_of_kind v.kind) 1 narrow in
+          let (store, end) = subst (λ m. StoresAt (code_of source g) (bounds_at source g) (types_at source g) m (top source g k) 0 n c.active.next q) one here in
+          stores_word peek object offset v (operands.Slot n) q k e w c of_words words well stands (λ t is. one_word t v.kind v.value c.active.slots n one is) store end hands
+      by false wide =
+          let g = c.active.function in
+          let fat = wide_kind v.kind wide in
+          stores_words peek object offset v n q k e w c words well stands fat
+          (subst (λ i. StoresAt (code_of source g) (bounds_at source g) (types_at source g) (words_of_kind i) (top source g k) 0 n c.active.next q) fat here) hands
   stores_cell peek place v o k e w c of_words words well stands stack = absurd (well refl)
 
   -- the local has the value already

@@ -34,9 +34,9 @@ use Rattle.cyc_meaning.specs.FrameCount.{result_words, operand_words, converted_
 use Rattle.cyc_lower.specs.declared.statements.Exits.{Exits}
 use Rattle.cyc_meaning.specs.Pointers.{result_kind as operator_kind}
 use Rattle.cyc_lower.specs.Slots.{starts_of, slot_of, Types}
-use Rattle.cyc_lower.specs.Lowering.{types_of, spare_slots, are_as_wide, converts_there, passed_words, all_passed, source_of, source_slot, moved_by, move_of, unary_operator, binary_operator, operand_of, operand_or, code_unless, slot_or, code_unless_slot, left_with, left_of, value_slot, next_slot, slot_with, left_slot, value_operand, converted_operand, printed_operand, check_code, conversion_code, divisor_code, checked_code, operator_code, truth_code, load_code, low_byte, test_code, is_in, copy_code, expression_code, arguments_code, converted_code, converted_operand_code, printed_code, initial_code, assignment_code, operations_code, discarded_code, failing_comparison, compared_or, first_operand, first_code, second_code, pair_code, condition_code, condition_of, failing_jump, break_target, continue_target, return_code, declaration_code, statement_code, items_code, first_temporary, results_of, lower_function, lower_global, lower_program, pointer_operator, left_kind, behind_left, pointer_code, outside_loops, inside_loop, index_code, pointer_instructions, stores_code, object_code, made_code, place_operand, place_offset, place_code, address_code, addressed_by, store_address_code, store_code, count_code, span_of, null_of, tested_code, widened_code, conversion_by, tested_by}
+use Rattle.cyc_lower.specs.Lowering.{types_of, spare_slots, are_as_wide, converts_there, passed_words, all_passed, source_of, source_slot, moved_by, move_of, unary_operator, binary_operator, operand_of, operand_or, code_unless, slot_or, code_unless_slot, left_with, left_of, value_slot, next_slot, slot_with, left_slot, value_operand, converted_operand, printed_operand, check_code, conversion_code, divisor_code, checked_code, operator_code, truth_code, load_code, low_byte, test_code, is_in, copy_code, expression_code, arguments_code, converted_code, converted_operand_code, printed_code, initial_code, assignment_code, operations_code, discarded_code, failing_comparison, compared_or, first_operand, first_code, second_code, pair_code, condition_code, condition_of, failing_jump, break_target, continue_target, return_code, declaration_code, statement_code, items_code, first_temporary, results_of, lower_function, lower_global, lower_program, pointer_operator, left_kind, behind_left, pointer_code, outside_loops, inside_loop, index_code, pointer_instructions, stores_code, object_code, made_code, place_operand, place_offset, place_code, address_code, addressed_by, store_address_code, store_code, count_code, span_of, null_of, tested_code, widened_code, conversion_by, tested_by, saved_code, loaded_code}
 use Rattle.cyc_lower.specs.Lowerable.{is_converted}
-use Rattle.cyc_lower.proofs.Widths.{kind_positive, kind_few, type_words, kind_of_result, result_kind, given, passed_kind, words_in, chain_kind, made_kind}
+use Rattle.cyc_lower.proofs.Widths.{kind_positive, kind_few, type_words, kind_of_result, result_kind, given, passed_kind, words_in, chain_kind, made_kind, wide_kind}
 use Rattle.cyc_lower.proofs.Fitting.{FitsPlace, FitsStored, FitsCell, Fits, FitsConverted, FitArguments, FitOperations, FitsReturn, FitsInitial, FitsStatement, FitItems, AreFitting, IsFitting, FitsObject}
 use Rattle.cyc_lower.proofs.Values.{as_wide}
 use Rattle.cyc_lower.proofs.Slots.{words_positive, slot-room, slot_types-many, slots-few}
@@ -393,6 +393,10 @@ module _ (program : PlainProgram) (r : Routine) (b : Numbering) (types : Types) 
   stores_in zero address offset slot room few = tt
   stores_in (suc many) address offset slot room few = ((room, omega (arith, few)), stores_in many address (offset + 4) (suc slot) room (omega (arith, few)))
 
+  saved_in : (words address : ℕ) (o : Operand) → address < r.slots → HasOperand o words → AreIn (saved_code words address o)
+  saved_in words address (operands.Slot n) room inside = stores_in words address 0 n room inside
+  saved_in words address (operands.Word n) room inside = ((room, tt), tt)
+
   object_in : (handle words d t : ℕ) → d < r.slots → t + words + 1 ≤ r.slots → AreIn (object_code handle words d t)
   object_in handle words d t room few = (
     record { answer_in_range = few; first_in_range = tt; second_in_range = tt },
@@ -408,9 +412,17 @@ module _ (program : PlainProgram) (r : Routine) (b : Numbering) (types : Types) 
       by true = tt
       by false = ((few, inside), tt)
 
+  loaded_in : (t : Ty) (narrow : Bool) (o : Operand) (bytes d : ℕ) → (words_of t == 1) ≡ narrow → IsOperand r o → d + words_of_kind (kind_of t) ≤ r.slots
+      → AreIn (if narrow then instructions.Load d o bytes ∷ [] else address_code o bytes d ++ (instructions.Load (d + 2) (operands.Slot d) 8 ∷ instructions.Load (d + 1) (operands.Slot d) 4 ∷ instructions.Load d (operands.Slot d) 0 ∷ []))
+  loaded_in t true o bytes d narrow inside room = ((omega (arith, room, kind_positive (kind_of t)), inside), tt)
+  loaded_in t false o bytes d wide inside room =
+      let three : words_of_kind (kind_of t) ≡ 3 = ap words_of_kind (wide_kind (kind_of t) (ap (λ (n : ℕ). n == 1) (type_words t) ∙ wide)) in
+      let first : d < r.slots = omega (arith, room, three) in
+      append (address_code o bytes d) _ (address_in o bytes d inside first) ((omega (arith, room, three), first), ((omega (arith, room, three), first), ((first, first), tt)))
+
   place_operand_in : (x : Dereference) (own t : ℕ) → FitsCell b types x → 1 ≤ own → t + dereference_need x own ≤ r.slots → IsOperand r (place_operand (starts_of types) x t)
-  place_operand_in (Target k a ty) own t (thin, single, numbered) some few = value_in a t numbered (omega (arith, few, given_needs a numbered, some))
-  place_operand_in (Member k a s f ty) own t (thin, single, there, numbered) some few = value_in a t numbered (omega (arith, few, given_needs a numbered, some))
+  place_operand_in (Target k a ty) own t (thin, numbered) some few = value_in a t numbered (omega (arith, few, given_needs a numbered, some))
+  place_operand_in (Member k a s f ty) own t (thin, there, numbered) some few = value_in a t numbered (omega (arith, few, given_needs a numbered, some))
   place_operand_in x own t numbered some few = absurd numbered
 
   addressed_in : (x : Dereference) (p d t : ℕ) → FitsCell b types x → d < r.slots → t + dereference_need x place_words ≤ r.slots
@@ -430,11 +442,11 @@ module _ (program : PlainProgram) (r : Routine) (b : Numbering) (types : Types) 
       let address = store_address_code (starts_of types) x p t in
       let q = p + length address in
       let value = converted_operand_code (starts_of types) c q (t + 1) in
-      let write = instructions.Store (operands.Slot t) 0 (converted_operand (starts_of types) c (t + 1)) ∷ [] in
+      let write = saved_code (passed_words c) t (converted_operand (starts_of types) c (t + 1)) in
       let long = length-append address (value ++ write) in
       let behind = length-append value write in
       append address (value ++ write) (address_inside (omega (arith, short, long)))
-      (append value write (value_inside q (omega (arith, short, long, behind))) ((omega (arith, room), converted_value_in c (t + 1) numbered room), tt))
+      (append value write (value_inside q (omega (arith, short, long, behind))) (saved_in (passed_words c) t (converted_operand (starts_of types) c (t + 1)) (omega (arith, room)) (subst (HasOperand (converted_operand (starts_of types) c (t + 1))) (sym (passed_is c)) (converted_room c (t + 1) numbered room))))
 
   -- ---- expressions
 
@@ -554,13 +566,13 @@ module _ (program : PlainProgram) (r : Routine) (b : Numbering) (types : Types) 
     expression_in (Load x) p d t numbered room few short =
         let own = words_of (type_of_place x) in
         let some = words_positive (type_of_place x) in
-        let load = instructions.Load d (place_operand (starts_of types) x t) (place_offset (starts_of types) x) ∷ [] in
+        let load = loaded_code own (place_operand (starts_of types) x t) (place_offset (starts_of types) x) d in
         append (place_code (starts_of types) x p t) load
         (place_in x own p t numbered some few (omega (arith, short, length-append (place_code (starts_of types) x p t) load)))
-        ((omega (arith, room, kind_positive (kind_of (type_of_place x))), place_operand_in x own t numbered some few), tt)
+        (loaded_in (type_of_place x) (own == 1) (place_operand (starts_of types) x t) (place_offset (starts_of types) x) d refl (place_operand_in x own t numbered some few) room)
     expression_in (AddressOfCell x ty) p d t numbered room few short =
         addressed_in x p d t numbered (omega (arith, room)) (omega (arith, few)) short (λ less. place_in x place_words p t numbered (omega arith) (omega (arith, few)) less)
-    expression_in (Store x c ty) p d t (place, single, numbered) room few short =
+    expression_in (Store x c ty) p d t (place, numbered) room few short =
         let o = converted_operand (starts_of types) c (t + 1) in
         let front = store_code (starts_of types) x c p t in
         let back = copy_code (passed_words c) o d in
@@ -575,23 +587,23 @@ module _ (program : PlainProgram) (r : Routine) (b : Numbering) (types : Types) 
     expression_in a p d t numbered room few short = absurd numbered
 
     made_in : (i : Initial) (handle : ℕ) (ty : Ty) (p d t : ℕ) → FitsObject b types i → d < r.slots → t + initial_value_need i 0 (words_of ty) ≤ r.slots → p + length (made_code (starts_of types) i handle p d t) < length r.code → AreIn (made_code (starts_of types) i handle p d t)
-    made_in (Plain kind a) handle ty p d t (single, kind_is, numbered) room few short =
+    made_in (Plain kind a) handle ty p d t (kind_is, numbered) room few short =
         let front = expression_code (starts_of types) a p t t in
-        let back = object_code handle 1 d t in
+        let back = object_code handle (words_of_kind kind) d t in
         append front back
-        (expression_in a p t t numbered (omega (arith, few, single, ap words_of_kind kind_is, words_positive ty)) (omega (arith, few)) (omega (arith, short, length-append front back)))
-        (object_in handle 1 d t room (omega (arith, few, single, words_positive ty)))
-    made_in (Fields cs) handle ty p d t (single, some, many, numbered) room few short =
+        (expression_in a p t t numbered (omega (arith, few, ap words_of_kind kind_is, words_positive ty)) (omega (arith, few)) (omega (arith, short, length-append front back)))
+        (object_in handle (words_of_kind kind) d t room (omega (arith, few, words_positive ty)))
+    made_in (Fields cs) handle ty p d t (some, many, numbered) room few short =
         let front = arguments_code (starts_of types) cs p t in
-        let back = object_code handle (argument_count cs) d t in
+        let back = object_code handle (all_passed cs) d t in
         append front back
         (arguments_in cs p t t 0 numbered (omega arith) (omega (arith, few)) (omega (arith, few)) (omega (arith, short, length-append front back)))
-        (object_in handle (argument_count cs) d t room (omega (arith, few, single, arguments_words cs, words_positive ty)))
+        (object_in handle (all_passed cs) d t room (omega (arith, few, arguments_words cs, words_positive ty)))
     made_in i handle ty p d t numbered room few short = absurd numbered
 
     -- a place of what has so many words
     place_in : (x : Dereference) (own p t : ℕ) → FitsCell b types x → 1 ≤ own → t + dereference_need x own ≤ r.slots → p + length (place_code (starts_of types) x p t) < length r.code → AreIn (place_code (starts_of types) x p t)
-    place_in (Target k a ty) own p t (thin, single, numbered) some few short =
+    place_in (Target k a ty) own p t (thin, numbered) some few short =
         let slot = value_slot (starts_of types) a t in
         let o = value_operand (starts_of types) a t in
         let inner = expression_code (starts_of types) a p slot t in
@@ -601,7 +613,7 @@ module _ (program : PlainProgram) (r : Routine) (b : Numbering) (types : Types) 
         let free : t + words_of_kind (kind_at a) ≤ r.slots = omega (arith, few, given_needs a numbered, some) in
         append front check (unless_in (operand_of (starts_of types) a) inner p (omega (arith, short, long)) (λ less. expression_in a p slot t numbered (slot_fits a t numbered free) (omega (arith, few)) less))
         (check_in null_exception o (p + length front) (value_in a t numbered free) (omega (arith, short, long)))
-    place_in (Member k a s f ty) own p t (thin, single, there, numbered) some few short =
+    place_in (Member k a s f ty) own p t (thin, there, numbered) some few short =
         let slot = value_slot (starts_of types) a t in
         let o = value_operand (starts_of types) a t in
         let inner = expression_code (starts_of types) a p slot t in
@@ -727,7 +739,7 @@ module _ (program : PlainProgram) (r : Routine) (b : Numbering) (types : Types) 
       append front back (printed_in cs p t t 0 numbered (omega (arith, few)) (omega arith) (omega (arith, few)) (omega (arith, short, length-append front back)))
       (printed_value_in cs (operands.Slot t) t numbered (omega (arith, few)) (omega (arith, few)), tt)
   discarded_in (Assign l c ty) p t (within, numbered) few short = assignment_in l c p t within numbered (omega (arith, few)) (omega (arith, few)) short
-  discarded_in (Store x c ty) p t (place, single, numbered) few short =
+  discarded_in (Store x c ty) p t (place, numbered) few short =
       stored_in x c p t numbered (omega (arith, few)) short
       (λ less. addressed_in x p t t place (omega (arith, few)) (omega (arith, few)) less (λ shorter. place_in x place_words p t place (omega arith) (omega (arith, few)) shorter))
       (λ q less. converted_operand_in c q (t + 1) numbered (omega (arith, few)) (omega (arith, few)) less)

@@ -30,15 +30,6 @@ use Rattle.cyc_lower.proofs.Data.{Is-same, get_set_other}
 use Rattle.cyc_lower.proofs.CellWrites.{SameVariables, data_beside}
 use Rattle.cyc_lower.proofs.Paths.{Link, IsQuiet, is_quiet, IsPath}
 
--- a kind of more than one word
-pub wide_kind : (kind : Kind) → (words_of_kind kind == 1) ≡ false → kind ≡ kinds.Fat
-wide_kind kinds.Fat wide = refl
-wide_kind kinds.Int wide = absurd (let f : true ≡ false = wide in cc)
-wide_kind kinds.Nullable wide = absurd (let f : true ≡ false = wide in cc)
-wide_kind kinds.NonNull wide = absurd (let f : true ≡ false = wide in cc)
-wide_kind kinds.Handle wide = absurd (let f : true ≡ false = wide in cc)
-wide_kind kinds.Key wide = absurd (let f : true ≡ false = wide in cc)
-
 -- on the way: with this memory, at this place
 abbrev pub stage : Configuration → Memory → (next : ℕ) → Configuration
 stage c m next = record c { store = record c.store { memory = m }; active = record c.active { next = next } }
@@ -59,10 +50,10 @@ module _ (source : Program) (pages calls : ℕ) (k : List Entry) (e : Environmen
   abbrev p : ℕ
   p = c.active.next
 
-  abbrev one_put : Memory
+  abbrev pub one_put : Memory
   one_put = put c.store.memory (address + 4 * 0) (slots n)
 
-  abbrev two_put : Memory
+  abbrev pub two_put : Memory
   two_put = put one_put (address + 4 * 1) (slots (suc n))
 
   abbrev all_put : Memory

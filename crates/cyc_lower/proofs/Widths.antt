@@ -1,5 +1,6 @@
 -- The kinds of what expressions give, and the words of locals.
 use Rattle.std.proofs.Common.{◌≡◌, ◌⊎◌, ℕ, zero, suc, ◌+◌, ◌≤◌, ◌<◌, true, false, List, [], ◌∷◌, length, Option, None, Some, slice_get, refl, sym, ap, ◌∙◌, arith}
+use Rattle.std.specs.Prelude.{◌==◌}
 use Rattle.std.proofs.lemmas.Bool.{eqb-true, and_parts}
 use Rattle.cyc_syntax.specs.declared.tree.PointerKind.TheVariants as marks
 use Rattle.cyc_types.specs.declared.typed.Kind.{Kind}
@@ -30,6 +31,15 @@ kind_few kinds.NonNull = omega arith
 kind_few kinds.Fat = omega arith
 kind_few kinds.Handle = omega arith
 kind_few kinds.Key = omega arith
+
+-- a kind of more than one word
+pub wide_kind : (kind : Kind) → (words_of_kind kind == 1) ≡ false → kind ≡ kinds.Fat
+wide_kind kinds.Fat wide = refl
+wide_kind kinds.Int wide = absurd (let f : true ≡ false = wide in cc)
+wide_kind kinds.Nullable wide = absurd (let f : true ≡ false = wide in cc)
+wide_kind kinds.NonNull wide = absurd (let f : true ≡ false = wide in cc)
+wide_kind kinds.Handle wide = absurd (let f : true ≡ false = wide in cc)
+wide_kind kinds.Key wide = absurd (let f : true ≡ false = wide in cc)
 
 -- a cell of a type has the words of its kind
 pub type_words : (t : Ty) → words_of_kind (kind_of t) ≡ words_of t

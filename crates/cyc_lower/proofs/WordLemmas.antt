@@ -14,7 +14,7 @@ use Rattle.cyc_types.specs.declared.typed.PointerOperator.{PointerOperator}
 use Rattle.cyc_types.specs.declared.typed.PointerOperator.TheVariants as pointers
 use Rattle.cyc_types.specs.declared.typed.LogicalOperator.{LogicalOperator}
 use Rattle.cyc_types.specs.declared.typed.LogicalOperator.TheVariants as logical
-use Rattle.cyc_types.specs.TypedTrees.{Load, New, OnHeap, AsUnique, ByHandle, Initial, Plain, Fields, Dereference, Target, Lvalue, Local, Global, Expression, Number, NullPointer, Copy, Call, Unary, Binary, Assign, Converted, Convert, Arguments, NoArguments, MoreArguments, Operations, NoOperations, ThenCompute, ThenTest, ThenPointer, Statement, Block, Empty, Evaluate, If, While, Return, Break, Continue, Items, NoItems, MoreItems, Execute, Declare, Constant, Word, Null, GlobalVariable, StructType, Function, Program, Move, Peek, ThenPointerPeek, AddressOfCell, Store, Member, Element, NumberOfElements}
+use Rattle.cyc_types.specs.TypedTrees.{Load, New, OnHeap, AsUnique, ByHandle, Initial, Plain, Fields, Dereference, Target, Lvalue, Local, Global, Expression, Number, NullPointer, Copy, Call, Unary, Binary, Assign, Converted, Convert, Arguments, NoArguments, MoreArguments, Operations, NoOperations, ThenCompute, ThenTest, ThenPointer, Statement, Block, Empty, Evaluate, If, While, Return, Break, Continue, Items, NoItems, MoreItems, Execute, Declare, Constant, Word, Null, GlobalVariable, StructType, Function, Program, Move, Peek, ThenPointerPeek, AddressOfCell, Store, Member, Element, NumberOfElements, type_of_place}
 use Rattle.cyc_plain.specs.declared.instruction.Comparison.{Comparison}
 use Rattle.cyc_plain.specs.declared.instruction.Operand.{Operand}
 use Rattle.cyc_plain.specs.declared.instruction.Operand.TheVariants as operands
@@ -29,11 +29,20 @@ use Rattle.cyc_types.specs.Types.{words_of, Ty}
 use Rattle.cyc_types.specs.Numbered.{argument_count}
 use Rattle.cyc_store.specs.declared.range.TheConstants.{HEAP}
 use Rattle.cyc_meaning.specs.Values.{words_of_kind}
-use Rattle.cyc_lower.specs.Lowering.{types_of, are_as_wide, converts_there, passed_words, source_of, source_slot, converted_by, moved_by, move_of, operand_of, operand_or, code_unless, slot_or, code_unless_slot, left_with, left_of, value_slot, next_slot, left_slot, value_operand, converted_operand, printed_operand, check_code, conversion_code, divisor_code, checked_code, operator_code, truth_code, load_code, test_code, is_in, copy_code, expression_code, arguments_code, converted_code, converted_operand_code, printed_code, initial_code, assignment_code, operations_code, discarded_code, failing_comparison, compared_or, compared_of, slot_with, first_code, second_code, pair_code, condition_code, condition_of, return_code, declaration_code, statement_code, items_code, first_temporary, initial_word, lower_function, lower_global, lower_program, behind_left, pointer_code, outside_loops, inside_loop, index_of, first_two, pointer_instructions, stores_code, object_code, made_code, place_operand, place_offset, place_code, address_code, addressed_by, store_address_code, store_code, count_code, span_of, null_of, tested_code, widened_code, conversion_by, tested_by}
+use Rattle.cyc_lower.specs.Lowering.{types_of, are_as_wide, converts_there, passed_words, source_of, source_slot, converted_by, moved_by, move_of, operand_of, operand_or, code_unless, slot_or, code_unless_slot, left_with, left_of, value_slot, next_slot, left_slot, value_operand, converted_operand, printed_operand, check_code, conversion_code, divisor_code, checked_code, operator_code, truth_code, load_code, test_code, is_in, copy_code, expression_code, arguments_code, converted_code, converted_operand_code, printed_code, initial_code, assignment_code, operations_code, discarded_code, failing_comparison, compared_or, compared_of, slot_with, first_code, second_code, pair_code, condition_code, condition_of, return_code, declaration_code, statement_code, items_code, first_temporary, initial_word, lower_function, lower_global, lower_program, behind_left, pointer_code, outside_loops, inside_loop, index_of, first_two, pointer_instructions, stores_code, object_code, made_code, place_operand, place_offset, place_code, address_code, addressed_by, store_address_code, store_code, count_code, span_of, null_of, tested_code, widened_code, conversion_by, tested_by, saved_code, loaded_code, all_passed}
+use Rattle.cyc_lower.proofs.Widths.{kind_few}
 use Rattle.cyc_lower.proofs.WellFormed.{all_append, all_of}
 
 abbrev HaveWords : List Instruction → Type 0
 HaveWords code = AllByRecursion HasWord code
+
+passed_few : (c : Converted) → passed_words c ≤ 3
+passed_few (Convert from to a) = kind_few to
+
+-- no value that is passed has more words than three
+all_few : (cs : Arguments) → all_passed cs ≤ 3 * argument_count cs
+all_few NoArguments = omega arith
+all_few (MoreArguments c cs) = omega (arith, passed_few c, all_few cs)
 
 append : (x y : List Instruction) → HaveWords x → HaveWords y → HaveWords (x ++ y)
 append x y first rest = all_append HasWord x y first rest
@@ -149,16 +158,25 @@ test_words : (o : LogicalOperator) (operand : List Instruction) (p d t : ℕ) �
 test_words logical.AndThen operand p d t all = ((tt, omega arith), append operand (truth_code t d) all (tt, (tt, tt)))
 test_words logical.OrElse operand p d t all = ((tt, omega arith), append operand (truth_code t d) all (tt, (tt, tt)))
 
-stores_words : (many address offset slot : ℕ) → offset + 4 * many ≤ 4000 → HaveWords (stores_code many address offset slot)
+stores_words : (many address offset slot : ℕ) → offset + 4 * many ≤ 12000 → HaveWords (stores_code many address offset slot)
 stores_words zero address offset slot few = tt
 stores_words (suc many) address offset slot few = ((tt, omega (arith, few), tt), stores_words many address (offset + 4) (suc slot) (omega (arith, few)))
 
+saved_words : (words address : ℕ) (o : Operand) → words ≤ 3 → IsOfWord o → HaveWords (saved_code words address o)
+saved_words words address (operands.Slot n) few word = stores_words words address 0 n (omega (arith, few))
+saved_words words address (operands.Word n) few word = ((tt, omega arith, word), tt)
+
+loaded_words : (narrow : Bool) (o : Operand) (bytes d : ℕ) → IsOfWord o → IsWord bytes
+    → HaveWords (if narrow then instructions.Load d o bytes ∷ [] else address_code o bytes d ++ (instructions.Load (d + 2) (operands.Slot d) 8 ∷ instructions.Load (d + 1) (operands.Slot d) 4 ∷ instructions.Load d (operands.Slot d) 0 ∷ []))
+loaded_words true o bytes d word small = ((word, small), tt)
+loaded_words false o bytes d word small = append (address_code o bytes d) _ (address_words o bytes d word small) ((tt, omega arith), ((tt, omega arith), ((tt, omega arith), tt)))
+
 -- a block has at most a word's count of words
-object_words : (handle words d t : ℕ) → IsWord handle → words ≤ 1000 → HaveWords (object_code handle words d t)
+object_words : (handle words d t : ℕ) → IsWord handle → words ≤ 3000 → HaveWords (object_code handle words d t)
 object_words handle words d t word few =
     ((word, at_least words few), append (stores_code words (t + words) 0 t) _ (stores_words words (t + words) 0 t (omega (arith, few))) (tt, tt))
   where
-    at_least : (n : ℕ) → n ≤ 1000 → IsWord (max 1 n)
+    at_least : (n : ℕ) → n ≤ 3000 → IsWord (max 1 n)
     at_least zero fits = omega arith
     at_least (suc n) fits = omega (arith, fits)
 
@@ -244,7 +262,8 @@ module _ (starts : Starts) where
         let front = converted_operand_code starts c p t in
         let word = converted_word c t words in
         append (front ++ instructions.StoreGlobal n o ∷ []) (copy_code (passed_words c) o d) (append front _ (converted_operand_words c p t words) (word, tt)) (copy_words (is_in o d) (passed_words c) o d word)
-    expression_words (Load x) p d t words = append (place_code starts x p t) _ (place_words x p t words) ((place_word x t words, offset_word x), tt)
+    expression_words (Load x) p d t words =
+        append (place_code starts x p t) _ (place_words x p t words) (loaded_words (words_of (type_of_place x) == 1) (place_operand starts x t) (place_offset starts x) d (place_word x t words) (offset_word x))
     expression_words (AddressOfCell x ty) p d t words = address_of_words x p d t words
     expression_words (Store x c ty) p d t (first, second) =
         let address = store_address_code starts x p t in
@@ -252,7 +271,7 @@ module _ (starts : Starts) where
         let o = converted_operand starts c (t + 1) in
         let word = converted_word c (t + 1) second in
         append (store_code starts x c p t) (copy_code (passed_words c) o d)
-        (append address _ (address_of_words x p t t first) (append value _ (converted_operand_words c (p + length address) (t + 1) second) ((tt, omega arith, word), tt)))
+        (append address _ (address_of_words x p t t first) (append value _ (converted_operand_words c (p + length address) (t + 1) second) (saved_words (passed_words c) t o (passed_few c) word)))
         (copy_words (is_in o d) (passed_words c) o d word)
     expression_words (New OnHeap i ty) p d t words = made_words i HEAP p d t (omega arith) words
     expression_words (New AsUnique i ty) p d t words = absurd words
@@ -261,9 +280,9 @@ module _ (starts : Starts) where
 
     made_words : (i : Initial) (handle p d t : ℕ) → IsWord handle → IsOfWordsObject i → HaveWords (made_code starts i handle p d t)
     made_words (Plain kind a) handle p d t word words =
-        append (expression_code starts a p t t) (object_code handle 1 d t) (expression_words a p t t words) (object_words handle 1 d t word (omega arith))
+        append (expression_code starts a p t t) (object_code handle (words_of_kind kind) d t) (expression_words a p t t words) (object_words handle (words_of_kind kind) d t word (omega (arith, kind_few kind)))
     made_words (Fields cs) handle p d t word (few, words) =
-        append (arguments_code starts cs p t) (object_code handle (argument_count cs) d t) (arguments_words cs p t words) (object_words handle (argument_count cs) d t word few)
+        append (arguments_code starts cs p t) (object_code handle (all_passed cs) d t) (arguments_words cs p t words) (object_words handle (all_passed cs) d t word (omega (arith, few, all_few cs)))
     made_words i handle p d t word words = absurd words
 
     place_words : (x : Dereference) (p t : ℕ) → IsOfWordsCell x → HaveWords (place_code starts x p t)
@@ -367,7 +386,7 @@ module _ (starts : Starts) where
   discarded_words (Store x c ty) p t (first, second) =
       let address = store_address_code starts x p t in
       let value = converted_operand_code starts c (p + length address) (t + 1) in
-      append address _ (address_of_words x p t t first) (append value _ (converted_operand_words c (p + length address) (t + 1) second) ((tt, omega arith, converted_word c (t + 1) second), tt))
+      append address _ (address_of_words x p t t first) (append value _ (converted_operand_words c (p + length address) (t + 1) second) (saved_words (passed_words c) t (converted_operand starts c (t + 1)) (passed_few c) (converted_word c (t + 1) second)))
   discarded_words a p t words = unless_words (operand_of starts a) (expression_code starts a p t t) (expression_words a p t t words)
 
   -- ---- statements

@@ -5,12 +5,12 @@ use Rattle.cyc_types.specs.declared.typed.Kind.{Kind}
 use Rattle.cyc_types.specs.declared.typed.Kind.TheVariants as kinds
 use Rattle.cyc_types.specs.declared.typed.PointerOperator.{PointerOperator}
 use Rattle.cyc_types.specs.declared.typed.PointerOperator.TheVariants as pointers
-use Rattle.cyc_types.specs.Types.{Ty, words_of}
+use Rattle.cyc_types.specs.Types.{Ty}
 use Rattle.cyc_types.specs.TypedTrees.{Load, New, OnHeap, Initial, Plain, Fields, Dereference, Target, Lvalue, Local, Global, Expression, Number, NullPointer, Copy, Call, Unary, Binary, Assign, Converted, Convert, Arguments, NoArguments, MoreArguments, Operations, NoOperations, ThenCompute, ThenTest, ThenPointer, Statement, Block, Empty, Evaluate, If, While, Return, Break, Continue, Items, NoItems, MoreItems, Execute, Declare, Signature, Function, Program, Move, Peek, ThenPointerPeek, AddressOfCell, Store, Member, NumberOfElements}
 use Rattle.cyc_types.specs.typing.Scopes.{signature_of_ints}
 use Rattle.cyc_types.specs.Numbered.{Numbering, IsSignature, IsWithin, argument_count, numbering_of, signatures_of}
 use Rattle.cyc_store.specs.declared.range.TheConstants.{MOST_BLOCK_WORDS}
-use Rattle.cyc_meaning.specs.Values.{is_thin, words_of_kind, is_kind}
+use Rattle.cyc_meaning.specs.Values.{is_thin, is_kind}
 use Rattle.cyc_lower.specs.Lowering.{are_as_wide, passed_words, all_passed}
 
 -- pointers are compared, with one another or with `NULL`
@@ -40,7 +40,6 @@ HasPlace b (Global n) words = (n < b.globals) × (words ≡ 1)
 abbrev pub is_converted : (from to : Kind) → Bool
 is_converted from to = if are_as_wide from to then true else is_kind to kinds.Fat
 
--- The cells that pointers lead to have one word yet.
 abbrev mutual
   pub IsLowerable : Numbering → Expression → Type 0
   IsLowerable b (Number n) = Unit {0}
@@ -60,15 +59,14 @@ abbrev mutual
   IsLowerable b a = ⊥
 
   pub IsLowerableCell : Numbering → Dereference → Type 0
-  IsLowerableCell b (Target k a t) = (is_thin k ≡ true) × (words_of t ≡ 1) × IsLowerable b a
-  IsLowerableCell b (Member k a s f t) = (is_thin k ≡ true) × (words_of t ≡ 1) × IsLowerable b a
+  IsLowerableCell b (Target k a t) = (is_thin k ≡ true) × IsLowerable b a
+  IsLowerableCell b (Member k a s f t) = (is_thin k ≡ true) × IsLowerable b a
   IsLowerableCell b x = ⊥
 
-  -- each cell has one word yet, and a block has room for all
+  -- a block has room for all cells
   pub IsLowerableObject : Numbering → Initial → Type 0
-  IsLowerableObject b (Plain kind a) = (words_of_kind kind ≡ 1) × IsLowerable b a
-  IsLowerableObject b (Fields cs) =
-      (argument_count cs ≡ all_passed cs) × (1 ≤ argument_count cs) × (argument_count cs ≤ MOST_BLOCK_WORDS) × AreLowerableArguments b cs
+  IsLowerableObject b (Plain kind a) = IsLowerable b a
+  IsLowerableObject b (Fields cs) = (1 ≤ argument_count cs) × (all_passed cs ≤ MOST_BLOCK_WORDS) × AreLowerableArguments b cs
   IsLowerableObject b i = ⊥
 
   pub IsLowerableConverted : Numbering → Converted → Type 0

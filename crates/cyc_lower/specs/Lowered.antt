@@ -42,7 +42,7 @@ FollowsSource source lowered pages calls store input =
 
 -- the most words of text that the code of a function has for each token that its spelling needs
 abbrev pub size_per_weight : ℕ
-size_per_weight = 36
+size_per_weight = 100
 
 pub record IsLoweredFunction (h : Function) (r : Routine) : Type 0 where
   pub name : r.name ≡ span_of_place h.place

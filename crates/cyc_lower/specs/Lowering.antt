@@ -19,8 +19,7 @@ use Rattle.cyc_types.specs.declared.typed.PointerOperator.TheVariants as pointer
 use Rattle.cyc_types.specs.declared.typed.LogicalOperator.{LogicalOperator}
 use Rattle.cyc_types.specs.declared.typed.LogicalOperator.TheVariants as logical
 use Rattle.cyc_types.specs.Types.{Ty, words_of}
-use Rattle.cyc_types.specs.Numbered.{argument_count}
-use Rattle.cyc_types.specs.TypedTrees.{Load, New, OnHeap, Initial, Plain, Fields, Dereference, Target, Lvalue, Local, Global, Expression, Number, NullPointer, Copy, Call, Unary, Binary, Assign, Converted, Convert, Arguments, NoArguments, MoreArguments, Operations, NoOperations, ThenCompute, ThenTest, ThenPointer, ThenPointerPeek, Statement, Block, Empty, Evaluate, If, While, Return, Break, Continue, Items, NoItems, MoreItems, Execute, Declare, Constant, Word, Null, GlobalVariable, StructType, Function, Program, Move, Peek, AddressOfCell, Store, Member, Element, NumberOfElements}
+use Rattle.cyc_types.specs.TypedTrees.{Load, New, OnHeap, Initial, Plain, Fields, Dereference, Target, Lvalue, Local, Global, Expression, Number, NullPointer, Copy, Call, Unary, Binary, Assign, Converted, Convert, Arguments, NoArguments, MoreArguments, Operations, NoOperations, ThenCompute, ThenTest, ThenPointer, ThenPointerPeek, Statement, Block, Empty, Evaluate, If, While, Return, Break, Continue, Items, NoItems, MoreItems, Execute, Declare, Constant, Word, Null, GlobalVariable, StructType, Function, Program, Move, Peek, AddressOfCell, Store, Member, Element, NumberOfElements, type_of_place}
 use Rattle.cyc_plain.specs.declared.instruction.UnaryOperator.{UnaryOperator as PlainUnary}
 use Rattle.cyc_plain.specs.declared.instruction.UnaryOperator.TheVariants as plain_unary
 use Rattle.cyc_plain.specs.declared.instruction.BinaryOperator.{BinaryOperator as PlainBinary}
@@ -278,9 +277,17 @@ address_code o (suc bytes) d = instructions.Binary plain_binary.Add d o (operand
 abbrev pub addressed_by : (place : List Instruction) → Operand → (bytes d : ℕ) → List Instruction
 addressed_by place o bytes d = place ++ address_code o bytes d
 
--- a value is stored in a cell, whose address waits in a slot
-abbrev pub stored_by : (address value : List Instruction) → (slot : ℕ) → Operand → List Instruction
-stored_by address value slot o = address ++ (value ++ instructions.Store (operands.Slot slot) 0 o ∷ [])
+-- A cell of so many words comes to a slot and those behind it, whose address stands in an operand but for so many bytes. Where there are
+-- more words the address comes to the slot of the first, which is loaded last.
+abbrev pub loaded_code : (words : ℕ) → Operand → (bytes d : ℕ) → List Instruction
+loaded_code words o bytes d =
+    if words == 1
+    then instructions.Load d o bytes ∷ []
+    else address_code o bytes d
+    ++ instructions.Load (d + 2) (operands.Slot d) 8
+    ∷ instructions.Load (d + 1) (operands.Slot d) 4
+    ∷ instructions.Load d (operands.Slot d) 0
+    ∷ []
 
 -- ---- conversions
 
@@ -320,6 +327,15 @@ abbrev pub stores_code : (many address offset slot : ℕ) → List Instruction
 stores_code zero address offset slot = []
 stores_code (suc many) address offset slot =
     instructions.Store (operands.Slot address) offset (operands.Slot slot) ∷ stores_code many address (offset + 4) (suc slot)
+
+-- A value of so many words comes to the cell whose address is in a slot. Of null the first word tells.
+abbrev pub saved_code : (words address : ℕ) → Operand → List Instruction
+saved_code words address (operands.Slot n) = stores_code words address 0 n
+saved_code words address (operands.Word n) = instructions.Store (operands.Slot address) 0 (operands.Word n) ∷ []
+
+-- a value is stored in a cell, whose address waits in a slot
+abbrev pub stored_by : (address value : List Instruction) → (words slot : ℕ) → Operand → List Instruction
+stored_by address value words slot o = address ++ (value ++ saved_code words slot o)
 
 -- A block is asked for in the region of this handle, and gets so many words, which stand in the slots from t on. Its address comes to the
 -- slot behind them, and then to slot d.
@@ -491,11 +507,11 @@ module _ (starts : Starts) where
         initial_code c p (slot_of starts n) t ++ copy_code (passed_words c) (operands.Slot (slot_of starts n)) d
     expression_code (Assign (Global n) c ty) p d t =
         (converted_operand_code c p t ++ instructions.StoreGlobal n (converted_operand c t) ∷ []) ++ copy_code (passed_words c) (converted_operand c t) d
-    expression_code (Load x) p d t = place_code x p t ++ instructions.Load d (place_operand x t) (place_offset x) ∷ []
+    expression_code (Load x) p d t = place_code x p t ++ loaded_code (words_of (type_of_place x)) (place_operand x t) (place_offset x) d
     expression_code (AddressOfCell x ty) p d t = addressed_by (place_code x p t) (place_operand x t) (place_offset x) d
     expression_code (Store x c ty) p d t =
         stored_by (addressed_by (place_code x p t) (place_operand x t) (place_offset x) t)
-        (converted_operand_code c (p + length (addressed_by (place_code x p t) (place_operand x t) (place_offset x) t)) (t + 1)) t (converted_operand c (t + 1))
+        (converted_operand_code c (p + length (addressed_by (place_code x p t) (place_operand x t) (place_offset x) t)) (t + 1)) (passed_words c) t (converted_operand c (t + 1))
         ++ copy_code (passed_words c) (converted_operand c (t + 1)) d
     expression_code (New OnHeap i ty) p d t = made_code i HEAP p d t
     expression_code a p d t = instructions.Move d (operands.Word 0) ∷ []
@@ -506,10 +522,10 @@ module _ (starts : Starts) where
     place_code (Member k a s f ty) p t = tested_by (operand_of a) (expression_code a p (value_slot a t) t) (value_operand a t) p
     place_code (Element a i ty) p t = instructions.Move t (operands.Word 0) ∷ []
 
-    -- A new object in the region of this handle. Each of its cells has one word yet.
+    -- a new object in the region of this handle
     pub made_code : Initial → (handle p d t : ℕ) → List Instruction
-    made_code (Plain kind a) handle p d t = expression_code a p t t ++ object_code handle 1 d t
-    made_code (Fields cs) handle p d t = arguments_code cs p t ++ object_code handle (argument_count cs) d t
+    made_code (Plain kind a) handle p d t = expression_code a p t t ++ object_code handle (words_of_kind kind) d t
+    made_code (Fields cs) handle p d t = arguments_code cs p t ++ object_code handle (all_passed cs) d t
     made_code i handle p d t = instructions.Move d (operands.Word 0) ∷ []
 
     -- each argument comes into the slots behind those of the one before
@@ -578,7 +594,7 @@ module _ (starts : Starts) where
   -- a value is stored in a cell
   abbrev pub store_code : Dereference → Converted → (p t : ℕ) → List Instruction
   store_code x c p t =
-      stored_by (store_address_code x p t) (converted_operand_code c (p + length (store_address_code x p t)) (t + 1)) t (converted_operand c (t + 1))
+      stored_by (store_address_code x p t) (converted_operand_code c (p + length (store_address_code x p t)) (t + 1)) (passed_words c) t (converted_operand c (t + 1))
 
   -- the code of an expression whose value nobody wants
   abbrev pub discarded_code : Expression → (p t : ℕ) → List Instruction
