@@ -277,8 +277,8 @@ module _ (starts : Starts) where
     expression_some a p d t = omega arith
 
     made_some : (i : Initial) (handle p d t : ℕ) → 0 < length (made_code starts i handle p d t)
-    made_some (Plain kind a) handle p d t = behind (expression_code starts a p t t) (object_code handle 1 d t) (omega arith)
-    made_some (Fields cs) handle p d t = behind (arguments_code starts cs p t) (object_code handle (argument_count cs) d t) (omega arith)
+    made_some (Plain kind a) handle p d t = behind (expression_code starts a p t t) (object_code handle (words_of_kind kind) d t) (omega arith)
+    made_some (Fields cs) handle p d t = behind (arguments_code starts cs p t) (object_code handle (all_passed cs) d t) (omega arith)
     made_some (Array w level n kind a) handle p d t = omega arith
 
     initial_some : (c : Converted) (p d t : ℕ) → 0 < length (initial_code starts c p d t)
@@ -383,11 +383,11 @@ module _ (starts : Starts) where
       ∙ ap (λ (a : Expression). old ++ expression_code starts a (length old) d t) (sym (call_viewed value f v ty is items same))
 
   -- a new struct, of its fields
-  pub made_fields : (value : InitialCode) (v : Vec ConvertedCode Heap) (items : List ConvertedCode) (old m1 m2 : List Instruction) (handle many d t : ℕ) → value ≡ initial.Fields v → items ≡ v.items → many ≡ length v.items
+  pub made_fields : (value : InitialCode) (v : Vec ConvertedCode Heap) (items : List ConvertedCode) (old m1 m2 : List Instruction) (handle many d t : ℕ) → value ≡ initial.Fields v → items ≡ v.items → many ≡ all_passed (arguments_of items)
       → m1 ≡ old ++ arguments_code starts (arguments_of items) (length old) t → m2 ≡ m1 ++ object_code handle many d t → m2 ≡ old ++ made_code starts (view_initial value) handle (length old) d t
   made_fields value v items old m1 m2 handle many d t is same count first second =
       let cs = arguments_of v.items in
-      let counted : many ≡ argument_count cs = count ∙ sym (fields_counted v.items) in
+      let counted : many ≡ all_passed cs = count ∙ ap (λ (l : List ConvertedCode). all_passed (arguments_of l)) same in
       second
       ∙ ap (λ (l : List Instruction). l ++ object_code handle many d t) (first ∙ ap (λ (l : List ConvertedCode). old ++ arguments_code starts (arguments_of l) (length old) t) same)
       ∙ append_assoc old (arguments_code starts cs (length old) t) (object_code handle many d t)

@@ -23,6 +23,7 @@ pub mod PlaceSteps
 pub mod Values
 pub mod PointerSteps
 pub mod FatSteps
+pub mod Elements
 pub mod Evaluations
 pub mod Accesses
 pub mod Branching

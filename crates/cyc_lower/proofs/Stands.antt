@@ -1,6 +1,6 @@
 -- Where in a function's code the code of a construct stands, with all places between its parts left open.
 use Rattle.std.proofs.Common.{◌≡◌, ℕ, suc, ◌+◌, ◌<◌, Bool, true, false, List, Option, None, Some, zero, ◌≤◌, max}
-use Rattle.std.specs.Prelude.{◌==◌}
+use Rattle.std.specs.Prelude.{◌==◌, if◌then◌else◌}
 use Rattle.cyc_types.specs.declared.typed.Kind.{Kind}
 use Rattle.cyc_types.specs.declared.typed.Kind.TheVariants as kinds
 use Rattle.cyc_types.specs.declared.typed.Callee.TheVariants as callees
@@ -22,7 +22,7 @@ use Rattle.cyc_plain.specs.declared.instruction.Instruction.{Instruction}
 use Rattle.cyc_plain.specs.declared.instruction.Instruction.TheVariants as instructions
 use Rattle.cyc_plain.specs.Straight.{At}
 use Rattle.cyc_store.specs.declared.range.TheConstants.{MOST_BLOCK_WORDS, HEAP}
-use Rattle.cyc_meaning.specs.Operators.{null_exception, division_by_zero}
+use Rattle.cyc_meaning.specs.Operators.{null_exception, division_by_zero, array_bounds}
 use Rattle.cyc_meaning.specs.Values.{is_thin, words_of_kind}
 use Rattle.cyc_lower.specs.declared.statements.Exits.{Exits}
 use Rattle.cyc_lower.specs.Slots.{Types, starts_of, slot_of, field_of}
@@ -71,6 +71,27 @@ module _ (code : List Instruction) (bounds : Numbering) (types : Types) where
 
   abbrev pub CheckAt : (tag : ℕ) → Operand → (p q : ℕ) → Type 0
   CheckAt tag o p q = At code p (jump_if_nonzero o q) × At code (p + 1) (instructions.Uncaught tag o) × (p + 2 ≡ q)
+
+  -- an index is compared with a length
+  abbrev pub BoundsAt : (index length : Operand) → (p q : ℕ) → Type 0
+  BoundsAt index length p q = At code p (instructions.Branch comparisons.LessUnsigned index length q) × At code (p + 1) (instructions.Uncaught array_bounds (operands.Word 0)) × (p + 2 ≡ q)
+
+  abbrev pub SteppedAt : (span : Option ℕ) → (n m t p q : ℕ) → Type 0
+  SteppedAt None n m t p q = p ≡ q
+  SteppedAt (Some words) n m t p q =
+      At code p (if words == 1 then instructions.Binary plain_binary.ShiftLeft (t + 2) (operands.Slot m) (operands.Word 2) else instructions.Binary plain_binary.Multiply (t + 2) (operands.Slot m) (operands.Word 12))
+      × At code (p + 1) (instructions.Binary plain_binary.Add t (operands.Slot n) (operands.Slot (t + 2))) × (p + 1 + 1 ≡ q)
+
+  -- an access by a fat pointer whose first words are in slot n and the next, and whose index is in slot m
+  abbrev pub ReachedAt : (span : Option ℕ) → (n m t p q : ℕ) → Type 0
+  ReachedAt span n m t p q =
+      (r : ℕ) × (s : ℕ) × CheckAt null_exception (operands.Slot n) p r × BoundsAt (operands.Slot m) (operands.Slot (n + 1)) r s × SteppedAt span n m t s q
+
+  -- an access by a pointer in an operand
+  abbrev pub FollowedAt : (thin : Bool) → (span : Option ℕ) → Operand → (t p q : ℕ) → Type 0
+  FollowedAt true span o t p q = CheckAt null_exception o p q
+  FollowedAt false span (operands.Slot n) t p q = ReachedAt span n (n + 2) t p q
+  FollowedAt false span (operands.Word w) t p q = ⊥
 
   abbrev pub TestedAt : (to : Kind) → Operand → (p q : ℕ) → Type 0
   TestedAt kinds.NonNull o p q = CheckAt null_exception o p q

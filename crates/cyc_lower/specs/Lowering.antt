@@ -34,8 +34,8 @@ use Rattle.cyc_plain.specs.declared.instruction.Instruction.TheVariants as instr
 use Rattle.cyc_plain.specs.Program.{Routine, Program as PlainProgram}
 use Rattle.cyc_store.specs.declared.range.TheConstants.{HEAP}
 use Rattle.cyc_meaning.specs.Values.{words_of_kind}
-use Rattle.cyc_meaning.specs.Operators.{null_exception, division_by_zero}
-use Rattle.cyc_meaning.specs.Parts.{target_by}
+use Rattle.cyc_meaning.specs.Operators.{null_exception, division_by_zero, array_bounds}
+use Rattle.cyc_meaning.specs.Parts.{target_of, target_by}
 use Rattle.cyc_meaning.specs.FrameCount.{frame_count, items_need, words_of_all}
 use Rattle.cyc_lower.specs.Slots.{Types, Starts, starts_of, slot_of, field_of}
 use Rattle.cyc_lower.specs.declared.operands.Condition.{Condition}
@@ -171,6 +171,44 @@ move_of words d (operands.Word n) = instructions.Move d (operands.Word n)
 abbrev pub tested_code : (to : Kind) → Operand → (p : ℕ) → List Instruction
 tested_code kinds.NonNull o p = check_code null_exception o p
 tested_code to o p = []
+
+-- an index that is not below a length raises an exception
+abbrev pub bounds_code : (index length : Operand) → (p : ℕ) → List Instruction
+bounds_code index length p = instructions.Branch comparisons.LessUnsigned index length (p + 2) ∷ instructions.Uncaught array_bounds (operands.Word 0) ∷ []
+
+-- The cell at an index has its address in slot t then: that of the first is in slot n, the index is in slot m, and each cell has one word or
+-- three. A struct stands alone, where the source does not go wrong.
+abbrev pub stepped_code : (span : Option ℕ) → (n m t : ℕ) → List Instruction
+stepped_code None n m t = []
+stepped_code (Some words) n m t =
+    (if words == 1 then instructions.Binary plain_binary.ShiftLeft (t + 2) (operands.Slot m) (operands.Word 2) else instructions.Binary plain_binary.Multiply (t + 2) (operands.Slot m) (operands.Word 12))
+    ∷ instructions.Binary plain_binary.Add t (operands.Slot n) (operands.Slot (t + 2))
+    ∷ []
+
+-- an access by a fat pointer whose first words are in slot n and the next, and whose index is in slot m
+abbrev pub reached_code : (span : Option ℕ) → (n m t p : ℕ) → List Instruction
+reached_code span n m t p =
+    check_code null_exception (operands.Slot n) p
+    ++ (bounds_code (operands.Slot m) (operands.Slot (n + 1)) (p + length (check_code null_exception (operands.Slot n) p)) ++ stepped_code span n m t)
+
+abbrev pub reached_operand : (span : Option ℕ) → (n t : ℕ) → Operand
+reached_operand None n t = operands.Slot n
+reached_operand (Some words) n t = operands.Slot t
+
+-- an access by a pointer in an operand, which is thin or fat
+abbrev pub followed_code : (thin : Bool) → (span : Option ℕ) → Operand → (t p : ℕ) → List Instruction
+followed_code true span o t p = check_code null_exception o p
+followed_code false span (operands.Slot n) t p = reached_code span n (n + 2) t p
+followed_code false span (operands.Word w) t p = check_code null_exception (operands.Word w) p
+
+abbrev pub followed_operand : (thin : Bool) → (span : Option ℕ) → Operand → (t : ℕ) → Operand
+followed_operand true span o t = o
+followed_operand false span (operands.Slot n) t = reached_operand span n t
+followed_operand false span (operands.Word w) t = operands.Word w
+
+-- the words of the cells of a type, where it is none of structs
+abbrev pub span_in : Ty → Option ℕ
+span_in t = option_map words_of_kind (target_of t)
 
 -- A thin pointer gets the length and the index of a fat one that leads to one cell. Of null the first word tells.
 abbrev pub widened_code : Operand → List Instruction

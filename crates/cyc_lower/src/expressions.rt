@@ -1,17 +1,17 @@
 //! The code of expressions. Each method adds its code behind what there is. A value comes to a slot by the last instruction;
 //! else only the slots from `free` on are written, and those of locals that are assigned.
-ghost use Rattle.std.specs.Prelude.{◌≡◌, ◌+◌, ◌<◌, ◌≤◌, [], ◌∷◌, ◌++◌, None, length};
+ghost use Rattle.std.specs.Prelude.{◌≡◌, ◌+◌, ◌^◌, ◌<◌, ◌≤◌, [], ◌∷◌, ◌++◌, None, length};
 ghost use Rattle.cyc_types.specs.Types.{Void};
 ghost use Rattle.cyc_types.specs.TypedTreeView.{view_dereference, view_initial, view_expression, view_converted, view_lvalue, arguments_of, operations_of};
 ghost use Rattle.cyc_types.specs.TypedTrees.{Call};
 ghost use Rattle.cyc_meaning.specs.Values.{words_of_kind};
 ghost use Rattle.cyc_plain.specs.declared.instruction.Operand.TheVariants as operands;
 ghost use Rattle.cyc_plain.specs.declared.instruction.Instruction.TheVariants as instructions;
-ghost use Rattle.cyc_lower.specs.Lowering.{operand_of, operand_or, left_of, left_slot, value_operand, converted_operand, printed_operand, check_code, conversion_code, divisor_code, operator_code, truth_code, copy_code, all_passed, expression_code, arguments_code, converted_operand_code, printed_code, initial_code, assignment_code, assigned_operand, operations_code, discarded_code, condition_of, condition_code, first_two, index_code, pointer_instructions, stores_code, object_code, made_code, address_code, place_operand, place_offset, place_code, addressed_by, count_code, widened_code, span_of};
+ghost use Rattle.cyc_lower.specs.Lowering.{operand_of, operand_or, left_of, left_slot, value_operand, converted_operand, printed_operand, check_code, conversion_code, divisor_code, operator_code, truth_code, copy_code, all_passed, expression_code, arguments_code, converted_operand_code, printed_code, initial_code, assignment_code, assigned_operand, operations_code, discarded_code, condition_of, condition_code, first_two, index_code, pointer_instructions, stores_code, object_code, made_code, address_code, place_operand, place_offset, place_code, addressed_by, count_code, widened_code, span_of, saved_code, loaded_code};
 ghost use Rattle.cyc_lower.specs.Emission.{Appends, Gives, HasRoom, HasRoomFor, most_locals, value_code, source_code, slot_code, print_code, converted_slot, converted_slot_code, left_code, operation_code, IsChain, zero_condition, view_starts, pointer_operation_code};
 
 use crate::emitter::Emitter;
-use crate::frame_count::{words_of, words_of_kind};
+use crate::frame_count::{words_at, words_of, words_of_kind};
 use crate::locals::{Starts, field_of, slot_of};
 use crate::operands::{
     Condition, are_as_wide, converts_there, index_of, is_in, null_of, operand_of, slot_behind,
@@ -154,7 +154,7 @@ impl Emitter {
     /// So many words, which stand in the slots from one on, come to memory behind an address.
     fn store_words(&mut self, words: u32, address: usize, first: usize) -> Result<(), AllocError>
         requires few { words ≤ 1000 }
-        requires low { first + words ≤ address }
+        requires low { first + words < 2 ^ 64 }
         ensures { Appends result self.old self.new (stores_code words address 0 first) }
     {
         for index in 0..words {
@@ -197,6 +197,61 @@ impl Emitter {
         self.emit(Instruction::Move {
             destination: slot,
             source: Operand::Slot { number: address },
+        })
+    }
+
+    /// A value of a kind comes to the cell whose address is in a slot. Of null the first word tells.
+    fn save(&mut self, kind: Kind, address: usize, value: Operand) -> Result<(), AllocError>
+        ensures { Appends result self.old self.new (saved_code (words_of_kind kind) address value) }
+    {
+        match value {
+            Operand::Slot { number } => {
+                slot_behind(number, kind)?;
+                self.store_words(words_of_kind(kind) as u32, address, number)
+            }
+            Operand::Word { .. } => self.emit(Instruction::Store {
+                address: Operand::Slot { number: address },
+                offset: 0,
+                source: value,
+            }),
+        }
+    }
+
+    /// A cell of so many words comes to a slot and those behind it, whose address stands in an operand but for so many bytes. Where
+    /// there are more words the address comes to the slot of the first, which is loaded last.
+    fn load_cell(
+        &mut self,
+        words: usize,
+        address: Operand,
+        offset: u32,
+        slot: usize,
+    ) -> Result<(), AllocError>
+        ensures { Appends result self.old self.new (loaded_code words address offset slot) }
+    {
+        if words == 1 {
+            return self.emit(Instruction::Load {
+                destination: slot,
+                address,
+                offset,
+            });
+        }
+        let behind = slot_behind(slot, Kind::Fat)?;
+        let first = Operand::Slot { number: slot };
+        self.bring_address(address, offset, slot)?;
+        self.emit(Instruction::Load {
+            destination: behind - 1,
+            address: first,
+            offset: 8,
+        })?;
+        self.emit(Instruction::Load {
+            destination: behind - 2,
+            address: first,
+            offset: 4,
+        })?;
+        self.emit(Instruction::Load {
+            destination: slot,
+            address: first,
+            offset: 0,
         })
     }
 
@@ -307,11 +362,7 @@ impl Emitter {
             }
             Expr::Load { source } => {
                 let address = self.locate(starts, source, free)?;
-                self.emit(Instruction::Load {
-                    destination: slot,
-                    address,
-                    offset: place_offset(starts, source),
-                })
+                self.load_cell(words_at(source), address, place_offset(starts, source), slot)
             }
             Expr::AddressOfCell { place, .. } => self.take_address(starts, place, slot, free),
             Expr::Store { target, value, .. } => {
@@ -402,19 +453,15 @@ impl Emitter {
         free: usize,
     ) -> Result<Operand, AllocError>
         requires { free < most_locals + length self.old.code.items }
-        ensures { Gives (converted_operand (view_starts starts.now) (view_converted value.now) (free + 1)) result self.old self.new (converted_operand_code (view_starts starts.now) (view_converted value.now) (length self.old.code.items) (free + 1) ++ instructions.Store (operands.Slot free) 0 (converted_operand (view_starts starts.now) (view_converted value.now) (free + 1)) ∷ []) }
+        ensures { Gives (converted_operand (view_starts starts.now) (view_converted value.now) (free + 1)) result self.old self.new (converted_operand_code (view_starts starts.now) (view_converted value.now) (length self.old.code.items) (free + 1) ++ saved_code (words_of_kind value.now.to) free (converted_operand (view_starts starts.now) (view_converted value.now) (free + 1))) }
     {
         let source = self.lower_converted(starts, value, free + 1)?;
-        self.emit(Instruction::Store {
-            address: Operand::Slot { number: free },
-            offset: 0,
-            source,
-        })?;
+        self.save(value.to, free, source)?;
         Ok(source)
     }
 
     /// A new object in the region of a handle: its values come to slots, it is made of them, and its address comes to a
-    /// slot. Each of its cells has one word yet.
+    /// slot.
     #[cycle(expression)]
     fn lower_object(
         &mut self,
@@ -428,13 +475,13 @@ impl Emitter {
         ensures { Appends result self.old self.new (made_code (view_starts starts.now) (view_initial initial.now) handle (length self.old.code.items) slot free) }
     {
         match initial {
-            Initial::Plain { value, .. } => {
+            Initial::Plain { kind, value } => {
                 self.lower_expression(starts, value, free, free)?;
-                self.make_object(handle, 1, slot, free)
+                self.make_object(handle, words_of_kind(*kind), slot, free)
             }
             Initial::Fields { values } => {
-                self.lower_arguments(starts, values, free)?;
-                self.make_object(handle, values.len(), slot, free)
+                let words = self.lower_arguments(starts, values, free)?;
+                self.make_object(handle, words, slot, free)
             }
             Initial::Array { .. } => self.emit_missing(slot),
         }

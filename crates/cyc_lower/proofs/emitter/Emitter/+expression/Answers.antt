@@ -136,11 +136,11 @@ lower_expression-returns-in_ok-assigned-in-Assign t c =
     (e ∙ ap (λ (z : ConvertedCode). c.lower_assignment.new.self.code.items ++ copy_code (words_of_kind z.to) c.in_ok-assigned-in-Assign.assigned c.args.slot) same))
     c.copy.ensures
 
-pub lower_object-returns-in_ok-lower_arguments-in-Fields : goal.lower_object-returns-in_ok-lower_arguments-in-Fields
-lower_object-returns-in_ok-lower_arguments-in-Fields t c =
+pub lower_object-returns-in_ok-words-in-Fields : goal.lower_object-returns-in_ok-words-in-Fields
+lower_object-returns-in_ok-words-in-Fields t c =
     on_ok_weaker c.make_object-in-Fields.result
-    (made_fields (view_starts c.args.starts.now) c.args.initial.now c.in-Fields.values c.deref.result.now c.args.self.now.code.items c.lower_arguments.new.self.code.items c.make_object-in-Fields.new.self.code.items c.args.handle c.len.result c.args.slot c.args.free
-    c.in-Fields.is c.deref.ensures.value (omega (arith, c.len.ensures, c.in-Fields.values.ok.0)) c.in_ok-lower_arguments-in-Fields.ensures.1)
+    (made_fields (view_starts c.args.starts.now) c.args.initial.now c.in-Fields.values c.deref.result.now c.args.self.now.code.items c.lower_arguments.new.self.code.items c.make_object-in-Fields.new.self.code.items c.args.handle c.in_ok-words-in-Fields.words c.args.slot c.args.free
+    c.in-Fields.is c.deref.ensures.value c.in_ok-words-in-Fields.ensures.0 c.in_ok-words-in-Fields.ensures.1)
     c.make_object-in-Fields.ensures
 
 pub lower_expression-store-requires : goal.lower_expression-store-requires

@@ -1,0 +1,302 @@
+-- Accesses by fat pointers: the pointer is tested, its index is compared with its length, and the address of the cell at the index is
+-- computed. A pointer to a struct stands at the struct itself where the source does not go wrong.
+use Rattle.std.proofs.Common.{◌≡◌, ◌≢◌, ℕ, ◌+◌, ◌*◌, ◌^◌, ◌≤◌, ◌<◌, Bool, true, false, not, List, [], ◌∷◌, Option, None, Some, slice_get, refl, sym, ap, subst, ◌∙◌, arith, inl, inr}
+use Rattle.std.specs.Prelude.{◌==◌, ◌&&◌, nat_lt, if◌then◌else◌, option_map}
+use Rattle.std.proofs.lemmas.Bool.{eq-eqb, ne_eqb, eqb-true, eqb-false, cases_Bool, ltb-true, ltb-false, and_parts}
+use Rattle.std.proofs.lemmas.Option.{same_Some}
+use Rattle.cyc_words.specs.Word.{add_of, mul_of, shl_of}
+use Rattle.cyc_types.specs.declared.typed.Kind.{Kind}
+use Rattle.cyc_types.specs.declared.typed.Kind.TheVariants as kinds
+use Rattle.cyc_types.specs.TypedTrees.{Program}
+use Rattle.cyc_store.specs.State.{StoreState}
+use Rattle.cyc_plain.specs.declared.instruction.BinaryOperator.TheVariants as plain_binary
+use Rattle.cyc_plain.specs.declared.instruction.Comparison.TheVariants as comparisons
+use Rattle.cyc_plain.specs.declared.instruction.Operand.{Operand}
+use Rattle.cyc_plain.specs.declared.instruction.Operand.TheVariants as operands
+use Rattle.cyc_plain.specs.declared.instruction.Instruction.{Instruction}
+use Rattle.cyc_plain.specs.declared.instruction.Instruction.TheVariants as instructions
+use Rattle.cyc_plain.specs.State as plain
+use Rattle.cyc_plain.specs.State.{Words, put, Configuration}
+use Rattle.cyc_plain.specs.Step.{Choice, with_slots, at, performed, branches}
+use Rattle.cyc_plain.specs.Straight.{At}
+use Rattle.cyc_plain.proofs.SlotLaws.{put-same, put-other}
+use Rattle.cyc_meaning.specs.Values.{Value, Int, Null, Thin, Fat, Handle, Key, Operand as Kinded, Cell, kinds_of, is_kind, words_of_kind}
+use Rattle.cyc_meaning.specs.Operators.{null_exception, array_bounds}
+use Rattle.cyc_meaning.specs.Pointers.{Reach, Stops, followed}
+use Rattle.cyc_meaning.specs.Pointers as reaches
+use Rattle.cyc_meaning.specs.State.{Object, World, Environment, Follow, Entry, Needs, calls_in, Focus, Given, GivenPlace, Throwing, State, Running}
+use Rattle.cyc_meaning.specs.Places.{arrives}
+use Rattle.cyc_meaning.specs.Parts.{is_target, cell_of}
+use Rattle.cyc_meaning.specs.Step.{wrong, step, leads_to}
+use Rattle.cyc_objects.specs.Tables.{Tables}
+use Rattle.cyc_objects.specs.Words.{IsPartOf, Points, Is}
+use Rattle.cyc_objects.specs.Related as objects
+use Rattle.cyc_objects.proofs.NumberLemmas.{slice_get-map}
+use Rattle.cyc_objects.proofs.Pointers.{part-not-null, pointer-word, thinned}
+use Rattle.cyc_lower.specs.Lowering.{jump_if_nonzero, reached_operand, lower_program}
+use Rattle.cyc_lower.proofs.Widths.{wide_kind, same_kind, Outside}
+use Rattle.cyc_lower.proofs.Moves.{put_elsewhere}
+use Rattle.cyc_lower.proofs.Stands.{BoundsAt, SteppedAt, ReachedAt}
+use Rattle.cyc_lower.proofs.Relation.{IsPlainStack, types_at, silent, Holds, held, callers, DataIn, SharedAt, PlaceStack, Matches, code_of, bounds_at, base_of, top}
+use Rattle.cyc_lower.proofs.Data.{height-least, Holds-same, data_above}
+use Rattle.cyc_lower.proofs.Accesses.{IsWell, is_fitting}
+use Rattle.cyc_lower.proofs.PlaceWords.{narrow_element, wide_element, stays}
+use Rattle.cyc_lower.proofs.Matched.{IsMatched, by_one, place_depth, place_plain}
+use Rattle.cyc_lower.proofs.Paths.{Link, is_quiet, by_path}
+
+-- ---- the words of an access
+
+-- a number of bytes by an index that counts cells of one word, or of three
+abbrev pub scaled : (words index : ℕ) → ℕ
+scaled words index = if words == 1 then shl_of index 2 else mul_of index 12
+
+-- the words of a fat pointer whose index is apart from the others
+abbrev pub IsParts : Tables → Value → Words → (n m : ℕ) → Type 0
+IsParts t v slots n m = Is t kinds.Fat v (λ j. if j == 0 then slots n else if j == 1 then slots (n + 1) else slots m) 0
+
+-- the address of the cell at an index, by what the code computes of it
+module _ {t : Tables} where
+  pub element_is : {o start count w : ℕ} (i : ℕ) (part : IsPartOf t o start count w) → i < count → Points t o (start + i) (add_of w (scaled (words_of_kind part.kind) i))
+  element_is {o} {start} {count} {w} i part below = by (words_of_kind part.kind == 1) refl
+    where
+      by : (narrow : Bool) → (words_of_kind part.kind == 1) ≡ narrow → Points t o (start + i) (add_of w (if narrow then shl_of i 2 else mul_of i 12))
+      by true narrow = narrow_element i part below (eqb-true (words_of_kind part.kind) 1 narrow)
+      by false wide = wide_element i part below (ap words_of_kind (wide_kind part.kind wide))
+
+-- ---- the cell that is reached
+
+abbrev some_or : (kind : Kind) → Option Kind → Kind
+some_or kind None = kind
+some_or kind (Some other) = other
+
+-- where the tree says a kind, each cell of the part has its words
+module _ {t : Tables} {w : World} {s : StoreState} (related : objects.Related t w s) where
+  cell_of_kind : (kind : Kind) (offset : ℕ) (x : Option Object) → is_target (Some kind) offset (cell_of x offset) ≡ true → (y : Object) × (cell : Cell) × (x ≡ Some y) × (slice_get y.cells offset ≡ Some cell) × (cell.kind ≡ kind)
+  cell_of_kind kind offset None leads = absurd (let f : false ≡ true = leads in cc)
+  cell_of_kind kind offset (Some y) leads = by (slice_get y.cells offset) refl leads
+    where
+      by : (found : Option Cell) → slice_get y.cells offset ≡ found → is_target (Some kind) offset found ≡ true → (z : Object) × (cell : Cell) × (Some y ≡ Some z) × (slice_get z.cells offset ≡ Some cell) × (cell.kind ≡ kind)
+      by None at leads = absurd (let f : false ≡ true = leads in cc)
+      by (Some cell) at leads = (y, cell, refl, at, same_kind cell.kind kind leads)
+
+  pub part_words : {o start count a : ℕ} (i : ℕ) (part : IsPartOf t o start count a) (kind : Kind) → i < count → is_target (Some kind) (start + i) (cell_of (slice_get w.objects o) (start + i)) ≡ true
+      → words_of_kind part.kind ≡ words_of_kind kind
+  part_words {o} {start} {count} {a} i part kind below leads =
+      let (x, cell, there, at_cell, kind_is) = cell_of_kind kind (start + i) (slice_get w.objects o) leads in
+      let shape : part.kinds ≡ kinds_of x.cells = related.shapes o part.address part.kinds x there part.row in
+      let same : Some part.kind ≡ Some cell.kind = sym (part.even i below) ∙ (ap (λ ks. slice_get ks (start + i)) shape ∙ slice_get-map (λ (z : Cell). z.kind) x.cells (start + i) cell at_cell) in
+      ap words_of_kind (ap (some_or part.kind) same ∙ kind_is)
+
+-- the slots that an access writes
+elsewhere : (slots : Words) (t x y m : ℕ) → Outside t 3 m → put (put slots (t + 2) x) t y m ≡ slots m
+elsewhere slots t x y m out =
+    put_elsewhere (put slots (t + 2) x) t y 3 m (omega arith) out ∙ put-other slots (t + 2) m x (λ same. beside out same)
+  where
+    beside : Outside t 3 m → m ≡ t + 2 → ⊥
+    beside (inl short) same = absurd (omega (arith, same, short))
+    beside (inr long) same = absurd (omega (arith, same, long))
+
+-- ---- the instructions of an access
+
+module _ (source : Program) (pages calls : ℕ) where
+  taken : (c : Configuration) (b : Bool) (target : ℕ) → b ≡ true → branches c b target ≡ plain.Running (at c target)
+  taken c b target is = ap (λ (x : Bool). branches c x target) is
+
+  passed : (c : Configuration) (b : Bool) (target : ℕ) → b ≡ false → branches c b target ≡ plain.Running (at c (c.active.next + 1))
+  passed c b target is = ap (λ (x : Bool). branches c x target) is
+
+  module _ (focus : Focus) (k₀ k : List Entry) (e : Environment) (w : World) (c : Configuration) (span : Option ℕ) (n m t q : ℕ) (shared : SharedAt source pages calls k₀ e w c)
+      (here : ReachedAt (code_of source c.active.function) (bounds_at source c.active.function) (types_at source c.active.function) span n m t c.active.next q) where
+    abbrev slots : Words
+    slots = c.active.slots
+
+    abbrev p : ℕ
+    p = c.active.next
+
+    abbrev r : ℕ
+    r = here.0
+
+    abbrev s : ℕ
+    s = here.1
+
+    -- null raises an exception
+    pub raises_null : SharedAt source pages calls k e w c → calls_in k ≤ calls → IsPlainStack k → slots n ≡ 0 → step source (Running focus k₀ e w) ≡ Running (Throwing null_exception 0) k e w
+        → IsMatched source pages calls (Running focus k₀ e w) (plain.Running c)
+    raises_null shared_behind few plain_stack zero does =
+        let (jump, uncaught, end) = here.2 in
+        by_one source pages calls does shared jump
+        (λ choice. subst (Matches source pages calls (Running (Throwing null_exception 0) k e w)) (sym (passed c (not (slots n == 0)) r (ap (λ (b : Bool). not b) (eq-eqb (slots n) 0 zero))))
+        (shared_behind, few, plain_stack, operands.Slot n, uncaught, zero))
+
+    abbrev past_null : Link
+    past_null = record { instruction = jump_if_nonzero (operands.Slot n) r; behind = at c r }
+
+    past_null_leads : slots n ≢ 0 → (choice : Choice) → performed (lower_program source) choice c (jump_if_nonzero (operands.Slot n) r) ≡ plain.Running (at c r)
+    past_null_leads some choice = taken c (not (slots n == 0)) r (ap (λ (b : Bool). not b) (ne_eqb (slots n) 0 some))
+
+    -- and so does an index that is not below the length
+    pub raises_bounds : SharedAt source pages calls k e w c → calls_in k ≤ calls → IsPlainStack k → slots n ≢ 0 → nat_lt (slots m) (slots (n + 1)) ≡ false
+        → step source (Running focus k₀ e w) ≡ Running (Throwing array_bounds 0) k e w → IsMatched source pages calls (Running focus k₀ e w) (plain.Running c)
+    raises_bounds shared_behind few plain_stack some least does =
+        let (jump, uncaught, end) = here.2 in
+        let (branch, raise, behind) = here.3 in
+        by_path source pages calls focus k₀ e w c (Running (Throwing array_bounds 0) k e w) (past_null ∷ []) (instructions.Branch comparisons.LessUnsigned (operands.Slot m) (operands.Slot (n + 1)) s) does shared
+        (jump, past_null_leads some, omega (arith, end), is_quiet c (at c r).active, tt)
+        branch
+        (λ choice. subst (Matches source pages calls (Running (Throwing array_bounds 0) k e w)) (sym (passed (at c r) (nat_lt (slots m) (slots (n + 1))) s least))
+        (shared_behind, few, plain_stack, operands.Word 0, raise, refl))
+
+    abbrev in_bounds : Link
+    in_bounds = record { instruction = instructions.Branch comparisons.LessUnsigned (operands.Slot m) (operands.Slot (n + 1)) s; behind = at c s }
+
+    in_bounds_leads : nat_lt (slots m) (slots (n + 1)) ≡ true → (choice : Choice) → performed (lower_program source) choice (at c r) in_bounds.instruction ≡ plain.Running (at c s)
+    in_bounds_leads less choice = taken (at c r) (nat_lt (slots m) (slots (n + 1))) s less
+
+    -- the first cell is reached
+    pub reaches_first : span ≡ None → (next : State) → slots n ≢ 0 → nat_lt (slots m) (slots (n + 1)) ≡ true → step source (Running focus k₀ e w) ≡ next
+        → Matches source pages calls next (plain.Running (at c q)) → IsMatched source pages calls (Running focus k₀ e w) (plain.Running c)
+    reaches_first first next some less does goes =
+        let (jump, uncaught, end) = here.2 in
+        let (branch, raise, behind) = here.3 in
+        let there : s ≡ q = subst (λ x. SteppedAt (code_of source c.active.function) (bounds_at source c.active.function) (types_at source c.active.function) x n m t s q) first here.4 in
+        by_path source pages calls focus k₀ e w c next (past_null ∷ []) in_bounds.instruction does shared
+        (jump, past_null_leads some, omega (arith, end), is_quiet c (at c r).active, tt)
+        branch
+        (λ choice. subst (Matches source pages calls next) (sym (in_bounds_leads less choice)) (subst (λ i. Matches source pages calls next (plain.Running (at c i))) (sym there) goes))
+
+    -- the cell at the index is reached, and its address comes to slot t
+    abbrev pub stepped : (words : ℕ) → Words
+    stepped words = put (put slots (t + 2) (scaled words (slots m))) t (add_of (slots n) (scaled words (slots m)))
+
+    scales : (words : ℕ) (choice : Choice)
+        → performed (lower_program source) choice (at c s)
+        (if words == 1 then instructions.Binary plain_binary.ShiftLeft (t + 2) (operands.Slot m) (operands.Word 2) else instructions.Binary plain_binary.Multiply (t + 2) (operands.Slot m) (operands.Word 12))
+        ≡ plain.Running (at (with_slots c (put slots (t + 2) (scaled words (slots m)))) (s + 1))
+    scales words choice = by (words == 1)
+      where
+        by : (narrow : Bool)
+            → performed (lower_program source) choice (at c s)
+            (if narrow then instructions.Binary plain_binary.ShiftLeft (t + 2) (operands.Slot m) (operands.Word 2) else instructions.Binary plain_binary.Multiply (t + 2) (operands.Slot m) (operands.Word 12))
+            ≡ plain.Running (at (with_slots c (put slots (t + 2) (if narrow then shl_of (slots m) 2 else mul_of (slots m) 12))) (s + 1))
+        by true = refl
+        by false = refl
+
+    pub reaches_cell : (words : ℕ) → span ≡ Some words → (next : State) → n ≤ t → slots n ≢ 0 → nat_lt (slots m) (slots (n + 1)) ≡ true → step source (Running focus k₀ e w) ≡ next
+        → Matches source pages calls next (plain.Running (at (with_slots c (stepped words)) q)) → IsMatched source pages calls (Running focus k₀ e w) (plain.Running c)
+    reaches_cell words cells next low some less does goes =
+        let g = c.active.function in
+        let (jump, uncaught, end) = here.2 in
+        let (branch, raise, behind) = here.3 in
+        let (scale, sum, last) = subst (λ x. SteppedAt (code_of source g) (bounds_at source g) (types_at source g) x n m t s q) cells here.4 in
+        let bytes = scaled words (slots m) in
+        let before = put slots (t + 2) bytes in
+        let b : Configuration = at (with_slots c before) (s + 1) in
+        let first : before n ≡ slots n = put-other slots (t + 2) n bytes (λ same. absurd (omega (arith, same, low))) in
+        by_path source pages calls focus k₀ e w c next
+        (past_null ∷ in_bounds ∷ record { instruction = (if words == 1 then instructions.Binary plain_binary.ShiftLeft (t + 2) (operands.Slot m) (operands.Word 2) else instructions.Binary plain_binary.Multiply (t + 2) (operands.Slot m) (operands.Word 12)); behind = b } ∷ [])
+        (instructions.Binary plain_binary.Add t (operands.Slot n) (operands.Slot (t + 2))) does shared
+        (
+          jump,
+          past_null_leads some,
+          omega (arith, end),
+          is_quiet c (at c r).active,
+          (branch, in_bounds_leads less, omega (arith, behind), is_quiet (at c r) (at c s).active, (scale, scales words, omega arith, is_quiet (at c s) b.active, tt)),
+        )
+        sum
+        (λ choice. subst (λ (x : ℕ). Matches source pages calls next (plain.Running (at (with_slots c (put before t x)) (s + 1 + 1))))
+        (sym (ap (λ (y : ℕ). add_of y (before (t + 2))) first ∙ ap (add_of (slots n)) (put-same slots (t + 2) bytes)))
+        (subst (λ i. Matches source pages calls next (plain.Running (at (with_slots c (stepped words)) i))) (sym last) goes))
+
+  -- ---- a place is reached
+
+  -- by a fat pointer whose words these are
+  module _ (i : Kind) (target : Option Kind) (n m q : ℕ) (k : List Entry) (e : Environment) (w : World) (c : Configuration) where
+    abbrev span_there : Option ℕ
+    span_there = option_map words_of_kind target
+
+    abbrev waiting : List Entry
+    waiting = Needs (Follow kinds.Fat target) ∷ k
+
+    abbrev given : Value → Kinded
+    given x = record { kind = i; value = x }
+
+    abbrev free : ℕ
+    free = top source c.active.function k
+
+    abbrev tests : Value → Bool
+    tests x = is_kind i kinds.Fat && leads_to w target (followed x)
+
+    arrives_so : (x : Value) (reach : Reach) → IsWell (step source (Running (Given (given x)) waiting e w)) → followed x ≡ reach → step source (Running (Given (given x)) waiting e w) ≡ arrives reach k e w
+    arrives_so x reach well is =
+        ap (λ (b : Bool). if b then arrives (followed x) k e w else wrong w) (is_fitting (tests x) (arrives (followed x) k e w) w well) ∙ ap (λ (y : Reach). arrives y k e w) is
+
+    leads_there : (x : Value) → IsWell (step source (Running (Given (given x)) waiting e w)) → leads_to w target (followed x) ≡ true
+    leads_there x well = (and_parts (is_kind i kinds.Fat) (leads_to w target (followed x)) (is_fitting (tests x) (arrives (followed x) k e w) w well)).1
+
+    -- within bounds: the first cell, or the one at the index
+    cell_reached : (object start count index : ℕ) {x : Value} → c.active.slots n ≢ 0 → nat_lt (c.active.slots m) (c.active.slots (n + 1)) ≡ true → index < count
+        → (shared : SharedAt source pages calls k e w c) → (part : IsPartOf shared.tables object start count (c.active.slots n)) → c.active.slots m ≡ index
+        → step source (Running (Given (given x)) waiting e w) ≡ Running (GivenPlace (Thin object (start + index))) k e w → leads_to w target (reaches.At object (start + index)) ≡ true
+        → DataIn source shared.tables c.active.slots k e w c → Holds shared.tables c.active.slots (base_of source c.active.function) (held k) → n ≤ free
+        → ReachedAt (code_of source c.active.function) (bounds_at source c.active.function) (types_at source c.active.function) span_there n m free c.active.next q
+        → PlaceStack source c.active.function e.locals (reached_operand span_there n free) 0 q c.frames k
+        → IsMatched source pages calls (Running (Given (given x)) waiting e w) (plain.Running c)
+    cell_reached object start count index {x} some less below shared part index_is does leads facts holds low here place = by target refl leads here place
+      where
+        by : (found : Option Kind) → target ≡ found → leads_to w found (reaches.At object (start + index)) ≡ true
+            → ReachedAt (code_of source c.active.function) (bounds_at source c.active.function) (types_at source c.active.function) (option_map words_of_kind found) n m free c.active.next q
+            → PlaceStack source c.active.function e.locals (reached_operand (option_map words_of_kind found) n free) 0 q c.frames k
+            → IsMatched source pages calls (Running (Given (given x)) waiting e w) (plain.Running c)
+        by None is leads here place =
+            let zero : start + index ≡ 0 = eqb-true (start + index) 0 leads in
+            let none : index ≡ 0 = omega (arith, zero) in
+            let points : Points shared.tables object (start + index) (c.active.slots n) =
+            subst (λ (i : ℕ). Points shared.tables object (start + i) (c.active.slots n)) (sym none) (subst (Points shared.tables object (start + 0)) (let same : c.active.slots n + 4 * (0 * words_of_kind part.kind) ≡ c.active.slots n = omega arith in same) (thinned 0 part (omega (arith, below)))) in
+            reaches_first (Given (given x)) waiting k e w c None n m free q shared here refl (Running (GivenPlace (Thin object (start + index))) k e w) some less does
+            (shared, facts, (operands.Slot n, 0, pointer-word points, stays points, holds, place))
+        by (Some kind) is leads here place =
+            let g = c.active.function in
+            let base = base_of source g in
+            let slots = c.active.slots in
+            let words = words_of_kind kind in
+            let address = add_of (slots n) (scaled words (slots m)) in
+            let wide : words_of_kind part.kind ≡ words = part_words shared.related index part kind below leads in
+            let points : Points shared.tables object (start + index) address =
+            subst (λ (i : ℕ). Points shared.tables object (start + index) (add_of (slots n) (scaled words i))) (sym index_is) (subst (λ (j : ℕ). Points shared.tables object (start + index) (add_of (slots n) (scaled j index))) wide (element_is index part below)) in
+            let after = put (put slots (free + 2) (scaled words (slots m))) free address in
+            let there : Points shared.tables object (start + index) (after free) = subst (Points shared.tables object (start + index)) (sym (put-same (put slots (free + 2) (scaled words (slots m))) free address)) points in
+            reaches_cell (Given (given x)) waiting k e w c (Some words) n m free q shared here words refl (Running (GivenPlace (Thin object (start + index))) k e w) low some less does
+            (
+              shared,
+              data_above shared.tables source g w.objects e.locals (callers k) slots after c.globals c.frames free 3 (height-least base (held k)) (λ x out. elsewhere slots free (scaled words (slots m)) address x out) facts,
+              (operands.Slot free, 0, pointer-word there, stays there, Holds-same shared.tables slots after base (held k) (λ x short. elsewhere slots free (scaled words (slots m)) address x (inl short)) holds, place),
+            )
+
+    pub follows_parts : (x : Value) → IsWell (step source (Running (Given (given x)) waiting e w)) → (shared : SharedAt source pages calls k e w c) → DataIn source shared.tables c.active.slots k e w c
+        → IsParts shared.tables x c.active.slots n m → Holds shared.tables c.active.slots (base_of source c.active.function) (held k) → n ≤ free
+        → ReachedAt (code_of source c.active.function) (bounds_at source c.active.function) (types_at source c.active.function) span_there n m free c.active.next q
+        → PlaceStack source c.active.function e.locals (reached_operand span_there n free) 0 q c.frames k
+        → IsMatched source pages calls (Running (Given (given x)) waiting e w) (plain.Running c)
+    follows_parts Null well shared facts is holds low here place =
+        raises_null (Given (given Null)) waiting k e w c span_there n m free q shared here shared
+        (omega (arith, place_depth source c.active.function e.locals (reached_operand span_there n free) 0 q c.frames k place, shared.fits))
+        (place_plain source c.active.function e.locals (reached_operand span_there n free) 0 q c.frames k place) is (arrives_so Null (Stops null_exception) well refl)
+    follows_parts (Fat object start count index) well shared facts (part, count_is, index_is) holds low here place =
+        let g = c.active.function in
+        let slots = c.active.slots in
+        let x = Fat object start count index in
+        let some = part-not-null part in
+        let same : nat_lt (slots m) (slots (n + 1)) ≡ nat_lt index count = ap (λ (y : ℕ). nat_lt y (slots (n + 1))) index_is ∙ ap (nat_lt index) count_is in
+        elim (cases_Bool (nat_lt (slots m) (slots (n + 1)))) [
+          | inl less ↦
+              let inside = sym same ∙ less in
+              let reach : followed x ≡ reaches.At object (start + index) = ap (λ (b : Bool). if b then reaches.At object (start + index) else Stops array_bounds) inside in
+              cell_reached object start count index some less (ltb-true index count inside) shared part index_is (arrives_so x (reaches.At object (start + index)) well reach)
+              (subst (λ (y : Reach). leads_to w target y ≡ true) reach (leads_there x well)) facts holds low here place
+          | inr least ↦
+              let reach : followed x ≡ Stops array_bounds = ap (λ (b : Bool). if b then reaches.At object (start + index) else Stops array_bounds) (sym same ∙ least) in
+              raises_bounds (Given (given x)) waiting k e w c span_there n m free q shared here shared
+              (omega (arith, place_depth source g e.locals (reached_operand span_there n free) 0 q c.frames k place, shared.fits))
+              (place_plain source g e.locals (reached_operand span_there n free) 0 q c.frames k place) some least (arrives_so x (Stops array_bounds) well reach)
+        ]
+    follows_parts x well shared facts is holds low here place = absurd is
