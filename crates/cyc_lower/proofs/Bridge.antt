@@ -16,6 +16,7 @@ use Rattle.cyc_types.specs.TypedTrees.{Load, New, OnHeap, AsUnique, ByHandle, In
 use Rattle.cyc_types.specs.Numbered.{Numbering, argument_count, numbering_of, signatures_of}
 use Rattle.cyc_plain.specs.declared.instruction.Comparison.{Comparison}
 use Rattle.cyc_plain.specs.declared.instruction.BinaryOperator.TheVariants as plain_binary
+use Rattle.cyc_plain.specs.declared.instruction.Comparison.TheVariants as comparisons
 use Rattle.cyc_plain.specs.declared.instruction.Operand.{Operand}
 use Rattle.cyc_plain.specs.declared.instruction.Operand.TheVariants as operands
 use Rattle.cyc_plain.specs.declared.instruction.Instruction.{Instruction}
@@ -24,15 +25,15 @@ use Rattle.cyc_plain.specs.Program.{Routine, no_routine, routine_at}
 use Rattle.cyc_plain.specs.Straight.{At, HasAt}
 use Rattle.cyc_plain.proofs.Straight.{has_front, has_back, has_whole}
 use Rattle.cyc_store.specs.declared.range.TheConstants.{MOST_BLOCK_WORDS, HEAP}
-use Rattle.cyc_meaning.specs.Values.{kind_of, words_of_kind, is_kind}
+use Rattle.cyc_meaning.specs.Values.{kind_of, words_of_kind, is_kind, is_thin}
 use Rattle.cyc_meaning.specs.FrameCount.{words_of_all, operand_words}
 use Rattle.cyc_lower.specs.Slots.{Types, starts_of, slot_of}
-use Rattle.cyc_lower.specs.Lowering.{types_of, are_as_wide, converts_there, passed_words, source_of, source_slot, moved_by, move_of, operand_of, operand_or, code_unless, slot_or, code_unless_slot, left_with, left_of, value_slot, next_slot, slot_with, left_slot, value_operand, converted_operand, printed_operand, jump_if_nonzero, check_code, conversion_code, divisor_code, checked_code, operator_code, truth_code, load_code, low_byte, test_code, is_in, copy_code, expression_code, arguments_code, converted_code, converted_operand_code, printed_code, initial_code, assignment_code, assigned_operand, operations_code, discarded_code, failing_comparison, compared_or, compared_of, first_operand, first_code, second_code, pair_code, condition_code, condition_of, failing_jump, break_target, continue_target, return_code, declaration_code, statement_code, items_code, function_code, first_temporary, results_of, lower_function, lower_program, behind_left, pointer_code, outside_loops, inside_loop, pointer_operator, index_code, pointer_instructions, stores_code, object_code, made_code, place_operand, place_offset, place_code, address_code, count_code, span_of, null_of, tested_code, widened_code, conversion_by, loaded_code, saved_code, all_passed}
+use Rattle.cyc_lower.specs.Lowering.{types_of, are_as_wide, converts_there, passed_words, source_of, source_slot, moved_by, move_of, operand_of, operand_or, code_unless, slot_or, code_unless_slot, left_with, left_of, value_slot, next_slot, slot_with, left_slot, value_operand, converted_operand, printed_operand, jump_if_nonzero, check_code, conversion_code, divisor_code, checked_code, operator_code, truth_code, load_code, low_byte, test_code, is_in, copy_code, expression_code, arguments_code, converted_code, converted_operand_code, printed_code, initial_code, assignment_code, assigned_operand, operations_code, discarded_code, failing_comparison, compared_or, compared_of, first_operand, first_code, second_code, pair_code, condition_code, condition_of, failing_jump, break_target, continue_target, return_code, declaration_code, statement_code, items_code, function_code, first_temporary, results_of, lower_function, lower_program, behind_left, pointer_code, outside_loops, inside_loop, pointer_operator, index_code, pointer_instructions, stores_code, object_code, made_code, place_operand, place_offset, place_code, address_code, count_code, span_of, null_of, tested_code, widened_code, conversion_by, loaded_code, saved_code, all_passed, bounds_code, stepped_code, reached_code, followed_code, span_in}
 use Rattle.cyc_lower.specs.Lowerable.{is_converted}
 use Rattle.cyc_lower.specs.declared.statements.Exits.{Exits}
-use Rattle.cyc_lower.proofs.Stands.{OperandBy, CheckAt, ConversionBy, ConversionAt, DivisorAt, CheckedAt, OperatorAt, LoadAt, CopyBy, ExpressionAt, InitialAt, InitialBy, ConvertedAt, ConvertedOperandAt, PrintedAt, ArgumentsAt, OperationsAt, PairAt, ConditionAt, AssignmentAt, DiscardedAt, ReturnedAt, ReturnAt, DeclarationAt, StatementAt, ItemsAt, FirstTwoAt, IndexAt, PointerAt, StoresAt, ObjectAt, MadeAt, AddressAt, PlaceAt, CountAt, TestedAt, WidenedAt, LoadedBy, SavedAt}
+use Rattle.cyc_lower.proofs.Stands.{OperandBy, CheckAt, ConversionBy, ConversionAt, DivisorAt, CheckedAt, OperatorAt, LoadAt, CopyBy, ExpressionAt, InitialAt, InitialBy, ConvertedAt, ConvertedOperandAt, PrintedAt, ArgumentsAt, OperationsAt, PairAt, ConditionAt, AssignmentAt, DiscardedAt, ReturnedAt, ReturnAt, DeclarationAt, StatementAt, ItemsAt, FirstTwoAt, IndexAt, PointerAt, StoresAt, ObjectAt, MadeAt, AddressAt, PlaceAt, CountAt, TestedAt, WidenedAt, LoadedBy, SavedAt, BoundsAt, SteppedAt, ReachedAt, FollowedAt}
 use Rattle.cyc_lower.proofs.Widths.{kind_of_result, given, passed_kind, type_words, kind_positive, kind_few}
-use Rattle.cyc_lower.proofs.Fitting.{FitsPlace, FitsStored, FitsCell, FitsObject, Fits, FitsConverted, FitArguments, FitOperations, FitsReturn, FitsInitial, FitsStatement, FitItems, AreFitting, IsFitting}
+use Rattle.cyc_lower.proofs.Fitting.{FitsPlace, FitsStored, FitsCell, FitsObject, Fits, FitsConverted, FitArguments, FitOperations, FitsReturn, FitsInitial, FitsStatement, FitItems, AreFitting, IsFitting, is_pointer}
 use Rattle.cyc_lower.proofs.Values.{as_wide}
 use Rattle.cyc_lower.proofs.Relation.{bounds_in, types_in}
 use Rattle.cyc_lower.proofs.Calls.{FunctionsStand}
@@ -93,6 +94,51 @@ module _ (code : List Instruction) (b : Numbering) (types : Types) where
 
   check_stands : (tag : ℕ) (o : Operand) (p q : ℕ) → p + 2 ≡ q → HasAt code p (check_code tag o p) → CheckAt code b types tag o p q
   check_stands tag o p q end (jump, (uncaught, none)) = (subst (λ t. At code p (jump_if_nonzero o t)) end jump, uncaught, end)
+
+  bounds_stands : (index bound : Operand) (p q : ℕ) → p + 2 ≡ q → HasAt code p (bounds_code index bound p) → BoundsAt code b types index bound p q
+  bounds_stands index bound p q end (branch, (raise, none)) = (subst (λ m. At code p (instructions.Branch comparisons.LessUnsigned index bound m)) end branch, raise, end)
+
+  stepped_stands : (span : Option ℕ) (n m t p q : ℕ) → p + length (stepped_code span n m t) ≡ q → HasAt code p (stepped_code span n m t) → SteppedAt code b types span n m t p q
+  stepped_stands None n m t p q end has = omega (arith, end)
+  stepped_stands (Some words) n m t p q end (scale, (sum, none)) = (scale, sum, omega (arith, end))
+
+  reached_stands : (span : Option ℕ) (n m t p q : ℕ) → p + length (reached_code span n m t p) ≡ q → HasAt code p (reached_code span n m t p) → ReachedAt code b types span n m t p q
+  reached_stands span n m t p q end has =
+      let check = check_code null_exception (operands.Slot n) p in
+      let r = p + length check in
+      let bounds = bounds_code (operands.Slot m) (operands.Slot (n + 1)) r in
+      let step = stepped_code span n m t in
+      let s = r + length bounds in
+      let behind = has_back code p check (bounds ++ step) has in (
+        r,
+        s,
+        check_stands null_exception (operands.Slot n) p r refl (has_front code p check (bounds ++ step) has),
+        bounds_stands (operands.Slot m) (operands.Slot (n + 1)) r s refl (has_front code r bounds step behind),
+        stepped_stands span n m t s q (cut r q bounds step (cut p q check (bounds ++ step) end)) (has_back code r bounds step behind),
+      )
+
+  -- a pointer that is not thin stands in slots
+  abbrev IsInSlots : (thin : Bool) → Operand → Type 0
+  IsInSlots true o = Unit {0}
+  IsInSlots false (operands.Slot n) = Unit {0}
+  IsInSlots false (operands.Word w) = ⊥
+
+  followed_stands : (thin : Bool) (span : Option ℕ) (o : Operand) (t p q : ℕ) → IsInSlots thin o → p + length (followed_code thin span o t p) ≡ q → HasAt code p (followed_code thin span o t p) → FollowedAt code b types thin span o t p q
+  followed_stands true span o t p q in_slots end has = check_stands null_exception o p q end has
+  followed_stands false span (operands.Slot n) t p q in_slots end has = reached_stands span n (n + 2) t p q end has
+  followed_stands false span (operands.Word w) t p q in_slots end has = absurd in_slots
+
+  slot_any : (thin : Bool) (n : ℕ) → IsInSlots thin (operands.Slot n)
+  slot_any true n = tt
+  slot_any false n = tt
+
+  in_slots : (k : Kind) (a : Expression) (t : ℕ) → is_pointer k ≡ true → k ≡ given b.functions a → IsInSlots (is_thin k) (value_operand (starts_of types) a t)
+  in_slots k (Number n) t pointer is = absurd (let f : is_pointer kinds.Int ≡ true = ap is_pointer (sym is) ∙ pointer in cc)
+  in_slots k NullPointer t pointer is = subst (λ (x : Kind). IsInSlots (is_thin x) (operands.Word 0)) (sym is) tt
+  in_slots k (Copy (Local p n) ty) t pointer is = slot_any (is_thin k) (slot_of (starts_of types) n)
+  in_slots k (Move p n ty) t pointer is = slot_any (is_thin k) (slot_of (starts_of types) n)
+  in_slots k (Peek p n ty) t pointer is = slot_any (is_thin k) (slot_of (starts_of types) n)
+  in_slots k a t pointer is = slot_any (is_thin k) (value_slot (starts_of types) a t)
 
   tested_stands : (to : Kind) (o : Operand) (p q : ℕ) → p + length (tested_code to o p) ≡ q → HasAt code p (tested_code to o p) → TestedAt code b types to o p q
   tested_stands kinds.NonNull o p q end has = check_stands null_exception o p q end has
@@ -372,17 +418,18 @@ module _ (code : List Instruction) (b : Numbering) (types : Types) where
 
     place_stands : (x : Dereference) (t p q : ℕ) → FitsCell b types x → p + length (place_code (starts_of types) x p t) ≡ q → HasAt code p (place_code (starts_of types) x p t)
         → PlaceAt code b types x (place_operand (starts_of types) x t) (place_offset (starts_of types) x) t p q
-    place_stands (Target k a ty) t p q (thin, numbered) end has =
+    place_stands (Target k a ty) t p q (pointer, kind_is, numbered) end has =
         let slot = value_slot (starts_of types) a t in
         let o = value_operand (starts_of types) a t in
         let inner = expression_code (starts_of types) a p slot t in
         let front = code_unless (operand_of (starts_of types) a) inner in
         let m = p + length front in
-        let check = check_code null_exception o m in (
+        let access = followed_code (is_thin k) (span_in ty) o t m in (
+          o,
           m,
-          operand_by (operand_of (starts_of types) a) _ inner slot p m refl (has_front code p front check has) (λ e h. expression_stands a slot t p m numbered e h),
-          thin,
-          check_stands null_exception o m q (cut p q front check end) (has_back code p front check has),
+          operand_by (operand_of (starts_of types) a) _ inner slot p m refl (has_front code p front access has) (λ e h. expression_stands a slot t p m numbered e h),
+          followed_stands (is_thin k) (span_in ty) o t m q (in_slots k a t pointer kind_is) (cut p q front access end) (has_back code p front access has),
+          refl,
           refl,
         )
     place_stands (Member k a s f ty) t p q (thin, there, numbered) end has =

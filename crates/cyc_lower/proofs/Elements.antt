@@ -1,6 +1,6 @@
 -- Accesses by fat pointers: the pointer is tested, its index is compared with its length, and the address of the cell at the index is
 -- computed. A pointer to a struct stands at the struct itself where the source does not go wrong.
-use Rattle.std.proofs.Common.{◌≡◌, ◌≢◌, ℕ, ◌+◌, ◌*◌, ◌^◌, ◌≤◌, ◌<◌, Bool, true, false, not, List, [], ◌∷◌, Option, None, Some, slice_get, refl, sym, ap, subst, ◌∙◌, arith, inl, inr}
+use Rattle.std.proofs.Common.{◌≡◌, ◌≢◌, ℕ, zero, suc, ◌+◌, ◌*◌, ◌^◌, ◌≤◌, ◌<◌, Bool, true, false, not, List, [], ◌∷◌, Option, None, Some, slice_get, refl, sym, ap, subst, ◌∙◌, arith, inl, inr}
 use Rattle.std.specs.Prelude.{◌==◌, ◌&&◌, nat_lt, if◌then◌else◌, option_map}
 use Rattle.std.proofs.lemmas.Bool.{eq-eqb, ne_eqb, eqb-true, eqb-false, cases_Bool, ltb-true, ltb-false, and_parts}
 use Rattle.std.proofs.lemmas.Option.{same_Some}
@@ -20,7 +20,7 @@ use Rattle.cyc_plain.specs.State.{Words, put, Configuration}
 use Rattle.cyc_plain.specs.Step.{Choice, with_slots, at, performed, branches}
 use Rattle.cyc_plain.specs.Straight.{At}
 use Rattle.cyc_plain.proofs.SlotLaws.{put-same, put-other}
-use Rattle.cyc_meaning.specs.Values.{Value, Int, Null, Thin, Fat, Handle, Key, Operand as Kinded, Cell, kinds_of, is_kind, words_of_kind}
+use Rattle.cyc_meaning.specs.Values.{Value, Int, Null, Thin, Fat, Handle, Key, Operand as Kinded, Cell, kinds_of, is_kind, is_thin, words_of_kind}
 use Rattle.cyc_meaning.specs.Operators.{null_exception, array_bounds}
 use Rattle.cyc_meaning.specs.Pointers.{Reach, Stops, followed}
 use Rattle.cyc_meaning.specs.Pointers as reaches
@@ -33,13 +33,14 @@ use Rattle.cyc_objects.specs.Words.{IsPartOf, Points, Is}
 use Rattle.cyc_objects.specs.Related as objects
 use Rattle.cyc_objects.proofs.NumberLemmas.{slice_get-map}
 use Rattle.cyc_objects.proofs.Pointers.{part-not-null, pointer-word, thinned}
-use Rattle.cyc_lower.specs.Lowering.{jump_if_nonzero, reached_operand, lower_program}
+use Rattle.cyc_lower.specs.Lowering.{jump_if_nonzero, reached_operand, followed_operand, lower_program}
 use Rattle.cyc_lower.proofs.Widths.{wide_kind, same_kind, Outside}
 use Rattle.cyc_lower.proofs.Moves.{put_elsewhere}
-use Rattle.cyc_lower.proofs.Stands.{BoundsAt, SteppedAt, ReachedAt}
-use Rattle.cyc_lower.proofs.Relation.{IsPlainStack, types_at, silent, Holds, held, callers, DataIn, SharedAt, PlaceStack, Matches, code_of, bounds_at, base_of, top}
-use Rattle.cyc_lower.proofs.Data.{height-least, Holds-same, data_above}
+use Rattle.cyc_lower.proofs.Stands.{BoundsAt, SteppedAt, ReachedAt, FollowedAt}
+use Rattle.cyc_lower.proofs.Relation.{IsIn, IsLow, IsPlainStack, types_at, silent, Holds, held, callers, DataIn, SharedAt, PlaceStack, Matches, code_of, bounds_at, base_of, top}
+use Rattle.cyc_lower.proofs.Data.{Is-same, height-least, Holds-same, data_above}
 use Rattle.cyc_lower.proofs.Accesses.{IsWell, is_fitting}
+use Rattle.cyc_lower.proofs.Fitting.{is_pointer}
 use Rattle.cyc_lower.proofs.PlaceWords.{narrow_element, wide_element, stays}
 use Rattle.cyc_lower.proofs.Matched.{IsMatched, by_one, place_depth, place_plain}
 use Rattle.cyc_lower.proofs.Paths.{Link, is_quiet, by_path}
@@ -53,6 +54,16 @@ scaled words index = if words == 1 then shl_of index 2 else mul_of index 12
 -- the words of a fat pointer whose index is apart from the others
 abbrev pub IsParts : Tables → Value → Words → (n m : ℕ) → Type 0
 IsParts t v slots n m = Is t kinds.Fat v (λ j. if j == 0 then slots n else if j == 1 then slots (n + 1) else slots m) 0
+
+-- those of a pointer in slots one behind the other
+pub parts_of : (t : Tables) (v : Value) (slots : Words) (n : ℕ) → Is t kinds.Fat v slots n → IsParts t v slots n (n + 2)
+parts_of t v slots n is = Is-same t kinds.Fat v slots (λ j. if j == 0 then slots n else if j == 1 then slots (n + 1) else slots (n + 2)) n 0 each is
+  where
+    each : (j : ℕ) → j < 3 → (if 0 + j == 0 then slots n else if 0 + j == 1 then slots (n + 1) else slots (n + 2)) ≡ slots (n + j)
+    each zero below = ap slots (let same : n ≡ n + 0 = omega arith in same)
+    each (suc zero) below = refl
+    each (suc (suc zero)) below = refl
+    each (suc (suc (suc j))) below = absurd (omega (arith, below))
 
 -- the address of the cell at an index, by what the code computes of it
 module _ {t : Tables} where
@@ -122,11 +133,11 @@ module _ (source : Program) (pages calls : ℕ) where
     -- null raises an exception
     pub raises_null : SharedAt source pages calls k e w c → calls_in k ≤ calls → IsPlainStack k → slots n ≡ 0 → step source (Running focus k₀ e w) ≡ Running (Throwing null_exception 0) k e w
         → IsMatched source pages calls (Running focus k₀ e w) (plain.Running c)
-    raises_null shared_behind few plain_stack zero does =
+    raises_null shared_behind few plain_stack is_zero does =
         let (jump, uncaught, end) = here.2 in
         by_one source pages calls does shared jump
-        (λ choice. subst (Matches source pages calls (Running (Throwing null_exception 0) k e w)) (sym (passed c (not (slots n == 0)) r (ap (λ (b : Bool). not b) (eq-eqb (slots n) 0 zero))))
-        (shared_behind, few, plain_stack, operands.Slot n, uncaught, zero))
+        (λ choice. subst (Matches source pages calls (Running (Throwing null_exception 0) k e w)) (sym (passed c (not (slots n == 0)) r (ap (λ (b : Bool). not b) (eq-eqb (slots n) 0 is_zero))))
+        (shared_behind, few, plain_stack, operands.Slot n, uncaught, is_zero))
 
     abbrev past_null : Link
     past_null = record { instruction = jump_if_nonzero (operands.Slot n) r; behind = at c r }
@@ -248,8 +259,8 @@ module _ (source : Program) (pages calls : ℕ) where
             → PlaceStack source c.active.function e.locals (reached_operand (option_map words_of_kind found) n free) 0 q c.frames k
             → IsMatched source pages calls (Running (Given (given x)) waiting e w) (plain.Running c)
         by None is leads here place =
-            let zero : start + index ≡ 0 = eqb-true (start + index) 0 leads in
-            let none : index ≡ 0 = omega (arith, zero) in
+            let first : start + index ≡ 0 = eqb-true (start + index) 0 leads in
+            let none : index ≡ 0 = omega (arith, first) in
             let points : Points shared.tables object (start + index) (c.active.slots n) =
             subst (λ (i : ℕ). Points shared.tables object (start + i) (c.active.slots n)) (sym none) (subst (Points shared.tables object (start + 0)) (let same : c.active.slots n + 4 * (0 * words_of_kind part.kind) ≡ c.active.slots n = omega arith in same) (thinned 0 part (omega (arith, below)))) in
             reaches_first (Given (given x)) waiting k e w c None n m free q shared here refl (Running (GivenPlace (Thin object (start + index))) k e w) some less does
@@ -300,3 +311,39 @@ module _ (source : Program) (pages calls : ℕ) where
               (place_plain source g e.locals (reached_operand span_there n free) 0 q c.frames k place) some least (arrives_so x (Stops array_bounds) well reach)
         ]
     follows_parts x well shared facts is holds low here place = absurd is
+
+  -- what is no pointer is not followed
+  wrong_at_all : (b : Bool) (w : World) → IsWell (if b then wrong w else wrong w) → ⊥
+  wrong_at_all true w well = well refl
+  wrong_at_all false w well = well refl
+
+  not_followed : (i : Kind) (target : Option Kind) (t : Tables) (kind pointer : Kind) (x : Value) (slots : Words) (n : ℕ) (k : List Entry) (e : Environment) (w : World) → Is t kind x slots n
+      → IsWell (step source (Running (Given (record { kind = i; value = x })) (Needs (Follow pointer target) ∷ k) e w)) → is_pointer kind ≡ false → ⊥
+  not_followed i target t kind pointer (Int a) slots n k e w is well no_pointer = wrong_at_all (is_kind i pointer && leads_to w target (followed (Int a))) w well
+  not_followed i target t kind pointer (Handle region) slots n k e w is well no_pointer = wrong_at_all (is_kind i pointer && leads_to w target (followed (Handle region))) w well
+  not_followed i target t kind pointer (Key region) slots n k e w is well no_pointer = wrong_at_all (is_kind i pointer && leads_to w target (followed (Key region))) w well
+  not_followed i target t kinds.Nullable pointer x slots n k e w is well no_pointer = let f : true ≡ false = no_pointer in cc
+  not_followed i target t kinds.NonNull pointer x slots n k e w is well no_pointer = let f : true ≡ false = no_pointer in cc
+  not_followed i target t kinds.Fat pointer x slots n k e w is well no_pointer = let f : true ≡ false = no_pointer in cc
+  not_followed i target t kind pointer x slots n k e w is well no_pointer = is
+
+  -- by a fat pointer in slots
+  pub follows_fat : (pointer : Kind) (target : Option Kind) (v : Kinded) (o : Operand) (q : ℕ) (k : List Entry) (e : Environment) (w : World) (c : Configuration) → is_thin pointer ≡ false → v.kind ≡ pointer
+      → IsWell (step source (Running (Given v) (Needs (Follow pointer target) ∷ k) e w)) → (shared : SharedAt source pages calls k e w c) → DataIn source shared.tables c.active.slots k e w c
+      → IsIn shared.tables v c.active.slots o → Holds shared.tables c.active.slots (base_of source c.active.function) (held k) → IsLow o (top source c.active.function k)
+      → FollowedAt (code_of source c.active.function) (bounds_at source c.active.function) (types_at source c.active.function) false (option_map words_of_kind target) o (top source c.active.function k) c.active.next q
+      → PlaceStack source c.active.function e.locals (followed_operand false (option_map words_of_kind target) o (top source c.active.function k)) 0 q c.frames k
+      → IsMatched source pages calls (Running (Given v) (Needs (Follow pointer target) ∷ k) e w) (plain.Running c)
+  follows_fat pointer target v (operands.Word x) q k e w c thin kind well shared facts is holds low access place = absurd access
+  follows_fat pointer target v (operands.Slot n) q k e w c thin kind well shared facts is holds low access place = by pointer v.kind thin kind is well
+    where
+      by : (j i : Kind) → is_thin j ≡ false → i ≡ j → Is shared.tables i v.value c.active.slots n → IsWell (step source (Running (Given (record { kind = i; value = v.value })) (Needs (Follow j target) ∷ k) e w))
+          → IsMatched source pages calls (Running (Given (record { kind = i; value = v.value })) (Needs (Follow j target) ∷ k) e w) (plain.Running c)
+      by kinds.Fat i thin same is well =
+          follows_parts i target n (n + 2) q k e w c v.value well shared facts
+          (parts_of shared.tables v.value c.active.slots n (subst (λ x. Is shared.tables x v.value c.active.slots n) same is)) holds low access place
+      by kinds.Nullable i thin same is well = absurd (let f : true ≡ false = thin in cc)
+      by kinds.NonNull i thin same is well = absurd (let f : true ≡ false = thin in cc)
+      by kinds.Int i thin same is well = absurd (not_followed i target shared.tables kinds.Int kinds.Int v.value c.active.slots n k e w (subst (λ x. Is shared.tables x v.value c.active.slots n) same is) well refl)
+      by kinds.Handle i thin same is well = absurd (not_followed i target shared.tables kinds.Handle kinds.Handle v.value c.active.slots n k e w (subst (λ x. Is shared.tables x v.value c.active.slots n) same is) well refl)
+      by kinds.Key i thin same is well = absurd (not_followed i target shared.tables kinds.Key kinds.Key v.value c.active.slots n k e w (subst (λ x. Is shared.tables x v.value c.active.slots n) same is) well refl)

@@ -23,23 +23,25 @@ use Rattle.cyc_plain.specs.State.{Words, put, Frame, Configuration}
 use Rattle.cyc_plain.specs.Straight.{At as CodeAt}
 use Rattle.cyc_plain.specs.Step.{Choice, with_slots, advanced, performed}
 use Rattle.cyc_plain.proofs.SlotLaws.{put-same}
-use Rattle.cyc_meaning.specs.Values.{Int, Null, Thin, Operand as Kinded, kind_of, words_of_kind}
+use Rattle.cyc_meaning.specs.Values.{Int, Null, Thin, Operand as Kinded, kind_of, words_of_kind, is_thin}
 use Rattle.cyc_store.specs.declared.range.TheConstants.{HEAP}
 use Rattle.cyc_meaning.specs.SourceMachine.{status_in}
 use Rattle.cyc_meaning.specs.State.{status_of, InRegion, World, heap_number, Environment, ConvertTo, Operate, Chain, Apply, Store, Pass, MakePlain, MakeFields, Choose, Test, Follow, LoadFrom, Entry, Needs, NeedsPlace, Discard, Focus, Evaluating, Locating, Given, Running, FollowMember, TakeAddress, StoreTo, CountElements}
 use Rattle.cyc_meaning.specs.Step.{target_of, target_by, object_of, assigned, passes, step, loaded_from}
-use Rattle.cyc_lower.specs.Slots.{slot_of, field_in}
+use Rattle.cyc_types.specs.Numbered.{Numbering}
+use Rattle.cyc_meaning.specs.FrameCount.{words_of_all}
+use Rattle.cyc_lower.specs.Slots.{Types, starts_of, slot_of, field_in}
 use Rattle.cyc_meaning.specs.Places.{locates_member}
 use Rattle.cyc_lower.proofs.PlaceWords.{field_bytes}
-use Rattle.cyc_lower.proofs.Slots.{slot-room}
+use Rattle.cyc_lower.proofs.Slots.{slot-room, slot-low}
 use Rattle.cyc_lower.proofs.Widths.{kind_positive, type_words, HasRoom, Outside}
 use Rattle.cyc_lower.proofs.Moves.{moved_slots, moves, put_elsewhere, moved_elsewhere, moved_is}
-use Rattle.cyc_lower.specs.Lowering.{failing_comparison, operand_of, value_slot, source_of, source_slot, are_as_wide, converts_there, all_passed, move_of, left_with, slot_with, compared_or, compared_of, lower_program, null_of}
+use Rattle.cyc_lower.specs.Lowering.{failing_comparison, operand_of, value_slot, source_of, source_slot, are_as_wide, converts_there, all_passed, move_of, left_with, slot_with, compared_or, compared_of, lower_program, null_of, followed_operand, span_in, operand_or}
 use Rattle.cyc_lower.proofs.Weights.{weight, stack_weight, expression_weight, arguments_weight}
 use Rattle.cyc_lower.proofs.Stands.{CopyBy, CopyAt, OperandBy, InitialBy, ExpressionAt, ArgumentsAt, ObjectAt, ValueAt, PairAt, ConditionAt, AssignmentAt, PrintedAt, DiscardedAt, StoredAt, CountAt, LoadedAt}
 use Rattle.cyc_objects.specs.Tables.{Tables}
 use Rattle.cyc_objects.specs.Words.{Is}
-use Rattle.cyc_lower.proofs.Relation.{IsIn, types_at, starts_at, given_at, called_at, words_held, height, Holds, held, contents, callers, in_temporary, in_local, drops, leaves, copies, prints_only, gives_byte, DataIn, SharedAt, CallAt, to_slot, to_jump, ValueStack, PlaceStack, ConditionStack, DroppedStack, AheadStack, LandsStack, HandsOnStack, PrintsStack, RightAt, EvaluatingAt, as_operand, into_slot, for_effect, as_right, as_condition, in_operand, ahead, with_left, Related, Matches, code_of, bounds_in, bounds_at, base_of, top}
+use Rattle.cyc_lower.proofs.Relation.{IsIn, types_at, starts_at, given_at, called_at, words_held, height, Holds, held, contents, callers, in_temporary, in_local, drops, leaves, copies, prints_only, gives_byte, DataIn, SharedAt, CallAt, to_slot, to_jump, ValueStack, PlaceStack, ConditionStack, DroppedStack, AheadStack, LandsStack, HandsOnStack, PrintsStack, RightAt, EvaluatingAt, as_operand, into_slot, for_effect, as_right, as_condition, in_operand, ahead, with_left, Related, Matches, code_of, bounds_in, bounds_at, base_of, top, IsLow}
 use Rattle.cyc_lower.proofs.Data.{IsWord-is, height-least, Holds-same, Holds-above, data_above}
 use Rattle.cyc_lower.proofs.Accesses.{IsWell, is_loaded}
 use Rattle.cyc_lower.proofs.Matched.{IsMatched, silently, by_one}
@@ -545,11 +547,36 @@ module _ (source : Program) (pages calls : ℕ) where
   condition (Binary a (ThenCompute o b NoOperations) t) k e w c l r q known at stack = compares (failing_comparison o) o a b t k e w c l r q refl known at stack
   condition a k e w c l r q known at stack = not_zero a k e w c l r q known at stack
 
+  -- the operand of an expression is that of a local, or the next temporary
+  operand_is : (code : List Instruction) (b : Numbering) (types : Types) (a : Expression) (t p q : ℕ) (o : Operand) → ValueAt code b types a t o p q → o ≡ operand_or (operand_of (starts_of types) a) (value_slot (starts_of types) a t)
+  operand_is code b types a t p q o at = by (operand_of (starts_of types) a) at
+    where
+      by : (known : Option Operand) → OperandBy code b types known (ExpressionAt code b types a (value_slot (starts_of types) a t) t p q) (value_slot (starts_of types) a t) o p q → o ≡ operand_or known (value_slot (starts_of types) a t)
+      by (Some x) (is, end) = is
+      by None (is, computed) = is
+
+  operand_low : (types : Types) (a : Expression) (t : ℕ) (o : Operand) → words_of_all types.locals ≤ t → o ≡ operand_or (operand_of (starts_of types) a) (value_slot (starts_of types) a t) → IsLow o t
+  operand_low types a t o few is = subst (λ x. IsLow x t) (sym is) (by a)
+    where
+      local_low : (n : ℕ) → slot_of (starts_of types) n ≤ t
+      local_low n = omega (arith, few, slot-low types n)
+
+      by : (x : Expression) → IsLow (operand_or (operand_of (starts_of types) x) (value_slot (starts_of types) x t)) t
+      by (Number n) = tt
+      by typed.NullPointer = tt
+      by (Copy (Local p n) ty) = local_low n
+      by (typed.Move p n ty) = local_low n
+      by (typed.Peek p n ty) = local_low n
+      by (Assign (Local p n) c ty) = local_low n
+      by x = omega arith
+
   -- a place that a pointer leads to: the pointer is evaluated
   pub locating : (x : Dereference) (k : List Entry) (e : Environment) (w : World) (c : Configuration) → IsStep (Locating x) k e w c
-  locating (Target pointer a t) k e w c well (shared, facts, (o, offset, q, (m, at_a, thin, check, none), holds, place)) =
+  locating (Target pointer a t) k e w c well (shared, facts, (o, offset, q, (x, m, at_a, access, is, none), holds, place)) =
+      let g = c.active.function in
+      let there = subst (λ b. PlaceStack source g e.locals (followed_operand (is_thin pointer) (span_in t) x (top source g k)) b q c.frames k) none (subst (λ y. PlaceStack source g e.locals y offset q c.frames k) is place) in
       silently source pages calls (Running (Locating (Target pointer a t)) k e w) (Running (Evaluating a) (Needs (Follow pointer (target_of t)) ∷ k) e w) (plain.Running c) refl
-      (shared, facts, as_operand o m at_a holds (q, thin, check, subst (λ b. PlaceStack source c.active.function e.locals o b q c.frames k) none place))
+      (shared, facts, as_operand x m at_a holds (q, operand_low (types_at source g) a (top source g k) x (height-least (base_of source g) (held k)) (operand_is (code_of source g) (bounds_at source g) (types_at source g) a (top source g k) c.active.next m x at_a), access, there))
       (omega arith)
   locating (Member pointer a s field t) k e w c well (shared, facts, (o, offset, q, (m, at_a, thin, check, (st, there, inside), is), holds, place)) =
       let fields = map kind_of st.fields in

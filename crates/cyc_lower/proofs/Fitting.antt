@@ -24,13 +24,17 @@ use Rattle.cyc_types.specs.Numbered.{Numbering, signatures_of, IsSignature, argu
 use Rattle.cyc_meaning.specs.Pointers.{result_kind as operator_kind}
 use Rattle.cyc_lower.specs.Lowerable.{IsLowerable, IsLowerableConverted, AreLowerableArguments, AreLowerableOperations, IsLowerableReturn, IsLowerableInitial, IsLowerableStatement, AreLowerableItems, AreLowerableFunctions, IsLowerableProgram, is_comparison, are_sums, stands_alone, IsLowerableCell, is_converted}
 use Rattle.cyc_store.specs.declared.range.TheConstants.{MOST_BLOCK_WORDS}
-use Rattle.cyc_meaning.specs.Values.{kind_of, is_thin, words_of_kind}
+use Rattle.cyc_meaning.specs.Values.{kind_of, is_thin, words_of_kind, is_kind}
 use Rattle.cyc_meaning.specs.FrameCount.{result_words, words_of_all, operand_words}
 use Rattle.cyc_lower.specs.Slots.{Types}
 use Rattle.cyc_lower.specs.Lowering.{types_of, are_as_wide, passed_words, all_passed, results_of, left_kind}
 use Rattle.cyc_lower.proofs.Widths.{kind_of_result, result_kind, called_kind, given, passed_kind, type_words, HasRoom, chain_kind, HasField}
 use Rattle.cyc_lower.proofs.Slots.{words-there, words_positive}
 use Rattle.cyc_plain.proofs.Placed.{below_of_get}
+
+-- a kind of pointers
+abbrev pub is_pointer : Kind → Bool
+is_pointer kind = if is_thin kind then true else is_kind kind kinds.Fat
 
 -- ---- what is asked
 
@@ -65,7 +69,7 @@ module _ (b : Numbering) (types : Types) where
     Fits a = ⊥
 
     pub FitsCell : Dereference → Type 0
-    FitsCell (Target k a t) = (is_thin k ≡ true) × Fits a
+    FitsCell (Target k a t) = (is_pointer k ≡ true) × (k ≡ given b.functions a) × Fits a
     FitsCell (Member k a s f t) = (is_thin k ≡ true) × HasField types s f × Fits a
     FitsCell x = ⊥
 
@@ -325,6 +329,16 @@ module _ (b : Numbering) (types : Types) where
   passed_is (Convert from to a) = refl
 
   -- a value that is looked at is one that is given, or a peek
+  pointer_mark : (m : PointerKind) (k : Kind) → k ≡ tests.kind_of_mark m → is_pointer k ≡ true
+  pointer_mark marks.Nullable k is = ap is_pointer is
+  pointer_mark marks.NonNull k is = ap is_pointer is
+  pointer_mark marks.Fat k is = ap is_pointer is
+
+  kind_of_pointer : (m : PointerKind) (u : Ty) (r : Region) → tests.kind_of_mark m ≡ kind_of (type_forms.Pointer m u r)
+  kind_of_pointer marks.Nullable u r = refl
+  kind_of_pointer marks.NonNull u r = refl
+  kind_of_pointer marks.Fat u r = refl
+
   looked_fits : (a : Expression) (c : Context) (v : ValueType) → Suits c → IsLowerable b a → (WellTyped c a v → IsGiven (given b.functions a) v × Fits b types a) → WellTyped c a v ⊎ IsPeek c a v
       → IsGiven (given b.functions a) v × Fits b types a
   looked_fits (Peek p n u) c v suits few well_fits (inr (there, unique, is)) = (subst (IsGiven (kind_of u)) (sym is) refl, (few, room_in c n u (kind_of u) suits there.1 refl))
@@ -391,8 +405,9 @@ module _ (b : Numbering) (types : Types) where
     fits a c v suits numbered well = absurd numbered
 
     fits_cell : (x : Dereference) (c : Context) (t : Ty) (r : Region) → Suits c → IsLowerableCell b x → IsCell c x t r → (t ≡ type_of_place x) × FitsCell b types x
-    fits_cell (Target k a u) c t r suits (thin, numbered) (m, well, live, kind, same) =
-        (same, (thin, (looked_fits a c (Value (type_forms.Pointer m u r)) suits numbered (λ h. fits a c (Value (type_forms.Pointer m u r)) suits numbered h) well).1))
+    fits_cell (Target k a u) c t r suits numbered (m, well, live, kind, same) =
+        let (given_is, fitting) = looked_fits a c (Value (type_forms.Pointer m u r)) suits numbered (λ h. fits a c (Value (type_forms.Pointer m u r)) suits numbered h) well in
+        (same, (pointer_mark m k kind, kind ∙ (kind_of_pointer m u r ∙ sym given_is), fitting))
     fits_cell (Member k a s f u) c t r suits (thin, numbered) (m, rs, st, w, well, mark, live, kind, there, field, is_u, same) =
         let pointer = Value (type_forms.Pointer m (type_forms.Struct s rs) r) in (
           same,

@@ -149,8 +149,7 @@ module _ (b : Numbering) where
     cell_lowerable : (c : Context) → Agrees b c → (d : Dereference) (t : Ty) (r : Region) → is_built_place d ≡ true → IsCell c d t r → IsLowerableCell b d
     cell_lowerable c k (Target l a u) t r i (m, seen, live, mark, eq) =
         let (pointer, more) = and_parts (is_built_expression a) (is_built_kind l && is_built_type u) i in
-        let (kind, of_type) = and_parts (is_built_kind l) (is_built_type u) more in
-        (thin_kind l m mark kind, lowerable c k a (Value (Pointer m u r)) pointer (seen_well c a _ pointer seen))
+        lowerable c k a (Value (Pointer m u r)) pointer (seen_well c a _ pointer seen)
     cell_lowerable c k (Member l a n f u) t r i (m, rs, s, v, seen, thin, live, mark, struct, field, is, eq) =
         let (pointer, more) = and_parts (is_built_expression a) (is_built_kind l && is_built_type u) i in
         let (kind, of_type) = and_parts (is_built_kind l) (is_built_type u) more in

@@ -37,9 +37,9 @@ use Rattle.cyc_meaning.specs.FrameCount.{words_of_all}
 use Rattle.cyc_lower.specs.declared.statements.Exits.{Exits}
 use Rattle.cyc_meaning.specs.Pointers.{result_kind as operator_kind}
 use Rattle.cyc_lower.specs.Slots.{Types, Starts, starts_of, slot_of}
-use Rattle.cyc_lower.specs.Lowering.{unary_operator, failing_comparison, operand_of, move_of, low_byte, converts_there, all_passed, compared_of, break_target, continue_target, results_of, lower_program, outside_loops, slot_types}
+use Rattle.cyc_lower.specs.Lowering.{unary_operator, failing_comparison, operand_of, move_of, low_byte, converts_there, all_passed, compared_of, break_target, continue_target, results_of, lower_program, outside_loops, slot_types, followed_operand}
 use Rattle.cyc_lower.proofs.Widths.{kind_of_result, given, called_kind, HasRoom, Outside, chain_kind}
-use Rattle.cyc_lower.proofs.Stands.{CheckAt, ConversionAt, PlaceAt, OperatorAt, TruthAt, CopyAt, ExpressionAt, ArgumentsAt, OperationsAt, ValueAt, ConditionAt, FailingAt, ComparesAt, DiscardedAt, StatementAt, ItemsAt, PointerAt, StoresAt, ObjectAt, AddressAt, ConvertedOperandAt, CountAt, SavedAt, LoadedAt}
+use Rattle.cyc_lower.proofs.Stands.{CheckAt, ConversionAt, PlaceAt, OperatorAt, TruthAt, CopyAt, ExpressionAt, ArgumentsAt, OperationsAt, ValueAt, ConditionAt, FailingAt, ComparesAt, DiscardedAt, StatementAt, ItemsAt, PointerAt, StoresAt, ObjectAt, AddressAt, ConvertedOperandAt, CountAt, SavedAt, LoadedAt, FollowedAt}
 
 -- ---- values in slots
 
@@ -53,6 +53,11 @@ IsWord t kind v word = Is t kind v (λ (i : ℕ). word) 0
 abbrev pub IsIn : Tables → Kinded → Words → Operand → Type 0
 IsIn t v slots (operands.Slot n) = Is t v.kind v.value slots n
 IsIn t v slots (operands.Word w) = IsWord t v.kind v.value w
+
+-- an operand that is a word, or stands before or at this slot
+abbrev pub IsLow : Operand → (t : ℕ) → Type 0
+IsLow (operands.Slot n) t = n ≤ t
+IsLow (operands.Word w) t = Unit {0}
 
 abbrev pub words_held : List Kinded → ℕ
 words_held [] = 0
@@ -408,7 +413,8 @@ module _ (source : Program) where
         (exits : Exits) × (q : ℕ) × (s : ℕ) × (o ≡ operands.Slot s) × At (code_of g) p (instructions.Return s) × IsReturned g kind
         × StatementStack g exits q frames k
     ValueStack g locals kind o p frames (Needs (Follow pointer target) ∷ k) =
-        (q : ℕ) × (is_thin pointer ≡ true) × CheckAt (code_of g) (bounds_at g) (types_at g) null_exception o p q × PlaceStack g locals o 0 q frames k
+        (q : ℕ) × IsLow o (top g k) × FollowedAt (code_of g) (bounds_at g) (types_at g) (is_thin pointer) (option_map words_of_kind target) o (top g k) p q
+        × PlaceStack g locals (followed_operand (is_thin pointer) (option_map words_of_kind target) o (top g k)) 0 q frames k
     ValueStack g locals kind o p frames (Needs (FollowMember pointer fields field) ∷ k) =
         (c : ℕ) × (q : ℕ) × (is_thin pointer ≡ true) × CheckAt (code_of g) (bounds_at g) (types_at g) null_exception o p q × (field < length fields)
         × (4 * before field fields < 2 ^ 32 → c ≡ 4 * before field fields) × PlaceStack g locals o c q frames k

@@ -19,6 +19,7 @@ use Rattle.cyc_types.specs.Numbered.{argument_count}
 use Rattle.cyc_types.proofs.WeightLemmas.{some_token}
 use Rattle.cyc_types.specs.Weight.{expression_weight, dereference_weight, initial_weight, converted_weight, arguments_weight, more_arguments_weight, operations_weight, else_weight, statement_weight, items_weight, function_weight}
 use Rattle.cyc_plain.specs.declared.instruction.Comparison.{Comparison}
+use Rattle.cyc_plain.specs.declared.instruction.BinaryOperator.TheVariants as plain_binary
 use Rattle.cyc_plain.specs.declared.instruction.Operand.{Operand}
 use Rattle.cyc_plain.specs.declared.instruction.Operand.TheVariants as operands
 use Rattle.cyc_plain.specs.declared.instruction.Request.TheVariants as requests
@@ -28,10 +29,10 @@ use Rattle.cyc_plain.specs.Program.{instruction_size, size}
 use Rattle.cyc_lower.specs.declared.statements.Exits.{Exits}
 use Rattle.cyc_lower.specs.Slots.{starts_of, slot_of, Starts}
 use Rattle.cyc_store.specs.declared.range.TheConstants.{HEAP}
-use Rattle.cyc_meaning.specs.Values.{kind_of, words_of_kind}
+use Rattle.cyc_meaning.specs.Values.{kind_of, words_of_kind, is_thin}
 use Rattle.cyc_meaning.specs.Operators.{null_exception}
 use Rattle.cyc_lower.proofs.Widths.{kind_few, type_words}
-use Rattle.cyc_lower.specs.Lowering.{types_of, converts_there, passed_words, all_passed, source_of, source_slot, converted_by, moved_by, move_of, unary_operator, binary_operator, operand_of, operand_or, code_unless, slot_or, code_unless_slot, left_of, value_slot, next_slot, left_slot, value_operand, converted_operand, printed_operand, conversion_code, divisor_code, checked_code, operator_code, truth_code, load_code, low_byte, test_code, is_in, copy_code, expression_code, arguments_code, converted_code, converted_operand_code, printed_code, initial_code, assignment_code, operations_code, discarded_code, failing_comparison, compared_or, left_with, slot_with, first_code, second_code, pair_code, condition_code, condition_of, failing_jump, break_target, continue_target, return_code, declaration_code, statement_code, items_code, first_temporary, jump_if_zero, jump_if_nonzero, lower_function, behind_left, pointer_code, outside_loops, inside_loop, pointer_operator, index_of, first_two, pointer_instructions, stores_code, object_code, made_code, place_operand, place_offset, place_code, address_code, store_address_code, store_code, count_code, span_of, tested_code, widened_code, conversion_by, tested_by, check_code, are_as_wide, saved_code, loaded_code}
+use Rattle.cyc_lower.specs.Lowering.{types_of, converts_there, passed_words, all_passed, source_of, source_slot, converted_by, moved_by, move_of, unary_operator, binary_operator, operand_of, operand_or, code_unless, slot_or, code_unless_slot, left_of, value_slot, next_slot, left_slot, value_operand, converted_operand, printed_operand, conversion_code, divisor_code, checked_code, operator_code, truth_code, load_code, low_byte, test_code, is_in, copy_code, expression_code, arguments_code, converted_code, converted_operand_code, printed_code, initial_code, assignment_code, operations_code, discarded_code, failing_comparison, compared_or, left_with, slot_with, first_code, second_code, pair_code, condition_code, condition_of, failing_jump, break_target, continue_target, return_code, declaration_code, statement_code, items_code, first_temporary, jump_if_zero, jump_if_nonzero, lower_function, behind_left, pointer_code, outside_loops, inside_loop, pointer_operator, index_of, first_two, pointer_instructions, stores_code, object_code, made_code, place_operand, place_offset, place_code, address_code, store_address_code, store_code, count_code, span_of, tested_code, widened_code, conversion_by, tested_by, check_code, are_as_wide, saved_code, loaded_code, bounds_code, stepped_code, reached_code, followed_code, followed_operand, followed_by, span_in}
 use Rattle.cyc_lower.specs.Lowered.{size_per_weight}
 
 abbrev code_size : List Instruction → ℕ
@@ -124,6 +125,31 @@ converted_by_size known inner from to span o p bound few =
     let front = code_unless known inner in
     omega (arith, both front (conversion_code from to span o (p + length front)), unless_size known inner, few, conversion_size from to span o (p + length front))
 
+stepped_size : (span : Option ℕ) (n m t : ℕ) → code_size (stepped_code span n m t) ≤ 22
+stepped_size None n m t = omega arith
+stepped_size (Some words) n m t = by (words == 1)
+  where
+    by : (narrow : Bool)
+        → code_size ((if narrow then instructions.Binary plain_binary.ShiftLeft (t + 2) (operands.Slot m) (operands.Word 2) else instructions.Binary plain_binary.Multiply (t + 2) (operands.Slot m) (operands.Word 12)) ∷ instructions.Binary plain_binary.Add t (operands.Slot n) (operands.Slot (t + 2)) ∷ []) ≤ 22
+    by true = omega arith
+    by false = omega arith
+
+reached_size : (span : Option ℕ) (n m t p : ℕ) → code_size (reached_code span n m t p) ≤ 58
+reached_size span n m t p =
+    let check = check_code null_exception (operands.Slot n) p in
+    let bounds = bounds_code (operands.Slot m) (operands.Slot (n + 1)) (p + length check) in
+    omega (arith, both check (bounds ++ stepped_code span n m t), both bounds (stepped_code span n m t), stepped_size span n m t)
+
+followed_size : (thin : Bool) (span : Option ℕ) (o : Operand) (t p : ℕ) → code_size (followed_code thin span o t p) ≤ 58
+followed_size true span o t p = omega arith
+followed_size false span (operands.Slot n) t p = reached_size span n (n + 2) t p
+followed_size false span (operands.Word w) t p = omega arith
+
+followed_by_size : (known : Option Operand) (inner : List Instruction) (thin : Bool) (span : Option ℕ) (o : Operand) (t p bound : ℕ) → code_size inner ≤ bound → code_size (followed_by known inner thin span o t p) ≤ bound + 58
+followed_by_size known inner thin span o t p bound few =
+    let front = code_unless known inner in
+    omega (arith, both front (followed_code thin span o t (p + length front)), unless_size known inner, few, followed_size thin span o t (p + length front))
+
 tested_by_size : (known : Option Operand) (inner : List Instruction) (o : Operand) (p bound : ℕ) → code_size inner ≤ bound → code_size (tested_by known inner o p) ≤ bound + 18
 tested_by_size known inner o p bound few =
     let front = code_unless known inner in
@@ -178,7 +204,7 @@ saved_size words address (operands.Slot n) few = omega (arith, stores_size words
 saved_size words address (operands.Word n) few = omega arith
 
 loaded_size : (narrow : Bool) (o : Operand) (bytes d : ℕ)
-    → code_size (if narrow then instructions.Load d o bytes ∷ [] else address_code o bytes d ++ (instructions.Load (d + 2) (operands.Slot d) 8 ∷ instructions.Load (d + 1) (operands.Slot d) 4 ∷ instructions.Load d (operands.Slot d) 0 ∷ [])) ≤ 50
+    → code_size (if narrow then instructions.Load d o bytes ∷ [] else address_code o bytes d ++ (instructions.Load (d + 2) (operands.Slot d) 8 ∷ instructions.Load (d + 1) (operands.Slot d) 4 ∷ instructions.Load d (operands.Slot d) 0 ∷ [])) ≤ 41
 loaded_size true o bytes d = omega arith
 loaded_size false o bytes d =
     omega (arith, both (address_code o bytes d) (instructions.Load (d + 2) (operands.Slot d) 8 ∷ instructions.Load (d + 1) (operands.Slot d) 4 ∷ instructions.Load d (operands.Slot d) 0 ∷ []), address_size o bytes d)
@@ -284,10 +310,13 @@ module _ (starts : Starts) where
         omega (arith, both (arguments_code starts cs p t) (object_code handle (all_passed cs) d t), fields_size cs p t, more_weight cs, object_size handle (all_passed cs) d t)
     made_size (Array w level n kind a) handle p d t = omega arith
 
-    place_size : (x : Dereference) (p t : ℕ) → code_size (place_code starts x p t) + 60 ≤ size_per_weight * dereference_weight x
+    place_size : (x : Dereference) (p t : ℕ) → code_size (place_code starts x p t) + 41 ≤ size_per_weight * dereference_weight x
     place_size (Target k a ty) p t =
         let slot = value_slot starts a t in
-        omega (arith, tested_by_size (operand_of starts a) (expression_code starts a p slot t) (value_operand starts a t) p (size_per_weight * expression_weight a) (expression_size a p slot t))
+        omega (
+          arith,
+          followed_by_size (operand_of starts a) (expression_code starts a p slot t) (is_thin k) (span_in ty) (value_operand starts a t) t p (size_per_weight * expression_weight a) (expression_size a p slot t),
+        )
     place_size (Member k a n f ty) p t =
         let slot = value_slot starts a t in
         omega (arith, tested_by_size (operand_of starts a) (expression_code starts a p slot t) (value_operand starts a t) p (size_per_weight * expression_weight a) (expression_size a p slot t))
@@ -298,12 +327,13 @@ module _ (starts : Starts) where
     store_address_size (Target k a ty) p t =
         let slot = value_slot starts a t in
         let o = value_operand starts a t in
+        let x = followed_operand (is_thin k) (span_in ty) o t in
         let front = place_code starts (Target k a ty) p t in
         omega (
           arith,
-          both front (copy_code 1 o t),
-          tested_by_size (operand_of starts a) (expression_code starts a p slot t) o p (size_per_weight * expression_weight a) (expression_size a p slot t),
-          copied_address_size o t,
+          both front (copy_code 1 x t),
+          followed_by_size (operand_of starts a) (expression_code starts a p slot t) (is_thin k) (span_in ty) o t p (size_per_weight * expression_weight a) (expression_size a p slot t),
+          copied_address_size x t,
         )
     store_address_size (Member k a n f ty) p t =
         let slot = value_slot starts a t in

@@ -78,6 +78,15 @@ type-there (t ∷ ts) zero inside = (t, refl)
 type-there (t ∷ ts) (suc n) inside = type-there ts n (omega (arith, inside))
 
 -- the slot of a local is one of the locals'
+-- a local that is there or not begins before the first temporary, or at it
+low-from : (ts : List Ty) (slot n : ℕ) → unwrap_or (slice_get (starts_from slot ts) n) 0 ≤ slot + words_of_all ts
+low-from [] slot n = omega arith
+low-from (t ∷ ts) slot zero = omega arith
+low-from (t ∷ ts) slot (suc n) = omega (arith, low-from ts (slot + words_of t) n)
+
+pub slot-low : (ts : Types) (n : ℕ) → slot_of (starts_of ts) n ≤ words_of_all ts.locals
+slot-low ts n = omega (arith, low-from ts.locals 0 n)
+
 pub slot-inside : (ts : Types) (n : ℕ) → n < length ts.locals → slot_of (starts_of ts) n < words_of_all ts.locals
 slot-inside ts n inside =
     let (t, at) = type-there ts.locals n inside in

@@ -26,7 +26,7 @@ use Rattle.cyc_meaning.specs.Operators.{null_exception, division_by_zero, array_
 use Rattle.cyc_meaning.specs.Values.{is_thin, words_of_kind}
 use Rattle.cyc_lower.specs.declared.statements.Exits.{Exits}
 use Rattle.cyc_lower.specs.Slots.{Types, starts_of, slot_of, field_of}
-use Rattle.cyc_lower.specs.Lowering.{unary_operator, binary_operator, operand_of, source_of, source_slot, failing_comparison, left_with, left_of, value_slot, next_slot, slot_with, left_slot, is_in, jump_if_nonzero, move_of, test_jump, are_as_wide, converts_there, passed_words, all_passed, compared_of, low_byte, break_target, continue_target, results_of, behind_left, inside_loop, pointer_operator, jump_if_zero, span_of}
+use Rattle.cyc_lower.specs.Lowering.{unary_operator, binary_operator, operand_of, source_of, source_slot, failing_comparison, left_with, left_of, value_slot, next_slot, slot_with, left_slot, is_in, jump_if_nonzero, move_of, test_jump, are_as_wide, converts_there, passed_words, all_passed, compared_of, low_byte, break_target, continue_target, results_of, behind_left, inside_loop, pointer_operator, jump_if_zero, span_of, span_in, followed_operand}
 use Rattle.cyc_lower.proofs.Widths.{kind_of_result, given, passed_kind, HasRoom, HasField}
 
 -- ---- expressions
@@ -224,8 +224,8 @@ module _ (code : List Instruction) (bounds : Numbering) (types : Types) where
     -- The address of a place comes to an operand, but for so many bytes that are to be added to it.
     pub PlaceAt : Dereference → Operand → (c t p q : ℕ) → Type 0
     PlaceAt (Target k a ty) o c t p q =
-        (m : ℕ) × OperandBy (operand_of (starts_of types) a) (ExpressionAt a (value_slot (starts_of types) a t) t p m) (value_slot (starts_of types) a t) o p m
-        × (is_thin k ≡ true) × CheckAt null_exception o m q × (c ≡ 0)
+        (x : Operand) × (m : ℕ) × OperandBy (operand_of (starts_of types) a) (ExpressionAt a (value_slot (starts_of types) a t) t p m) (value_slot (starts_of types) a t) x p m
+        × FollowedAt (is_thin k) (span_in ty) x t m q × (o ≡ followed_operand (is_thin k) (span_in ty) x t) × (c ≡ 0)
     PlaceAt (Member k a s f ty) o c t p q =
         (m : ℕ) × OperandBy (operand_of (starts_of types) a) (ExpressionAt a (value_slot (starts_of types) a t) t p m) (value_slot (starts_of types) a t) o p m
         × (is_thin k ≡ true) × CheckAt null_exception o m q × HasField types s f × (c ≡ field_of (starts_of types) s f)

@@ -38,7 +38,7 @@ use Rattle.cyc_plain.proofs.Steps.{function_known}
 use Rattle.cyc_plain.proofs.SlotLaws.{put-same}
 use Rattle.cyc_plain.specs.Straight.{At}
 use Rattle.cyc_meaning.specs.Values.{Value, Int, Null, Thin, Fat, Handle, Key, Operand as Kinded, is_kind, is_thin, words_of_kind}
-use Rattle.cyc_meaning.specs.Operators.{Result, Gives, Raises, Misfits, has_no_result, binary_word, is_zero, unary_result, truth_result, truth_of, division_by_zero, array_bounds}
+use Rattle.cyc_meaning.specs.Operators.{Result, Gives, Raises, Misfits, has_no_result, binary_word, is_zero, unary_result, truth_result, truth_of, division_by_zero, array_bounds, null_exception}
 use Rattle.cyc_meaning.specs.Pointers.{takes_kind, followed, result_kind as operator_kind}
 use Rattle.cyc_meaning.specs.Places.{arrives, member_of}
 use Rattle.cyc_meaning.specs.Conversion.{conversion}
@@ -51,15 +51,15 @@ use Rattle.cyc_lower.specs.Slots.{slot_of, Types}
 use Rattle.cyc_lower.proofs.Slots.{slot-room, room-inside}
 use Rattle.cyc_lower.proofs.Widths.{kind_positive, same_kind, HasRoom, Outside, chain_kind, wide_kind}
 use Rattle.cyc_lower.proofs.Moves.{moved_slots, moves, put_elsewhere, moved_elsewhere, moved_is}
-use Rattle.cyc_lower.specs.Lowering.{unary_operator, binary_operator, failing_comparison, operand_of, value_slot, next_slot, is_in, jump_if_zero, jump_if_nonzero, move_of, converts_there, break_target, lower_program, are_as_wide}
-use Rattle.cyc_lower.proofs.Stands.{OperandBy, CopyBy, CopyAt, CheckAt, CheckedAt, OperatorAt, TruthAt, ExpressionAt, OperationsAt, TestedAt, ConversionBy, StoresAt}
+use Rattle.cyc_lower.specs.Lowering.{unary_operator, binary_operator, failing_comparison, operand_of, value_slot, next_slot, is_in, jump_if_zero, jump_if_nonzero, move_of, converts_there, break_target, lower_program, are_as_wide, followed_operand}
+use Rattle.cyc_lower.proofs.Stands.{OperandBy, CopyBy, CopyAt, CheckAt, CheckedAt, OperatorAt, TruthAt, ExpressionAt, OperationsAt, TestedAt, ConversionBy, StoresAt, FollowedAt}
 use Rattle.cyc_objects.specs.Tables.{Tables}
 use Rattle.cyc_objects.specs.Words.{Points, Is}
 use Rattle.cyc_objects.proofs.Pointers.{not-null, part-not-null, pointer-word}
 use Rattle.cyc_objects.specs.Tables.{Variable, with_row}
 use Rattle.cyc_objects.proofs.Values.{Grows-row, Is-grows}
 use Rattle.cyc_lower.proofs.Sharing.{shared_declared, row_declared, shared_written}
-use Rattle.cyc_lower.proofs.Relation.{IsWord, IsIn, with_kind, types_at, starts_at, Holds, held, contents, callers, in_place, by_jump, in_temporary, in_local, drops, leaves, copies, DataIn, SharedAt, StoreAt, to_slot, to_jump, ValueStack, ConditionStack, DroppedStack, AheadStack, LandsStack, HandsOnStack, AppliedStack, ReadyAt, as_operand, into_slot, as_right, in_operand, nowhere, ahead, compared, with_left, behind_statement, Related, Matches, code_of, bounds_at, base_of, top}
+use Rattle.cyc_lower.proofs.Relation.{IsWord, IsIn, with_kind, types_at, starts_at, Holds, held, contents, callers, in_place, by_jump, in_temporary, in_local, drops, leaves, copies, DataIn, SharedAt, StoreAt, to_slot, to_jump, ValueStack, ConditionStack, DroppedStack, AheadStack, LandsStack, HandsOnStack, AppliedStack, ReadyAt, as_operand, into_slot, as_right, in_operand, nowhere, ahead, compared, with_left, behind_statement, Related, Matches, code_of, bounds_at, base_of, top, PlaceStack}
 use Rattle.cyc_lower.proofs.Data.{in_words, IsWord-is, one_word, height-least, Holds-same, Holds-above, data_above, data_assigned, data_assigned_global, data_declared, data_grows}
 use Rattle.cyc_lower.proofs.Accesses.{IsWell, is_fitting, is_stored, written_here, written_elsewhere, written_length, is_declared, home_there, is_member}
 use Rattle.cyc_lower.proofs.PlaceWords.{stays, member_there, cell_kind, word_is}
@@ -69,6 +69,7 @@ use Rattle.cyc_lower.proofs.Relation.{StatementStack}
 use Rattle.cyc_lower.proofs.Matched.{IsMatched, silently, by_one, by_two, by_three, shared_way, shared_within, lands_depth, value_depth, place_depth, lands_plain, value_plain, place_plain, by_two_known, output_way}
 use Rattle.cyc_lower.proofs.PointerSteps.{applies_pointers, right_follows}
 use Rattle.cyc_lower.proofs.FatSteps.{counts, widens}
+use Rattle.cyc_lower.proofs.Elements.{follows_fat}
 use Rattle.cyc_lower.proofs.Paths.{Link, IsPath, end_of, by_path}
 use Rattle.cyc_lower.proofs.WideCells.{stage_quiet, two_put, store_links, stored, store_path, store_last, shared_stored, data_stored}
 use Rattle.cyc_lower.proofs.Allocations.{plain_made, fields_made}
@@ -1096,10 +1097,10 @@ module _ (source : Program) (pages calls : ℕ) where
   -- ---- all that waits for a value
 
   -- an access through null raises an exception, and through another thin pointer its place is found
-  follows : (pointer : Kind) (target : Option Kind) (i : Kind) (v : Value) (o : Operand) (k : List Entry) (e : Environment) (w : World) (c : Configuration)
+  follows_thin : (pointer : Kind) (target : Option Kind) (i : Kind) (v : Value) (o : Operand) (k : List Entry) (e : Environment) (w : World) (c : Configuration)
       → IsWell (step source (Running (Given (of_kind i v)) (Needs (Follow pointer target) ∷ k) e w)) → Stands (of_kind i v) o k e w c
-      → ValueStack source c.active.function e.locals i o c.active.next c.frames (Needs (Follow pointer target) ∷ k) → GoesBehind (of_kind i v) (Needs (Follow pointer target) ∷ k) e w c
-  follows pointer target i Null o k e w c well (shared, facts, is, holds) (q, thin, (jump, uncaught, end), place) =
+      → (q : ℕ) × (is_thin pointer ≡ true) × CheckAt (code_of source c.active.function) (bounds_at source c.active.function) (types_at source c.active.function) null_exception o c.active.next q × PlaceStack source c.active.function e.locals o 0 q c.frames k → GoesBehind (of_kind i v) (Needs (Follow pointer target) ∷ k) e w c
+  follows_thin pointer target i Null o k e w c well (shared, facts, is, holds) (q, thin, (jump, uncaught, end), place) =
       let zero_word = null_is shared.tables i c.active.slots o is in
       let does : step source (Running (Given (of_kind i Null)) (Needs (Follow pointer target) ∷ k) e w) ≡ Running (Throwing 1 0) k e w
       = ap (λ (b : Bool). if b then Running (Throwing 1 0) k e w else wrong w) (is_fitting (is_kind i pointer && leads_to w target (followed Null)) (Running (Throwing 1 0) k e w) w well) in
@@ -1112,22 +1113,38 @@ module _ (source : Program) (pages calls : ℕ) where
         uncaught,
         zero_word,
       ))
-  follows pointer target i (Thin object offset) o k e w c well (shared, facts, is, holds) (q, thin, (jump, uncaught, end), place) =
+  follows_thin pointer target i (Thin object offset) o k e w c well (shared, facts, is, holds) (q, thin, (jump, uncaught, end), place) =
       let there = Running (GivenPlace (Thin object offset)) k e w in
       let does : step source (Running (Given (of_kind i (Thin object offset))) (Needs (Follow pointer target) ∷ k) e w) ≡ there
       = ap (λ (b : Bool). if b then there else wrong w) (is_fitting (is_kind i pointer && leads_to w target (followed (Thin object offset))) there w well) in
       by_one source pages calls does shared jump
       (λ choice. taken there c (not (operand_word c.active.slots o == 0)) q (ap not (not_zero shared.tables i object offset c.active.slots o is))
       (shared, facts, (o, 0, pointer-word (points_in shared.tables i object offset c.active.slots o is), stays (points_in shared.tables i object offset c.active.slots o is), holds, place)))
-  follows pointer target i (Fat object start many index) o k e w c well (shared, facts, is, holds) (q, thin, check, place) =
+  follows_thin pointer target i (Fat object start many index) o k e w c well (shared, facts, is, holds) (q, thin, check, place) =
       let reach = followed (Fat object start many index) in
       let fits = is_fitting (is_kind i pointer && leads_to w target reach) (arrives reach k e w) w well in
       let kind : i ≡ pointer = same_kind i pointer (first_holds (is_kind i pointer) (leads_to w target reach) fits) in
       let (words, p, same, is_it) = in_words shared.tables (of_kind i (Fat object start many index)) c.active.slots o is in
       absurd (not_fat shared.tables i object start many index words p (ap is_thin kind ∙ thin) is_it)
-  follows pointer target i (Int a) o k e w c well stands stack = absurd (goes_wrong (is_kind i pointer && leads_to w target (followed (Int a))) w well)
-  follows pointer target i (Handle region) o k e w c well stands stack = absurd (goes_wrong (is_kind i pointer && leads_to w target (followed (Handle region))) w well)
-  follows pointer target i (Key region) o k e w c well stands stack = absurd (goes_wrong (is_kind i pointer && leads_to w target (followed (Key region))) w well)
+  follows_thin pointer target i (Int a) o k e w c well stands stack = absurd (goes_wrong (is_kind i pointer && leads_to w target (followed (Int a))) w well)
+  follows_thin pointer target i (Handle region) o k e w c well stands stack = absurd (goes_wrong (is_kind i pointer && leads_to w target (followed (Handle region))) w well)
+  follows_thin pointer target i (Key region) o k e w c well stands stack = absurd (goes_wrong (is_kind i pointer && leads_to w target (followed (Key region))) w well)
+
+  -- by a thin pointer, or by a fat one
+  follows : (pointer : Kind) (target : Option Kind) (v : Kinded) (o : Operand) (k : List Entry) (e : Environment) (w : World) (c : Configuration)
+      → IsWell (step source (Running (Given v) (Needs (Follow pointer target) ∷ k) e w)) → Stands v o k e w c
+      → ValueStack source c.active.function e.locals v.kind o c.active.next c.frames (Needs (Follow pointer target) ∷ k) → GoesBehind v (Needs (Follow pointer target) ∷ k) e w c
+  follows pointer target v o k e w c well (shared, facts, is, holds) (q, low, access, place) = by (is_thin pointer) refl access place
+    where
+      kind : v.kind ≡ pointer
+      kind = same_kind v.kind pointer (first_holds (is_kind v.kind pointer) (leads_to w target (followed v.value)) (is_fitting (is_kind v.kind pointer && leads_to w target (followed v.value)) (arrives (followed v.value) k e w) w well))
+
+      by : (thin : Bool) → is_thin pointer ≡ thin
+          → FollowedAt (code_of source c.active.function) (bounds_at source c.active.function) (types_at source c.active.function) thin (option_map words_of_kind target) o (top source c.active.function k) c.active.next q
+          → PlaceStack source c.active.function e.locals (followed_operand thin (option_map words_of_kind target) o (top source c.active.function k)) 0 q c.frames k
+          → GoesBehind v (Needs (Follow pointer target) ∷ k) e w c
+      by true thin check place = follows_thin pointer target v.kind v.value o k e w c well (shared, facts, is, holds) (q, thin, check, place)
+      by false thin access place = follows_fat source pages calls pointer target v o q k e w c thin kind well shared facts is holds low access place
 
   -- the same for a field, whose place is some bytes behind that of its struct
   follows_member : (pointer : Kind) (fields : List Kind) (field : ℕ) (i : Kind) (v : Value) (o : Operand) (k : List Entry) (e : Environment) (w : World) (c : Configuration)
@@ -1194,7 +1211,7 @@ module _ (source : Program) (pages calls : ℕ) where
       silently source pages calls (Running (Given v) (Needs Return ∷ k) e w) (Running (Returning (Some v)) k e w) (plain.Running c) refl
       (shared, facts, (exits, q, s, here, subst (IsIn shared.tables v c.active.slots) there is, single, stack))
       (omega arith)
-  stands_given v o (Needs (Follow pointer target) ∷ k) e w c of_words words well stands stack = follows pointer target v.kind v.value o k e w c well stands stack
+  stands_given v o (Needs (Follow pointer target) ∷ k) e w c of_words words well stands stack = follows pointer target v o k e w c well stands stack
   stands_given v o (Needs (FollowMember pointer fields field) ∷ k) e w c of_words words well stands stack = follows_member pointer fields field v.kind v.value o k e w c well stands stack
   stands_given v o (Discard ∷ k) e w c of_words words well (shared, facts, is, holds) (exits, stack) =
       silently source pages calls (Running (Given v) (Discard ∷ k) e w) (Running Proceeding k e w) (plain.Running c) refl

@@ -18,6 +18,7 @@ use Rattle.cyc_types.specs.typing.WellTyped.{signature_of}
 use Rattle.cyc_types.specs.Numbered.{Numbering, argument_count, signatures_of, numbering_of}
 use Rattle.cyc_plain.specs.declared.instruction.Comparison.{Comparison}
 use Rattle.cyc_plain.specs.declared.instruction.BinaryOperator.{BinaryOperator as PlainBinary}
+use Rattle.cyc_plain.specs.declared.instruction.BinaryOperator.TheVariants as plain_binary
 use Rattle.cyc_plain.specs.declared.instruction.Operand.{Operand}
 use Rattle.cyc_plain.specs.declared.instruction.Operand.TheVariants as operands
 use Rattle.cyc_plain.specs.declared.instruction.Instruction.{Instruction}
@@ -29,15 +30,15 @@ use Rattle.std.specs.Prelude.{◌==◌, max, if◌then◌else◌}
 use Rattle.std.proofs.lemmas.Bool.{eqb-true}
 use Rattle.cyc_meaning.specs.Operators.{null_exception, division_by_zero}
 use Rattle.cyc_store.specs.declared.range.TheConstants.{HEAP}
-use Rattle.cyc_meaning.specs.Values.{kind_of, words_of_kind}
+use Rattle.cyc_meaning.specs.Values.{kind_of, words_of_kind, is_thin, is_kind}
 use Rattle.cyc_meaning.specs.FrameCount.{result_words, operand_words, converted_words, argument_words, expression_need, dereference_need, converted_need, arguments_need, operations_need, initial_need, statement_need, items_need, words_of_all, initial_value_need, place_words}
 use Rattle.cyc_lower.specs.declared.statements.Exits.{Exits}
 use Rattle.cyc_meaning.specs.Pointers.{result_kind as operator_kind}
 use Rattle.cyc_lower.specs.Slots.{starts_of, slot_of, Types}
-use Rattle.cyc_lower.specs.Lowering.{types_of, spare_slots, are_as_wide, converts_there, passed_words, all_passed, source_of, source_slot, moved_by, move_of, unary_operator, binary_operator, operand_of, operand_or, code_unless, slot_or, code_unless_slot, left_with, left_of, value_slot, next_slot, slot_with, left_slot, value_operand, converted_operand, printed_operand, check_code, conversion_code, divisor_code, checked_code, operator_code, truth_code, load_code, low_byte, test_code, is_in, copy_code, expression_code, arguments_code, converted_code, converted_operand_code, printed_code, initial_code, assignment_code, operations_code, discarded_code, failing_comparison, compared_or, first_operand, first_code, second_code, pair_code, condition_code, condition_of, failing_jump, break_target, continue_target, return_code, declaration_code, statement_code, items_code, first_temporary, results_of, lower_function, lower_global, lower_program, pointer_operator, left_kind, behind_left, pointer_code, outside_loops, inside_loop, index_code, pointer_instructions, stores_code, object_code, made_code, place_operand, place_offset, place_code, address_code, addressed_by, store_address_code, store_code, count_code, span_of, null_of, tested_code, widened_code, conversion_by, tested_by, saved_code, loaded_code}
+use Rattle.cyc_lower.specs.Lowering.{types_of, spare_slots, are_as_wide, converts_there, passed_words, all_passed, source_of, source_slot, moved_by, move_of, unary_operator, binary_operator, operand_of, operand_or, code_unless, slot_or, code_unless_slot, left_with, left_of, value_slot, next_slot, slot_with, left_slot, value_operand, converted_operand, printed_operand, check_code, conversion_code, divisor_code, checked_code, operator_code, truth_code, load_code, low_byte, test_code, is_in, copy_code, expression_code, arguments_code, converted_code, converted_operand_code, printed_code, initial_code, assignment_code, operations_code, discarded_code, failing_comparison, compared_or, first_operand, first_code, second_code, pair_code, condition_code, condition_of, failing_jump, break_target, continue_target, return_code, declaration_code, statement_code, items_code, first_temporary, results_of, lower_function, lower_global, lower_program, pointer_operator, left_kind, behind_left, pointer_code, outside_loops, inside_loop, index_code, pointer_instructions, stores_code, object_code, made_code, place_operand, place_offset, place_code, address_code, addressed_by, store_address_code, store_code, count_code, span_of, null_of, tested_code, widened_code, conversion_by, tested_by, saved_code, loaded_code, bounds_code, stepped_code, reached_code, followed_code, followed_operand, span_in}
 use Rattle.cyc_lower.specs.Lowerable.{is_converted}
-use Rattle.cyc_lower.proofs.Widths.{kind_positive, kind_few, type_words, kind_of_result, result_kind, given, passed_kind, words_in, chain_kind, made_kind, wide_kind}
-use Rattle.cyc_lower.proofs.Fitting.{FitsPlace, FitsStored, FitsCell, Fits, FitsConverted, FitArguments, FitOperations, FitsReturn, FitsInitial, FitsStatement, FitItems, AreFitting, IsFitting, FitsObject}
+use Rattle.cyc_lower.proofs.Widths.{kind_positive, kind_few, type_words, kind_of_result, result_kind, given, passed_kind, words_in, chain_kind, made_kind, wide_kind, same_kind}
+use Rattle.cyc_lower.proofs.Fitting.{FitsPlace, FitsStored, FitsCell, Fits, FitsConverted, FitArguments, FitOperations, FitsReturn, FitsInitial, FitsStatement, FitItems, AreFitting, IsFitting, FitsObject, is_pointer}
 use Rattle.cyc_lower.proofs.Values.{as_wide}
 use Rattle.cyc_lower.proofs.Slots.{words_positive, slot-room, slot_types-many, slots-few}
 
@@ -312,6 +313,42 @@ module _ (program : PlainProgram) (r : Routine) (b : Numbering) (types : Types) 
   check_in : (tag : ℕ) (o : Operand) (p : ℕ) → IsOperand r o → p + 2 < length r.code → AreIn (check_code tag o p)
   check_in tag o p inside short = ((inside, tt, short), (inside, tt))
 
+  bounds_in : (index bound : Operand) (p : ℕ) → IsOperand r index → IsOperand r bound → p + 2 < length r.code → AreIn (bounds_code index bound p)
+  bounds_in index bound p first second short = ((first, second, short), (tt, tt))
+
+  stepped_in : (span : Option ℕ) (n m t : ℕ) → n < r.slots → m < r.slots → t + 3 ≤ r.slots → AreIn (stepped_code span n m t)
+  stepped_in None n m t first index room = tt
+  stepped_in (Some words) n m t first index room = (by (words == 1), ((omega (arith, room), first, omega (arith, room)), tt))
+    where
+      by : (narrow : Bool) → IsInRange program r (if narrow then instructions.Binary plain_binary.ShiftLeft (t + 2) (operands.Slot m) (operands.Word 2) else instructions.Binary plain_binary.Multiply (t + 2) (operands.Slot m) (operands.Word 12))
+      by true = (omega (arith, room), index, tt)
+      by false = (omega (arith, room), index, tt)
+
+  reached_in : (span : Option ℕ) (n m t p : ℕ) → n + 2 ≤ r.slots → m < r.slots → t + 3 ≤ r.slots → p + length (reached_code span n m t p) < length r.code → AreIn (reached_code span n m t p)
+  reached_in span n m t p first index room short =
+      let check = check_code null_exception (operands.Slot n) p in
+      let bounds = bounds_code (operands.Slot m) (operands.Slot (n + 1)) (p + length check) in
+      let step = stepped_code span n m t in
+      let long = length-append check (bounds ++ step) in
+      let behind = length-append bounds step in
+      append check (bounds ++ step) (check_in null_exception (operands.Slot n) p (omega (arith, first)) (omega (arith, short, long, behind)))
+      (append bounds step (bounds_in (operands.Slot m) (operands.Slot (n + 1)) (p + length check) index (omega (arith, first)) (omega (arith, short, long, behind))) (stepped_in span n m t (omega (arith, first)) index room))
+
+  followed_in : (k : Kind) (thin : Bool) (span : Option ℕ) (o : Operand) (t p : ℕ) → is_thin k ≡ thin → is_pointer k ≡ true → HasOperand o (words_of_kind k) → t + words_of_kind k ≤ r.slots
+      → p + length (followed_code thin span o t p) < length r.code → AreIn (followed_code thin span o t p)
+  followed_in k true span o t p is pointer inside room short = check_in null_exception o p (operand_in o k inside) short
+  followed_in k false span (operands.Word w) t p is pointer inside room short = check_in null_exception (operands.Word w) p tt short
+  followed_in k false span (operands.Slot n) t p is pointer inside room short =
+      let fat : k ≡ kinds.Fat = same_kind k kinds.Fat (ap (λ (b : Bool). if b then true else is_kind k kinds.Fat) (sym is) ∙ pointer) in
+      let three = ap words_of_kind fat in
+      reached_in span n (n + 2) t p (omega (arith, inside, three)) (omega (arith, inside, three)) (omega (arith, room, three)) short
+
+  followed_operand_in : (thin : Bool) (span : Option ℕ) (o : Operand) (t : ℕ) → IsOperand r o → t < r.slots → IsOperand r (followed_operand thin span o t)
+  followed_operand_in true span o t inside room = inside
+  followed_operand_in false None (operands.Slot n) t inside room = inside
+  followed_operand_in false (Some words) (operands.Slot n) t inside room = room
+  followed_operand_in false span (operands.Word w) t inside room = inside
+
   tested_in : (to : Kind) (o : Operand) (p : ℕ) → IsOperand r o → p + length (tested_code to o p) < length r.code → AreIn (tested_code to o p)
   tested_in kinds.NonNull o p inside short = check_in null_exception o p inside short
   tested_in to o p inside short = tt
@@ -421,7 +458,8 @@ module _ (program : PlainProgram) (r : Routine) (b : Numbering) (types : Types) 
       append (address_code o bytes d) _ (address_in o bytes d inside first) ((omega (arith, room, three), first), ((omega (arith, room, three), first), ((first, first), tt)))
 
   place_operand_in : (x : Dereference) (own t : ℕ) → FitsCell b types x → 1 ≤ own → t + dereference_need x own ≤ r.slots → IsOperand r (place_operand (starts_of types) x t)
-  place_operand_in (Target k a ty) own t (thin, numbered) some few = value_in a t numbered (omega (arith, few, given_needs a numbered, some))
+  place_operand_in (Target k a ty) own t (pointer, kind_is, numbered) some few =
+      followed_operand_in (is_thin k) (span_in ty) (value_operand (starts_of types) a t) t (value_in a t numbered (omega (arith, few, given_needs a numbered, some))) (omega (arith, few, some))
   place_operand_in (Member k a s f ty) own t (thin, there, numbered) some few = value_in a t numbered (omega (arith, few, given_needs a numbered, some))
   place_operand_in x own t numbered some few = absurd numbered
 
@@ -603,16 +641,16 @@ module _ (program : PlainProgram) (r : Routine) (b : Numbering) (types : Types) 
 
     -- a place of what has so many words
     place_in : (x : Dereference) (own p t : ℕ) → FitsCell b types x → 1 ≤ own → t + dereference_need x own ≤ r.slots → p + length (place_code (starts_of types) x p t) < length r.code → AreIn (place_code (starts_of types) x p t)
-    place_in (Target k a ty) own p t (thin, numbered) some few short =
+    place_in (Target k a ty) own p t (pointer, kind_is, numbered) some few short =
         let slot = value_slot (starts_of types) a t in
         let o = value_operand (starts_of types) a t in
         let inner = expression_code (starts_of types) a p slot t in
         let front = code_unless (operand_of (starts_of types) a) inner in
-        let check = check_code null_exception o (p + length front) in
-        let long = length-append front check in
+        let access = followed_code (is_thin k) (span_in ty) o t (p + length front) in
+        let long = length-append front access in
         let free : t + words_of_kind (kind_at a) ≤ r.slots = omega (arith, few, given_needs a numbered, some) in
-        append front check (unless_in (operand_of (starts_of types) a) inner p (omega (arith, short, long)) (λ less. expression_in a p slot t numbered (slot_fits a t numbered free) (omega (arith, few)) less))
-        (check_in null_exception o (p + length front) (value_in a t numbered free) (omega (arith, short, long)))
+        append front access (unless_in (operand_of (starts_of types) a) inner p (omega (arith, short, long)) (λ less. expression_in a p slot t numbered (slot_fits a t numbered free) (omega (arith, few)) less))
+        (followed_in k (is_thin k) (span_in ty) o t (p + length front) refl pointer (subst (λ x. HasOperand o (words_of_kind x)) (sym kind_is) (value_room a t numbered free)) (omega (arith, free, ap words_of_kind kind_is)) (omega (arith, short, long)))
     place_in (Member k a s f ty) own p t (thin, there, numbered) some few short =
         let slot = value_slot (starts_of types) a t in
         let o = value_operand (starts_of types) a t in

@@ -16,6 +16,7 @@ use Rattle.cyc_types.specs.declared.typed.LogicalOperator.{LogicalOperator}
 use Rattle.cyc_types.specs.declared.typed.LogicalOperator.TheVariants as logical
 use Rattle.cyc_types.specs.TypedTrees.{Load, New, OnHeap, AsUnique, ByHandle, Initial, Plain, Fields, Dereference, Target, Lvalue, Local, Global, Expression, Number, NullPointer, Copy, Call, Unary, Binary, Assign, Converted, Convert, Arguments, NoArguments, MoreArguments, Operations, NoOperations, ThenCompute, ThenTest, ThenPointer, Statement, Block, Empty, Evaluate, If, While, Return, Break, Continue, Items, NoItems, MoreItems, Execute, Declare, Constant, Word, Null, GlobalVariable, StructType, Function, Program, Move, Peek, ThenPointerPeek, AddressOfCell, Store, Member, Element, NumberOfElements, type_of_place}
 use Rattle.cyc_plain.specs.declared.instruction.Comparison.{Comparison}
+use Rattle.cyc_plain.specs.declared.instruction.BinaryOperator.TheVariants as plain_binary
 use Rattle.cyc_plain.specs.declared.instruction.Operand.{Operand}
 use Rattle.cyc_plain.specs.declared.instruction.Operand.TheVariants as operands
 use Rattle.cyc_plain.specs.declared.instruction.Instruction.{Instruction}
@@ -28,8 +29,8 @@ use Rattle.std.specs.Prelude.{◌==◌, if◌then◌else◌}
 use Rattle.cyc_types.specs.Types.{words_of, Ty}
 use Rattle.cyc_types.specs.Numbered.{argument_count}
 use Rattle.cyc_store.specs.declared.range.TheConstants.{HEAP}
-use Rattle.cyc_meaning.specs.Values.{words_of_kind}
-use Rattle.cyc_lower.specs.Lowering.{types_of, are_as_wide, converts_there, passed_words, source_of, source_slot, converted_by, moved_by, move_of, operand_of, operand_or, code_unless, slot_or, code_unless_slot, left_with, left_of, value_slot, next_slot, left_slot, value_operand, converted_operand, printed_operand, check_code, conversion_code, divisor_code, checked_code, operator_code, truth_code, load_code, test_code, is_in, copy_code, expression_code, arguments_code, converted_code, converted_operand_code, printed_code, initial_code, assignment_code, operations_code, discarded_code, failing_comparison, compared_or, compared_of, slot_with, first_code, second_code, pair_code, condition_code, condition_of, return_code, declaration_code, statement_code, items_code, first_temporary, initial_word, lower_function, lower_global, lower_program, behind_left, pointer_code, outside_loops, inside_loop, index_of, first_two, pointer_instructions, stores_code, object_code, made_code, place_operand, place_offset, place_code, address_code, addressed_by, store_address_code, store_code, count_code, span_of, null_of, tested_code, widened_code, conversion_by, tested_by, saved_code, loaded_code, all_passed}
+use Rattle.cyc_meaning.specs.Values.{words_of_kind, is_thin}
+use Rattle.cyc_lower.specs.Lowering.{types_of, are_as_wide, converts_there, passed_words, source_of, source_slot, converted_by, moved_by, move_of, operand_of, operand_or, code_unless, slot_or, code_unless_slot, left_with, left_of, value_slot, next_slot, left_slot, value_operand, converted_operand, printed_operand, check_code, conversion_code, divisor_code, checked_code, operator_code, truth_code, load_code, test_code, is_in, copy_code, expression_code, arguments_code, converted_code, converted_operand_code, printed_code, initial_code, assignment_code, operations_code, discarded_code, failing_comparison, compared_or, compared_of, slot_with, first_code, second_code, pair_code, condition_code, condition_of, return_code, declaration_code, statement_code, items_code, first_temporary, initial_word, lower_function, lower_global, lower_program, behind_left, pointer_code, outside_loops, inside_loop, index_of, first_two, pointer_instructions, stores_code, object_code, made_code, place_operand, place_offset, place_code, address_code, addressed_by, store_address_code, store_code, count_code, span_of, null_of, tested_code, widened_code, conversion_by, tested_by, saved_code, loaded_code, all_passed, bounds_code, stepped_code, reached_code, followed_code, followed_operand, followed_by, span_in}
 use Rattle.cyc_lower.proofs.Widths.{kind_few}
 use Rattle.cyc_lower.proofs.WellFormed.{all_append, all_of}
 
@@ -121,6 +122,40 @@ converted_by_words : (known : Option Operand) (inner : List Instruction) (from t
 converted_by_words known inner from to span o p all word =
     let front = code_unless known inner in
     append front (conversion_code from to span o (p + length front)) (unless_words known inner all) (conversion_words from to span o (p + length front) word)
+
+bounds_words : (index bound : Operand) (p : ℕ) → IsOfWord index → IsOfWord bound → HaveWords (bounds_code index bound p)
+bounds_words index bound p first second = ((first, second), ((omega arith, omega arith), tt))
+
+stepped_words : (span : Option ℕ) (n m t : ℕ) → HaveWords (stepped_code span n m t)
+stepped_words None n m t = tt
+stepped_words (Some words) n m t = (by (words == 1), ((tt, tt), tt))
+  where
+    by : (narrow : Bool) → HasWord (if narrow then instructions.Binary plain_binary.ShiftLeft (t + 2) (operands.Slot m) (operands.Word 2) else instructions.Binary plain_binary.Multiply (t + 2) (operands.Slot m) (operands.Word 12))
+    by true = (tt, omega arith)
+    by false = (tt, omega arith)
+
+reached_words : (span : Option ℕ) (n m t p : ℕ) → HaveWords (reached_code span n m t p)
+reached_words span n m t p =
+    let check = check_code null_exception (operands.Slot n) p in
+    let bounds = bounds_code (operands.Slot m) (operands.Slot (n + 1)) (p + length check) in
+    append check (bounds ++ stepped_code span n m t) (check_words null_exception (operands.Slot n) p (omega arith) tt)
+    (append bounds (stepped_code span n m t) (bounds_words (operands.Slot m) (operands.Slot (n + 1)) (p + length check) tt tt) (stepped_words span n m t))
+
+followed_words : (thin : Bool) (span : Option ℕ) (o : Operand) (t p : ℕ) → IsOfWord o → HaveWords (followed_code thin span o t p)
+followed_words true span o t p word = check_words null_exception o p (omega arith) word
+followed_words false span (operands.Slot n) t p word = reached_words span n (n + 2) t p
+followed_words false span (operands.Word w) t p word = check_words null_exception (operands.Word w) p (omega arith) word
+
+followed_word : (thin : Bool) (span : Option ℕ) (o : Operand) (t : ℕ) → IsOfWord o → IsOfWord (followed_operand thin span o t)
+followed_word true span o t word = word
+followed_word false None (operands.Slot n) t word = tt
+followed_word false (Some words) (operands.Slot n) t word = tt
+followed_word false span (operands.Word w) t word = word
+
+followed_by_words : (known : Option Operand) (inner : List Instruction) (thin : Bool) (span : Option ℕ) (o : Operand) (t p : ℕ) → HaveWords inner → IsOfWord o → HaveWords (followed_by known inner thin span o t p)
+followed_by_words known inner thin span o t p all word =
+    let front = code_unless known inner in
+    append front (followed_code thin span o t (p + length front)) (unless_words known inner all) (followed_words thin span o t (p + length front) word)
 
 tested_by_words : (known : Option Operand) (inner : List Instruction) (o : Operand) (p : ℕ) → HaveWords inner → IsOfWord o → HaveWords (tested_by known inner o p)
 tested_by_words known inner o p all word =
@@ -216,7 +251,7 @@ module _ (starts : Starts) where
   left_word a os slot words = tt
 
   place_word : (x : Dereference) (t : ℕ) → IsOfWordsCell x → IsOfWord (place_operand starts x t)
-  place_word (Target k a ty) t words = known_word a (value_slot starts a t) words
+  place_word (Target k a ty) t words = followed_word (is_thin k) (span_in ty) (value_operand starts a t) t (known_word a (value_slot starts a t) words)
   place_word (Member k a s f ty) t words = known_word a (value_slot starts a t) words
   place_word x t words = absurd words
 
@@ -288,7 +323,7 @@ module _ (starts : Starts) where
     place_words : (x : Dereference) (p t : ℕ) → IsOfWordsCell x → HaveWords (place_code starts x p t)
     place_words (Target k a ty) p t words =
         let slot = value_slot starts a t in
-        tested_by_words (operand_of starts a) (expression_code starts a p slot t) (value_operand starts a t) p (expression_words a p slot t words) (known_word a slot words)
+        followed_by_words (operand_of starts a) (expression_code starts a p slot t) (is_thin k) (span_in ty) (value_operand starts a t) t p (expression_words a p slot t words) (known_word a slot words)
     place_words (Member k a s f ty) p t words =
         let slot = value_slot starts a t in
         tested_by_words (operand_of starts a) (expression_code starts a p slot t) (value_operand starts a t) p (expression_words a p slot t words) (known_word a slot words)
@@ -299,9 +334,10 @@ module _ (starts : Starts) where
     address_of_words (Target k a ty) p d t words =
         let slot = value_slot starts a t in
         let o = value_operand starts a t in
+        let x = followed_operand (is_thin k) (span_in ty) o t in
         append (place_code starts (Target k a ty) p t) _
-        (tested_by_words (operand_of starts a) (expression_code starts a p slot t) o p (expression_words a p slot t words) (known_word a slot words))
-        (address_words o 0 d (known_word a slot words) (omega arith))
+        (followed_by_words (operand_of starts a) (expression_code starts a p slot t) (is_thin k) (span_in ty) o t p (expression_words a p slot t words) (known_word a slot words))
+        (address_words x 0 d (followed_word (is_thin k) (span_in ty) o t (known_word a slot words)) (omega arith))
     address_of_words (Member k a s f ty) p d t words =
         let slot = value_slot starts a t in
         let o = value_operand starts a t in

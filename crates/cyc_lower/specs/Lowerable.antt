@@ -59,7 +59,7 @@ abbrev mutual
   IsLowerable b a = ⊥
 
   pub IsLowerableCell : Numbering → Dereference → Type 0
-  IsLowerableCell b (Target k a t) = (is_thin k ≡ true) × IsLowerable b a
+  IsLowerableCell b (Target k a t) = IsLowerable b a
   IsLowerableCell b (Member k a s f t) = (is_thin k ≡ true) × IsLowerable b a
   IsLowerableCell b x = ⊥
 

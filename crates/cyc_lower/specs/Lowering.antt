@@ -33,7 +33,7 @@ use Rattle.cyc_plain.specs.declared.instruction.Instruction.{Instruction}
 use Rattle.cyc_plain.specs.declared.instruction.Instruction.TheVariants as instructions
 use Rattle.cyc_plain.specs.Program.{Routine, Program as PlainProgram}
 use Rattle.cyc_store.specs.declared.range.TheConstants.{HEAP}
-use Rattle.cyc_meaning.specs.Values.{words_of_kind}
+use Rattle.cyc_meaning.specs.Values.{words_of_kind, is_thin}
 use Rattle.cyc_meaning.specs.Operators.{null_exception, division_by_zero, array_bounds}
 use Rattle.cyc_meaning.specs.Parts.{target_of, target_by}
 use Rattle.cyc_meaning.specs.FrameCount.{frame_count, items_need, words_of_all}
@@ -354,6 +354,10 @@ converted_by known code from to span o p = code_unless known code ++ conversion_
 abbrev pub moved_by : Option Operand → (code : List Instruction) → (from to : Kind) → (span : Option ℕ) → Operand → (p d : ℕ) → List Instruction
 moved_by known code from to span o p d = converted_by known code from to span o p ++ move_of (words_of_kind to) d o ∷ []
 
+-- code that brings a pointer, and an access by it
+abbrev pub followed_by : Option Operand → (code : List Instruction) → (thin : Bool) → (span : Option ℕ) → Operand → (t p : ℕ) → List Instruction
+followed_by known code thin span o t p = code_unless known code ++ followed_code thin span o t (p + length (code_unless known code))
+
 -- code that brings a pointer, which is tested where it is then
 abbrev pub tested_by : Option Operand → (code : List Instruction) → Operand → (p : ℕ) → List Instruction
 tested_by known code o p = code_unless known code ++ check_code null_exception o (p + length (code_unless known code))
@@ -499,7 +503,7 @@ module _ (starts : Starts) where
 
   -- where the address of a place stands that a pointer leads to, but for so many bytes that are to be added
   abbrev pub place_operand : Dereference → (t : ℕ) → Operand
-  place_operand (Target k a ty) t = value_operand a t
+  place_operand (Target k a ty) t = followed_operand (is_thin k) (span_in ty) (value_operand a t) t
   place_operand (Member k a s f ty) t = value_operand a t
   place_operand (Element a i ty) t = operands.Slot t
 
@@ -556,7 +560,7 @@ module _ (starts : Starts) where
 
     -- a place that a pointer leads to, which is tested
     pub place_code : Dereference → (p t : ℕ) → List Instruction
-    place_code (Target k a ty) p t = tested_by (operand_of a) (expression_code a p (value_slot a t) t) (value_operand a t) p
+    place_code (Target k a ty) p t = followed_by (operand_of a) (expression_code a p (value_slot a t) t) (is_thin k) (span_in ty) (value_operand a t) t p
     place_code (Member k a s f ty) p t = tested_by (operand_of a) (expression_code a p (value_slot a t) t) (value_operand a t) p
     place_code (Element a i ty) p t = instructions.Move t (operands.Word 0) ∷ []
 
