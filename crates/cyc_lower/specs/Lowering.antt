@@ -176,12 +176,19 @@ tested_code to o p = []
 abbrev pub bounds_code : (index length : Operand) → (p : ℕ) → List Instruction
 bounds_code index length p = instructions.Branch comparisons.LessUnsigned index length (p + 2) ∷ instructions.Uncaught array_bounds (operands.Word 0) ∷ []
 
+-- an index that counts cells of so many words becomes a number of bytes
+abbrev pub scale_of : (words d m : ℕ) → Instruction
+scale_of words d m =
+    if words == 1
+    then instructions.Binary plain_binary.ShiftLeft d (operands.Slot m) (operands.Word 2)
+    else instructions.Binary plain_binary.Multiply d (operands.Slot m) (operands.Word 12)
+
 -- The cell at an index has its address in slot t then: that of the first is in slot n, the index is in slot m, and each cell has one word or
 -- three. A struct stands alone, where the source does not go wrong.
 abbrev pub stepped_code : (span : Option ℕ) → (n m t : ℕ) → List Instruction
 stepped_code None n m t = []
 stepped_code (Some words) n m t =
-    (if words == 1 then instructions.Binary plain_binary.ShiftLeft (t + 2) (operands.Slot m) (operands.Word 2) else instructions.Binary plain_binary.Multiply (t + 2) (operands.Slot m) (operands.Word 12))
+    scale_of words (t + 2) m
     ∷ instructions.Binary plain_binary.Add t (operands.Slot n) (operands.Slot (t + 2))
     ∷ []
 

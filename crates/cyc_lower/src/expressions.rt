@@ -4,21 +4,21 @@ ghost use Rattle.std.specs.Prelude.{◌≡◌, ◌+◌, ◌^◌, ◌<◌, ◌≤
 ghost use Rattle.cyc_types.specs.Types.{Void};
 ghost use Rattle.cyc_types.specs.TypedTreeView.{view_dereference, view_initial, view_expression, view_converted, view_lvalue, arguments_of, operations_of};
 ghost use Rattle.cyc_types.specs.TypedTrees.{Call};
-ghost use Rattle.cyc_meaning.specs.Values.{words_of_kind};
+ghost use Rattle.cyc_meaning.specs.Values.{is_thin, words_of_kind};
 ghost use Rattle.cyc_plain.specs.declared.instruction.Operand.TheVariants as operands;
 ghost use Rattle.cyc_plain.specs.declared.instruction.Instruction.TheVariants as instructions;
-ghost use Rattle.cyc_lower.specs.Lowering.{operand_of, operand_or, left_of, left_slot, value_operand, converted_operand, printed_operand, check_code, conversion_code, divisor_code, operator_code, truth_code, copy_code, all_passed, expression_code, arguments_code, converted_operand_code, printed_code, initial_code, assignment_code, assigned_operand, operations_code, discarded_code, condition_of, condition_code, first_two, index_code, pointer_instructions, stores_code, object_code, made_code, address_code, place_operand, place_offset, place_code, addressed_by, count_code, widened_code, span_of, saved_code, loaded_code};
+ghost use Rattle.cyc_lower.specs.Lowering.{operand_of, operand_or, left_of, left_slot, value_operand, converted_operand, printed_operand, check_code, conversion_code, divisor_code, operator_code, truth_code, copy_code, all_passed, expression_code, arguments_code, converted_operand_code, printed_code, initial_code, assignment_code, assigned_operand, operations_code, discarded_code, condition_of, condition_code, first_two, index_code, pointer_instructions, stores_code, object_code, made_code, address_code, place_operand, place_offset, place_code, addressed_by, count_code, widened_code, span_of, saved_code, loaded_code, bounds_code, stepped_code, reached_code, followed_code, followed_operand};
 ghost use Rattle.cyc_lower.specs.Emission.{Appends, Gives, HasRoom, HasRoomFor, most_locals, value_code, source_code, slot_code, print_code, converted_slot, converted_slot_code, left_code, operation_code, IsChain, zero_condition, view_starts, pointer_operation_code};
 
 use crate::emitter::Emitter;
 use crate::frame_count::{words_at, words_of, words_of_kind};
 use crate::locals::{Starts, field_of, slot_of};
 use crate::operands::{
-    Condition, are_as_wide, converts_there, index_of, is_in, null_of, operand_of, slot_behind,
+    Condition, are_as_wide, converts_there, index_of, is_in, is_thin, null_of, operand_of, slot_behind, span_in,
     takes_operand, value_slot,
 };
 use crate::operators::{
-    binary_operator, failing_comparison, jump_if_nonzero, jump_if_zero, left_kind, move_of, pointer_operator,
+    binary_operator, failing_comparison, jump_if_nonzero, jump_if_zero, left_kind, move_of, pointer_operator, scale_of,
     test_jump, unary_operator,
 };
 use cyc_plain::{BinaryOperator, Comparison, Instruction, Operand, Request, UnaryOperator};
@@ -32,6 +32,8 @@ use std::alloc::AllocError;
 
 /// The exceptions that are raised, by their tags.
 const NULL_EXCEPTION: u32 = 1;
+
+const ARRAY_BOUNDS: u32 = 2;
 
 const DIVISION_BY_ZERO: u32 = 4;
 
@@ -91,6 +93,92 @@ impl Emitter {
             })?;
         }
         Ok(())
+    }
+
+    /// An index that is not below a length raises an exception.
+    fn check_bounds(&mut self, index: Operand, length: Operand) -> Result<(), AllocError>
+        ensures { Appends result self.old self.new (bounds_code index length (length self.old.code.items)) }
+    {
+        let behind = self.place() + 2;
+        self.emit(Instruction::Branch {
+            comparison: Comparison::LessUnsigned,
+            left: index,
+            right: length,
+            target: behind,
+        })?;
+        self.emit(Instruction::Uncaught {
+            tag: ARRAY_BOUNDS,
+            value: Operand::Word { word: 0 },
+        })
+    }
+
+    /// The address of the cell at an index comes to a slot, where there are cells of so many words.
+    fn step(
+        &mut self,
+        span: Option<usize>,
+        first: usize,
+        index: usize,
+        slot: usize,
+    ) -> Result<(), AllocError>
+        ensures { Appends result self.old self.new (stepped_code span first index slot) }
+    {
+        match span {
+            None => Ok(()),
+            Some(words) => {
+                let bytes = slot_behind(slot, Kind::Fat)? - 1;
+                self.emit(scale_of(words, bytes, index))?;
+                self.emit(Instruction::Binary {
+                    operator: BinaryOperator::Add,
+                    destination: slot,
+                    left: Operand::Slot { number: first },
+                    right: Operand::Slot { number: bytes },
+                })
+            }
+        }
+    }
+
+    /// An access by a fat pointer: it is tested, its index is compared with its length, and the address of the cell at the index is
+    /// computed.
+    fn reach(
+        &mut self,
+        span: Option<usize>,
+        first: usize,
+        index: usize,
+        slot: usize,
+    ) -> Result<(), AllocError>
+        ensures { Appends result self.old self.new (reached_code span first index slot (length self.old.code.items)) }
+    {
+        let length = slot_behind(first, Kind::Fat)? - 2;
+        self.check(NULL_EXCEPTION, Operand::Slot { number: first })?;
+        self.check_bounds(
+            Operand::Slot { number: index },
+            Operand::Slot { number: length },
+        )?;
+        self.step(span, first, index, slot)
+    }
+
+    /// An access by a pointer in an operand, which is thin or fat: where the address stands then.
+    fn follow(
+        &mut self,
+        kind: Kind,
+        span: Option<usize>,
+        pointer: Operand,
+        free: usize,
+    ) -> Result<Operand, AllocError>
+        ensures { Gives (followed_operand (is_thin kind) span pointer free) result self.old self.new (followed_code (is_thin kind) span pointer free (length self.old.code.items)) }
+    {
+        if !is_thin(kind) {
+            if let Operand::Slot { number } = pointer {
+                let index = slot_behind(number, Kind::Fat)? - 1;
+                self.reach(span, number, index, free)?;
+                return Ok(match span {
+                    Some(_) => Operand::Slot { number: free },
+                    None => pointer,
+                });
+            }
+        }
+        self.check(NULL_EXCEPTION, pointer)?;
+        Ok(pointer)
     }
 
     /// A divisor is tested, but a number other than 0.
@@ -416,7 +504,15 @@ impl Emitter {
         ensures { Gives (place_operand (view_starts starts.now) (view_dereference place.now) free) result self.old self.new (place_code (view_starts starts.now) (view_dereference place.now) (length self.old.code.items) free) }
     {
         match place {
-            Dereference::Target { pointer, .. } | Dereference::Member { pointer, .. } => {
+            Dereference::Target {
+                kind,
+                pointer,
+                of_type,
+            } => {
+                let address = self.lower_operand(starts, pointer, free)?;
+                self.follow(*kind, span_in(of_type), address, free)
+            }
+            Dereference::Member { pointer, .. } => {
                 let address = self.lower_operand(starts, pointer, free)?;
                 self.check(NULL_EXCEPTION, address)?;
                 Ok(address)

@@ -1,13 +1,16 @@
 //! Where the values of expressions stand.
 ghost use Rattle.std.specs.Prelude.{◌≡◌, ◌+◌, ◌≤◌, IfOk};
 ghost use Rattle.cyc_types.specs.TypedTreeView.{view_expression, operations_of};
-ghost use Rattle.cyc_meaning.specs.Values.{words_of_kind};
-ghost use Rattle.cyc_lower.specs.Lowering.{operand_of, null_of, value_slot, is_in, index_of, are_as_wide, converts_there};
+ghost use Rattle.cyc_types.specs.TypeView.{view_ty};
+ghost use Rattle.cyc_meaning.specs.Values.{is_thin, words_of_kind};
+ghost use Rattle.cyc_lower.specs.Lowering.{operand_of, null_of, span_in, value_slot, is_in, index_of, are_as_wide, converts_there};
 ghost use Rattle.cyc_lower.specs.Emission.{most_locals, takes_operand, view_starts};
 
 use crate::frame_count::words_of_kind;
 use crate::locals::{Starts, slot_of};
 use cyc_plain::{Comparison, Operand};
+use cyc_syntax::PointerKind;
+use cyc_types::Ty;
 use cyc_types::typed::{Expr, Kind, Lvalue, Operation};
 use std::alloc::AllocError;
 
@@ -89,6 +92,30 @@ pub(crate) fn converts_there(from: Kind, to: Kind) -> bool
     match to {
         Kind::NonNull => false,
         Kind::Int | Kind::Nullable | Kind::Fat | Kind::Handle | Kind::Key => are_as_wide(from, to),
+    }
+}
+
+/// Whether a pointer of a kind is thin.
+pub(crate) fn is_thin(kind: Kind) -> bool
+    ensures { result ≡ is_thin kind }
+{
+    match kind {
+        Kind::Nullable | Kind::NonNull => true,
+        Kind::Int | Kind::Fat | Kind::Handle | Kind::Key => false,
+    }
+}
+
+/// How many words the cells of a type have, where it is none of structs.
+pub(crate) fn span_in(of_type: &Ty) -> Option<usize>
+    ensures { result ≡ span_in (view_ty of_type.now) }
+{
+    match of_type {
+        Ty::Int | Ty::Handle { .. } | Ty::Key { .. } => Some(1),
+        Ty::Pointer { kind, .. } => match kind {
+            PointerKind::Fat => Some(3),
+            PointerKind::Nullable | PointerKind::NonNull => Some(1),
+        },
+        Ty::Struct { .. } => None,
     }
 }
 
