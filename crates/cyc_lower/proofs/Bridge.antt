@@ -2,7 +2,7 @@
 use Rattle.std.proofs.Common.{◌≡◌, ℕ, zero, suc, ◌+◌, ◌≤◌, ◌<◌, Bool, true, false, List, [], ◌∷◌, ◌++◌, length, map, Option, None, Some, slice_get, refl, sym, ap, subst, ◌∙◌, arith, length-append}
 use Rattle.std.proofs.lemmas.Option.{same_Some, none-some, get_or_from_slice_get, slice_get-map}
 use Rattle.std.specs.Prelude.{option_map, if◌then◌else◌, ◌==◌}
-use Rattle.cyc_meaning.specs.Operators.{null_exception, division_by_zero}
+use Rattle.cyc_meaning.specs.Operators.{null_exception, division_by_zero, array_bounds}
 use Rattle.cyc_types.specs.declared.typed.Kind.{Kind}
 use Rattle.cyc_types.specs.declared.typed.Kind.TheVariants as kinds
 use Rattle.cyc_types.specs.declared.typed.Callee.TheVariants as callees
@@ -28,12 +28,13 @@ use Rattle.cyc_store.specs.declared.range.TheConstants.{MOST_BLOCK_WORDS, HEAP}
 use Rattle.cyc_meaning.specs.Values.{kind_of, words_of_kind, is_kind, is_thin}
 use Rattle.cyc_meaning.specs.FrameCount.{words_of_all, operand_words}
 use Rattle.cyc_lower.specs.Slots.{Types, starts_of, slot_of}
-use Rattle.cyc_lower.specs.Lowering.{types_of, are_as_wide, converts_there, passed_words, source_of, source_slot, moved_by, move_of, operand_of, operand_or, code_unless, slot_or, code_unless_slot, left_with, left_of, value_slot, next_slot, slot_with, left_slot, value_operand, converted_operand, printed_operand, jump_if_nonzero, check_code, conversion_code, divisor_code, checked_code, operator_code, truth_code, load_code, low_byte, test_code, is_in, copy_code, expression_code, arguments_code, converted_code, converted_operand_code, printed_code, initial_code, assignment_code, assigned_operand, operations_code, discarded_code, failing_comparison, compared_or, compared_of, first_operand, first_code, second_code, pair_code, condition_code, condition_of, failing_jump, break_target, continue_target, return_code, declaration_code, statement_code, items_code, function_code, first_temporary, results_of, lower_function, lower_program, behind_left, pointer_code, outside_loops, inside_loop, pointer_operator, index_code, pointer_instructions, stores_code, object_code, made_code, place_operand, place_offset, place_code, address_code, count_code, span_of, null_of, tested_code, widened_code, conversion_by, loaded_code, saved_code, all_passed, bounds_code, stepped_code, reached_code, followed_code, span_in}
+use Rattle.cyc_lower.specs.Lowering.{types_of, are_as_wide, converts_there, passed_words, source_of, source_slot, moved_by, move_of, operand_of, operand_or, code_unless, slot_or, code_unless_slot, left_with, left_of, value_slot, next_slot, slot_with, left_slot, value_operand, converted_operand, printed_operand, jump_if_nonzero, check_code, conversion_code, divisor_code, checked_code, operator_code, truth_code, load_code, low_byte, test_code, is_in, copy_code, expression_code, arguments_code, converted_code, converted_operand_code, printed_code, initial_code, assignment_code, assigned_operand, operations_code, discarded_code, failing_comparison, compared_or, compared_of, first_operand, first_code, second_code, pair_code, condition_code, condition_of, failing_jump, break_target, continue_target, return_code, declaration_code, statement_code, items_code, function_code, first_temporary, results_of, lower_function, lower_program, behind_left, pointer_code, outside_loops, inside_loop, pointer_operator, index_code, pointer_instructions, stores_code, object_code, made_code, place_operand, place_offset, place_code, address_code, count_code, span_of, null_of, tested_code, widened_code, conversion_by, loaded_code, saved_code, all_passed, bounds_code, stepped_code, reached_code, followed_code, span_in, raising, blocks, guard_code, body_code}
 use Rattle.cyc_lower.specs.Lowerable.{is_converted}
 use Rattle.cyc_lower.specs.declared.statements.Exits.{Exits}
-use Rattle.cyc_lower.proofs.Stands.{OperandBy, CheckAt, ConversionBy, ConversionAt, DivisorAt, CheckedAt, OperatorAt, LoadAt, CopyBy, ExpressionAt, InitialAt, InitialBy, ConvertedAt, ConvertedOperandAt, PrintedAt, ArgumentsAt, OperationsAt, PairAt, ConditionAt, AssignmentAt, DiscardedAt, ReturnedAt, ReturnAt, DeclarationAt, StatementAt, ItemsAt, FirstTwoAt, IndexAt, PointerAt, StoresAt, ObjectAt, MadeAt, AddressAt, PlaceAt, CountAt, TestedAt, WidenedAt, LoadedBy, SavedAt, BoundsAt, SteppedAt, ReachedAt, FollowedAt}
+use Rattle.cyc_lower.proofs.Stands.{OperandBy, CheckAt, ConversionBy, ConversionAt, DivisorAt, CheckedAt, OperatorAt, LoadAt, CopyBy, ExpressionAt, InitialAt, InitialBy, ConvertedAt, ConvertedOperandAt, PrintedAt, ArgumentsAt, OperationsAt, PairAt, ConditionAt, AssignmentAt, DiscardedAt, ReturnedAt, ReturnAt, DeclarationAt, StatementAt, ItemsAt, FirstTwoAt, IndexAt, PointerAt, StoresAt, ObjectAt, MadeAt, AddressAt, PlaceAt, CountAt, TestedAt, WidenedAt, LoadedBy, SavedAt, BoundsAt, SteppedAt, ReachedAt, FollowedAt, GuardAt}
 use Rattle.cyc_lower.proofs.Widths.{kind_of_result, given, passed_kind, type_words, kind_positive, kind_few}
 use Rattle.cyc_lower.proofs.Fitting.{FitsPlace, FitsStored, FitsCell, FitsObject, Fits, FitsConverted, FitArguments, FitOperations, FitsReturn, FitsInitial, FitsStatement, FitItems, AreFitting, IsFitting, is_pointer}
+use Rattle.cyc_lower.proofs.Lengths.{body_long}
 use Rattle.cyc_lower.proofs.Values.{as_wide}
 use Rattle.cyc_lower.proofs.Relation.{bounds_in, types_in}
 use Rattle.cyc_lower.proofs.Calls.{FunctionsStand}
@@ -42,7 +43,20 @@ use Rattle.cyc_lower.proofs.Calls.{FunctionsStand}
 cut : (p q : ℕ) (a b : List Instruction) → p + length (a ++ b) ≡ q → p + length a + length b ≡ q
 cut p q a b end = omega (arith, end, length-append a b)
 
-module _ (code : List Instruction) (b : Numbering) (types : Types) where
+-- the blocks that raise exceptions stand behind this place
+abbrev BlocksStand : List Instruction → (raises : ℕ) → Type 0
+BlocksStand code raises = (tag : ℕ) → 1 ≤ tag → tag ≤ 4 → At code (raises + tag) (raising tag)
+
+blocks_stand : (code : List Instruction) (raises : ℕ) → HasAt code (raises + 1) blocks → BlocksStand code raises
+blocks_stand code raises has zero some few = absurd (omega (arith, some))
+blocks_stand code raises (first, rest) (suc zero) some few = first
+blocks_stand code raises (first, (second, rest)) (suc (suc zero)) some few = subst (λ n. At code n (raising 2)) (let e : raises + 1 + 1 ≡ raises + 2 = omega arith in e) second
+blocks_stand code raises (first, (second, (third, rest))) (suc (suc (suc zero))) some few = subst (λ n. At code n (raising 3)) (let e : raises + 1 + 1 + 1 ≡ raises + 3 = omega arith in e) third
+blocks_stand code raises (first, (second, (third, (fourth, none)))) (suc (suc (suc (suc zero)))) some few =
+    subst (λ n. At code n (raising 4)) (let e : raises + 1 + 1 + 1 + 1 ≡ raises + 4 = omega arith in e) fourth
+blocks_stand code raises has (suc (suc (suc (suc (suc n))))) some few = absurd (omega (arith, few))
+
+module _ (code : List Instruction) (b : Numbering) (types : Types) (raised : BlocksStand code types.raises) where
   -- ---- operands
 
   -- an operand without code, or code that stands here
@@ -92,27 +106,30 @@ module _ (code : List Instruction) (b : Numbering) (types : Types) where
 
   -- ---- expressions
 
-  check_stands : (tag : ℕ) (o : Operand) (p q : ℕ) → p + 2 ≡ q → HasAt code p (check_code tag o p) → CheckAt code b types tag o p q
-  check_stands tag o p q end (jump, (uncaught, none)) = (subst (λ t. At code p (jump_if_nonzero o t)) end jump, uncaught, end)
+  guard_stands : (tag : ℕ) (failing : Comparison) (l r : Operand) (p q : ℕ) → 1 ≤ tag → tag ≤ 4 → p + 1 ≡ q → HasAt code p (guard_code (starts_of types) tag failing l r) → GuardAt code b types tag failing l r p q
+  guard_stands tag failing l r p q some few end (jump, none) = (types.raises + tag, jump, raised tag some few, end)
 
-  bounds_stands : (index bound : Operand) (p q : ℕ) → p + 2 ≡ q → HasAt code p (bounds_code index bound p) → BoundsAt code b types index bound p q
-  bounds_stands index bound p q end (branch, (raise, none)) = (subst (λ m. At code p (instructions.Branch comparisons.LessUnsigned index bound m)) end branch, raise, end)
+  check_stands : (tag : ℕ) (o : Operand) (p q : ℕ) → 1 ≤ tag → tag ≤ 4 → p + 1 ≡ q → HasAt code p (check_code (starts_of types) tag o) → CheckAt code b types tag o p q
+  check_stands tag o p q some few end has = guard_stands tag comparisons.Equal o (operands.Word 0) p q some few end has
+
+  bounds_stands : (index bound : Operand) (p q : ℕ) → p + 1 ≡ q → HasAt code p (bounds_code (starts_of types) index bound) → BoundsAt code b types index bound p q
+  bounds_stands index bound p q end has = guard_stands array_bounds comparisons.GreaterOrEqualUnsigned index bound p q (omega arith) (omega arith) end has
 
   stepped_stands : (span : Option ℕ) (n m t p q : ℕ) → p + length (stepped_code span n m t) ≡ q → HasAt code p (stepped_code span n m t) → SteppedAt code b types span n m t p q
   stepped_stands None n m t p q end has = omega (arith, end)
   stepped_stands (Some words) n m t p q end (scale, (sum, none)) = (scale, sum, omega (arith, end))
 
-  reached_stands : (span : Option ℕ) (n m t p q : ℕ) → p + length (reached_code span n m t p) ≡ q → HasAt code p (reached_code span n m t p) → ReachedAt code b types span n m t p q
+  reached_stands : (span : Option ℕ) (n m t p q : ℕ) → p + length (reached_code (starts_of types) span n m t) ≡ q → HasAt code p (reached_code (starts_of types) span n m t) → ReachedAt code b types span n m t p q
   reached_stands span n m t p q end has =
-      let check = check_code null_exception (operands.Slot n) p in
+      let check = check_code (starts_of types) null_exception (operands.Slot n) in
       let r = p + length check in
-      let bounds = bounds_code (operands.Slot m) (operands.Slot (n + 1)) r in
+      let bounds = bounds_code (starts_of types) (operands.Slot m) (operands.Slot (n + 1)) in
       let step = stepped_code span n m t in
       let s = r + length bounds in
       let behind = has_back code p check (bounds ++ step) has in (
         r,
         s,
-        check_stands null_exception (operands.Slot n) p r refl (has_front code p check (bounds ++ step) has),
+        check_stands null_exception (operands.Slot n) p r (omega arith) (omega arith) refl (has_front code p check (bounds ++ step) has),
         bounds_stands (operands.Slot m) (operands.Slot (n + 1)) r s refl (has_front code r bounds step behind),
         stepped_stands span n m t s q (cut r q bounds step (cut p q check (bounds ++ step) end)) (has_back code r bounds step behind),
       )
@@ -123,8 +140,8 @@ module _ (code : List Instruction) (b : Numbering) (types : Types) where
   IsInSlots false (operands.Slot n) = Unit {0}
   IsInSlots false (operands.Word w) = ⊥
 
-  followed_stands : (thin : Bool) (span : Option ℕ) (o : Operand) (t p q : ℕ) → IsInSlots thin o → p + length (followed_code thin span o t p) ≡ q → HasAt code p (followed_code thin span o t p) → FollowedAt code b types thin span o t p q
-  followed_stands true span o t p q in_slots end has = check_stands null_exception o p q end has
+  followed_stands : (thin : Bool) (span : Option ℕ) (o : Operand) (t p q : ℕ) → IsInSlots thin o → p + length (followed_code (starts_of types) thin span o t) ≡ q → HasAt code p (followed_code (starts_of types) thin span o t) → FollowedAt code b types thin span o t p q
+  followed_stands true span o t p q in_slots end has = check_stands null_exception o p q (omega arith) (omega arith) end has
   followed_stands false span (operands.Slot n) t p q in_slots end has = reached_stands span n (n + 2) t p q end has
   followed_stands false span (operands.Word w) t p q in_slots end has = absurd in_slots
 
@@ -140,8 +157,8 @@ module _ (code : List Instruction) (b : Numbering) (types : Types) where
   in_slots k (Peek p n ty) t pointer is = slot_any (is_thin k) (slot_of (starts_of types) n)
   in_slots k a t pointer is = slot_any (is_thin k) (value_slot (starts_of types) a t)
 
-  tested_stands : (to : Kind) (o : Operand) (p q : ℕ) → p + length (tested_code to o p) ≡ q → HasAt code p (tested_code to o p) → TestedAt code b types to o p q
-  tested_stands kinds.NonNull o p q end has = check_stands null_exception o p q end has
+  tested_stands : (to : Kind) (o : Operand) (p q : ℕ) → p + length (tested_code (starts_of types) to o) ≡ q → HasAt code p (tested_code (starts_of types) to o) → TestedAt code b types to o p q
+  tested_stands kinds.NonNull o p q end has = check_stands null_exception o p q (omega arith) (omega arith) end has
   tested_stands to o p q end has = omega (arith, end)
 
   -- what changes its words is in slot t, or is null
@@ -169,27 +186,27 @@ module _ (code : List Instruction) (b : Numbering) (types : Types) where
   widened_stands (operands.Word w) t p q brought end has = (brought, omega (arith, end))
 
   conversion_by_stands : (wide : Bool) (to : Kind) (span : Option ℕ) (o : Operand) (t p q : ℕ) → (if wide then true else is_kind to kinds.Fat) ≡ true → (wide ≡ false → IsBrought o t)
-      → p + length (conversion_by wide to span o p) ≡ q → HasAt code p (conversion_by wide to span o p) → ConversionBy code b types wide to span o t p q
+      → p + length (conversion_by (starts_of types) wide to span o p) ≡ q → HasAt code p (conversion_by (starts_of types) wide to span o p) → ConversionBy code b types wide to span o t p q
   conversion_by_stands true to span o t p q known brought end has = tested_stands to o p q end has
   conversion_by_stands false kinds.Fat span o t p q known brought end has = widened_stands o t p q (brought refl) end has
   conversion_by_stands false to span o t p q known brought end has = absurd (let f : false ≡ true = known in cc)
 
   conversion_stands : (from to : Kind) (span : Option ℕ) (o : Operand) (t p q : ℕ) → is_converted from to ≡ true → (are_as_wide from to ≡ false → IsBrought o t)
-      → p + length (conversion_code from to span o p) ≡ q → HasAt code p (conversion_code from to span o p) → ConversionAt code b types from to span o t p q
+      → p + length (conversion_code (starts_of types) from to span o p) ≡ q → HasAt code p (conversion_code (starts_of types) from to span o p) → ConversionAt code b types from to span o t p q
   conversion_stands from to span o t p q known brought end has = conversion_by_stands (are_as_wide from to) to span o t p q known brought end has
 
-  divisor_stands : (o : Operand) (p q : ℕ) → p + length (divisor_code o p) ≡ q → HasAt code p (divisor_code o p) → DivisorAt code b types o p q
+  divisor_stands : (o : Operand) (p q : ℕ) → p + length (divisor_code (starts_of types) o) ≡ q → HasAt code p (divisor_code (starts_of types) o) → DivisorAt code b types o p q
   divisor_stands (operands.Word (suc n)) p q end has = omega (arith, end)
-  divisor_stands (operands.Word zero) p q end has = check_stands division_by_zero (operands.Word zero) p q end has
-  divisor_stands (operands.Slot n) p q end has = check_stands division_by_zero (operands.Slot n) p q end has
+  divisor_stands (operands.Word zero) p q end has = check_stands division_by_zero (operands.Word zero) p q (omega arith) (omega arith) end has
+  divisor_stands (operands.Slot n) p q end has = check_stands division_by_zero (operands.Slot n) p q (omega arith) (omega arith) end has
 
-  checked_stands : (o : Operator) (l r : Operand) (d p q : ℕ) → p + length (checked_code o l r p d) ≡ q → HasAt code p (checked_code o l r p d) → CheckedAt code b types o d l r p q
+  checked_stands : (o : Operator) (l r : Operand) (d p q : ℕ) → p + length (checked_code (starts_of types) o l r d) ≡ q → HasAt code p (checked_code (starts_of types) o l r d) → CheckedAt code b types o d l r p q
   checked_stands o l r d p q end has =
-      let front = divisor_code r p in
+      let front = divisor_code (starts_of types) r in
       let (here, none) = has_back code p front _ has in
       (p + length front, divisor_stands r p (p + length front) refl (has_front code p front _ has), here, cut p q front _ end)
 
-  operator_stands : (o : Operator) (l r : Operand) (d p q : ℕ) → p + length (operator_code o l r p d) ≡ q → HasAt code p (operator_code o l r p d) → OperatorAt code b types o d l r p q
+  operator_stands : (o : Operator) (l r : Operand) (d p q : ℕ) → p + length (operator_code (starts_of types) o l r d) ≡ q → HasAt code p (operator_code (starts_of types) o l r d) → OperatorAt code b types o d l r p q
   operator_stands operators.Divide l r d p q end has = checked_stands operators.Divide l r d p q end has
   operator_stands operators.Remainder l r d p q end has = checked_stands operators.Remainder l r d p q end has
   operator_stands o l r d p q end (here, none) = (here, end)
@@ -285,8 +302,8 @@ module _ (code : List Instruction) (b : Numbering) (types : Types) where
 
   initial_by : (there : Bool) (from to : Kind) (a : Expression) (d t p q : ℕ) → from ≡ given b.functions a → is_converted from to ≡ true → converts_there from to ≡ there
       → ((slot r : ℕ) → p + length (expression_code (starts_of types) a p slot t) ≡ r → HasAt code p (expression_code (starts_of types) a p slot t) → ExpressionAt code b types a slot t p r)
-      → p + length (if there then expression_code (starts_of types) a p d t else moved_by (source_of (starts_of types) (Convert from to a)) (expression_code (starts_of types) a p (source_slot (starts_of types) (Convert from to a) t) t) from to (span_of a) (converted_operand (starts_of types) (Convert from to a) t) p d) ≡ q
-      → HasAt code p (if there then expression_code (starts_of types) a p d t else moved_by (source_of (starts_of types) (Convert from to a)) (expression_code (starts_of types) a p (source_slot (starts_of types) (Convert from to a) t) t) from to (span_of a) (converted_operand (starts_of types) (Convert from to a) t) p d)
+      → p + length (if there then expression_code (starts_of types) a p d t else moved_by (starts_of types) (source_of (starts_of types) (Convert from to a)) (expression_code (starts_of types) a p (source_slot (starts_of types) (Convert from to a) t) t) from to (span_of a) (converted_operand (starts_of types) (Convert from to a) t) p d) ≡ q
+      → HasAt code p (if there then expression_code (starts_of types) a p d t else moved_by (starts_of types) (source_of (starts_of types) (Convert from to a)) (expression_code (starts_of types) a p (source_slot (starts_of types) (Convert from to a) t) t) from to (span_of a) (converted_operand (starts_of types) (Convert from to a) t) p d)
       → InitialBy code b types there from to a d t p q
   initial_by true from to a d t p q kind wide lands stands end has = (words_kept from to a kind lands, stands d q end has)
   initial_by false from to a d t p q kind wide lands stands end has =
@@ -296,7 +313,7 @@ module _ (code : List Instruction) (b : Numbering) (types : Types) where
       let inner = expression_code (starts_of types) a p slot t in
       let front = code_unless known inner in
       let m = p + length front in
-      let conversion = conversion_code from to (span_of a) o m in
+      let conversion = conversion_code (starts_of types) from to (span_of a) o m in
       let both = front ++ conversion in
       let r = p + length both in
       let has_both = has_front code p both _ has in
@@ -424,7 +441,7 @@ module _ (code : List Instruction) (b : Numbering) (types : Types) where
         let inner = expression_code (starts_of types) a p slot t in
         let front = code_unless (operand_of (starts_of types) a) inner in
         let m = p + length front in
-        let access = followed_code (is_thin k) (span_in ty) o t m in (
+        let access = followed_code (starts_of types) (is_thin k) (span_in ty) o t in (
           o,
           m,
           operand_by (operand_of (starts_of types) a) _ inner slot p m refl (has_front code p front access has) (λ e h. expression_stands a slot t p m numbered e h),
@@ -438,11 +455,11 @@ module _ (code : List Instruction) (b : Numbering) (types : Types) where
         let inner = expression_code (starts_of types) a p slot t in
         let front = code_unless (operand_of (starts_of types) a) inner in
         let m = p + length front in
-        let check = check_code null_exception o m in (
+        let check = check_code (starts_of types) null_exception o in (
           m,
           operand_by (operand_of (starts_of types) a) _ inner slot p m refl (has_front code p front check has) (λ e h. expression_stands a slot t p m numbered e h),
           thin,
-          check_stands null_exception o m q (cut p q front check end) (has_back code p front check has),
+          check_stands null_exception o m q (omega arith) (omega arith) (cut p q front check end) (has_back code p front check has),
           there,
           refl,
         )
@@ -475,7 +492,7 @@ module _ (code : List Instruction) (b : Numbering) (types : Types) where
     converted_stands : (c : Converted) (t p q : ℕ) → FitsConverted b types c → p + length (converted_code (starts_of types) c p t) ≡ q → HasAt code p (converted_code (starts_of types) c p t) → ConvertedAt code b types c t p q
     converted_stands (Convert from to a) t p q (kind, wide, numbered) end has =
         let front = expression_code (starts_of types) a p t t in
-        let back = conversion_code from to (span_of a) (operands.Slot t) (p + length front) in
+        let back = conversion_code (starts_of types) from to (span_of a) (operands.Slot t) (p + length front) in
         (p + length front, expression_stands a t t p (p + length front) numbered refl (has_front code p front back has), conversion_stands from to (span_of a) (operands.Slot t) t (p + length front) q wide (λ narrow. refl) (cut p q front back end) (has_back code p front back has))
 
     converted_operand_stands : (c : Converted) (t p q : ℕ) → FitsConverted b types c → p + length (converted_operand_code (starts_of types) c p t) ≡ q → HasAt code p (converted_operand_code (starts_of types) c p t) → ConvertedOperandAt code b types c t (converted_operand (starts_of types) c t) p q
@@ -485,7 +502,7 @@ module _ (code : List Instruction) (b : Numbering) (types : Types) where
         let inner = expression_code (starts_of types) a p slot t in
         let front = code_unless known inner in
         let m = p + length front in
-        let back = conversion_code from to (span_of a) (converted_operand (starts_of types) (Convert from to a) t) m in
+        let back = conversion_code (starts_of types) from to (span_of a) (converted_operand (starts_of types) (Convert from to a) t) m in
         (m, operand_by known _ inner slot p m refl (has_front code p front back has) (λ e h. expression_stands a slot t p m numbered e h), conversion_stands from to (span_of a) (converted_operand (starts_of types) (Convert from to a) t) t m q wide (λ narrow. source_brought from to a t narrow) (cut p q front back end) (has_back code p front back has))
 
     printed_stands : (cs : Arguments) (o : Operand) (t p q : ℕ) → argument_count cs ≡ 1 → FitArguments b types cs → p + length (printed_code (starts_of types) cs p t) ≡ q → HasAt code p (printed_code (starts_of types) cs p t) → PrintedAt code b types cs t (printed_operand (starts_of types) cs o t) p q
@@ -510,7 +527,7 @@ module _ (code : List Instruction) (b : Numbering) (types : Types) where
         let r = value_operand (starts_of types) a (suc t) in
         let next = next_slot os d t in
         let m = p + length operand in
-        let operator = operator_code o l r m next in
+        let operator = operator_code (starts_of types) o l r next in
         let s = p + length (operand ++ operator) in
         let back = operations_code (starts_of types) os s (operands.Slot next) d t in
         let front_has = has_front code p (operand ++ operator) back has in (
@@ -667,7 +684,7 @@ module _ (code : List Instruction) (b : Numbering) (types : Types) where
       let front = code_unless_slot known inner in
       let m = p + length front in
       let s = slot_or known t in
-      let conversion = conversion_code from to (span_of a) (operands.Slot s) m in
+      let conversion = conversion_code (starts_of types) from to (span_of a) (operands.Slot s) m in
       let both = front ++ conversion in
       let r = p + length both in
       let has_both = has_front code p both _ has in
@@ -775,7 +792,7 @@ module _ (source : Program) where
   pub routine_there : (n : ℕ) (h : Function) → slice_get source.functions n ≡ Some h → routine_at (lower_program source) n ≡ lower_function source.structs h
   routine_there n h there = get_or_from_slice_get (map (lower_function source.structs) source.functions) n (lower_function source.structs h) no_routine (slice_get-map (lower_function source.structs) source.functions n ∙ ap (option_map (lower_function source.structs)) there)
 
-  -- the code of a function, with its body at the beginning and a return behind it
+  -- the code of a function, with its body at the beginning, and a return behind it
   abbrev BodyStands : Function → List Instruction → Option Function → Type 0
   BodyStands h code o =
       (m : ℕ) × ItemsAt code (bounds_in source o) (types_in source o) h.body (outside_loops (words_of_all (types_in source o).locals)) (words_of_all (types_in source o).locals) 0 m
@@ -784,12 +801,14 @@ module _ (source : Program) where
   body_stands : (h : Function) → FitItems (bounds_in source (Some h)) (types_of source.structs h) false h.body → BodyStands h (function_code source.structs h) (Some h)
   body_stands h numbered =
       let d = first_temporary h in
-      let starts = starts_of (types_of source.structs h) in
-      let body = items_code starts h.body 0 (outside_loops d) d in
-      let end = instructions.Return d ∷ [] in
-      let has = has_whole (body ++ end) in
-      let (here, none) = has_back (body ++ end) 0 body end has in
-      (0 + length body, items_stand (body ++ end) (bounds_in source (Some h)) (types_of source.structs h) h.body false (outside_loops d) d 0 (0 + length body) numbered refl (has_front (body ++ end) 0 body end has), here)
+      let types = types_of source.structs h in
+      let body = body_code types h in
+      let end = instructions.Return d ∷ blocks in
+      let code = body ++ end in
+      let has = has_whole code in
+      let (here, raising_all) = has_back code 0 body end has in
+      let raised = blocks_stand code types.raises (subst (λ n. HasAt code (n + 1) blocks) (let e : 0 + length body ≡ types.raises = omega (arith, body_long source.structs h) in e) raising_all) in
+      (0 + length body, items_stand code (bounds_in source (Some h)) types raised h.body false (outside_loops d) d 0 (0 + length body) numbered refl (has_front code 0 body end has), here)
 
   pub functions_stand : (pages calls : ℕ) → IsFitting source → FunctionsStand source pages calls
   functions_stand pages calls numbered n h there =

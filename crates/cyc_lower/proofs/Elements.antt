@@ -1,8 +1,8 @@
 -- Accesses by fat pointers: the pointer is tested, its index is compared with its length, and the address of the cell at the index is
 -- computed. A pointer to a struct stands at the struct itself where the source does not go wrong.
 use Rattle.std.proofs.Common.{◌≡◌, ◌≢◌, ℕ, zero, suc, ◌+◌, ◌*◌, ◌^◌, ◌≤◌, ◌<◌, Bool, true, false, not, List, [], ◌∷◌, Option, None, Some, slice_get, refl, sym, ap, subst, ◌∙◌, arith, inl, inr}
-use Rattle.std.specs.Prelude.{◌==◌, ◌&&◌, nat_lt, if◌then◌else◌, option_map}
-use Rattle.std.proofs.lemmas.Bool.{eq-eqb, ne_eqb, eqb-true, eqb-false, cases_Bool, ltb-true, ltb-false, and_parts}
+use Rattle.std.specs.Prelude.{◌==◌, ◌&&◌, nat_lt, nat_le, if◌then◌else◌, option_map}
+use Rattle.std.proofs.lemmas.Bool.{eq-eqb, ne_eqb, eqb-true, eqb-false, cases_Bool, ltb-true, ltb-false, le-leb, lt-leb, and_parts}
 use Rattle.std.proofs.lemmas.Option.{same_Some}
 use Rattle.cyc_words.specs.Word.{add_of, mul_of, shl_of}
 use Rattle.cyc_types.specs.declared.typed.Kind.{Kind}
@@ -33,7 +33,7 @@ use Rattle.cyc_objects.specs.Words.{IsPartOf, Points, Is}
 use Rattle.cyc_objects.specs.Related as objects
 use Rattle.cyc_objects.proofs.NumberLemmas.{slice_get-map}
 use Rattle.cyc_objects.proofs.Pointers.{part-not-null, pointer-word, thinned}
-use Rattle.cyc_lower.specs.Lowering.{jump_if_nonzero, reached_operand, followed_operand, lower_program}
+use Rattle.cyc_lower.specs.Lowering.{scale_of, reached_operand, followed_operand, lower_program}
 use Rattle.cyc_lower.proofs.Widths.{wide_kind, same_kind, Outside}
 use Rattle.cyc_lower.proofs.Moves.{put_elsewhere}
 use Rattle.cyc_lower.proofs.Stands.{BoundsAt, SteppedAt, ReachedAt, FollowedAt}
@@ -134,41 +134,42 @@ module _ (source : Program) (pages calls : ℕ) where
     pub raises_null : SharedAt source pages calls k e w c → calls_in k ≤ calls → IsPlainStack k → slots n ≡ 0 → step source (Running focus k₀ e w) ≡ Running (Throwing null_exception 0) k e w
         → IsMatched source pages calls (Running focus k₀ e w) (plain.Running c)
     raises_null shared_behind few plain_stack is_zero does =
-        let (jump, uncaught, end) = here.2 in
+        let (block, jump, raised, end) = here.2 in
         by_one source pages calls does shared jump
-        (λ choice. subst (Matches source pages calls (Running (Throwing null_exception 0) k e w)) (sym (passed c (not (slots n == 0)) r (ap (λ (b : Bool). not b) (eq-eqb (slots n) 0 is_zero))))
-        (shared_behind, few, plain_stack, operands.Slot n, uncaught, is_zero))
+        (λ choice. subst (Matches source pages calls (Running (Throwing null_exception 0) k e w)) (sym (taken c (slots n == 0) block (eq-eqb (slots n) 0 is_zero)))
+        (shared_behind, few, plain_stack, operands.Word 0, raised, refl))
 
     abbrev past_null : Link
-    past_null = record { instruction = jump_if_nonzero (operands.Slot n) r; behind = at c r }
+    past_null = record { instruction = instructions.Branch comparisons.Equal (operands.Slot n) (operands.Word 0) here.2.0; behind = at c r }
 
-    past_null_leads : slots n ≢ 0 → (choice : Choice) → performed (lower_program source) choice c (jump_if_nonzero (operands.Slot n) r) ≡ plain.Running (at c r)
-    past_null_leads some choice = taken c (not (slots n == 0)) r (ap (λ (b : Bool). not b) (ne_eqb (slots n) 0 some))
+    past_null_leads : slots n ≢ 0 → (choice : Choice) → performed (lower_program source) choice c past_null.instruction ≡ plain.Running (at c r)
+    past_null_leads some choice = passed c (slots n == 0) here.2.0 (ne_eqb (slots n) 0 some) ∙ ap (λ i. plain.Running (at c i)) here.2.3
+
+    abbrev in_bounds : Link
+    in_bounds = record { instruction = instructions.Branch comparisons.GreaterOrEqualUnsigned (operands.Slot m) (operands.Slot (n + 1)) here.3.0; behind = at c s }
+
+    in_bounds_leads : nat_lt (slots m) (slots (n + 1)) ≡ true → (choice : Choice) → performed (lower_program source) choice (at c r) in_bounds.instruction ≡ plain.Running (at c s)
+    in_bounds_leads less choice =
+        passed (at c r) (nat_le (slots (n + 1)) (slots m)) here.3.0 (lt-leb (slots (n + 1)) (slots m) (ltb-true (slots m) (slots (n + 1)) less)) ∙ ap (λ i. plain.Running (at c i)) here.3.3
 
     -- and so does an index that is not below the length
     pub raises_bounds : SharedAt source pages calls k e w c → calls_in k ≤ calls → IsPlainStack k → slots n ≢ 0 → nat_lt (slots m) (slots (n + 1)) ≡ false
         → step source (Running focus k₀ e w) ≡ Running (Throwing array_bounds 0) k e w → IsMatched source pages calls (Running focus k₀ e w) (plain.Running c)
     raises_bounds shared_behind few plain_stack some least does =
-        let (jump, uncaught, end) = here.2 in
-        let (branch, raise, behind) = here.3 in
-        by_path source pages calls focus k₀ e w c (Running (Throwing array_bounds 0) k e w) (past_null ∷ []) (instructions.Branch comparisons.LessUnsigned (operands.Slot m) (operands.Slot (n + 1)) s) does shared
+        let (block, jump, raised, end) = here.2 in
+        let (other, branch, raise, behind) = here.3 in
+        by_path source pages calls focus k₀ e w c (Running (Throwing array_bounds 0) k e w) (past_null ∷ []) in_bounds.instruction does shared
         (jump, past_null_leads some, omega (arith, end), is_quiet c (at c r).active, tt)
         branch
-        (λ choice. subst (Matches source pages calls (Running (Throwing array_bounds 0) k e w)) (sym (passed (at c r) (nat_lt (slots m) (slots (n + 1))) s least))
+        (λ choice. subst (Matches source pages calls (Running (Throwing array_bounds 0) k e w)) (sym (taken (at c r) (nat_le (slots (n + 1)) (slots m)) other (le-leb (slots (n + 1)) (slots m) (ltb-false (slots m) (slots (n + 1)) least))))
         (shared_behind, few, plain_stack, operands.Word 0, raise, refl))
-
-    abbrev in_bounds : Link
-    in_bounds = record { instruction = instructions.Branch comparisons.LessUnsigned (operands.Slot m) (operands.Slot (n + 1)) s; behind = at c s }
-
-    in_bounds_leads : nat_lt (slots m) (slots (n + 1)) ≡ true → (choice : Choice) → performed (lower_program source) choice (at c r) in_bounds.instruction ≡ plain.Running (at c s)
-    in_bounds_leads less choice = taken (at c r) (nat_lt (slots m) (slots (n + 1))) s less
 
     -- the first cell is reached
     pub reaches_first : span ≡ None → (next : State) → slots n ≢ 0 → nat_lt (slots m) (slots (n + 1)) ≡ true → step source (Running focus k₀ e w) ≡ next
         → Matches source pages calls next (plain.Running (at c q)) → IsMatched source pages calls (Running focus k₀ e w) (plain.Running c)
     reaches_first first next some less does goes =
-        let (jump, uncaught, end) = here.2 in
-        let (branch, raise, behind) = here.3 in
+        let (block, jump, raised, end) = here.2 in
+        let (other, branch, raise, behind) = here.3 in
         let there : s ≡ q = subst (λ x. SteppedAt (code_of source c.active.function) (bounds_at source c.active.function) (types_at source c.active.function) x n m t s q) first here.4 in
         by_path source pages calls focus k₀ e w c next (past_null ∷ []) in_bounds.instruction does shared
         (jump, past_null_leads some, omega (arith, end), is_quiet c (at c r).active, tt)
@@ -181,7 +182,7 @@ module _ (source : Program) (pages calls : ℕ) where
 
     scales : (words : ℕ) (choice : Choice)
         → performed (lower_program source) choice (at c s)
-        (if words == 1 then instructions.Binary plain_binary.ShiftLeft (t + 2) (operands.Slot m) (operands.Word 2) else instructions.Binary plain_binary.Multiply (t + 2) (operands.Slot m) (operands.Word 12))
+        (scale_of words (t + 2) m)
         ≡ plain.Running (at (with_slots c (put slots (t + 2) (scaled words (slots m)))) (s + 1))
     scales words choice = by (words == 1)
       where
@@ -196,15 +197,15 @@ module _ (source : Program) (pages calls : ℕ) where
         → Matches source pages calls next (plain.Running (at (with_slots c (stepped words)) q)) → IsMatched source pages calls (Running focus k₀ e w) (plain.Running c)
     reaches_cell words cells next low some less does goes =
         let g = c.active.function in
-        let (jump, uncaught, end) = here.2 in
-        let (branch, raise, behind) = here.3 in
+        let (block, jump, raised, end) = here.2 in
+        let (other, branch, raise, behind) = here.3 in
         let (scale, sum, last) = subst (λ x. SteppedAt (code_of source g) (bounds_at source g) (types_at source g) x n m t s q) cells here.4 in
         let bytes = scaled words (slots m) in
         let before = put slots (t + 2) bytes in
         let b : Configuration = at (with_slots c before) (s + 1) in
         let first : before n ≡ slots n = put-other slots (t + 2) n bytes (λ same. absurd (omega (arith, same, low))) in
         by_path source pages calls focus k₀ e w c next
-        (past_null ∷ in_bounds ∷ record { instruction = (if words == 1 then instructions.Binary plain_binary.ShiftLeft (t + 2) (operands.Slot m) (operands.Word 2) else instructions.Binary plain_binary.Multiply (t + 2) (operands.Slot m) (operands.Word 12)); behind = b } ∷ [])
+        (past_null ∷ in_bounds ∷ record { instruction = scale_of words (t + 2) m; behind = b } ∷ [])
         (instructions.Binary plain_binary.Add t (operands.Slot n) (operands.Slot (t + 2))) does shared
         (
           jump,

@@ -32,15 +32,14 @@ use Rattle.cyc_types.specs.TypeView.{view_ty, view_value_type}
 use Rattle.cyc_types.specs.TypedTrees.{Load, New, OnHeap, AsUnique, ByHandle, Initial, Plain, Fields, Array, Dereference, Target, Lvalue, Local, Global, Expression, Number, Copy, Call, Unary, Binary, Assign, Converted, Convert, Arguments, Operations, NoOperations, ThenCompute, ThenTest, Move, Peek, AddressOfCell, Store, Member, Element, NumberOfElements, type_of_place}
 use Rattle.cyc_types.specs.TypedTreeView.{view_lvalue, view_initial, view_expression, view_converted, arguments_of, operations_of, view_dereference}
 use Rattle.cyc_types.specs.declared.typed.Kind.{Kind}
-use Rattle.cyc_types.specs.declared.typed.Kind.TheVariants as kinds
-use Rattle.cyc_meaning.specs.Values.{words_of_kind}
+use Rattle.cyc_meaning.specs.Values.{words_of_kind, is_thin}
 use Rattle.cyc_types.proofs.TypedTreeViewLemmas.{view_call, view_binary, view_fields}
 use Rattle.cyc_plain.specs.declared.instruction.Operand.{Operand}
 use Rattle.cyc_plain.specs.declared.instruction.Operand.TheVariants as operands
 use Rattle.cyc_plain.specs.declared.instruction.Instruction.{Instruction}
 use Rattle.cyc_plain.specs.declared.instruction.Instruction.TheVariants as instructions
 use Rattle.cyc_lower.specs.Slots.{slot_of, Starts}
-use Rattle.cyc_lower.specs.Lowering.{passed_words, all_passed, converts_there, source_of, source_slot, converted_by, moved_by, move_of, operand_of, operand_or, code_unless, left_with, left_of, slot_with, left_slot, low_byte, value_operand, next_slot, converted_operand, printed_operand, operator_code, load_code, compute_code, test_jump, truth_code, test_code, copy_code, expression_code, value_slot, arguments_code, converted_code, converted_operand_code, printed_code, initial_code, assignment_code, assigned_operand, operations_code, discarded_code, binary_operator, behind_left, pointer_instructions, stores_code, object_code, made_code, address_code, addressed_by, place_operand, place_offset, place_code, store_address_code, store_code, count_code, span_of, saved_code, loaded_code}
+use Rattle.cyc_lower.specs.Lowering.{passed_words, all_passed, converts_there, source_of, source_slot, converted_by, moved_by, move_of, operand_of, operand_or, code_unless, left_with, left_of, slot_with, left_slot, low_byte, value_operand, next_slot, converted_operand, printed_operand, operator_code, load_code, compute_code, test_jump, truth_code, test_code, copy_code, expression_code, value_slot, arguments_code, converted_code, converted_operand_code, printed_code, initial_code, assignment_code, assigned_operand, operations_code, discarded_code, binary_operator, behind_left, pointer_instructions, stores_code, object_code, made_code, address_code, addressed_by, place_operand, place_offset, place_code, store_address_code, store_code, count_code, span_of, saved_code, loaded_code, followed_code, span_in}
 use Rattle.cyc_lower.specs.Emission.{most_locals, value_code, print_code, left_code, takes_operand, HasRoom, operation_code}
 
 behind : (xs ys : List Instruction) → 0 < length ys → 0 < length (xs ++ ys)
@@ -58,10 +57,10 @@ counted_some : (o : Operand) (p d : ℕ) → 0 < length (count_code o p d)
 counted_some (operands.Slot n) p d = omega arith
 counted_some (operands.Word n) p d = omega arith
 
-operates : (o : Operator) (l r : Operand) (p d : ℕ) → 0 < length (operator_code o l r p d)
-operates operators.Divide l r p d = behind _ (instructions.Binary (binary_operator operators.Divide) d l r ∷ []) (omega arith)
-operates operators.Remainder l r p d = behind _ (instructions.Binary (binary_operator operators.Remainder) d l r ∷ []) (omega arith)
-operates o l r p d = omega arith
+operates : (starts : Starts) (o : Operator) (l r : Operand) (d : ℕ) → 0 < length (operator_code starts o l r d)
+operates starts operators.Divide l r d = behind _ (instructions.Binary (binary_operator operators.Divide) d l r ∷ []) (omega arith)
+operates starts operators.Remainder l r d = behind _ (instructions.Binary (binary_operator operators.Remainder) d l r ∷ []) (omega arith)
+operates starts o l r d = omega arith
 
 -- what was added makes the code longer
 pub grown : (old more new : List Instruction) → new ≡ old ++ more → 0 < length more → length old < length new
@@ -230,19 +229,25 @@ module _ (starts : Starts) where
 
   computes : (o : Operator) (b : Expression) (os : Operations) (p : ℕ) (l : Operand) (d t : ℕ) → 0 < length (operations_code starts (ThenCompute o b os) p l d t)
   computes o b os p l d t =
-      before (compute_code o l (value_operand starts b (suc t)) (value_code starts b p (suc t)) p (next_slot os d t)) _
-      (behind (value_code starts b p (suc t)) _ (operates o l (value_operand starts b (suc t)) (p + length (value_code starts b p (suc t))) (next_slot os d t)))
+      before (compute_code starts o l (value_operand starts b (suc t)) (value_code starts b p (suc t)) (next_slot os d t)) _
+      (behind (value_code starts b p (suc t)) _ (operates starts o l (value_operand starts b (suc t)) (next_slot os d t)))
 
   tests : (o : LogicalOperator) (b : Expression) (os : Operations) (p : ℕ) (l : Operand) (d t : ℕ) → 0 < length (operations_code starts (ThenTest o b os) p l d t)
   tests o b os p l d t = before (test_code o (expression_code starts b (p + 1) t t) p (next_slot os d t) t) _ (omega arith)
 
   initial_by : (there : Bool) (known : Option Operand) (at_once inner : List Instruction) (from to : Kind) (span : Option ℕ) (o : Operand) (p d : ℕ) → 0 < length at_once
-      → 0 < length (if there then at_once else moved_by known inner from to span o p d)
+      → 0 < length (if there then at_once else moved_by starts known inner from to span o p d)
   initial_by true known at_once inner from to span o p d some = some
-  initial_by false known at_once inner from to span o p d some = behind (converted_by known inner from to span o p) (move_of (words_of_kind to) d o ∷ []) (omega arith)
+  initial_by false known at_once inner from to span o p d some = behind (converted_by starts known inner from to span o p) (move_of (words_of_kind to) d o ∷ []) (omega arith)
+
+  followed_some : (thin : Bool) (span : Option ℕ) (o : Operand) (t : ℕ) → 0 < length (followed_code starts thin span o t)
+  followed_some true span o t = omega arith
+  followed_some false span (operands.Slot n) t = omega arith
+  followed_some false span (operands.Word w) t = omega arith
 
   place_some : (x : Dereference) (p t : ℕ) → 0 < length (place_code starts x p t)
-  place_some (Target k a ty) p t = behind (code_unless (operand_of starts a) (expression_code starts a p (value_slot starts a t) t)) _ (omega arith)
+  place_some (Target k a ty) p t =
+      behind (code_unless (operand_of starts a) (expression_code starts a p (value_slot starts a t) t)) _ (followed_some (is_thin k) (span_in ty) (value_operand starts a t) t)
   place_some (Member k a s f ty) p t = behind (code_unless (operand_of starts a) (expression_code starts a p (value_slot starts a t) t)) _ (omega arith)
   place_some (Element a i ty) p t = omega arith
 
@@ -460,14 +465,14 @@ module _ (starts : Starts) where
       made_left a os old new d t to plain (λ none. absurd (let f : false ≡ true = sym more ∙ eq-eqb (length os) 0 none in cc)) (λ some. there) is
 
   pub made_compute : (value : Operation) (o : Operator) (e : Expr) (old m1 m2 : List Instruction) (l r : Operand) (d t : ℕ) → value ≡ operation.Compute o e
-      → r ≡ value_operand starts (view_expression e) (t + 1) → m1 ≡ old ++ value_code starts (view_expression e) (length old) (t + 1) → m2 ≡ m1 ++ operator_code o l r (length m1) d
+      → r ≡ value_operand starts (view_expression e) (t + 1) → m1 ≡ old ++ value_code starts (view_expression e) (length old) (t + 1) → m2 ≡ m1 ++ operator_code starts o l r d
       → m2 ≡ old ++ operation_code starts value (length old) l d t
   made_compute value o e old m1 m2 l r d t is r_is e1 e2 =
       let a = view_expression e in
       let next : t + 1 ≡ suc t = omega arith in
       let right = value_operand starts a (suc t) in
-      joined old (value_code starts a (length old) (suc t)) (λ p. operator_code o l right p d) m1 m2 (e1 ∙ ap (λ (n : ℕ). old ++ value_code starts a (length old) n) next)
-      (e2 ∙ ap (λ (x : Operand). m1 ++ operator_code o l x (length m1) d) (r_is ∙ ap (value_operand starts a) next))
+      joined old (value_code starts a (length old) (suc t)) (λ p. operator_code starts o l right d) m1 m2 (e1 ∙ ap (λ (n : ℕ). old ++ value_code starts a (length old) n) next)
+      (e2 ∙ ap (λ (x : Operand). m1 ++ operator_code starts o l x d) (r_is ∙ ap (value_operand starts a) next))
       ∙ ap (λ (x : Operation). old ++ operation_code starts x (length old) l d t) (sym is)
 
   pointed : (o : PointerOperator) (l r : Operand) (d : ℕ) → 0 < length (pointer_instructions o l r d)
@@ -484,7 +489,7 @@ module _ (starts : Starts) where
 
   -- where one operator is made, more may follow
   operates_longer : (x : Operation) (p : ℕ) (l : Operand) (d t : ℕ) → 0 < length (operation_code starts x p l d t)
-  operates_longer (operation.Compute o e) p l d t = behind (value_code starts (view_expression e) p (suc t)) _ (operates o l (value_operand starts (view_expression e) (suc t)) (p + length (value_code starts (view_expression e) p (suc t))) d)
+  operates_longer (operation.Compute o e) p l d t = behind (value_code starts (view_expression e) p (suc t)) _ (operates starts o l (value_operand starts (view_expression e) (suc t)) d)
   operates_longer (operation.Test o e) p l d t = omega arith
   operates_longer (operation.Pointer o e) p l d t = behind (value_code starts (view_expression e) p (behind_left o t)) _ (pointed o l (value_operand starts (view_expression e) (behind_left o t)) d)
   operates_longer (operation.PointerPeek n o e) p l d t = behind (value_code starts (view_expression e) p (behind_left o t)) _ (pointed o l (value_operand starts (view_expression e) (behind_left o t)) d)

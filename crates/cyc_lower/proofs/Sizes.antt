@@ -32,7 +32,7 @@ use Rattle.cyc_store.specs.declared.range.TheConstants.{HEAP}
 use Rattle.cyc_meaning.specs.Values.{kind_of, words_of_kind, is_thin}
 use Rattle.cyc_meaning.specs.Operators.{null_exception}
 use Rattle.cyc_lower.proofs.Widths.{kind_few, type_words}
-use Rattle.cyc_lower.specs.Lowering.{types_of, converts_there, passed_words, all_passed, source_of, source_slot, converted_by, moved_by, move_of, unary_operator, binary_operator, operand_of, operand_or, code_unless, slot_or, code_unless_slot, left_of, value_slot, next_slot, left_slot, value_operand, converted_operand, printed_operand, conversion_code, divisor_code, checked_code, operator_code, truth_code, load_code, low_byte, test_code, is_in, copy_code, expression_code, arguments_code, converted_code, converted_operand_code, printed_code, initial_code, assignment_code, operations_code, discarded_code, failing_comparison, compared_or, left_with, slot_with, first_code, second_code, pair_code, condition_code, condition_of, failing_jump, break_target, continue_target, return_code, declaration_code, statement_code, items_code, first_temporary, jump_if_zero, jump_if_nonzero, lower_function, behind_left, pointer_code, outside_loops, inside_loop, pointer_operator, index_of, first_two, pointer_instructions, stores_code, object_code, made_code, place_operand, place_offset, place_code, address_code, store_address_code, store_code, count_code, span_of, tested_code, widened_code, conversion_by, tested_by, check_code, are_as_wide, saved_code, loaded_code, bounds_code, stepped_code, reached_code, followed_code, followed_operand, followed_by, span_in}
+use Rattle.cyc_lower.specs.Lowering.{types_of, converts_there, passed_words, all_passed, source_of, source_slot, converted_by, moved_by, move_of, unary_operator, binary_operator, operand_of, operand_or, code_unless, slot_or, code_unless_slot, left_of, value_slot, next_slot, left_slot, value_operand, converted_operand, printed_operand, conversion_code, divisor_code, checked_code, operator_code, truth_code, load_code, low_byte, test_code, is_in, copy_code, expression_code, arguments_code, converted_code, converted_operand_code, printed_code, initial_code, assignment_code, operations_code, discarded_code, failing_comparison, compared_or, left_with, slot_with, first_code, second_code, pair_code, condition_code, condition_of, failing_jump, break_target, continue_target, return_code, declaration_code, statement_code, items_code, first_temporary, jump_if_zero, jump_if_nonzero, lower_function, behind_left, pointer_code, outside_loops, inside_loop, pointer_operator, index_of, first_two, pointer_instructions, stores_code, object_code, made_code, place_operand, place_offset, place_code, address_code, store_address_code, count_code, span_of, tested_code, widened_code, conversion_by, tested_by, check_code, are_as_wide, saved_code, loaded_code, bounds_code, stepped_code, reached_code, followed_code, followed_operand, followed_by, span_in, blocks}
 use Rattle.cyc_lower.specs.Lowered.{size_per_weight}
 
 abbrev code_size : List Instruction → ℕ
@@ -55,39 +55,39 @@ unless_slot_size (Some (operands.Slot n)) x = omega arith
 unless_slot_size (Some (operands.Word n)) x = omega arith
 unless_slot_size None x = omega arith
 
-tested_size : (to : Kind) (o : Operand) (p : ℕ) → code_size (tested_code to o p) ≤ 18
-tested_size kinds.NonNull o p = omega arith
-tested_size to o p = omega arith
+tested_size : (starts : Starts) (to : Kind) (o : Operand) → code_size (tested_code starts to o) ≤ 18
+tested_size starts kinds.NonNull o = omega arith
+tested_size starts to o = omega arith
 
 widened_size : (o : Operand) → code_size (widened_code o) ≤ 18
 widened_size (operands.Slot n) = omega arith
 widened_size (operands.Word w) = omega arith
 
-conversion_by_size : (wide : Bool) (to : Kind) (span : Option ℕ) (o : Operand) (p : ℕ) → code_size (conversion_by wide to span o p) ≤ 18
-conversion_by_size true to span o p = tested_size to o p
-conversion_by_size false kinds.Fat span o p = widened_size o
-conversion_by_size false to span o p = omega arith
+conversion_by_size : (starts : Starts) (wide : Bool) (to : Kind) (span : Option ℕ) (o : Operand) (p : ℕ) → code_size (conversion_by starts wide to span o p) ≤ 18
+conversion_by_size starts true to span o p = tested_size starts to o
+conversion_by_size starts false kinds.Fat span o p = widened_size o
+conversion_by_size starts false to span o p = omega arith
 
-conversion_size : (from to : Kind) (span : Option ℕ) (o : Operand) (p : ℕ) → code_size (conversion_code from to span o p) ≤ 18
-conversion_size from to span o p = conversion_by_size (are_as_wide from to) to span o p
+conversion_size : (starts : Starts) (from to : Kind) (span : Option ℕ) (o : Operand) (p : ℕ) → code_size (conversion_code starts from to span o p) ≤ 18
+conversion_size starts from to span o p = conversion_by_size starts (are_as_wide from to) to span o p
 
-divisor_size : (o : Operand) (p : ℕ) → code_size (divisor_code o p) ≤ 18
-divisor_size (operands.Word (suc n)) p = omega arith
-divisor_size (operands.Word zero) p = omega arith
-divisor_size (operands.Slot n) p = omega arith
+divisor_size : (starts : Starts) (o : Operand) → code_size (divisor_code starts o) ≤ 18
+divisor_size starts (operands.Word (suc n)) = omega arith
+divisor_size starts (operands.Word zero) = omega arith
+divisor_size starts (operands.Slot n) = omega arith
 
 binary_size : (o : Operator) (l r : Operand) (d : ℕ) → instruction_size (instructions.Binary (binary_operator o) d l r) ≤ 18
 binary_size operators.Divide l r d = omega arith
 binary_size operators.Remainder l r d = omega arith
 binary_size o l r d = omega arith
 
-checked_size : (o : Operator) (l r : Operand) (p d : ℕ) → code_size (checked_code o l r p d) ≤ 36
-checked_size o l r p d = omega (arith, both (divisor_code r p) (instructions.Binary (binary_operator o) d l r ∷ []), divisor_size r p, binary_size o l r d)
+checked_size : (starts : Starts) (o : Operator) (l r : Operand) (d : ℕ) → code_size (checked_code starts o l r d) ≤ 36
+checked_size starts o l r d = omega (arith, both (divisor_code starts r) (instructions.Binary (binary_operator o) d l r ∷ []), divisor_size starts r, binary_size o l r d)
 
-operator_size : (o : Operator) (l r : Operand) (p d : ℕ) → code_size (operator_code o l r p d) ≤ 36
-operator_size operators.Divide l r p d = checked_size operators.Divide l r p d
-operator_size operators.Remainder l r p d = checked_size operators.Remainder l r p d
-operator_size o l r p d = omega arith
+operator_size : (starts : Starts) (o : Operator) (l r : Operand) (d : ℕ) → code_size (operator_code starts o l r d) ≤ 36
+operator_size starts operators.Divide l r d = checked_size starts operators.Divide l r d
+operator_size starts operators.Remainder l r d = checked_size starts operators.Remainder l r d
+operator_size starts o l r d = omega arith
 
 move_size : (words d : ℕ) (o : Operand) → words ≤ 3 → code_size (move_of words d o ∷ []) ≤ 20
 move_size words d (operands.Word n) few = omega arith
@@ -120,10 +120,10 @@ address_size : (o : Operand) (bytes d : ℕ) → code_size (address_code o bytes
 address_size o zero d = omega (arith, copied_address_size o d)
 address_size o (suc bytes) d = omega arith
 
-converted_by_size : (known : Option Operand) (inner : List Instruction) (from to : Kind) (span : Option ℕ) (o : Operand) (p bound : ℕ) → code_size inner ≤ bound → code_size (converted_by known inner from to span o p) ≤ bound + 18
-converted_by_size known inner from to span o p bound few =
+converted_by_size : (starts : Starts) (known : Option Operand) (inner : List Instruction) (from to : Kind) (span : Option ℕ) (o : Operand) (p bound : ℕ) → code_size inner ≤ bound → code_size (converted_by starts known inner from to span o p) ≤ bound + 18
+converted_by_size starts known inner from to span o p bound few =
     let front = code_unless known inner in
-    omega (arith, both front (conversion_code from to span o (p + length front)), unless_size known inner, few, conversion_size from to span o (p + length front))
+    omega (arith, both front (conversion_code starts from to span o (p + length front)), unless_size known inner, few, conversion_size starts from to span o (p + length front))
 
 stepped_size : (span : Option ℕ) (n m t : ℕ) → code_size (stepped_code span n m t) ≤ 22
 stepped_size None n m t = omega arith
@@ -134,35 +134,31 @@ stepped_size (Some words) n m t = by (words == 1)
     by true = omega arith
     by false = omega arith
 
-reached_size : (span : Option ℕ) (n m t p : ℕ) → code_size (reached_code span n m t p) ≤ 58
-reached_size span n m t p =
-    let check = check_code null_exception (operands.Slot n) p in
-    let bounds = bounds_code (operands.Slot m) (operands.Slot (n + 1)) (p + length check) in
-    omega (arith, both check (bounds ++ stepped_code span n m t), both bounds (stepped_code span n m t), stepped_size span n m t)
+reached_size : (starts : Starts) (span : Option ℕ) (n m t : ℕ) → code_size (reached_code starts span n m t) ≤ 58
+reached_size starts span n m t =
+    let bounds = bounds_code starts (operands.Slot m) (operands.Slot (n + 1)) in
+    omega (arith, both (check_code starts null_exception (operands.Slot n)) (bounds ++ stepped_code span n m t), both bounds (stepped_code span n m t), stepped_size span n m t)
 
-followed_size : (thin : Bool) (span : Option ℕ) (o : Operand) (t p : ℕ) → code_size (followed_code thin span o t p) ≤ 58
-followed_size true span o t p = omega arith
-followed_size false span (operands.Slot n) t p = reached_size span n (n + 2) t p
-followed_size false span (operands.Word w) t p = omega arith
+followed_size : (starts : Starts) (thin : Bool) (span : Option ℕ) (o : Operand) (t : ℕ) → code_size (followed_code starts thin span o t) ≤ 58
+followed_size starts true span o t = omega arith
+followed_size starts false span (operands.Slot n) t = reached_size starts span n (n + 2) t
+followed_size starts false span (operands.Word w) t = omega arith
 
-followed_by_size : (known : Option Operand) (inner : List Instruction) (thin : Bool) (span : Option ℕ) (o : Operand) (t p bound : ℕ) → code_size inner ≤ bound → code_size (followed_by known inner thin span o t p) ≤ bound + 58
-followed_by_size known inner thin span o t p bound few =
-    let front = code_unless known inner in
-    omega (arith, both front (followed_code thin span o t (p + length front)), unless_size known inner, few, followed_size thin span o t (p + length front))
+followed_by_size : (starts : Starts) (known : Option Operand) (inner : List Instruction) (thin : Bool) (span : Option ℕ) (o : Operand) (t bound : ℕ) → code_size inner ≤ bound → code_size (followed_by starts known inner thin span o t) ≤ bound + 58
+followed_by_size starts known inner thin span o t bound few =
+    omega (arith, both (code_unless known inner) (followed_code starts thin span o t), unless_size known inner, few, followed_size starts thin span o t)
 
-tested_by_size : (known : Option Operand) (inner : List Instruction) (o : Operand) (p bound : ℕ) → code_size inner ≤ bound → code_size (tested_by known inner o p) ≤ bound + 18
-tested_by_size known inner o p bound few =
-    let front = code_unless known inner in
-    omega (arith, both front (check_code null_exception o (p + length front)), unless_size known inner, few)
+tested_by_size : (starts : Starts) (known : Option Operand) (inner : List Instruction) (o : Operand) (bound : ℕ) → code_size inner ≤ bound → code_size (tested_by starts known inner o) ≤ bound + 18
+tested_by_size starts known inner o bound few = omega (arith, both (code_unless known inner) (check_code starts null_exception o), unless_size known inner, few)
 
-initial_by_size : (there : Bool) (known : Option Operand) (at_once inner : List Instruction) (from to : Kind) (span : Option ℕ) (o : Operand) (p d bound : ℕ) → code_size at_once ≤ bound → code_size inner ≤ bound
-    → code_size (if there then at_once else moved_by known inner from to span o p d) ≤ bound + 38
-initial_by_size true known at_once inner from to span o p d bound few other = omega (arith, few)
-initial_by_size false known at_once inner from to span o p d bound few other =
+initial_by_size : (starts : Starts) (there : Bool) (known : Option Operand) (at_once inner : List Instruction) (from to : Kind) (span : Option ℕ) (o : Operand) (p d bound : ℕ) → code_size at_once ≤ bound → code_size inner ≤ bound
+    → code_size (if there then at_once else moved_by starts known inner from to span o p d) ≤ bound + 38
+initial_by_size starts true known at_once inner from to span o p d bound few other = omega (arith, few)
+initial_by_size starts false known at_once inner from to span o p d bound few other =
     omega (
       arith,
-      both (converted_by known inner from to span o p) (move_of (words_of_kind to) d o ∷ []),
-      converted_by_size known inner from to span o p bound other,
+      both (converted_by starts known inner from to span o p) (move_of (words_of_kind to) d o ∷ []),
+      converted_by_size starts known inner from to span o p bound other,
       move_size (words_of_kind to) d o (kind_few to),
     )
 
@@ -315,11 +311,11 @@ module _ (starts : Starts) where
         let slot = value_slot starts a t in
         omega (
           arith,
-          followed_by_size (operand_of starts a) (expression_code starts a p slot t) (is_thin k) (span_in ty) (value_operand starts a t) t p (size_per_weight * expression_weight a) (expression_size a p slot t),
+          followed_by_size starts (operand_of starts a) (expression_code starts a p slot t) (is_thin k) (span_in ty) (value_operand starts a t) t (size_per_weight * expression_weight a) (expression_size a p slot t),
         )
     place_size (Member k a n f ty) p t =
         let slot = value_slot starts a t in
-        omega (arith, tested_by_size (operand_of starts a) (expression_code starts a p slot t) (value_operand starts a t) p (size_per_weight * expression_weight a) (expression_size a p slot t))
+        omega (arith, tested_by_size starts (operand_of starts a) (expression_code starts a p slot t) (value_operand starts a t) (size_per_weight * expression_weight a) (expression_size a p slot t))
     place_size (Element a i ty) p t = omega (arith, some_token a)
 
     -- with the address in a slot
@@ -332,7 +328,7 @@ module _ (starts : Starts) where
         omega (
           arith,
           both front (copy_code 1 x t),
-          followed_by_size (operand_of starts a) (expression_code starts a p slot t) (is_thin k) (span_in ty) o t p (size_per_weight * expression_weight a) (expression_size a p slot t),
+          followed_by_size starts (operand_of starts a) (expression_code starts a p slot t) (is_thin k) (span_in ty) o t (size_per_weight * expression_weight a) (expression_size a p slot t),
           copied_address_size x t,
         )
     store_address_size (Member k a n f ty) p t =
@@ -343,7 +339,7 @@ module _ (starts : Starts) where
         omega (
           arith,
           both front (address_code o (place_offset starts x) t),
-          tested_by_size (operand_of starts a) (expression_code starts a p slot t) o p (size_per_weight * expression_weight a) (expression_size a p slot t),
+          tested_by_size starts (operand_of starts a) (expression_code starts a p slot t) o (size_per_weight * expression_weight a) (expression_size a p slot t),
           address_size o (place_offset starts x) t,
         )
     store_address_size (Element a i ty) p t =
@@ -352,18 +348,18 @@ module _ (starts : Starts) where
     initial_size : (c : Converted) (p d t : ℕ) → code_size (initial_code starts c p d t) ≤ size_per_weight * converted_weight c + 38
     initial_size (Convert from to a) p d t =
         let slot = source_slot starts (Convert from to a) t in
-        initial_by_size (converts_there from to) (source_of starts (Convert from to a)) (expression_code starts a p d t) (expression_code starts a p slot t) from to (span_of a) (converted_operand starts (Convert from to a) t) p d
+        initial_by_size starts (converts_there from to) (source_of starts (Convert from to a)) (expression_code starts a p d t) (expression_code starts a p slot t) from to (span_of a) (converted_operand starts (Convert from to a) t) p d
         (size_per_weight * expression_weight a) (expression_size a p d t) (expression_size a p slot t)
 
     converted_size : (c : Converted) (p t : ℕ) → code_size (converted_code starts c p t) ≤ size_per_weight * converted_weight c + 18
     converted_size (Convert from to a) p t =
         let front = expression_code starts a p t t in
-        omega (arith, both front (conversion_code from to (span_of a) (operands.Slot t) (p + length front)), expression_size a p t t, conversion_size from to (span_of a) (operands.Slot t) (p + length front))
+        omega (arith, both front (conversion_code starts from to (span_of a) (operands.Slot t) (p + length front)), expression_size a p t t, conversion_size starts from to (span_of a) (operands.Slot t) (p + length front))
 
     converted_operand_size : (c : Converted) (p t : ℕ) → code_size (converted_operand_code starts c p t) ≤ size_per_weight * converted_weight c + 18
     converted_operand_size (Convert from to a) p t =
         let slot = source_slot starts (Convert from to a) t in
-        converted_by_size (source_of starts (Convert from to a)) (expression_code starts a p slot t) from to (span_of a) (converted_operand starts (Convert from to a) t) p
+        converted_by_size starts (source_of starts (Convert from to a)) (expression_code starts a p slot t) from to (span_of a) (converted_operand starts (Convert from to a) t) p
         (size_per_weight * expression_weight a) (expression_size a p slot t)
 
     printed_size : (cs : Arguments) (p t : ℕ) → code_size (printed_code starts cs p t) ≤ size_per_weight * arguments_weight cs + 18
@@ -404,7 +400,7 @@ module _ (starts : Starts) where
         let inner = expression_code starts a p (value_slot starts a (suc t)) (suc t) in
         let operand = code_unless (operand_of starts a) inner in
         let next = next_slot os d t in
-        let operator = operator_code o l (value_operand starts a (suc t)) (p + length operand) next in
+        let operator = operator_code starts o l (value_operand starts a (suc t)) next in
         let q = p + length (operand ++ operator) in
         omega (
           arith,
@@ -412,7 +408,7 @@ module _ (starts : Starts) where
           both operand operator,
           unless_size (operand_of starts a) inner,
           expression_size a p (value_slot starts a (suc t)) (suc t),
-          operator_size o l (value_operand starts a (suc t)) (p + length operand) next,
+          operator_size starts o l (value_operand starts a (suc t)) next,
           operations_size os q (operands.Slot next) d t,
         )
     operations_size (ThenTest o a os) p l d t =
@@ -482,8 +478,8 @@ module _ (starts : Starts) where
       let inner = expression_code starts a p t t in
       let front = code_unless_slot known inner in
       let s = slot_or known t in
-      let conversion = conversion_code from to (span_of a) (operands.Slot s) (p + length front) in
-      omega (arith, both (front ++ conversion) (instructions.Return s ∷ []), both front conversion, unless_slot_size known inner, expression_size a p t t, conversion_size from to (span_of a) (operands.Slot s) (p + length front))
+      let conversion = conversion_code starts from to (span_of a) (operands.Slot s) (p + length front) in
+      omega (arith, both (front ++ conversion) (instructions.Return s ∷ []), both front conversion, unless_slot_size known inner, expression_size a p t t, conversion_size starts from to (span_of a) (operands.Slot s) (p + length front))
 
   else_size : (t : Statement) (p : ℕ) (exits : Exits) (d : ℕ) → code_size (statement_code starts t p exits d) ≤ size_per_weight * statement_weight t → code_size (statement_code starts t p exits d) ≤ size_per_weight * else_weight t (statement_weight t)
   else_size Empty p exits d bound = omega arith
@@ -551,4 +547,4 @@ pub function_size : (structs : List StructType) (h : Function) → size (lower_f
 function_size structs h =
     let d = first_temporary h in
     let starts = starts_of (types_of structs h) in
-    omega (arith, both (items_code starts h.body 0 (outside_loops d) d) (instructions.Return d ∷ []), items_size starts h.body 0 (outside_loops d) d)
+    omega (arith, both (items_code starts h.body 0 (outside_loops d) d) (instructions.Return d ∷ blocks), items_size starts h.body 0 (outside_loops d) d)

@@ -26,7 +26,7 @@ use Rattle.cyc_meaning.specs.Operators.{null_exception, division_by_zero, array_
 use Rattle.cyc_meaning.specs.Values.{is_thin, words_of_kind}
 use Rattle.cyc_lower.specs.declared.statements.Exits.{Exits}
 use Rattle.cyc_lower.specs.Slots.{Types, starts_of, slot_of, field_of}
-use Rattle.cyc_lower.specs.Lowering.{unary_operator, binary_operator, operand_of, source_of, source_slot, failing_comparison, left_with, left_of, value_slot, next_slot, slot_with, left_slot, is_in, jump_if_nonzero, move_of, test_jump, are_as_wide, converts_there, passed_words, all_passed, compared_of, low_byte, break_target, continue_target, results_of, behind_left, inside_loop, pointer_operator, jump_if_zero, span_of, span_in, followed_operand}
+use Rattle.cyc_lower.specs.Lowering.{unary_operator, binary_operator, operand_of, source_of, source_slot, failing_comparison, left_with, left_of, value_slot, next_slot, slot_with, left_slot, is_in, move_of, test_jump, are_as_wide, converts_there, passed_words, all_passed, compared_of, low_byte, break_target, continue_target, results_of, behind_left, inside_loop, pointer_operator, jump_if_zero, span_of, span_in, followed_operand, raising, scale_of}
 use Rattle.cyc_lower.proofs.Widths.{kind_of_result, given, passed_kind, HasRoom, HasField}
 
 -- ---- expressions
@@ -69,17 +69,21 @@ module _ (code : List Instruction) (bounds : Numbering) (types : Types) where
   OperandBy (Some known) computed slot o p q = (o ≡ known) × (p ≡ q)
   OperandBy None computed slot o p q = (o ≡ operands.Slot slot) × computed
 
+  -- where a comparison holds, a jump leads to what raises an exception
+  abbrev pub GuardAt : (tag : ℕ) → Comparison → (l r : Operand) → (p q : ℕ) → Type 0
+  GuardAt tag failing l r p q = (s : ℕ) × At code p (instructions.Branch failing l r s) × At code s (raising tag) × (p + 1 ≡ q)
+
   abbrev pub CheckAt : (tag : ℕ) → Operand → (p q : ℕ) → Type 0
-  CheckAt tag o p q = At code p (jump_if_nonzero o q) × At code (p + 1) (instructions.Uncaught tag o) × (p + 2 ≡ q)
+  CheckAt tag o p q = GuardAt tag comparisons.Equal o (operands.Word 0) p q
 
   -- an index is compared with a length
   abbrev pub BoundsAt : (index length : Operand) → (p q : ℕ) → Type 0
-  BoundsAt index length p q = At code p (instructions.Branch comparisons.LessUnsigned index length q) × At code (p + 1) (instructions.Uncaught array_bounds (operands.Word 0)) × (p + 2 ≡ q)
+  BoundsAt index length p q = GuardAt array_bounds comparisons.GreaterOrEqualUnsigned index length p q
 
   abbrev pub SteppedAt : (span : Option ℕ) → (n m t p q : ℕ) → Type 0
   SteppedAt None n m t p q = p ≡ q
   SteppedAt (Some words) n m t p q =
-      At code p (if words == 1 then instructions.Binary plain_binary.ShiftLeft (t + 2) (operands.Slot m) (operands.Word 2) else instructions.Binary plain_binary.Multiply (t + 2) (operands.Slot m) (operands.Word 12))
+      At code p (scale_of words (t + 2) m)
       × At code (p + 1) (instructions.Binary plain_binary.Add t (operands.Slot n) (operands.Slot (t + 2))) × (p + 1 + 1 ≡ q)
 
   -- an access by a fat pointer whose first words are in slot n and the next, and whose index is in slot m

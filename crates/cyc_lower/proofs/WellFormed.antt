@@ -17,6 +17,7 @@ use Rattle.cyc_types.specs.TypedTrees.{Load, New, OnHeap, AsUnique, ByHandle, In
 use Rattle.cyc_types.specs.typing.WellTyped.{signature_of}
 use Rattle.cyc_types.specs.Numbered.{Numbering, argument_count, signatures_of, numbering_of}
 use Rattle.cyc_plain.specs.declared.instruction.Comparison.{Comparison}
+use Rattle.cyc_plain.specs.declared.instruction.Comparison.TheVariants as comparisons
 use Rattle.cyc_plain.specs.declared.instruction.BinaryOperator.{BinaryOperator as PlainBinary}
 use Rattle.cyc_plain.specs.declared.instruction.BinaryOperator.TheVariants as plain_binary
 use Rattle.cyc_plain.specs.declared.instruction.Operand.{Operand}
@@ -28,17 +29,18 @@ use Rattle.cyc_plain.specs.declared.limits.TheConstants.{MOST_GLOBALS}
 use Rattle.cyc_plain.specs.WellFormed.{IsOperand, IsInRange, IsRoutine, IsWellFormed, leaves}
 use Rattle.std.specs.Prelude.{◌==◌, max, if◌then◌else◌}
 use Rattle.std.proofs.lemmas.Bool.{eqb-true}
-use Rattle.cyc_meaning.specs.Operators.{null_exception, division_by_zero}
+use Rattle.cyc_meaning.specs.Operators.{null_exception, division_by_zero, array_bounds}
 use Rattle.cyc_store.specs.declared.range.TheConstants.{HEAP}
 use Rattle.cyc_meaning.specs.Values.{kind_of, words_of_kind, is_thin, is_kind}
 use Rattle.cyc_meaning.specs.FrameCount.{result_words, operand_words, converted_words, argument_words, expression_need, dereference_need, converted_need, arguments_need, operations_need, initial_need, statement_need, items_need, words_of_all, initial_value_need, place_words}
 use Rattle.cyc_lower.specs.declared.statements.Exits.{Exits}
 use Rattle.cyc_meaning.specs.Pointers.{result_kind as operator_kind}
 use Rattle.cyc_lower.specs.Slots.{starts_of, slot_of, Types}
-use Rattle.cyc_lower.specs.Lowering.{types_of, spare_slots, are_as_wide, converts_there, passed_words, all_passed, source_of, source_slot, moved_by, move_of, unary_operator, binary_operator, operand_of, operand_or, code_unless, slot_or, code_unless_slot, left_with, left_of, value_slot, next_slot, slot_with, left_slot, value_operand, converted_operand, printed_operand, check_code, conversion_code, divisor_code, checked_code, operator_code, truth_code, load_code, low_byte, test_code, is_in, copy_code, expression_code, arguments_code, converted_code, converted_operand_code, printed_code, initial_code, assignment_code, operations_code, discarded_code, failing_comparison, compared_or, first_operand, first_code, second_code, pair_code, condition_code, condition_of, failing_jump, break_target, continue_target, return_code, declaration_code, statement_code, items_code, first_temporary, results_of, lower_function, lower_global, lower_program, pointer_operator, left_kind, behind_left, pointer_code, outside_loops, inside_loop, index_code, pointer_instructions, stores_code, object_code, made_code, place_operand, place_offset, place_code, address_code, addressed_by, store_address_code, store_code, count_code, span_of, null_of, tested_code, widened_code, conversion_by, tested_by, saved_code, loaded_code, bounds_code, stepped_code, reached_code, followed_code, followed_operand, span_in}
+use Rattle.cyc_lower.specs.Lowering.{types_of, spare_slots, are_as_wide, converts_there, passed_words, all_passed, source_of, source_slot, moved_by, move_of, unary_operator, binary_operator, operand_of, operand_or, code_unless, slot_or, code_unless_slot, left_with, left_of, value_slot, next_slot, slot_with, left_slot, value_operand, converted_operand, printed_operand, check_code, conversion_code, divisor_code, checked_code, operator_code, truth_code, load_code, low_byte, test_code, is_in, copy_code, expression_code, arguments_code, converted_code, converted_operand_code, printed_code, initial_code, assignment_code, operations_code, discarded_code, failing_comparison, compared_or, first_operand, first_code, second_code, pair_code, condition_code, condition_of, failing_jump, break_target, continue_target, return_code, declaration_code, statement_code, items_code, first_temporary, results_of, lower_function, lower_global, lower_program, pointer_operator, left_kind, behind_left, pointer_code, outside_loops, inside_loop, index_code, pointer_instructions, stores_code, object_code, made_code, place_operand, place_offset, place_code, address_code, addressed_by, store_address_code, store_code, count_code, span_of, null_of, tested_code, widened_code, conversion_by, tested_by, saved_code, loaded_code, bounds_code, stepped_code, reached_code, followed_code, followed_operand, span_in, guard_code, blocks}
 use Rattle.cyc_lower.specs.Lowerable.{is_converted}
 use Rattle.cyc_lower.proofs.Widths.{kind_positive, kind_few, type_words, kind_of_result, result_kind, given, passed_kind, words_in, chain_kind, made_kind, wide_kind, same_kind}
 use Rattle.cyc_lower.proofs.Fitting.{FitsPlace, FitsStored, FitsCell, Fits, FitsConverted, FitArguments, FitOperations, FitsReturn, FitsInitial, FitsStatement, FitItems, AreFitting, IsFitting, FitsObject, is_pointer}
+use Rattle.cyc_lower.proofs.Lengths.{body_long}
 use Rattle.cyc_lower.proofs.Values.{as_wide}
 use Rattle.cyc_lower.proofs.Slots.{words_positive, slot-room, slot_types-many, slots-few}
 
@@ -53,13 +55,13 @@ all_of P [] all k d below = absurd (omega arith)
 all_of P (x ∷ xs) (first, rest) zero d below = first
 all_of P (x ∷ xs) (first, rest) (suc k) d below = all_of P xs rest k d (omega arith)
 
-last_of : {X : Type 0} (xs : List X) (x : X) → slice_get (xs ++ x ∷ []) (length (xs ++ x ∷ []) - 1) ≡ Some x
-last_of xs x =
-    ap (slice_get (xs ++ x ∷ [])) (let e : length (xs ++ x ∷ []) - 1 ≡ length xs = omega (arith, length-append xs (x ∷ [])) in e) ∙ at_end xs
+last_behind : {X : Type 0} (xs ys : List X) → 0 < length ys → slice_get (xs ++ ys) (length (xs ++ ys) - 1) ≡ slice_get ys (length ys - 1)
+last_behind xs ys some = behind_all xs (length ys - 1) (length (xs ++ ys) - 1) (omega (arith, length-append xs ys, some))
   where
-    at_end : (ys : _) → slice_get (ys ++ x ∷ []) (length ys) ≡ Some x
-    at_end [] = refl
-    at_end (y ∷ ys) = at_end ys
+    behind_all : (zs : _) (n m : ℕ) → m ≡ length zs + n → slice_get (zs ++ ys) m ≡ slice_get ys n
+    behind_all [] n m is = ap (slice_get ys) (omega (arith, is))
+    behind_all (z ∷ zs) n zero is = absurd (omega (arith, is))
+    behind_all (z ∷ zs) n (suc m) is = behind_all zs n m (omega (arith, is))
 
 -- ---- words
 
@@ -101,7 +103,7 @@ record IsKnown (program : PlainProgram) (n : ℕ) (s : Signature) : Type 0 where
   pub parameters : (routine_at program n).parameters ≡ words_of_all s.parameters
   pub results : (routine_at program n).results ≡ results_of s.result
 
-module _ (program : PlainProgram) (r : Routine) (b : Numbering) (types : Types) (locals : (n : ℕ) → n < b.locals → slot_of (starts_of types) n + words_in types.locals n ≤ r.slots) (globals : b.globals ≡ length program.globals) (known : (n : ℕ) (s : Signature) → slice_get b.functions n ≡ Some s → IsKnown program n s) (results : r.results ≡ results_of b.result) where
+module _ (program : PlainProgram) (r : Routine) (b : Numbering) (types : Types) (locals : (n : ℕ) → n < b.locals → slot_of (starts_of types) n + words_in types.locals n ≤ r.slots) (globals : b.globals ≡ length program.globals) (known : (n : ℕ) (s : Signature) → slice_get b.functions n ≡ Some s → IsKnown program n s) (results : r.results ≡ results_of b.result) (behind : types.raises + 4 < length r.code) where
   abbrev AreIn : List Instruction → Type 0
   AreIn code = AllByRecursion (IsInRange program r) code
 
@@ -310,11 +312,14 @@ module _ (program : PlainProgram) (r : Routine) (b : Numbering) (types : Types) 
   left_in a (ThenCompute o c os) ty d t numbered few room = left_with_in (operand_of (starts_of types) c) a t numbered room
   left_in a os ty d t numbered few room = omega (arith, room, kind_positive (kind_at a))
 
-  check_in : (tag : ℕ) (o : Operand) (p : ℕ) → IsOperand r o → p + 2 < length r.code → AreIn (check_code tag o p)
-  check_in tag o p inside short = ((inside, tt, short), (inside, tt))
+  guard_in : (tag : ℕ) (failing : Comparison) (o m : Operand) → tag ≤ 4 → IsOperand r o → IsOperand r m → AreIn (guard_code (starts_of types) tag failing o m)
+  guard_in tag failing o m few left right = ((left, right, omega (arith, few, behind)), tt)
 
-  bounds_in : (index bound : Operand) (p : ℕ) → IsOperand r index → IsOperand r bound → p + 2 < length r.code → AreIn (bounds_code index bound p)
-  bounds_in index bound p first second short = ((first, second, short), (tt, tt))
+  check_in : (tag : ℕ) (o : Operand) → tag ≤ 4 → IsOperand r o → AreIn (check_code (starts_of types) tag o)
+  check_in tag o few inside = guard_in tag comparisons.Equal o (operands.Word 0) few inside tt
+
+  bounds_in : (index bound : Operand) → IsOperand r index → IsOperand r bound → AreIn (bounds_code (starts_of types) index bound)
+  bounds_in index bound first second = guard_in array_bounds comparisons.GreaterOrEqualUnsigned index bound (omega arith) first second
 
   stepped_in : (span : Option ℕ) (n m t : ℕ) → n < r.slots → m < r.slots → t + 3 ≤ r.slots → AreIn (stepped_code span n m t)
   stepped_in None n m t first index room = tt
@@ -324,24 +329,18 @@ module _ (program : PlainProgram) (r : Routine) (b : Numbering) (types : Types) 
       by true = (omega (arith, room), index, tt)
       by false = (omega (arith, room), index, tt)
 
-  reached_in : (span : Option ℕ) (n m t p : ℕ) → n + 2 ≤ r.slots → m < r.slots → t + 3 ≤ r.slots → p + length (reached_code span n m t p) < length r.code → AreIn (reached_code span n m t p)
-  reached_in span n m t p first index room short =
-      let check = check_code null_exception (operands.Slot n) p in
-      let bounds = bounds_code (operands.Slot m) (operands.Slot (n + 1)) (p + length check) in
-      let step = stepped_code span n m t in
-      let long = length-append check (bounds ++ step) in
-      let behind = length-append bounds step in
-      append check (bounds ++ step) (check_in null_exception (operands.Slot n) p (omega (arith, first)) (omega (arith, short, long, behind)))
-      (append bounds step (bounds_in (operands.Slot m) (operands.Slot (n + 1)) (p + length check) index (omega (arith, first)) (omega (arith, short, long, behind))) (stepped_in span n m t (omega (arith, first)) index room))
+  reached_in : (span : Option ℕ) (n m t : ℕ) → n + 2 ≤ r.slots → m < r.slots → t + 3 ≤ r.slots → AreIn (reached_code (starts_of types) span n m t)
+  reached_in span n m t first index room =
+      append (check_code (starts_of types) null_exception (operands.Slot n)) (bounds_code (starts_of types) (operands.Slot m) (operands.Slot (n + 1)) ++ stepped_code span n m t) (check_in null_exception (operands.Slot n) (omega arith) (omega (arith, first)))
+      (append (bounds_code (starts_of types) (operands.Slot m) (operands.Slot (n + 1))) (stepped_code span n m t) (bounds_in (operands.Slot m) (operands.Slot (n + 1)) index (omega (arith, first))) (stepped_in span n m t (omega (arith, first)) index room))
 
-  followed_in : (k : Kind) (thin : Bool) (span : Option ℕ) (o : Operand) (t p : ℕ) → is_thin k ≡ thin → is_pointer k ≡ true → HasOperand o (words_of_kind k) → t + words_of_kind k ≤ r.slots
-      → p + length (followed_code thin span o t p) < length r.code → AreIn (followed_code thin span o t p)
-  followed_in k true span o t p is pointer inside room short = check_in null_exception o p (operand_in o k inside) short
-  followed_in k false span (operands.Word w) t p is pointer inside room short = check_in null_exception (operands.Word w) p tt short
-  followed_in k false span (operands.Slot n) t p is pointer inside room short =
+  followed_in : (k : Kind) (thin : Bool) (span : Option ℕ) (o : Operand) (t : ℕ) → is_thin k ≡ thin → is_pointer k ≡ true → HasOperand o (words_of_kind k) → t + words_of_kind k ≤ r.slots → AreIn (followed_code (starts_of types) thin span o t)
+  followed_in k true span o t is pointer inside room = check_in null_exception o (omega arith) (operand_in o k inside)
+  followed_in k false span (operands.Word w) t is pointer inside room = check_in null_exception (operands.Word w) (omega arith) tt
+  followed_in k false span (operands.Slot n) t is pointer inside room =
       let fat : k ≡ kinds.Fat = same_kind k kinds.Fat (ap (λ (b : Bool). if b then true else is_kind k kinds.Fat) (sym is) ∙ pointer) in
       let three = ap words_of_kind fat in
-      reached_in span n (n + 2) t p (omega (arith, inside, three)) (omega (arith, inside, three)) (omega (arith, room, three)) short
+      reached_in span n (n + 2) t (omega (arith, inside, three)) (omega (arith, inside, three)) (omega (arith, room, three))
 
   followed_operand_in : (thin : Bool) (span : Option ℕ) (o : Operand) (t : ℕ) → IsOperand r o → t < r.slots → IsOperand r (followed_operand thin span o t)
   followed_operand_in true span o t inside room = inside
@@ -349,37 +348,36 @@ module _ (program : PlainProgram) (r : Routine) (b : Numbering) (types : Types) 
   followed_operand_in false (Some words) (operands.Slot n) t inside room = room
   followed_operand_in false span (operands.Word w) t inside room = inside
 
-  tested_in : (to : Kind) (o : Operand) (p : ℕ) → IsOperand r o → p + length (tested_code to o p) < length r.code → AreIn (tested_code to o p)
-  tested_in kinds.NonNull o p inside short = check_in null_exception o p inside short
-  tested_in to o p inside short = tt
+  tested_in : (to : Kind) (o : Operand) → IsOperand r o → AreIn (tested_code (starts_of types) to o)
+  tested_in kinds.NonNull o inside = check_in null_exception o (omega arith) inside
+  tested_in to o inside = tt
 
   widened_in : (o : Operand) → HasOperand o 3 → AreIn (widened_code o)
   widened_in (operands.Slot n) inside = ((omega (arith, inside), tt), ((omega (arith, inside), tt), tt))
   widened_in (operands.Word w) inside = tt
 
-  conversion_by_in : (wide : Bool) (to : Kind) (span : Option ℕ) (o : Operand) (p : ℕ) → HasOperand o (words_of_kind to) → p + length (conversion_by wide to span o p) < length r.code → AreIn (conversion_by wide to span o p)
-  conversion_by_in true to span o p inside short = tested_in to o p (operand_in o to inside) short
+  conversion_by_in : (wide : Bool) (to : Kind) (span : Option ℕ) (o : Operand) (p : ℕ) → HasOperand o (words_of_kind to) → p + length (conversion_by (starts_of types) wide to span o p) < length r.code → AreIn (conversion_by (starts_of types) wide to span o p)
+  conversion_by_in true to span o p inside short = tested_in to o (operand_in o to inside)
   conversion_by_in false kinds.Fat span o p inside short = widened_in o inside
   conversion_by_in false to span o p inside short = tt
 
-  conversion_in : (from to : Kind) (span : Option ℕ) (o : Operand) (p : ℕ) → HasOperand o (words_of_kind to) → p + length (conversion_code from to span o p) < length r.code → AreIn (conversion_code from to span o p)
+  conversion_in : (from to : Kind) (span : Option ℕ) (o : Operand) (p : ℕ) → HasOperand o (words_of_kind to) → p + length (conversion_code (starts_of types) from to span o p) < length r.code → AreIn (conversion_code (starts_of types) from to span o p)
   conversion_in from to span o p inside short = conversion_by_in (are_as_wide from to) to span o p inside short
 
-  divisor_in : (o : Operand) (p : ℕ) → IsOperand r o → p + length (divisor_code o p) < length r.code → AreIn (divisor_code o p)
-  divisor_in (operands.Word (suc n)) p inside short = tt
-  divisor_in (operands.Word zero) p inside short = check_in division_by_zero (operands.Word zero) p inside short
-  divisor_in (operands.Slot n) p inside short = check_in division_by_zero (operands.Slot n) p inside short
+  divisor_in : (o : Operand) → IsOperand r o → AreIn (divisor_code (starts_of types) o)
+  divisor_in (operands.Word (suc n)) inside = tt
+  divisor_in (operands.Word zero) inside = check_in division_by_zero (operands.Word zero) (omega arith) inside
+  divisor_in (operands.Slot n) inside = check_in division_by_zero (operands.Slot n) (omega arith) inside
 
-  checked_in : (o : Operator) (l m : Operand) (p d : ℕ) → d < r.slots → IsOperand r l → IsOperand r m → p + length (checked_code o l m p d) < length r.code → AreIn (checked_code o l m p d)
-  checked_in o l m p d few left right short =
-      let front = divisor_code m p in
-      let back = instructions.Binary (binary_operator o) d l m ∷ [] in
-      append front back (divisor_in m p right (omega (arith, short, length-append front back))) ((few, left, right), tt)
+  checked_in : (o : Operator) (l m : Operand) (d : ℕ) → d < r.slots → IsOperand r l → IsOperand r m → AreIn (checked_code (starts_of types) o l m d)
+  checked_in o l m d few left right =
+      let front = divisor_code (starts_of types) m in
+      append front (instructions.Binary (binary_operator o) d l m ∷ []) (divisor_in m right) ((few, left, right), tt)
 
-  operator_in : (o : Operator) (l m : Operand) (p d : ℕ) → d < r.slots → IsOperand r l → IsOperand r m → p + length (operator_code o l m p d) < length r.code → AreIn (operator_code o l m p d)
-  operator_in operators.Divide l m p d few left right short = checked_in operators.Divide l m p d few left right short
-  operator_in operators.Remainder l m p d few left right short = checked_in operators.Remainder l m p d few left right short
-  operator_in o l m p d few left right short = ((few, left, right), tt)
+  operator_in : (o : Operator) (l m : Operand) (d : ℕ) → d < r.slots → IsOperand r l → IsOperand r m → AreIn (operator_code (starts_of types) o l m d)
+  operator_in operators.Divide l m d few left right = checked_in operators.Divide l m d few left right
+  operator_in operators.Remainder l m d few left right = checked_in operators.Remainder l m d few left right
+  operator_in o l m d few left right = ((few, left, right), tt)
 
   load_in : (l : Lvalue) (t : Ty) (d : ℕ) → FitsPlace b types l (kind_of t) → d + words_of_kind (kind_of t) ≤ r.slots → AreIn (load_code (starts_of types) (words_of t) l d)
   load_in (Local w n) t d (within, room) few =
@@ -508,8 +506,8 @@ module _ (program : PlainProgram) (r : Routine) (b : Numbering) (types : Types) 
 
   initial_by : (there : Bool) (from to : Kind) (a : Expression) (p d t : ℕ) → from ≡ kind_at a → is_converted from to ≡ true → Fits b types a → d + words_of_kind to ≤ r.slots → t + converted_words (Convert from to a) ≤ r.slots → converts_there from to ≡ there
       → ((slot : ℕ) → slot + words_of_kind (kind_at a) ≤ r.slots → p + length (expression_code (starts_of types) a p slot t) < length r.code → AreIn (expression_code (starts_of types) a p slot t))
-      → p + length (if there then expression_code (starts_of types) a p d t else moved_by (source_of (starts_of types) (Convert from to a)) (expression_code (starts_of types) a p (source_slot (starts_of types) (Convert from to a) t) t) from to (span_of a) (converted_operand (starts_of types) (Convert from to a) t) p d) < length r.code
-      → AreIn (if there then expression_code (starts_of types) a p d t else moved_by (source_of (starts_of types) (Convert from to a)) (expression_code (starts_of types) a p (source_slot (starts_of types) (Convert from to a) t) t) from to (span_of a) (converted_operand (starts_of types) (Convert from to a) t) p d)
+      → p + length (if there then expression_code (starts_of types) a p d t else moved_by (starts_of types) (source_of (starts_of types) (Convert from to a)) (expression_code (starts_of types) a p (source_slot (starts_of types) (Convert from to a) t) t) from to (span_of a) (converted_operand (starts_of types) (Convert from to a) t) p d) < length r.code
+      → AreIn (if there then expression_code (starts_of types) a p d t else moved_by (starts_of types) (source_of (starts_of types) (Convert from to a)) (expression_code (starts_of types) a p (source_slot (starts_of types) (Convert from to a) t) t) from to (span_of a) (converted_operand (starts_of types) (Convert from to a) t) p d)
   initial_by true from to a p d t kind wide numbered room free lands inside short = inside d (omega (arith, room, ap words_of_kind kind, as_wide from to lands)) short
   initial_by false from to a p d t kind wide numbered room free lands inside short =
       let c = Convert from to a in
@@ -518,7 +516,7 @@ module _ (program : PlainProgram) (r : Routine) (b : Numbering) (types : Types) 
       let inner = expression_code (starts_of types) a p slot t in
       let o = converted_operand (starts_of types) c t in
       let front = code_unless known inner in
-      let conversion = conversion_code from to (span_of a) o (p + length front) in
+      let conversion = conversion_code (starts_of types) from to (span_of a) o (p + length front) in
       let move = move_of (words_of_kind to) d o ∷ [] in
       let long = length-append (front ++ conversion) move in
       let long_front = length-append front conversion in
@@ -646,21 +644,21 @@ module _ (program : PlainProgram) (r : Routine) (b : Numbering) (types : Types) 
         let o = value_operand (starts_of types) a t in
         let inner = expression_code (starts_of types) a p slot t in
         let front = code_unless (operand_of (starts_of types) a) inner in
-        let access = followed_code (is_thin k) (span_in ty) o t (p + length front) in
+        let access = followed_code (starts_of types) (is_thin k) (span_in ty) o t in
         let long = length-append front access in
         let free : t + words_of_kind (kind_at a) ≤ r.slots = omega (arith, few, given_needs a numbered, some) in
         append front access (unless_in (operand_of (starts_of types) a) inner p (omega (arith, short, long)) (λ less. expression_in a p slot t numbered (slot_fits a t numbered free) (omega (arith, few)) less))
-        (followed_in k (is_thin k) (span_in ty) o t (p + length front) refl pointer (subst (λ x. HasOperand o (words_of_kind x)) (sym kind_is) (value_room a t numbered free)) (omega (arith, free, ap words_of_kind kind_is)) (omega (arith, short, long)))
+        (followed_in k (is_thin k) (span_in ty) o t refl pointer (subst (λ x. HasOperand o (words_of_kind x)) (sym kind_is) (value_room a t numbered free)) (omega (arith, free, ap words_of_kind kind_is)))
     place_in (Member k a s f ty) own p t (thin, there, numbered) some few short =
         let slot = value_slot (starts_of types) a t in
         let o = value_operand (starts_of types) a t in
         let inner = expression_code (starts_of types) a p slot t in
         let front = code_unless (operand_of (starts_of types) a) inner in
-        let check = check_code null_exception o (p + length front) in
+        let check = check_code (starts_of types) null_exception o in
         let long = length-append front check in
         let free : t + words_of_kind (kind_at a) ≤ r.slots = omega (arith, few, given_needs a numbered, some) in
         append front check (unless_in (operand_of (starts_of types) a) inner p (omega (arith, short, long)) (λ less. expression_in a p slot t numbered (slot_fits a t numbered free) (omega (arith, few)) less))
-        (check_in null_exception o (p + length front) (value_in a t numbered free) (omega (arith, short, long)))
+        (check_in null_exception o (omega arith) (value_in a t numbered free))
     place_in x own p t numbered some few short = absurd numbered
 
     initial_in : (c : Converted) (p d t : ℕ) → FitsConverted b types c → d + words_of_kind (passed_kind c) ≤ r.slots → t + converted_words c ≤ r.slots → t + converted_need c ≤ r.slots → p + length (initial_code (starts_of types) c p d t) < length r.code → AreIn (initial_code (starts_of types) c p d t)
@@ -670,7 +668,7 @@ module _ (program : PlainProgram) (r : Routine) (b : Numbering) (types : Types) 
     converted_in : (c : Converted) (p t : ℕ) → FitsConverted b types c → t + converted_words c ≤ r.slots → t + converted_need c ≤ r.slots → p + length (converted_code (starts_of types) c p t) < length r.code → AreIn (converted_code (starts_of types) c p t)
     converted_in (Convert from to a) p t (kind, wide, numbered) room few short =
         let front = expression_code (starts_of types) a p t t in
-        let back = conversion_code from to (span_of a) (operands.Slot t) (p + length front) in
+        let back = conversion_code (starts_of types) from to (span_of a) (operands.Slot t) (p + length front) in
         append front back (expression_in a p t t numbered (omega (arith, room, ap words_of_kind kind)) few (omega (arith, short, length-append front back)))
         (conversion_in from to (span_of a) (operands.Slot t) (p + length front) (omega (arith, room)) (omega (arith, short, length-append front back)))
 
@@ -681,7 +679,7 @@ module _ (program : PlainProgram) (r : Routine) (b : Numbering) (types : Types) 
         let o = converted_operand (starts_of types) (Convert from to a) t in
         let inner = expression_code (starts_of types) a p slot t in
         let front = code_unless known inner in
-        let back = conversion_code from to (span_of a) o (p + length front) in
+        let back = conversion_code (starts_of types) from to (span_of a) o (p + length front) in
         append front back
         (unless_in known inner p (omega (arith, short, length-append front back)) (λ less. expression_in a p slot t numbered (source_fits from to a t (kind, wide, numbered) room) few less))
         (conversion_in from to (span_of a) o (p + length front) (converted_room (Convert from to a) t (kind, wide, numbered) room) (omega (arith, short, length-append front back)))
@@ -712,7 +710,7 @@ module _ (program : PlainProgram) (r : Routine) (b : Numbering) (types : Types) 
         let operand = code_unless (operand_of (starts_of types) a) inner in
         let next = next_slot os d t in
         let m = value_operand (starts_of types) a (suc t) in
-        let operator = operator_code o l m (p + length operand) next in
+        let operator = operator_code (starts_of types) o l m next in
         let front = operand ++ operator in
         let back = operations_code (starts_of types) os (p + length front) (operands.Slot next) d t in
         let long = length-append front back in
@@ -723,7 +721,7 @@ module _ (program : PlainProgram) (r : Routine) (b : Numbering) (types : Types) 
         append front back
         (append operand operator
         (unless_in (operand_of (starts_of types) a) inner p (omega (arith, short, long, long_front)) (λ less. expression_in a p (value_slot (starts_of types) a (suc t)) (suc t) numbered (slot_fits a (suc t) numbered free) (omega (arith, few, some)) less))
-        (operator_in o l m (p + length operand) next next_few inside (value_in a (suc t) numbered free) (omega (arith, short, long, long_front))))
+        (operator_in o l m next next_few inside (value_in a (suc t) numbered free)))
         (operations_in os ty kinds.Int (p + length front) (operands.Slot next) d t (words_of ty) rest room (next_left_in os ty d t (words_of ty) rest (omega (arith, few))) next_few (words_positive ty) (omega (arith, few)) (omega (arith, short, long)))
     operations_in (ThenTest o a os) ty kind p l d t left (numbered, rest) room all inside some few short =
         let operand = expression_code (starts_of types) a (p + 1) t t in
@@ -834,7 +832,7 @@ module _ (program : PlainProgram) (r : Routine) (b : Numbering) (types : Types) 
       let s = slot_or known t in
       let inner = expression_code (starts_of types) a p t t in
       let front = code_unless_slot known inner in
-      let conversion = conversion_code from to (span_of a) (operands.Slot s) (p + length front) in
+      let conversion = conversion_code (starts_of types) from to (span_of a) (operands.Slot s) (p + length front) in
       let back = instructions.Return s ∷ [] in
       let long = length-append (front ++ conversion) back in
       let long_front = length-append front conversion in
@@ -963,18 +961,19 @@ module _ (source : Program) (is_fitting : IsFitting source) where
       let types = types_of source.structs h in
       let starts = starts_of types in
       let body = items_code starts h.body 0 (outside_loops d) d in
-      let end = instructions.Return d ∷ [] in
+      let end = instructions.Return d ∷ blocks in
       let long = length-append body end in
+      let placed = body_long source.structs h in
       record {
         parameters = omega (arith, slots-few h);
         results = omega (arith, results_few h.result);
         frame = omega (arith, slots-few h);
         instructions = all_of (IsInRange (lower_program source) r) (body ++ end)
             (all_append (IsInRange (lower_program source) r) body end
-            (items_in (lower_program source) r b types (λ n within. omega (arith, slot-room types n (omega (arith, within, slot_types-many h)))) (globals_counted source.globals) known_functions refl
+            (items_in (lower_program source) r b types (λ n within. omega (arith, slot-room types n (omega (arith, within, slot_types-many h)))) (globals_counted source.globals) known_functions refl (omega (arith, long, placed))
             h.body false 0 (outside_loops d) d numbered_body (λ inside. absurd (let f : false ≡ true = inside in cc)) (omega arith) (omega (arith, long)))
-            (omega (arith, results_few h.result), tt));
-        last = subst (λ (o : Option Instruction). IsSomeAnd o (λ i. leaves i ≡ true)) (sym (last_of body (instructions.Return d))) refl;
+            (omega (arith, results_few h.result), (tt, (tt, (tt, (tt, tt))))));
+        last = subst (λ (o : Option Instruction). IsSomeAnd o (λ i. leaves i ≡ true)) (sym (last_behind body end (omega arith))) refl;
       }
 
   functions_well : (hs : List Function) → AreFitting source.structs (length source.globals) (signatures_of source.functions) hs → AllByRecursion (IsRoutine (lower_program source)) (map (lower_function source.structs) hs)

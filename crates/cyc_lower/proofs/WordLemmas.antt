@@ -1,6 +1,6 @@
 -- A lowered program has words wherever its source has.
 use Rattle.std.proofs.Common.{ℕ, zero, suc, ◌+◌, ◌*◌, ◌≤◌, max, Bool, true, false, List, [], ◌∷◌, ◌++◌, length, map, Option, None, Some, All, arith, slice_get}
-use Rattle.cyc_meaning.specs.Operators.{null_exception, division_by_zero}
+use Rattle.cyc_meaning.specs.Operators.{null_exception, division_by_zero, array_bounds}
 use Rattle.std.specs.List.{AllByRecursion}
 use Rattle.cyc_words.proofs.WordLemmas.{IsWord-add_of}
 use Rattle.cyc_words.specs.Word.{IsWord, add_of}
@@ -17,6 +17,7 @@ use Rattle.cyc_types.specs.declared.typed.LogicalOperator.TheVariants as logical
 use Rattle.cyc_types.specs.TypedTrees.{Load, New, OnHeap, AsUnique, ByHandle, Initial, Plain, Fields, Dereference, Target, Lvalue, Local, Global, Expression, Number, NullPointer, Copy, Call, Unary, Binary, Assign, Converted, Convert, Arguments, NoArguments, MoreArguments, Operations, NoOperations, ThenCompute, ThenTest, ThenPointer, Statement, Block, Empty, Evaluate, If, While, Return, Break, Continue, Items, NoItems, MoreItems, Execute, Declare, Constant, Word, Null, GlobalVariable, StructType, Function, Program, Move, Peek, ThenPointerPeek, AddressOfCell, Store, Member, Element, NumberOfElements, type_of_place}
 use Rattle.cyc_plain.specs.declared.instruction.Comparison.{Comparison}
 use Rattle.cyc_plain.specs.declared.instruction.BinaryOperator.TheVariants as plain_binary
+use Rattle.cyc_plain.specs.declared.instruction.Comparison.TheVariants as comparisons
 use Rattle.cyc_plain.specs.declared.instruction.Operand.{Operand}
 use Rattle.cyc_plain.specs.declared.instruction.Operand.TheVariants as operands
 use Rattle.cyc_plain.specs.declared.instruction.Instruction.{Instruction}
@@ -30,7 +31,7 @@ use Rattle.cyc_types.specs.Types.{words_of, Ty}
 use Rattle.cyc_types.specs.Numbered.{argument_count}
 use Rattle.cyc_store.specs.declared.range.TheConstants.{HEAP}
 use Rattle.cyc_meaning.specs.Values.{words_of_kind, is_thin}
-use Rattle.cyc_lower.specs.Lowering.{types_of, are_as_wide, converts_there, passed_words, source_of, source_slot, converted_by, moved_by, move_of, operand_of, operand_or, code_unless, slot_or, code_unless_slot, left_with, left_of, value_slot, next_slot, left_slot, value_operand, converted_operand, printed_operand, check_code, conversion_code, divisor_code, checked_code, operator_code, truth_code, load_code, test_code, is_in, copy_code, expression_code, arguments_code, converted_code, converted_operand_code, printed_code, initial_code, assignment_code, operations_code, discarded_code, failing_comparison, compared_or, compared_of, slot_with, first_code, second_code, pair_code, condition_code, condition_of, return_code, declaration_code, statement_code, items_code, first_temporary, initial_word, lower_function, lower_global, lower_program, behind_left, pointer_code, outside_loops, inside_loop, index_of, first_two, pointer_instructions, stores_code, object_code, made_code, place_operand, place_offset, place_code, address_code, addressed_by, store_address_code, store_code, count_code, span_of, null_of, tested_code, widened_code, conversion_by, tested_by, saved_code, loaded_code, all_passed, bounds_code, stepped_code, reached_code, followed_code, followed_operand, followed_by, span_in}
+use Rattle.cyc_lower.specs.Lowering.{types_of, are_as_wide, converts_there, passed_words, source_of, source_slot, converted_by, moved_by, move_of, operand_of, operand_or, code_unless, slot_or, code_unless_slot, left_with, left_of, value_slot, next_slot, left_slot, value_operand, converted_operand, printed_operand, check_code, conversion_code, divisor_code, checked_code, operator_code, truth_code, load_code, test_code, is_in, copy_code, expression_code, arguments_code, converted_code, converted_operand_code, printed_code, initial_code, assignment_code, operations_code, discarded_code, failing_comparison, compared_or, compared_of, slot_with, first_code, second_code, pair_code, condition_code, condition_of, return_code, declaration_code, statement_code, items_code, first_temporary, initial_word, lower_function, lower_global, lower_program, behind_left, pointer_code, outside_loops, inside_loop, index_of, first_two, pointer_instructions, stores_code, object_code, made_code, place_operand, place_offset, place_code, address_code, addressed_by, store_address_code, store_code, count_code, span_of, null_of, tested_code, widened_code, conversion_by, tested_by, saved_code, loaded_code, all_passed, bounds_code, stepped_code, reached_code, followed_code, followed_operand, followed_by, span_in, guard_code, blocks}
 use Rattle.cyc_lower.proofs.Widths.{kind_few}
 use Rattle.cyc_lower.proofs.WellFormed.{all_append, all_of}
 
@@ -61,37 +62,44 @@ unless_slot_words None x words = words
 
 -- ---- expressions
 
-check_words : (tag : ℕ) (o : Operand) (p : ℕ) → IsWord tag → IsOfWord o → HaveWords (check_code tag o p)
-check_words tag o p fits word = ((word, omega arith), ((fits, word), tt))
+guard_words : (starts : Starts) (tag : ℕ) (failing : Comparison) (l r : Operand) → IsOfWord l → IsOfWord r → HaveWords (guard_code starts tag failing l r)
+guard_words starts tag failing l r left right = ((left, right), tt)
 
-tested_words : (to : Kind) (o : Operand) (p : ℕ) → IsOfWord o → HaveWords (tested_code to o p)
-tested_words kinds.NonNull o p word = check_words null_exception o p (omega arith) word
-tested_words to o p word = tt
+check_words : (starts : Starts) (tag : ℕ) (o : Operand) → IsOfWord o → HaveWords (check_code starts tag o)
+check_words starts tag o word = guard_words starts tag comparisons.Equal o (operands.Word 0) word (omega arith)
+
+tested_words : (starts : Starts) (to : Kind) (o : Operand) → IsOfWord o → HaveWords (tested_code starts to o)
+tested_words starts kinds.NonNull o word = check_words starts null_exception o word
+tested_words starts to o word = tt
 
 widened_words : (o : Operand) → HaveWords (widened_code o)
 widened_words (operands.Slot n) = (omega arith, (omega arith, tt))
 widened_words (operands.Word w) = tt
 
-conversion_by_words : (wide : Bool) (to : Kind) (span : Option ℕ) (o : Operand) (p : ℕ) → IsOfWord o → HaveWords (conversion_by wide to span o p)
-conversion_by_words true to span o p word = tested_words to o p word
-conversion_by_words false kinds.Fat span o p word = widened_words o
-conversion_by_words false to span o p word = tt
+conversion_by_words : (starts : Starts) (wide : Bool) (to : Kind) (span : Option ℕ) (o : Operand) (p : ℕ) → IsOfWord o → HaveWords (conversion_by starts wide to span o p)
+conversion_by_words starts true to span o p word = tested_words starts to o word
+conversion_by_words starts false kinds.Fat span o p word = widened_words o
+conversion_by_words starts false to span o p word = tt
 
-conversion_words : (from to : Kind) (span : Option ℕ) (o : Operand) (p : ℕ) → IsOfWord o → HaveWords (conversion_code from to span o p)
-conversion_words from to span o p word = conversion_by_words (are_as_wide from to) to span o p word
+conversion_words : (starts : Starts) (from to : Kind) (span : Option ℕ) (o : Operand) (p : ℕ) → IsOfWord o → HaveWords (conversion_code starts from to span o p)
+conversion_words starts from to span o p word = conversion_by_words starts (are_as_wide from to) to span o p word
 
-divisor_words : (o : Operand) (p : ℕ) → IsOfWord o → HaveWords (divisor_code o p)
-divisor_words (operands.Word (suc n)) p word = tt
-divisor_words (operands.Word zero) p word = check_words division_by_zero (operands.Word zero) p (omega arith) word
-divisor_words (operands.Slot n) p word = check_words division_by_zero (operands.Slot n) p (omega arith) word
+divisor_words : (starts : Starts) (o : Operand) → IsOfWord o → HaveWords (divisor_code starts o)
+divisor_words starts (operands.Word (suc n)) word = tt
+divisor_words starts (operands.Word zero) word = check_words starts division_by_zero (operands.Word zero) word
+divisor_words starts (operands.Slot n) word = check_words starts division_by_zero (operands.Slot n) word
 
-checked_words : (o : Operator) (l r : Operand) (p d : ℕ) → IsOfWord l → IsOfWord r → HaveWords (checked_code o l r p d)
-checked_words o l r p d left right = append (divisor_code r p) _ (divisor_words r p right) ((left, right), tt)
+checked_words : (starts : Starts) (o : Operator) (l r : Operand) (d : ℕ) → IsOfWord l → IsOfWord r → HaveWords (checked_code starts o l r d)
+checked_words starts o l r d left right = append (divisor_code starts r) _ (divisor_words starts r right) ((left, right), tt)
 
-operator_words : (o : Operator) (l r : Operand) (p d : ℕ) → IsOfWord l → IsOfWord r → HaveWords (operator_code o l r p d)
-operator_words operators.Divide l r p d left right = checked_words operators.Divide l r p d left right
-operator_words operators.Remainder l r p d left right = checked_words operators.Remainder l r p d left right
-operator_words o l r p d left right = ((left, right), tt)
+operator_words : (starts : Starts) (o : Operator) (l r : Operand) (d : ℕ) → IsOfWord l → IsOfWord r → HaveWords (operator_code starts o l r d)
+operator_words starts operators.Divide l r d left right = checked_words starts operators.Divide l r d left right
+operator_words starts operators.Remainder l r d left right = checked_words starts operators.Remainder l r d left right
+operator_words starts o l r d left right = ((left, right), tt)
+
+-- what raises exceptions, behind a function's body
+blocks_words : HaveWords blocks
+blocks_words = ((omega arith, omega arith), ((omega arith, omega arith), ((omega arith, omega arith), ((omega arith, omega arith), tt))))
 
 move_words : (words d : ℕ) (o : Operand) → IsOfWord o → HaveWords (move_of words d o ∷ [])
 move_words words d (operands.Word n) word = (word, tt)
@@ -118,13 +126,13 @@ field_word : (s : Option StructType) (field : ℕ) → IsWord (field_in s field)
 field_word None field = omega arith
 field_word (Some s) field = bytes_word s.fields field 0 (omega arith)
 
-converted_by_words : (known : Option Operand) (inner : List Instruction) (from to : Kind) (span : Option ℕ) (o : Operand) (p : ℕ) → HaveWords inner → IsOfWord o → HaveWords (converted_by known inner from to span o p)
-converted_by_words known inner from to span o p all word =
+converted_by_words : (starts : Starts) (known : Option Operand) (inner : List Instruction) (from to : Kind) (span : Option ℕ) (o : Operand) (p : ℕ) → HaveWords inner → IsOfWord o → HaveWords (converted_by starts known inner from to span o p)
+converted_by_words starts known inner from to span o p all word =
     let front = code_unless known inner in
-    append front (conversion_code from to span o (p + length front)) (unless_words known inner all) (conversion_words from to span o (p + length front) word)
+    append front (conversion_code starts from to span o (p + length front)) (unless_words known inner all) (conversion_words starts from to span o (p + length front) word)
 
-bounds_words : (index bound : Operand) (p : ℕ) → IsOfWord index → IsOfWord bound → HaveWords (bounds_code index bound p)
-bounds_words index bound p first second = ((first, second), ((omega arith, omega arith), tt))
+bounds_words : (starts : Starts) (index bound : Operand) → IsOfWord index → IsOfWord bound → HaveWords (bounds_code starts index bound)
+bounds_words starts index bound first second = guard_words starts array_bounds comparisons.GreaterOrEqualUnsigned index bound first second
 
 stepped_words : (span : Option ℕ) (n m t : ℕ) → HaveWords (stepped_code span n m t)
 stepped_words None n m t = tt
@@ -134,17 +142,15 @@ stepped_words (Some words) n m t = (by (words == 1), ((tt, tt), tt))
     by true = (tt, omega arith)
     by false = (tt, omega arith)
 
-reached_words : (span : Option ℕ) (n m t p : ℕ) → HaveWords (reached_code span n m t p)
-reached_words span n m t p =
-    let check = check_code null_exception (operands.Slot n) p in
-    let bounds = bounds_code (operands.Slot m) (operands.Slot (n + 1)) (p + length check) in
-    append check (bounds ++ stepped_code span n m t) (check_words null_exception (operands.Slot n) p (omega arith) tt)
-    (append bounds (stepped_code span n m t) (bounds_words (operands.Slot m) (operands.Slot (n + 1)) (p + length check) tt tt) (stepped_words span n m t))
+reached_words : (starts : Starts) (span : Option ℕ) (n m t : ℕ) → HaveWords (reached_code starts span n m t)
+reached_words starts span n m t =
+    append (check_code starts null_exception (operands.Slot n)) (bounds_code starts (operands.Slot m) (operands.Slot (n + 1)) ++ stepped_code span n m t) (check_words starts null_exception (operands.Slot n) tt)
+    (append (bounds_code starts (operands.Slot m) (operands.Slot (n + 1))) (stepped_code span n m t) (bounds_words starts (operands.Slot m) (operands.Slot (n + 1)) tt tt) (stepped_words span n m t))
 
-followed_words : (thin : Bool) (span : Option ℕ) (o : Operand) (t p : ℕ) → IsOfWord o → HaveWords (followed_code thin span o t p)
-followed_words true span o t p word = check_words null_exception o p (omega arith) word
-followed_words false span (operands.Slot n) t p word = reached_words span n (n + 2) t p
-followed_words false span (operands.Word w) t p word = check_words null_exception (operands.Word w) p (omega arith) word
+followed_words : (starts : Starts) (thin : Bool) (span : Option ℕ) (o : Operand) (t : ℕ) → IsOfWord o → HaveWords (followed_code starts thin span o t)
+followed_words starts true span o t word = check_words starts null_exception o word
+followed_words starts false span (operands.Slot n) t word = reached_words starts span n (n + 2) t
+followed_words starts false span (operands.Word w) t word = check_words starts null_exception (operands.Word w) word
 
 followed_word : (thin : Bool) (span : Option ℕ) (o : Operand) (t : ℕ) → IsOfWord o → IsOfWord (followed_operand thin span o t)
 followed_word true span o t word = word
@@ -152,21 +158,18 @@ followed_word false None (operands.Slot n) t word = tt
 followed_word false (Some words) (operands.Slot n) t word = tt
 followed_word false span (operands.Word w) t word = word
 
-followed_by_words : (known : Option Operand) (inner : List Instruction) (thin : Bool) (span : Option ℕ) (o : Operand) (t p : ℕ) → HaveWords inner → IsOfWord o → HaveWords (followed_by known inner thin span o t p)
-followed_by_words known inner thin span o t p all word =
-    let front = code_unless known inner in
-    append front (followed_code thin span o t (p + length front)) (unless_words known inner all) (followed_words thin span o t (p + length front) word)
+followed_by_words : (starts : Starts) (known : Option Operand) (inner : List Instruction) (thin : Bool) (span : Option ℕ) (o : Operand) (t : ℕ) → HaveWords inner → IsOfWord o → HaveWords (followed_by starts known inner thin span o t)
+followed_by_words starts known inner thin span o t all word =
+    append (code_unless known inner) (followed_code starts thin span o t) (unless_words known inner all) (followed_words starts thin span o t word)
 
-tested_by_words : (known : Option Operand) (inner : List Instruction) (o : Operand) (p : ℕ) → HaveWords inner → IsOfWord o → HaveWords (tested_by known inner o p)
-tested_by_words known inner o p all word =
-    let front = code_unless known inner in
-    append front (check_code null_exception o (p + length front)) (unless_words known inner all) (check_words null_exception o (p + length front) (omega arith) word)
+tested_by_words : (starts : Starts) (known : Option Operand) (inner : List Instruction) (o : Operand) → HaveWords inner → IsOfWord o → HaveWords (tested_by starts known inner o)
+tested_by_words starts known inner o all word = append (code_unless known inner) (check_code starts null_exception o) (unless_words known inner all) (check_words starts null_exception o word)
 
-initial_by_words : (there : Bool) (known : Option Operand) (at_once inner : List Instruction) (from to : Kind) (span : Option ℕ) (o : Operand) (p d : ℕ) → HaveWords at_once → HaveWords inner → IsOfWord o
-    → HaveWords (if there then at_once else moved_by known inner from to span o p d)
-initial_by_words true known at_once inner from to span o p d all other word = all
-initial_by_words false known at_once inner from to span o p d all other word =
-    append (converted_by known inner from to span o p) _ (converted_by_words known inner from to span o p other word) (move_words (words_of_kind to) d o word)
+initial_by_words : (starts : Starts) (there : Bool) (known : Option Operand) (at_once inner : List Instruction) (from to : Kind) (span : Option ℕ) (o : Operand) (p d : ℕ) → HaveWords at_once → HaveWords inner → IsOfWord o
+    → HaveWords (if there then at_once else moved_by starts known inner from to span o p d)
+initial_by_words starts true known at_once inner from to span o p d all other word = all
+initial_by_words starts false known at_once inner from to span o p d all other word =
+    append (converted_by starts known inner from to span o p) _ (converted_by_words starts known inner from to span o p other word) (move_words (words_of_kind to) d o word)
 
 index_word : (l : Operand) → IsOfWord l → IsOfWord (index_of l)
 index_word (operands.Slot n) word = tt
@@ -323,10 +326,10 @@ module _ (starts : Starts) where
     place_words : (x : Dereference) (p t : ℕ) → IsOfWordsCell x → HaveWords (place_code starts x p t)
     place_words (Target k a ty) p t words =
         let slot = value_slot starts a t in
-        followed_by_words (operand_of starts a) (expression_code starts a p slot t) (is_thin k) (span_in ty) (value_operand starts a t) t p (expression_words a p slot t words) (known_word a slot words)
+        followed_by_words starts (operand_of starts a) (expression_code starts a p slot t) (is_thin k) (span_in ty) (value_operand starts a t) t (expression_words a p slot t words) (known_word a slot words)
     place_words (Member k a s f ty) p t words =
         let slot = value_slot starts a t in
-        tested_by_words (operand_of starts a) (expression_code starts a p slot t) (value_operand starts a t) p (expression_words a p slot t words) (known_word a slot words)
+        tested_by_words starts (operand_of starts a) (expression_code starts a p slot t) (value_operand starts a t) (expression_words a p slot t words) (known_word a slot words)
     place_words x p t words = absurd words
 
     -- its address comes to a slot
@@ -336,32 +339,32 @@ module _ (starts : Starts) where
         let o = value_operand starts a t in
         let x = followed_operand (is_thin k) (span_in ty) o t in
         append (place_code starts (Target k a ty) p t) _
-        (followed_by_words (operand_of starts a) (expression_code starts a p slot t) (is_thin k) (span_in ty) o t p (expression_words a p slot t words) (known_word a slot words))
+        (followed_by_words starts (operand_of starts a) (expression_code starts a p slot t) (is_thin k) (span_in ty) o t (expression_words a p slot t words) (known_word a slot words))
         (address_words x 0 d (followed_word (is_thin k) (span_in ty) o t (known_word a slot words)) (omega arith))
     address_of_words (Member k a s f ty) p d t words =
         let slot = value_slot starts a t in
         let o = value_operand starts a t in
         let x = Member k a s f ty in
         append (place_code starts x p t) _
-        (tested_by_words (operand_of starts a) (expression_code starts a p slot t) o p (expression_words a p slot t words) (known_word a slot words))
+        (tested_by_words starts (operand_of starts a) (expression_code starts a p slot t) o (expression_words a p slot t words) (known_word a slot words))
         (address_words o (place_offset starts x) d (known_word a slot words) (offset_word x))
     address_of_words x p d t words = absurd words
 
     initial_words : (c : Converted) (p d t : ℕ) → IsOfWordsConverted c → HaveWords (initial_code starts c p d t)
     initial_words (Convert from to a) p d t words =
         let slot = source_slot starts (Convert from to a) t in
-        initial_by_words (converts_there from to) (source_of starts (Convert from to a)) (expression_code starts a p d t) (expression_code starts a p slot t) from to (span_of a) (converted_operand starts (Convert from to a) t) p d
+        initial_by_words starts (converts_there from to) (source_of starts (Convert from to a)) (expression_code starts a p d t) (expression_code starts a p slot t) from to (span_of a) (converted_operand starts (Convert from to a) t) p d
         (expression_words a p d t words) (expression_words a p slot t words) (converted_word (Convert from to a) t words)
 
     converted_words : (c : Converted) (p t : ℕ) → IsOfWordsConverted c → HaveWords (converted_code starts c p t)
     converted_words (Convert from to a) p t words =
         let q = p + length (expression_code starts a p t t) in
-        append (expression_code starts a p t t) (conversion_code from to (span_of a) (operands.Slot t) q) (expression_words a p t t words) (conversion_words from to (span_of a) (operands.Slot t) q tt)
+        append (expression_code starts a p t t) (conversion_code starts from to (span_of a) (operands.Slot t) q) (expression_words a p t t words) (conversion_words starts from to (span_of a) (operands.Slot t) q tt)
 
     converted_operand_words : (c : Converted) (p t : ℕ) → IsOfWordsConverted c → HaveWords (converted_operand_code starts c p t)
     converted_operand_words (Convert from to a) p t words =
         let slot = source_slot starts (Convert from to a) t in
-        converted_by_words (source_of starts (Convert from to a)) (expression_code starts a p slot t) from to (span_of a) (converted_operand starts (Convert from to a) t) p (expression_words a p slot t words) (converted_word (Convert from to a) t words)
+        converted_by_words starts (source_of starts (Convert from to a)) (expression_code starts a p slot t) from to (span_of a) (converted_operand starts (Convert from to a) t) p (expression_words a p slot t words) (converted_word (Convert from to a) t words)
 
     printed_words : (cs : Arguments) (p t : ℕ) → AreOfWordsArguments cs → HaveWords (printed_code starts cs p t)
     printed_words NoArguments p t words = tt
@@ -381,11 +384,11 @@ module _ (starts : Starts) where
         let inner = expression_code starts a p (value_slot starts a (suc t)) (suc t) in
         let operand = code_unless (operand_of starts a) inner in
         let next = next_slot os d t in
-        let operator = operator_code o l (value_operand starts a (suc t)) (p + length operand) next in
+        let operator = operator_code starts o l (value_operand starts a (suc t)) next in
         let q = p + length (operand ++ operator) in
         append (operand ++ operator) (operations_code starts os q (operands.Slot next) d t)
         (append operand operator (unless_words (operand_of starts a) inner (expression_words a p (value_slot starts a (suc t)) (suc t) first))
-        (operator_words o l (value_operand starts a (suc t)) (p + length operand) next left (known_word a (value_slot starts a (suc t)) first)))
+        (operator_words starts o l (value_operand starts a (suc t)) next left (known_word a (value_slot starts a (suc t)) first)))
         (operations_words os q (operands.Slot next) d t tt rest)
     operations_words (ThenTest o a os) p l d t left (first, rest) =
         let operand = expression_code starts a (p + 1) t t in
@@ -464,9 +467,9 @@ module _ (starts : Starts) where
       let inner = expression_code starts a p t t in
       let front = code_unless_slot known inner in
       let s = slot_or known t in
-      let conversion = conversion_code from to (span_of a) (operands.Slot s) (p + length front) in
+      let conversion = conversion_code starts from to (span_of a) (operands.Slot s) (p + length front) in
       append (front ++ conversion) _
-      (append front conversion (unless_slot_words known inner (expression_words a p t t words)) (conversion_words from to (span_of a) (operands.Slot s) (p + length front) tt)) (tt, tt)
+      (append front conversion (unless_slot_words known inner (expression_words a p t t words)) (conversion_words starts from to (span_of a) (operands.Slot s) (p + length front) tt)) (tt, tt)
 
   declaration_words : (n : ℕ) (v : Option Converted) (p t : ℕ) → IsOfWordsInitial v → HaveWords (declaration_code starts n v p t)
   declaration_words n None p t words = tt
@@ -510,7 +513,7 @@ functions_words structs (h ∷ hs) (first, rest) =
     let d = first_temporary h in
     let starts = starts_of (types_of structs h) in
     let body = items_code starts h.body 0 (outside_loops d) d in
-    (all_of HasWord (body ++ instructions.Return d ∷ []) (append body (instructions.Return d ∷ []) (items_words starts h.body 0 (outside_loops d) d first) (tt, tt)), functions_words structs hs rest)
+    (all_of HasWord (body ++ instructions.Return d ∷ blocks) (append body (instructions.Return d ∷ blocks) (items_words starts h.body 0 (outside_loops d) d first) (tt, blocks_words)), functions_words structs hs rest)
 
 constant_word : (c : Constant) → IsOfWordsConstant c → IsWord (initial_word c)
 constant_word (Word n) word = word

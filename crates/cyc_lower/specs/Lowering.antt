@@ -34,7 +34,7 @@ use Rattle.cyc_plain.specs.declared.instruction.Instruction.TheVariants as instr
 use Rattle.cyc_plain.specs.Program.{Routine, Program as PlainProgram}
 use Rattle.cyc_store.specs.declared.range.TheConstants.{HEAP}
 use Rattle.cyc_meaning.specs.Values.{words_of_kind, is_thin}
-use Rattle.cyc_meaning.specs.Operators.{null_exception, division_by_zero, array_bounds}
+use Rattle.cyc_meaning.specs.Operators.{null_exception, division_by_zero, array_bounds, array_size}
 use Rattle.cyc_meaning.specs.Parts.{target_of, target_by}
 use Rattle.cyc_meaning.specs.FrameCount.{frame_count, items_need, words_of_all}
 use Rattle.cyc_lower.specs.Slots.{Types, Starts, starts_of, slot_of, field_of}
@@ -46,10 +46,6 @@ use Rattle.cyc_lower.specs.declared.statements.Exits.{Exits}
 -- the types by which a function's locals have their slots
 abbrev pub slot_types : Function → List Ty
 slot_types h = h.parameters ++ h.locals
-
--- those by which its code is made, in a program with these structs
-abbrev pub types_of : List StructType → Function → Types
-types_of structs h = record { locals = slot_types h; structs = structs }
 
 -- the first slot behind the locals of a function
 abbrev pub first_temporary : Function → ℕ
@@ -157,9 +153,21 @@ jump_if_zero o target = instructions.Branch comparisons.Equal o (operands.Word 0
 abbrev pub jump_if_nonzero : Operand → (target : ℕ) → Instruction
 jump_if_nonzero o target = instructions.Branch comparisons.NotEqual o (operands.Word 0) target
 
--- where a word is 0, an exception is raised, which tells that 0
-abbrev pub check_code : (tag : ℕ) → Operand → (p : ℕ) → List Instruction
-check_code tag o p = jump_if_nonzero o (p + 2) ∷ instructions.Uncaught tag o ∷ []
+-- what raises an exception, which tells 0
+abbrev pub raising : (tag : ℕ) → Instruction
+raising tag = instructions.Uncaught tag (operands.Word 0)
+
+-- Such an instruction stands behind a function's body for each exception that the language itself raises, in the order of their tags.
+abbrev pub blocks : List Instruction
+blocks = raising null_exception ∷ raising array_bounds ∷ raising array_size ∷ raising division_by_zero ∷ []
+
+-- where this comparison of two operands holds, an exception is raised
+abbrev pub guard_code : Starts → (tag : ℕ) → Comparison → (l r : Operand) → List Instruction
+guard_code starts tag failing l r = instructions.Branch failing l r (starts.raises + tag) ∷ []
+
+-- where a word is 0
+abbrev pub check_code : Starts → (tag : ℕ) → Operand → List Instruction
+check_code starts tag o = guard_code starts tag comparisons.Equal o (operands.Word 0)
 
 -- A value of so many words comes to a slot and those behind it. A number has one word: where there are more, it is that of a null
 -- pointer, whose others may be anything.
@@ -168,13 +176,13 @@ move_of words d (operands.Slot n) = if words == 1 then instructions.Move d (oper
 move_of words d (operands.Word n) = instructions.Move d (operands.Word n)
 
 -- a value that may not be null is tested
-abbrev pub tested_code : (to : Kind) → Operand → (p : ℕ) → List Instruction
-tested_code kinds.NonNull o p = check_code null_exception o p
-tested_code to o p = []
+abbrev pub tested_code : Starts → (to : Kind) → Operand → List Instruction
+tested_code starts kinds.NonNull o = check_code starts null_exception o
+tested_code starts to o = []
 
 -- an index that is not below a length raises an exception
-abbrev pub bounds_code : (index length : Operand) → (p : ℕ) → List Instruction
-bounds_code index length p = instructions.Branch comparisons.LessUnsigned index length (p + 2) ∷ instructions.Uncaught array_bounds (operands.Word 0) ∷ []
+abbrev pub bounds_code : Starts → (index length : Operand) → List Instruction
+bounds_code starts index length = guard_code starts array_bounds comparisons.GreaterOrEqualUnsigned index length
 
 -- an index that counts cells of so many words becomes a number of bytes
 abbrev pub scale_of : (words d m : ℕ) → Instruction
@@ -193,20 +201,19 @@ stepped_code (Some words) n m t =
     ∷ []
 
 -- an access by a fat pointer whose first words are in slot n and the next, and whose index is in slot m
-abbrev pub reached_code : (span : Option ℕ) → (n m t p : ℕ) → List Instruction
-reached_code span n m t p =
-    check_code null_exception (operands.Slot n) p
-    ++ (bounds_code (operands.Slot m) (operands.Slot (n + 1)) (p + length (check_code null_exception (operands.Slot n) p)) ++ stepped_code span n m t)
+abbrev pub reached_code : Starts → (span : Option ℕ) → (n m t : ℕ) → List Instruction
+reached_code starts span n m t =
+    check_code starts null_exception (operands.Slot n) ++ (bounds_code starts (operands.Slot m) (operands.Slot (n + 1)) ++ stepped_code span n m t)
 
 abbrev pub reached_operand : (span : Option ℕ) → (n t : ℕ) → Operand
 reached_operand None n t = operands.Slot n
 reached_operand (Some words) n t = operands.Slot t
 
 -- an access by a pointer in an operand, which is thin or fat
-abbrev pub followed_code : (thin : Bool) → (span : Option ℕ) → Operand → (t p : ℕ) → List Instruction
-followed_code true span o t p = check_code null_exception o p
-followed_code false span (operands.Slot n) t p = reached_code span n (n + 2) t p
-followed_code false span (operands.Word w) t p = check_code null_exception (operands.Word w) p
+abbrev pub followed_code : Starts → (thin : Bool) → (span : Option ℕ) → Operand → (t : ℕ) → List Instruction
+followed_code starts true span o t = check_code starts null_exception o
+followed_code starts false span (operands.Slot n) t = reached_code starts span n (n + 2) t
+followed_code starts false span (operands.Word w) t = check_code starts null_exception (operands.Word w)
 
 abbrev pub followed_operand : (thin : Bool) → (span : Option ℕ) → Operand → (t : ℕ) → Operand
 followed_operand true span o t = o
@@ -224,13 +231,13 @@ widened_code (operands.Word n) = []
 
 -- A value is converted where it is, with as many words as before or not. The cells that it leads to, if it is a pointer to cells, have so
 -- many words each.
-abbrev pub conversion_by : (as_wide : Bool) → (to : Kind) → (span : Option ℕ) → Operand → (p : ℕ) → List Instruction
-conversion_by true to span o p = tested_code to o p
-conversion_by false kinds.Fat span o p = widened_code o
-conversion_by false to span o p = []
+abbrev pub conversion_by : Starts → (as_wide : Bool) → (to : Kind) → (span : Option ℕ) → Operand → (p : ℕ) → List Instruction
+conversion_by starts true to span o p = tested_code starts to o
+conversion_by starts false kinds.Fat span o p = widened_code o
+conversion_by starts false to span o p = []
 
-abbrev pub conversion_code : (from to : Kind) → (span : Option ℕ) → Operand → (p : ℕ) → List Instruction
-conversion_code from to span o p = conversion_by (words_of_kind from == words_of_kind to) to span o p
+abbrev pub conversion_code : Starts → (from to : Kind) → (span : Option ℕ) → Operand → (p : ℕ) → List Instruction
+conversion_code starts from to span o p = conversion_by starts (words_of_kind from == words_of_kind to) to span o p
 
 abbrev pub span_of : Expression → Option ℕ
 span_of a = option_map words_of_kind (target_by a)
@@ -241,17 +248,17 @@ null_of NullPointer = Some (operands.Word 0)
 null_of a = None
 
 -- a divisor is tested, but a number other than 0
-abbrev pub divisor_code : Operand → (p : ℕ) → List Instruction
-divisor_code (operands.Word (suc n)) p = []
-divisor_code o p = check_code division_by_zero o p
+abbrev pub divisor_code : Starts → Operand → List Instruction
+divisor_code starts (operands.Word (suc n)) = []
+divisor_code starts o = check_code starts division_by_zero o
 
-abbrev pub checked_code : Operator → (l r : Operand) → (p d : ℕ) → List Instruction
-checked_code o l r p d = divisor_code r p ++ instructions.Binary (binary_operator o) d l r ∷ []
+abbrev pub checked_code : Starts → Operator → (l r : Operand) → (d : ℕ) → List Instruction
+checked_code starts o l r d = divisor_code starts r ++ instructions.Binary (binary_operator o) d l r ∷ []
 
-abbrev pub operator_code : Operator → (l r : Operand) → (p d : ℕ) → List Instruction
-operator_code operators.Divide l r p d = checked_code operators.Divide l r p d
-operator_code operators.Remainder l r p d = checked_code operators.Remainder l r p d
-operator_code o l r p d = instructions.Binary (binary_operator o) d l r ∷ []
+abbrev pub operator_code : Starts → Operator → (l r : Operand) → (d : ℕ) → List Instruction
+operator_code starts operators.Divide l r d = checked_code starts operators.Divide l r d
+operator_code starts operators.Remainder l r d = checked_code starts operators.Remainder l r d
+operator_code starts o l r d = instructions.Binary (binary_operator o) d l r ∷ []
 
 -- where the value in t decides, the next operand is jumped over
 abbrev pub test_jump : LogicalOperator → (t target : ℕ) → Instruction
@@ -298,9 +305,9 @@ truth_code t d =
 abbrev pub low_byte : Operand → (d : ℕ) → Instruction
 low_byte o d = instructions.Binary plain_binary.And d o (operands.Word 255)
 
--- an operator with its right operand, whose code stands at place p
-abbrev pub compute_code : Operator → (l r : Operand) → (operand : List Instruction) → (p d : ℕ) → List Instruction
-compute_code o l r operand p d = operand ++ operator_code o l r (p + length operand) d
+-- an operator with its right operand
+abbrev pub compute_code : Starts → Operator → (l r : Operand) → (operand : List Instruction) → (d : ℕ) → List Instruction
+compute_code starts o l r operand d = operand ++ operator_code starts o l r d
 
 -- an operator on pointers with its right operand
 abbrev pub pointer_code : PointerOperator → (l r : Operand) → (operand : List Instruction) → (d : ℕ) → List Instruction
@@ -354,20 +361,20 @@ all_passed NoArguments = 0
 all_passed (MoreArguments c cs) = passed_words c + all_passed cs
 
 -- code that brings a value, and its conversion where it is then
-abbrev pub converted_by : Option Operand → (code : List Instruction) → (from to : Kind) → (span : Option ℕ) → Operand → (p : ℕ) → List Instruction
-converted_by known code from to span o p = code_unless known code ++ conversion_code from to span o (p + length (code_unless known code))
+abbrev pub converted_by : Starts → Option Operand → (code : List Instruction) → (from to : Kind) → (span : Option ℕ) → Operand → (p : ℕ) → List Instruction
+converted_by starts known code from to span o p = code_unless known code ++ conversion_code starts from to span o (p + length (code_unless known code))
 
 -- the same, and the value comes to slot d
-abbrev pub moved_by : Option Operand → (code : List Instruction) → (from to : Kind) → (span : Option ℕ) → Operand → (p d : ℕ) → List Instruction
-moved_by known code from to span o p d = converted_by known code from to span o p ++ move_of (words_of_kind to) d o ∷ []
+abbrev pub moved_by : Starts → Option Operand → (code : List Instruction) → (from to : Kind) → (span : Option ℕ) → Operand → (p d : ℕ) → List Instruction
+moved_by starts known code from to span o p d = converted_by starts known code from to span o p ++ move_of (words_of_kind to) d o ∷ []
 
 -- code that brings a pointer, and an access by it
-abbrev pub followed_by : Option Operand → (code : List Instruction) → (thin : Bool) → (span : Option ℕ) → Operand → (t p : ℕ) → List Instruction
-followed_by known code thin span o t p = code_unless known code ++ followed_code thin span o t (p + length (code_unless known code))
+abbrev pub followed_by : Starts → Option Operand → (code : List Instruction) → (thin : Bool) → (span : Option ℕ) → Operand → (t : ℕ) → List Instruction
+followed_by starts known code thin span o t = code_unless known code ++ followed_code starts thin span o t
 
 -- code that brings a pointer, which is tested where it is then
-abbrev pub tested_by : Option Operand → (code : List Instruction) → Operand → (p : ℕ) → List Instruction
-tested_by known code o p = code_unless known code ++ check_code null_exception o (p + length (code_unless known code))
+abbrev pub tested_by : Starts → Option Operand → (code : List Instruction) → Operand → List Instruction
+tested_by starts known code o = code_unless known code ++ check_code starts null_exception o
 
 -- ---- new objects
 
@@ -567,8 +574,8 @@ module _ (starts : Starts) where
 
     -- a place that a pointer leads to, which is tested
     pub place_code : Dereference → (p t : ℕ) → List Instruction
-    place_code (Target k a ty) p t = followed_by (operand_of a) (expression_code a p (value_slot a t) t) (is_thin k) (span_in ty) (value_operand a t) t p
-    place_code (Member k a s f ty) p t = tested_by (operand_of a) (expression_code a p (value_slot a t) t) (value_operand a t) p
+    place_code (Target k a ty) p t = followed_by starts (operand_of a) (expression_code a p (value_slot a t) t) (is_thin k) (span_in ty) (value_operand a t) t
+    place_code (Member k a s f ty) p t = tested_by starts (operand_of a) (expression_code a p (value_slot a t) t) (value_operand a t)
     place_code (Element a i ty) p t = instructions.Move t (operands.Word 0) ∷ []
 
     -- a new object in the region of this handle
@@ -585,12 +592,12 @@ module _ (starts : Starts) where
     -- the value comes to slot t and is converted there
     pub converted_code : Converted → (p t : ℕ) → List Instruction
     converted_code (Convert from to a) p t =
-        expression_code a p t t ++ conversion_code from to (span_of a) (operands.Slot t) (p + length (expression_code a p t t))
+        expression_code a p t t ++ conversion_code starts from to (span_of a) (operands.Slot t) (p + length (expression_code a p t t))
 
     -- the value is converted where it is
     pub converted_operand_code : Converted → (p t : ℕ) → List Instruction
     converted_operand_code (Convert from to a) p t =
-        converted_by (source_of (Convert from to a)) (expression_code a p (source_slot (Convert from to a) t) t) from to (span_of a) (converted_operand (Convert from to a) t) p
+        converted_by starts (source_of (Convert from to a)) (expression_code a p (source_slot (Convert from to a) t) t) from to (span_of a) (converted_operand (Convert from to a) t) p
 
     -- the arguments of `putchar`, of which there is one
     pub printed_code : Arguments → (p t : ℕ) → List Instruction
@@ -603,15 +610,15 @@ module _ (starts : Starts) where
     initial_code (Convert from to a) p d t =
         if converts_there from to
         then expression_code a p d t
-        else moved_by (source_of (Convert from to a)) (expression_code a p (source_slot (Convert from to a) t) t) from to (span_of a) (converted_operand (Convert from to a) t) p d
+        else moved_by starts (source_of (Convert from to a)) (expression_code a p (source_slot (Convert from to a) t) t) from to (span_of a) (converted_operand (Convert from to a) t) p d
 
     -- The left operand is l. It is t where an operator is a test, or where the right operand has code.
     pub operations_code : Operations → (p : ℕ) → (l : Operand) → (d t : ℕ) → List Instruction
     operations_code NoOperations p l d t = []
     operations_code (ThenCompute o b os) p l d t =
-        compute_code o l (value_operand b (suc t)) (code_unless (operand_of b) (expression_code b p (value_slot b (suc t)) (suc t))) p (next_slot os d t)
+        compute_code starts o l (value_operand b (suc t)) (code_unless (operand_of b) (expression_code b p (value_slot b (suc t)) (suc t))) (next_slot os d t)
         ++ operations_code os
-        (p + length (compute_code o l (value_operand b (suc t)) (code_unless (operand_of b) (expression_code b p (value_slot b (suc t)) (suc t))) p (next_slot os d t)))
+        (p + length (compute_code starts o l (value_operand b (suc t)) (code_unless (operand_of b) (expression_code b p (value_slot b (suc t)) (suc t))) (next_slot os d t)))
         (operands.Slot (next_slot os d t)) d t
     operations_code (ThenTest o b os) p l d t =
         test_code o (expression_code b (p + 1) t t) p (next_slot os d t) t
@@ -685,7 +692,7 @@ module _ (starts : Starts) where
   return_code None p t = instructions.Return t ∷ []
   return_code (Some (Convert from to a)) p t =
       code_unless_slot (source_of (Convert from to a)) (expression_code a p t t)
-      ++ conversion_code from to (span_of a) (operands.Slot (slot_or (source_of (Convert from to a)) t)) (p + length (code_unless_slot (source_of (Convert from to a)) (expression_code a p t t)))
+      ++ conversion_code starts from to (span_of a) (operands.Slot (slot_or (source_of (Convert from to a)) t)) (p + length (code_unless_slot (source_of (Convert from to a)) (expression_code a p t t)))
       ++ instructions.Return (slot_or (source_of (Convert from to a)) t)
       ∷ []
 
@@ -722,10 +729,25 @@ module _ (starts : Starts) where
 
 -- ---- programs
 
--- The code of a function ends in a return, which is the end of a void function. In any other it is never reached, and
--- stands there so that no code runs off its end.
+-- by which the code of a function is made, in a program with these structs, where blocks stand behind this place
+abbrev pub types_with : (raises : ℕ) → List StructType → Function → Types
+types_with raises structs h = record { locals = slot_types h; structs = structs; raises = raises }
+
+-- the code of its body
+abbrev pub body_code : Types → Function → List Instruction
+body_code types h = items_code (starts_of types) h.body 0 (outside_loops (first_temporary h)) (first_temporary h)
+
+-- Blocks stand behind the code. How long that is does not depend on where they stand: so it is made twice, and at first for any place.
+abbrev pub raises_of : List StructType → Function → ℕ
+raises_of structs h = length (body_code (types_with 0 structs h) h)
+
+abbrev pub types_of : List StructType → Function → Types
+types_of structs h = types_with (raises_of structs h) structs h
+
+-- A body's code ends in a return, which is the end of a void function. In any other it is never reached, and stands there so that no
+-- code runs off its end. The blocks stand behind it.
 abbrev pub function_code : List StructType → Function → List Instruction
-function_code structs h = items_code (starts_of (types_of structs h)) h.body 0 (outside_loops (first_temporary h)) (first_temporary h) ++ instructions.Return (first_temporary h) ∷ []
+function_code structs h = body_code (types_of structs h) h ++ instructions.Return (first_temporary h) ∷ blocks
 
 -- the words that a function returns
 abbrev pub results_of : Option Ty → ℕ

@@ -16,18 +16,22 @@ abbrev pub starts_from : (slot : ℕ) → List Ty → List ℕ
 starts_from slot [] = []
 starts_from slot (t ∷ ts) = slot ∷ starts_from (slot + words_of t) ts
 
--- the types of a function's locals, and the structs of its program
+-- The types of a function's locals, and the structs of its program. Behind the place `raises` of its code stand the blocks that raise
+-- exceptions.
 pub record Types : Type 0 where
   pub locals : List Ty
   pub structs : List StructType
+  pub raises : ℕ
 
--- what tells where things begin: the first slots of a function's locals, and the structs of its program, for their fields
+-- What tells where things begin: the first slots of a function's locals, the structs of its program, for their fields, and the place
+-- behind which the blocks stand that raise exceptions.
 pub record Starts : Type 0 where
   pub locals : List ℕ
   pub structs : List StructType
+  pub raises : ℕ
 
 abbrev pub starts_of : Types → Starts
-starts_of types = record { locals = starts_from 0 types.locals; structs = types.structs }
+starts_of types = record { locals = starts_from 0 types.locals; structs = types.structs; raises = types.raises }
 
 -- Where the field of this number begins, in bytes behind what is before its struct's fields: a word, since it is wrapped. No text has as
 -- many fields as that takes.

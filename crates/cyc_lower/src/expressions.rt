@@ -7,20 +7,22 @@ ghost use Rattle.cyc_types.specs.TypedTrees.{Call};
 ghost use Rattle.cyc_meaning.specs.Values.{is_thin, words_of_kind};
 ghost use Rattle.cyc_plain.specs.declared.instruction.Operand.TheVariants as operands;
 ghost use Rattle.cyc_plain.specs.declared.instruction.Instruction.TheVariants as instructions;
-ghost use Rattle.cyc_lower.specs.Lowering.{operand_of, operand_or, left_of, left_slot, value_operand, converted_operand, printed_operand, check_code, conversion_code, divisor_code, operator_code, truth_code, copy_code, all_passed, expression_code, arguments_code, converted_operand_code, printed_code, initial_code, assignment_code, assigned_operand, operations_code, discarded_code, condition_of, condition_code, first_two, index_code, pointer_instructions, stores_code, object_code, made_code, address_code, place_operand, place_offset, place_code, addressed_by, count_code, widened_code, span_of, saved_code, loaded_code, bounds_code, stepped_code, reached_code, followed_code, followed_operand};
+ghost use Rattle.cyc_lower.specs.Lowering.{operand_of, operand_or, left_of, left_slot, value_operand, converted_operand, printed_operand, conversion_code, divisor_code, operator_code, truth_code, copy_code, all_passed, expression_code, arguments_code, converted_operand_code, printed_code, initial_code, assignment_code, assigned_operand, operations_code, discarded_code, condition_of, condition_code, first_two, index_code, pointer_instructions, stores_code, object_code, made_code, address_code, place_operand, place_offset, place_code, addressed_by, count_code, widened_code, span_of, saved_code, loaded_code, stepped_code, reached_code, followed_code, followed_operand};
 ghost use Rattle.cyc_lower.specs.Emission.{Appends, Gives, HasRoom, HasRoomFor, most_locals, value_code, source_code, slot_code, print_code, converted_slot, converted_slot_code, left_code, operation_code, IsChain, zero_condition, view_starts, pointer_operation_code};
 
+use crate::checks::{ARRAY_BOUNDS, DIVISION_BY_ZERO, NULL_EXCEPTION};
 use crate::emitter::Emitter;
 use crate::frame_count::{words_at, words_of, words_of_kind};
-use crate::locals::{Starts, field_of, slot_of};
+use crate::locals::{field_of, slot_of};
 use crate::operands::{
     Condition, are_as_wide, converts_there, index_of, is_in, is_thin, null_of, operand_of, slot_behind, span_in,
     takes_operand, value_slot,
 };
 use crate::operators::{
-    binary_operator, failing_comparison, jump_if_nonzero, jump_if_zero, left_kind, move_of, pointer_operator, scale_of,
-    test_jump, unary_operator,
+    binary_operator, failing_comparison, jump_if_zero, left_kind, move_of, pointer_operator,
+    scale_of, test_jump, unary_operator,
 };
+use crate::starts::Starts;
 use cyc_plain::{BinaryOperator, Comparison, Instruction, Operand, Request, UnaryOperator};
 use cyc_store::HEAP;
 use cyc_types::typed;
@@ -29,13 +31,6 @@ use cyc_types::typed::{
     PointerOperator,
 };
 use std::alloc::AllocError;
-
-/// The exceptions that are raised, by their tags.
-const NULL_EXCEPTION: u32 = 1;
-
-const ARRAY_BOUNDS: u32 = 2;
-
-const DIVISION_BY_ZERO: u32 = 4;
 
 /// An object has at most as many words as a block.
 const MOST_OBJECT_WORDS: usize = 1000;
@@ -51,23 +46,19 @@ fn place_offset(starts: &Starts, place: &Dereference) -> u32
 }
 
 impl Emitter {
-    /// Where a word is 0, an exception is raised, which tells that 0.
-    fn check(&mut self, tag: u32, value: Operand) -> Result<(), AllocError>
-        ensures { Appends result self.old self.new (check_code tag value (length self.old.code.items)) }
-    {
-        let behind = self.place() + 2;
-        self.emit(jump_if_nonzero(value, behind))?;
-        self.emit(Instruction::Uncaught { tag, value })
-    }
-
     /// A conversion of a value where it is: where it may not be null, it is tested, and a thin pointer gets the other words of a fat
     /// one.
-    fn convert(&mut self, conversion: &Converted, value: Operand) -> Result<(), AllocError>
-        ensures { Appends result self.old self.new (conversion_code conversion.now.from conversion.now.to (span_of (view_expression conversion.now.value)) value (length self.old.code.items)) }
+    fn convert(
+        &mut self,
+        starts: &Starts,
+        conversion: &Converted,
+        value: Operand,
+    ) -> Result<(), AllocError>
+        ensures { Appends result self.old self.new (conversion_code (view_starts starts.now) conversion.now.from conversion.now.to (span_of (view_expression conversion.now.value)) value (length self.old.code.items)) }
     {
         if are_as_wide(conversion.from, conversion.to) {
             if matches!(conversion.to, Kind::NonNull) {
-                return self.check(NULL_EXCEPTION, value);
+                return self.check(starts, NULL_EXCEPTION, value);
             }
             return Ok(());
         }
@@ -93,23 +84,6 @@ impl Emitter {
             })?;
         }
         Ok(())
-    }
-
-    /// An index that is not below a length raises an exception.
-    fn check_bounds(&mut self, index: Operand, length: Operand) -> Result<(), AllocError>
-        ensures { Appends result self.old self.new (bounds_code index length (length self.old.code.items)) }
-    {
-        let behind = self.place() + 2;
-        self.emit(Instruction::Branch {
-            comparison: Comparison::LessUnsigned,
-            left: index,
-            right: length,
-            target: behind,
-        })?;
-        self.emit(Instruction::Uncaught {
-            tag: ARRAY_BOUNDS,
-            value: Operand::Word { word: 0 },
-        })
     }
 
     /// The address of the cell at an index comes to a slot, where there are cells of so many words.
@@ -141,18 +115,22 @@ impl Emitter {
     /// computed.
     fn reach(
         &mut self,
+        starts: &Starts,
         span: Option<usize>,
         first: usize,
         index: usize,
         slot: usize,
     ) -> Result<(), AllocError>
-        ensures { Appends result self.old self.new (reached_code span first index slot (length self.old.code.items)) }
+        ensures { Appends result self.old self.new (reached_code (view_starts starts.now) span first index slot) }
     {
-        let length = slot_behind(first, Kind::Fat)? - 2;
-        self.check(NULL_EXCEPTION, Operand::Slot { number: first })?;
-        self.check_bounds(
+        let bound = slot_behind(first, Kind::Fat)? - 2;
+        self.check(starts, NULL_EXCEPTION, Operand::Slot { number: first })?;
+        self.guard(
+            starts,
+            ARRAY_BOUNDS,
+            Comparison::GreaterOrEqualUnsigned,
             Operand::Slot { number: index },
-            Operand::Slot { number: length },
+            Operand::Slot { number: bound },
         )?;
         self.step(span, first, index, slot)
     }
@@ -160,33 +138,36 @@ impl Emitter {
     /// An access by a pointer in an operand, which is thin or fat: where the address stands then.
     fn follow(
         &mut self,
+        starts: &Starts,
         kind: Kind,
         span: Option<usize>,
         pointer: Operand,
         free: usize,
     ) -> Result<Operand, AllocError>
-        ensures { Gives (followed_operand (is_thin kind) span pointer free) result self.old self.new (followed_code (is_thin kind) span pointer free (length self.old.code.items)) }
+        ensures { Gives (followed_operand (is_thin kind) span pointer free) result self.old self.new (followed_code (view_starts starts.now) (is_thin kind) span pointer free) }
     {
         if !is_thin(kind) {
             if let Operand::Slot { number } = pointer {
                 let index = slot_behind(number, Kind::Fat)? - 1;
-                self.reach(span, number, index, free)?;
+                self.reach(starts, span, number, index, free)?;
                 return Ok(match span {
                     Some(_) => Operand::Slot { number: free },
                     None => pointer,
                 });
             }
         }
-        self.check(NULL_EXCEPTION, pointer)?;
+        self.check(starts, NULL_EXCEPTION, pointer)?;
         Ok(pointer)
     }
 
     /// A divisor is tested, but a number other than 0.
-    fn check_divisor(&mut self, value: Operand) -> Result<(), AllocError>
-        ensures { Appends result self.old self.new (divisor_code value (length self.old.code.items)) }
+    fn check_divisor(&mut self, starts: &Starts, value: Operand) -> Result<(), AllocError>
+        ensures { Appends result self.old self.new (divisor_code (view_starts starts.now) value) }
     {
         match value {
-            Operand::Word { word: 0 } | Operand::Slot { .. } => self.check(DIVISION_BY_ZERO, value),
+            Operand::Word { word: 0 } | Operand::Slot { .. } => {
+                self.check(starts, DIVISION_BY_ZERO, value)
+            }
             Operand::Word { .. } => Ok(()),
         }
     }
@@ -194,15 +175,16 @@ impl Emitter {
     /// An operator on two operands.
     fn lower_operator(
         &mut self,
+        starts: &Starts,
         operator: Operator,
         left: Operand,
         right: Operand,
         slot: usize,
     ) -> Result<(), AllocError>
-        ensures { Appends result self.old self.new (operator_code operator left right (length self.old.code.items) slot) }
+        ensures { Appends result self.old self.new (operator_code (view_starts starts.now) operator left right slot) }
     {
         if matches!(operator, Operator::Divide | Operator::Remainder) {
-            self.check_divisor(right)?;
+            self.check_divisor(starts, right)?;
         }
         self.emit(Instruction::Binary {
             operator: binary_operator(operator),
@@ -510,11 +492,11 @@ impl Emitter {
                 of_type,
             } => {
                 let address = self.lower_operand(starts, pointer, free)?;
-                self.follow(*kind, span_in(of_type), address, free)
+                self.follow(starts, *kind, span_in(of_type), address, free)
             }
             Dereference::Member { pointer, .. } => {
                 let address = self.lower_operand(starts, pointer, free)?;
-                self.check(NULL_EXCEPTION, address)?;
+                self.check(starts, NULL_EXCEPTION, address)?;
                 Ok(address)
             }
             Dereference::Element { .. } => {
@@ -676,7 +658,7 @@ impl Emitter {
         let mut slot = first;
         for argument in arguments {
             self.lower_expression(starts, &argument.value, slot, slot)?;
-            self.convert(argument, Operand::Slot { number: slot })?;
+            self.convert(starts, argument, Operand::Slot { number: slot })?;
             slot = slot_behind(slot, argument.to)?;
         }
         Ok(slot - first)
@@ -715,7 +697,7 @@ impl Emitter {
         ensures { Gives (converted_operand (view_starts starts.now) (view_converted value.now) free) result self.old self.new (converted_operand_code (view_starts starts.now) (view_converted value.now) (length self.old.code.items) free) }
     {
         let operand = self.lower_source(starts, value, free)?;
-        self.convert(value, operand)?;
+        self.convert(starts, value, operand)?;
         Ok(operand)
     }
 
@@ -805,7 +787,7 @@ impl Emitter {
         match operation {
             Operation::Compute { operator, operand } => {
                 let right = self.lower_operand(starts, operand, free + 1)?;
-                self.lower_operator(*operator, left, right, slot)
+                self.lower_operator(starts, *operator, left, right, slot)
             }
             Operation::Test { operator, operand } => {
                 let jump = self.place();
@@ -1080,7 +1062,7 @@ impl Emitter {
         ensures { Gives (converted_slot (view_starts starts.now) (view_converted value.now) free) result self.old self.new (converted_slot_code (view_starts starts.now) (view_converted value.now) (length self.old.code.items) free) }
     {
         let slot = self.lower_to_slot(starts, value, free)?;
-        self.convert(value, Operand::Slot { number: slot })?;
+        self.convert(starts, value, Operand::Slot { number: slot })?;
         Ok(slot)
     }
 }

@@ -7,7 +7,8 @@ ghost use Rattle.cyc_lower.specs.Lowering.{operand_of, null_of, span_in, value_s
 ghost use Rattle.cyc_lower.specs.Emission.{most_locals, takes_operand, view_starts};
 
 use crate::frame_count::words_of_kind;
-use crate::locals::{Starts, slot_of};
+use crate::locals::slot_of;
+use crate::starts::Starts;
 use cyc_plain::{Comparison, Operand};
 use cyc_syntax::PointerKind;
 use cyc_types::Ty;
