@@ -12,7 +12,7 @@ use Rattle.cyc_types.specs.declared.typed.Operator.TheVariants as operators
 use Rattle.cyc_types.specs.declared.typed.PointerOperator.{PointerOperator}
 use Rattle.cyc_types.specs.declared.typed.PointerOperator.TheVariants as pointers
 use Rattle.cyc_types.specs.Types.{Ty, words_of}
-use Rattle.cyc_types.specs.TypedTrees.{Load, New, OnHeap, AsUnique, ByHandle, Initial, Plain, Fields, Dereference, Target, Lvalue, Local, Global, Expression, Number, NullPointer, Copy, Call, Unary, Binary, Assign, Converted, Convert, Arguments, NoArguments, MoreArguments, Operations, NoOperations, ThenCompute, ThenTest, ThenPointer, Statement, Block, Empty, Evaluate, If, While, Return, Break, Continue, Items, NoItems, MoreItems, Execute, Declare, Signature, StructType, Function, Program, Move, Peek, ThenPointerPeek, type_of, AddressOfCell, Store, Member, type_of_place, NumberOfElements}
+use Rattle.cyc_types.specs.TypedTrees.{Load, New, OnHeap, AsUnique, ByHandle, Initial, Plain, Fields, Dereference, Target, Lvalue, Local, Global, Expression, Number, NullPointer, Copy, Call, Unary, Binary, Assign, Converted, Convert, Arguments, NoArguments, MoreArguments, Operations, NoOperations, ThenCompute, ThenTest, ThenPointer, Statement, Block, Empty, Evaluate, If, While, Return, Break, Continue, Items, NoItems, MoreItems, Execute, Declare, Signature, StructType, Function, Program, Move, Peek, ThenPointerPeek, type_of, AddressOfCell, Store, Member, type_of_place, NumberOfElements, Element}
 use Rattle.cyc_types.specs.Numbered.{Numbering, argument_count, numbering_of, signatures_of}
 use Rattle.cyc_plain.specs.declared.instruction.Comparison.{Comparison}
 use Rattle.cyc_plain.specs.declared.instruction.BinaryOperator.TheVariants as plain_binary
@@ -463,7 +463,29 @@ module _ (code : List Instruction) (b : Numbering) (types : Types) (raised : Blo
           there,
           refl,
         )
-    place_stands x t p q numbered end has = absurd numbered
+    place_stands (Element a i ty) t p q (fat, three, first, second) end has =
+        let front = expression_code (starts_of types) a p t t in
+        let m = p + length front in
+        let slot = value_slot (starts_of types) i (t + 3) in
+        let o = value_operand (starts_of types) i (t + 3) in
+        let inner = expression_code (starts_of types) i m slot (t + 3) in
+        let operand = code_unless (operand_of (starts_of types) i) inner in
+        let reached = reached_code (starts_of types) (span_in ty) t (t + 2) t in
+        let back = instructions.Binary plain_binary.Add (t + 2) (operands.Slot (t + 2)) o ∷ reached in
+        let r = m + length operand in
+        let rest = has_back code p front (operand ++ back) has in
+        let end_rest = cut p q front (operand ++ back) end in
+        let (sum, has_reached) = has_back code m operand back rest in (
+          o,
+          m,
+          r,
+          expression_stands a t t p m first refl (has_front code p front (operand ++ back) has),
+          operand_by (operand_of (starts_of types) i) _ inner slot m r refl (has_front code m operand back rest) (λ e h. expression_stands i slot (t + 3) m r second e h),
+          sum,
+          reached_stands (span_in ty) t (t + 2) t (r + 1) q (omega (arith, cut m q operand back end_rest)) has_reached,
+          refl,
+          refl,
+        )
 
     made_stands : (i : Initial) (handle d t p q : ℕ) → FitsObject b types i → p + length (made_code (starts_of types) i handle p d t) ≡ q → HasAt code p (made_code (starts_of types) i handle p d t) → MadeAt code b types i handle d t p q
     made_stands (Plain kind a) handle d t p q (kind_is, numbered) end has =

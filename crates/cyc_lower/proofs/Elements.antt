@@ -7,7 +7,7 @@ use Rattle.std.proofs.lemmas.Option.{same_Some}
 use Rattle.cyc_words.specs.Word.{add_of, mul_of, shl_of}
 use Rattle.cyc_types.specs.declared.typed.Kind.{Kind}
 use Rattle.cyc_types.specs.declared.typed.Kind.TheVariants as kinds
-use Rattle.cyc_types.specs.TypedTrees.{Program}
+use Rattle.cyc_types.specs.TypedTrees.{Expression, Program}
 use Rattle.cyc_store.specs.State.{StoreState}
 use Rattle.cyc_plain.specs.declared.instruction.BinaryOperator.TheVariants as plain_binary
 use Rattle.cyc_plain.specs.declared.instruction.Comparison.TheVariants as comparisons
@@ -17,32 +17,33 @@ use Rattle.cyc_plain.specs.declared.instruction.Instruction.{Instruction}
 use Rattle.cyc_plain.specs.declared.instruction.Instruction.TheVariants as instructions
 use Rattle.cyc_plain.specs.State as plain
 use Rattle.cyc_plain.specs.State.{Words, put, Configuration}
-use Rattle.cyc_plain.specs.Step.{Choice, with_slots, at, performed, branches}
+use Rattle.cyc_plain.specs.Step.{Choice, operand_word, with_slots, at, advanced, performed, branches}
 use Rattle.cyc_plain.specs.Straight.{At}
 use Rattle.cyc_plain.proofs.SlotLaws.{put-same, put-other}
 use Rattle.cyc_meaning.specs.Values.{Value, Int, Null, Thin, Fat, Handle, Key, Operand as Kinded, Cell, kinds_of, is_kind, is_thin, words_of_kind}
-use Rattle.cyc_meaning.specs.Operators.{null_exception, array_bounds}
+use Rattle.cyc_meaning.specs.Operators.{Result, null_exception, array_bounds}
 use Rattle.cyc_meaning.specs.Pointers.{Reach, Stops, followed}
 use Rattle.cyc_meaning.specs.Pointers as reaches
-use Rattle.cyc_meaning.specs.State.{Object, World, Environment, Follow, Entry, Needs, calls_in, Focus, Given, GivenPlace, Throwing, State, Running}
+use Rattle.cyc_meaning.specs.State.{Object, World, Environment, Follow, Index, Advance, Entry, Needs, calls_in, Focus, Evaluating, Given, GivenPlace, Throwing, State, Running}
 use Rattle.cyc_meaning.specs.Places.{arrives}
 use Rattle.cyc_meaning.specs.Parts.{is_target, cell_of}
-use Rattle.cyc_meaning.specs.Step.{wrong, step, leads_to}
+use Rattle.cyc_meaning.specs.Step.{wrong, computed, step, leads_to}
 use Rattle.cyc_objects.specs.Tables.{Tables}
 use Rattle.cyc_objects.specs.Words.{IsPartOf, Points, Is}
 use Rattle.cyc_objects.specs.Related as objects
 use Rattle.cyc_objects.proofs.NumberLemmas.{slice_get-map}
-use Rattle.cyc_objects.proofs.Pointers.{part-not-null, pointer-word, thinned}
+use Rattle.cyc_objects.proofs.Pointers.{part-not-null, pointer-word, thinned, fat-moved}
 use Rattle.cyc_lower.specs.Lowering.{scale_of, reached_operand, followed_operand, lower_program}
 use Rattle.cyc_lower.proofs.Widths.{wide_kind, same_kind, Outside}
 use Rattle.cyc_lower.proofs.Moves.{put_elsewhere}
-use Rattle.cyc_lower.proofs.Stands.{BoundsAt, SteppedAt, ReachedAt, FollowedAt}
-use Rattle.cyc_lower.proofs.Relation.{IsIn, IsLow, IsPlainStack, types_at, silent, Holds, held, callers, DataIn, SharedAt, PlaceStack, Matches, code_of, bounds_at, base_of, top}
-use Rattle.cyc_lower.proofs.Data.{Is-same, height-least, Holds-same, data_above}
+use Rattle.cyc_lower.proofs.Stands.{BoundsAt, SteppedAt, ReachedAt, FollowedAt, ValueAt}
+use Rattle.cyc_lower.proofs.Relation.{IsIn, IsLow, IsPlainStack, types_at, silent, Holds, held, callers, in_operand, as_operand, DataIn, SharedAt, ValueStack, PlaceStack, Matches, code_of, bounds_at, base_of, top}
+use Rattle.cyc_lower.proofs.Data.{Is-same, height-least, Holds-same, data_above, in_words}
 use Rattle.cyc_lower.proofs.Accesses.{IsWell, is_fitting}
 use Rattle.cyc_lower.proofs.Fitting.{is_pointer}
 use Rattle.cyc_lower.proofs.PlaceWords.{narrow_element, wide_element, stays}
-use Rattle.cyc_lower.proofs.Matched.{IsMatched, by_one, place_depth, place_plain}
+use Rattle.cyc_lower.proofs.Matched.{IsMatched, silently, by_one, place_depth, place_plain}
+use Rattle.cyc_lower.proofs.PointerSteps.{as_fat, int_word, is_moved, outside_index}
 use Rattle.cyc_lower.proofs.Paths.{Link, is_quiet, by_path}
 
 -- ---- the words of an access
@@ -348,3 +349,61 @@ module _ (source : Program) (pages calls : ℕ) where
       by kinds.Int i thin same is well = absurd (not_followed i target shared.tables kinds.Int kinds.Int v.value c.active.slots n k e w (subst (λ x. Is shared.tables x v.value c.active.slots n) same is) well refl)
       by kinds.Handle i thin same is well = absurd (not_followed i target shared.tables kinds.Handle kinds.Handle v.value c.active.slots n k e w (subst (λ x. Is shared.tables x v.value c.active.slots n) same is) well refl)
       by kinds.Key i thin same is well = absurd (not_followed i target shared.tables kinds.Key kinds.Key v.value c.active.slots n k e w (subst (λ x. Is shared.tables x v.value c.active.slots n) same is) well refl)
+
+  -- ---- an index
+
+  -- a fat pointer waits for its index, which is evaluated behind it
+  pub indexes_pointer : (peek : Option ℕ) (target : Option Kind) (i : Expression) (base : Kinded) (o : Operand) (k : List Entry) (e : Environment) (w : World) (c : Configuration)
+      → IsWell (step source (Running (Given base) (Needs (Index peek target i) ∷ k) e w)) → (shared : SharedAt source pages calls k e w c) → DataIn source shared.tables c.active.slots k e w c
+      → IsIn shared.tables base c.active.slots o → Holds shared.tables c.active.slots (base_of source c.active.function) (held k)
+      → ValueStack source c.active.function e.locals base.kind o c.active.next c.frames (Needs (Index peek target i) ∷ k)
+      → IsMatched source pages calls (Running (Given base) (Needs (Index peek target i) ∷ k) e w) (plain.Running c)
+  indexes_pointer peek target i base o k e w c well shared facts is holds (x, m, q, there, at_i, sum, reached, place) =
+      let g = c.active.function in
+      let goes = Running (Evaluating i) (Needs (Advance peek target base) ∷ k) e w in
+      let fits = is_fitting (is_kind base.kind kinds.Fat) goes w well in
+      let fat : base.kind ≡ kinds.Fat = same_kind base.kind kinds.Fat fits in
+      silently source pages calls (Running (Given base) (Needs (Index peek target i) ∷ k) e w) goes (plain.Running c) (ap (λ (b : Bool). if b then goes else wrong w) fits)
+      (
+        shared,
+        facts,
+        as_operand x m (subst (λ n. ValueAt (code_of source g) (bounds_at source g) (types_at source g) i (top source g k + n) x c.active.next m) (sym (ap words_of_kind fat)) at_i)
+            (subst (IsIn shared.tables base c.active.slots) there is, holds) (q, sum, reached, place),
+      )
+      (omega arith)
+
+  stands_same : (span : Option ℕ) (t : ℕ) → reached_operand span t t ≡ operands.Slot t
+  stands_same None t = refl
+  stands_same (Some words) t = refl
+
+  -- the index moves, and then the access is made
+  pub advances_pointer : (peek : Option ℕ) (target : Option Kind) (base : Kinded) (j : Kind) (x : Value) (o : Operand) (k : List Entry) (e : Environment) (w : World) (c : Configuration)
+      → IsWell (step source (Running (Given (record { kind = j; value = x })) (Needs (Advance peek target base) ∷ k) e w)) → (shared : SharedAt source pages calls k e w c) → DataIn source shared.tables c.active.slots k e w c
+      → IsIn shared.tables (record { kind = j; value = x }) c.active.slots o → Is shared.tables base.kind base.value c.active.slots (top source c.active.function k)
+      → Holds shared.tables c.active.slots (base_of source c.active.function) (held k)
+      → ValueStack source c.active.function e.locals j o c.active.next c.frames (Needs (Advance peek target base) ∷ k)
+      → IsMatched source pages calls (Running (Given (record { kind = j; value = x })) (Needs (Advance peek target base) ∷ k) e w) (plain.Running c)
+  advances_pointer peek target base j (Int n) o k e w c well shared facts is is_base holds (q, sum, reached, place) =
+      let g = c.active.function in
+      let slots = c.active.slots in
+      let t = top source g k in
+      let (others, p, same, is_right) = in_words shared.tables (record { kind = j; value = Int n }) slots o is in
+      let word : operand_word slots o ≡ n = sym same ∙ int_word shared.tables j n others p is_right in
+      let change = λ (index : ℕ). add_of index n in
+      let waiting = Needs (Follow kinds.Fat target) ∷ k in
+      let result = is_moved change base.value waiting e w well in
+      let v : Kinded = record { kind = kinds.Fat; value = result.value } in
+      let after = put slots (t + 2) (add_of (slots (t + 2)) n) in
+      let elsewhere_same = λ (m : ℕ) (out : Outside t 3 m). outside_index slots t (add_of (slots (t + 2)) n) m out in
+      by_one source pages calls (ap (λ (r : Result). computed kinds.Fat r waiting e w) result.gives) shared sum
+      (λ choice. subst (λ (y : ℕ). Matches source pages calls (Running (Given v) waiting e w) (plain.Running (advanced (with_slots c (put slots (t + 2) (add_of (slots (t + 2)) y)))))) (sym word)
+      (
+        shared,
+        in_operand (operands.Slot t)
+            (data_above shared.tables source g w.objects e.locals (callers k) slots after c.globals c.frames t 3 (height-least (base_of source g) (held k)) elsewhere_same facts)
+            (fat-moved shared.tables change base.value result.value slots after t t (as_fat shared.tables base.kind base.value slots t is_base result.fat) result.gives
+            (put-other slots (t + 2) t (add_of (slots (t + 2)) n) (λ h. absurd (omega (arith, h)))) (put-other slots (t + 2) (t + 1) (add_of (slots (t + 2)) n) (λ h. absurd (omega (arith, h)))) (put-same slots (t + 2) (add_of (slots (t + 2)) n)))
+            (Holds-same shared.tables slots after (base_of source g) (held k) (λ m short. elsewhere_same m (inl short)) holds)
+            (q, omega arith, reached, subst (λ y. PlaceStack source g e.locals y 0 q c.frames k) (sym (stands_same (option_map words_of_kind target) t)) place),
+      ))
+  advances_pointer peek target base j x o k e w c well shared facts is is_base holds stack = absurd (well refl)

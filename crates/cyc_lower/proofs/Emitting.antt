@@ -249,7 +249,8 @@ module _ (starts : Starts) where
   place_some (Target k a ty) p t =
       behind (code_unless (operand_of starts a) (expression_code starts a p (value_slot starts a t) t)) _ (followed_some (is_thin k) (span_in ty) (value_operand starts a t) t)
   place_some (Member k a s f ty) p t = behind (code_unless (operand_of starts a) (expression_code starts a p (value_slot starts a t) t)) _ (omega arith)
-  place_some (Element a i ty) p t = omega arith
+  place_some (Element a i ty) p t =
+      behind (expression_code starts a p t t) _ (behind (code_unless (operand_of starts i) (expression_code starts i (p + length (expression_code starts a p t t)) (value_slot starts i (t + 3)) (t + 3))) _ (omega arith))
 
   mutual
     pub expression_some : (a : Expression) (p d t : ℕ) → 0 < length (expression_code starts a p d t)

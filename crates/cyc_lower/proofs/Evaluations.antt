@@ -11,7 +11,7 @@ use Rattle.cyc_types.specs.declared.typed.Kind.TheVariants as kinds
 use Rattle.cyc_types.specs.declared.typed.UnaryOperator.TheVariants as unary
 use Rattle.cyc_types.specs.declared.typed.Operator.{Operator}
 use Rattle.cyc_types.specs.Types.{Ty, ValueType, words_of}
-use Rattle.cyc_types.specs.TypedTrees.{type_of_place, Dereference, Target, Lvalue, Local, Global, Expression, Number, Copy, Call, Unary, Binary, Assign, Converted, Convert, Arguments, NoArguments, MoreArguments, Operations, NoOperations, ThenCompute, ThenTest, ThenPointer, Function, Program, ThenPointerPeek, peeked, Member}
+use Rattle.cyc_types.specs.TypedTrees.{type_of_place, Dereference, Target, Lvalue, Local, Global, Expression, Number, Copy, Call, Unary, Binary, Assign, Converted, Convert, Arguments, NoArguments, MoreArguments, Operations, NoOperations, ThenCompute, ThenTest, ThenPointer, Function, Program, ThenPointerPeek, peeked, Member, Element}
 use Rattle.cyc_types.specs.TypedTrees as typed
 use Rattle.cyc_plain.specs.declared.instruction.Comparison.{Comparison}
 use Rattle.cyc_plain.specs.declared.instruction.Comparison.TheVariants as comparisons
@@ -26,7 +26,7 @@ use Rattle.cyc_plain.proofs.SlotLaws.{put-same}
 use Rattle.cyc_meaning.specs.Values.{Int, Null, Thin, Operand as Kinded, kind_of, words_of_kind, is_thin}
 use Rattle.cyc_store.specs.declared.range.TheConstants.{HEAP}
 use Rattle.cyc_meaning.specs.SourceMachine.{status_in}
-use Rattle.cyc_meaning.specs.State.{status_of, InRegion, World, heap_number, Environment, ConvertTo, Operate, Chain, Apply, Store, Pass, MakePlain, MakeFields, Choose, Test, Follow, LoadFrom, Entry, Needs, NeedsPlace, Discard, Focus, Evaluating, Locating, Given, Running, FollowMember, TakeAddress, StoreTo, CountElements}
+use Rattle.cyc_meaning.specs.State.{status_of, InRegion, World, heap_number, Environment, ConvertTo, Operate, Chain, Apply, Store, Pass, MakePlain, MakeFields, Choose, Test, Follow, LoadFrom, Entry, Needs, NeedsPlace, Discard, Focus, Evaluating, Locating, Given, Running, FollowMember, TakeAddress, StoreTo, CountElements, Index}
 use Rattle.cyc_meaning.specs.Step.{target_of, target_by, object_of, assigned, passes, step, loaded_from}
 use Rattle.cyc_types.specs.Numbered.{Numbering}
 use Rattle.cyc_meaning.specs.FrameCount.{words_of_all}
@@ -588,7 +588,13 @@ module _ (source : Program) (pages calls : ℕ) where
             (offset, q, thin, check, omega (arith, inside, length-map st.fields kind_of), λ below. is ∙ ap (λ z. field_in z field) there ∙ field_bytes st.fields field below, place),
       )
       (omega arith)
-  locating x k e w c well (shared, facts, (o, offset, q, at, holds, place)) = absurd at
+  locating (Element a i t) k e w c well (shared, facts, (o, offset, q, (x, m, r, at_a, at_i, sum, reached, is, none), holds, place)) =
+      let g = c.active.function in
+      let free = top source g k in
+      let there = subst (λ b. PlaceStack source g e.locals (operands.Slot free) b q c.frames k) none (subst (λ y. PlaceStack source g e.locals y offset q c.frames k) is place) in
+      silently source pages calls (Running (Locating (Element a i t)) k e w) (Running (Evaluating a) (Needs (Index (peeked (Element a i t)) (target_of t) i) ∷ k) e w) (plain.Running c) refl
+      (shared, facts, into_slot free m at_a holds (in_temporary (omega arith) (x, r, q, refl, at_i, sum, reached, there)))
+      (omega arith)
 
   pub evaluating : (a : Expression) (k : List Entry) (e : Environment) (w : World) (c : Configuration) → IsStep (Evaluating a) k e w c
   evaluating a k e w c well (shared, facts, as_operand o q at holds stack) = operand a k e w c o q (well, shared, facts, holds) at stack

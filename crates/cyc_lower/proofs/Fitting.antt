@@ -69,9 +69,9 @@ module _ (b : Numbering) (types : Types) where
     Fits a = ⊥
 
     pub FitsCell : Dereference → Type 0
+    FitsCell (Element a i t) = (given b.functions a ≡ kinds.Fat) × (3 ≤ operand_words (type_of a)) × Fits a × Fits i
     FitsCell (Target k a t) = (is_pointer k ≡ true) × (k ≡ given b.functions a) × Fits a
     FitsCell (Member k a s f t) = (is_thin k ≡ true) × HasField types s f × Fits a
-    FitsCell x = ⊥
 
     -- what a new object holds
     pub FitsObject : Initial → Type 0
@@ -417,7 +417,10 @@ module _ (b : Numbering) (types : Types) where
             (looked_fits a c pointer suits numbered (λ h. fits a c pointer suits numbered h) well).1,
           ),
         )
-    fits_cell x c t r suits numbered cell = absurd numbered
+    fits_cell (Element a i u) c t r suits (first, second) (well, index, live, same) =
+        let fat = Value (type_forms.Pointer marks.Fat u r) in
+        let (given_is, fitting) = looked_fits a c fat suits first (λ h. fits a c fat suits first h) well in
+        (same, (given_is, omega (arith, ap operand_words (type_given a c fat well)), fitting, (fits i c (Value type_forms.Int) suits second index).1))
 
     fits_converted : (d : Converted) (c : Context) (t : Ty) → Suits c → IsLowerableConverted b d → IsConverted c d t → (passed_kind d ≡ kind_of t) × FitsConverted b types d
     fits_converted (Convert from to a) c t suits (wide, numbered) (v, well, converts, from_is, to_is) =

@@ -188,7 +188,8 @@ module _ (starts : Starts) (raises : ℕ) where
     place_long (Target k a ty) p q t =
         joined _ _ _ _ (operand_by a p q t (expression_long a p q _ _ t (same_slot a t))) (followed_long (is_thin k) (span_in ty) (value_operand starts a t) (value_operand other a t) t (same_value a t))
     place_long (Member k a s f ty) p q t = joined _ _ _ _ (operand_by a p q t (expression_long a p q _ _ t (same_slot a t))) refl
-    place_long (Element a x ty) p q t = refl
+    place_long (Element a x ty) p q t =
+        joined _ _ _ _ (expression_long a p q t t t refl) (joined _ _ _ _ (operand_by x _ _ (t + 3) (expression_long x _ _ _ _ (t + 3) (same_slot x (t + 3)))) refl)
 
     made_long : (x : Initial) (handle p q d e t : ℕ) → d ≡ e → length (made_code starts x handle p d t) ≡ length (made_code other x handle q e t)
     made_long (Plain kind a) handle p q d e t same = joined _ _ _ _ (expression_long a p q t t t refl) (λ i. length (object_code handle (words_of_kind kind) (same i) t))

@@ -27,7 +27,7 @@ use Rattle.cyc_words.proofs.Matching.{by_none, way_before}
 use Rattle.cyc_plain.proofs.Steps.{step_performs, place_known}
 use Rattle.cyc_plain.specs.Straight.{At}
 use Rattle.cyc_words.specs.Demand.{demand_of}
-use Rattle.cyc_meaning.specs.State.{World, Environment, ConvertTo, Operate, Chain, Apply, ApplyPointer, Follow, LoadFrom, Decide, Store, Pass, MakePlain, MakeFields, Initialise, Choose, Test, Return, Entry, Needs, NeedsPlace, Discard, Rest, Join, Loop, CloseRegion, Caller, Main, counted, calls_in, Focus, Evaluating, Locating, Given, Executing, Proceeding, Calling, Entering, Binding, Writing, Breaking, Continuing, Returning, Throwing, State, Running, Ended, Dead, Wrong, output_of, input_of, status_of, GivenPlace, FollowMember, TakeAddress, StoreTo, StoreCell, CountElements}
+use Rattle.cyc_meaning.specs.State.{World, Environment, ConvertTo, Operate, Chain, Apply, ApplyPointer, Follow, LoadFrom, Decide, Store, Pass, MakePlain, MakeFields, Initialise, Choose, Test, Return, Entry, Needs, NeedsPlace, Discard, Rest, Join, Loop, CloseRegion, Caller, Main, counted, calls_in, Focus, Evaluating, Locating, Given, Executing, Proceeding, Calling, Entering, Binding, Writing, Breaking, Continuing, Returning, Throwing, State, Running, Ended, Dead, Wrong, output_of, input_of, status_of, GivenPlace, FollowMember, TakeAddress, StoreTo, StoreCell, CountElements, Index, Advance}
 use Rattle.cyc_meaning.specs.Step.{step}
 use Rattle.cyc_meaning.specs.Run.{is_within, limited_step}
 use Rattle.cyc_objects.specs.Tables.{Tables}
@@ -107,6 +107,8 @@ module _ (source : Program) where
     value_depth g locals kind o p frames (Needs Return ∷ k) (exits, q, s, is, at, one, stack) = statement_depth g exits q frames k stack
     value_depth g locals kind o p frames (Needs (Follow pointer target) ∷ k) (q, low, at, place) = place_depth g locals (followed_operand (is_thin pointer) (option_map words_of_kind target) o (top source g k)) 0 q frames k place
     value_depth g locals kind o p frames (Needs (FollowMember pointer fields field) ∷ k) (c, q, thin, check, inside, is, place) = place_depth g locals o c q frames k place
+    value_depth g locals kind o p frames (Needs (Index peek target index) ∷ k) (x, m, q, there, at, sum, reached, place) = place_depth g locals (operands.Slot (top source g k)) 0 q frames k place
+    value_depth g locals kind o p frames (Needs (Advance peek target base) ∷ k) (q, sum, reached, place) = place_depth g locals (operands.Slot (top source g k)) 0 q frames k place
     value_depth g locals kind o p frames (Discard ∷ k) (exits, stack) = statement_depth g exits p frames k stack
     value_depth g locals kind o p frames (entry ∷ k) stack = absurd stack
 
@@ -196,6 +198,8 @@ module _ (source : Program) where
     value_plain g locals kind o p frames (Needs Return ∷ k) (exits, q, s, is, at, one, stack) = statement_plain g exits q frames k stack
     value_plain g locals kind o p frames (Needs (Follow pointer target) ∷ k) (q, low, at, place) = place_plain g locals (followed_operand (is_thin pointer) (option_map words_of_kind target) o (top source g k)) 0 q frames k place
     value_plain g locals kind o p frames (Needs (FollowMember pointer fields field) ∷ k) (c, q, thin, check, inside, is, place) = place_plain g locals o c q frames k place
+    value_plain g locals kind o p frames (Needs (Index peek target index) ∷ k) (x, m, q, there, at, sum, reached, place) = place_plain g locals (operands.Slot (top source g k)) 0 q frames k place
+    value_plain g locals kind o p frames (Needs (Advance peek target base) ∷ k) (q, sum, reached, place) = place_plain g locals (operands.Slot (top source g k)) 0 q frames k place
     value_plain g locals kind o p frames (Discard ∷ k) (exits, stack) = statement_plain g exits p frames k stack
     value_plain g locals kind o p frames (entry ∷ k) stack = absurd stack
 

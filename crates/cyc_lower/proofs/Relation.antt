@@ -16,6 +16,7 @@ use Rattle.cyc_store.specs.declared.range.TheConstants.{HEAP}
 use Rattle.cyc_objects.specs.Tables.{Variable, Placed, Tables}
 use Rattle.cyc_objects.specs.Words.{words_of_kinds, InRange, Is, Points, before}
 use Rattle.cyc_objects.specs.Related as objects
+use Rattle.cyc_plain.specs.declared.instruction.BinaryOperator.TheVariants as plain_binary
 use Rattle.cyc_plain.specs.declared.instruction.Comparison.{Comparison}
 use Rattle.cyc_plain.specs.declared.instruction.Comparison.TheVariants as comparisons
 use Rattle.cyc_plain.specs.Operators.{compares}
@@ -30,7 +31,7 @@ use Rattle.cyc_plain.specs.State as plain
 use Rattle.cyc_plain.specs.Straight.{At}
 use Rattle.cyc_meaning.specs.Values.{Value, Null, Thin, Operand as Kinded, Cell, kinds_of, words_of_kind, is_thin}
 use Rattle.cyc_meaning.specs.Allocation.{writes_from, blanks_of}
-use Rattle.cyc_meaning.specs.State.{Owner, InRegion, Unique, Object, World, heap_number, globals_number, Environment, ConvertTo, Operate, Chain, Apply, ApplyPointer, Follow, LoadFrom, Decide, Store, Pass, MakePlain, MakeFields, Initialise, Choose, Test, Return, Entry, Needs, NeedsPlace, Discard, Rest, Join, Loop, CloseRegion, CloseLexical, EndLoan, Handler, Caller, Main, calls_in, Focus, Evaluating, Locating, Given, Executing, Proceeding, Calling, Entering, Binding, Writing, Breaking, Continuing, Returning, Throwing, State, Running, Ended, GivenPlace, FollowMember, TakeAddress, StoreTo, StoreCell, CountElements}
+use Rattle.cyc_meaning.specs.State.{Owner, InRegion, Unique, Object, World, heap_number, globals_number, Environment, ConvertTo, Operate, Chain, Apply, ApplyPointer, Follow, LoadFrom, Decide, Store, Pass, MakePlain, MakeFields, Initialise, Choose, Test, Return, Entry, Needs, NeedsPlace, Discard, Rest, Join, Loop, CloseRegion, CloseLexical, EndLoan, Handler, Caller, Main, calls_in, Focus, Evaluating, Locating, Given, Executing, Proceeding, Calling, Entering, Binding, Writing, Breaking, Continuing, Returning, Throwing, State, Running, Ended, GivenPlace, FollowMember, TakeAddress, StoreTo, StoreCell, CountElements, Index, Advance}
 use Rattle.cyc_meaning.specs.Step.{object_of}
 use Rattle.cyc_meaning.specs.Operators.{null_exception, is_zero}
 use Rattle.cyc_meaning.specs.FrameCount.{words_of_all}
@@ -39,7 +40,7 @@ use Rattle.cyc_meaning.specs.Pointers.{result_kind as operator_kind}
 use Rattle.cyc_lower.specs.Slots.{Types, Starts, starts_of, slot_of}
 use Rattle.cyc_lower.specs.Lowering.{unary_operator, failing_comparison, operand_of, move_of, low_byte, converts_there, all_passed, compared_of, break_target, continue_target, results_of, lower_program, outside_loops, slot_types, followed_operand, raises_of}
 use Rattle.cyc_lower.proofs.Widths.{kind_of_result, given, called_kind, HasRoom, Outside, chain_kind}
-use Rattle.cyc_lower.proofs.Stands.{CheckAt, ConversionAt, PlaceAt, OperatorAt, TruthAt, CopyAt, ExpressionAt, ArgumentsAt, OperationsAt, ValueAt, ConditionAt, FailingAt, ComparesAt, DiscardedAt, StatementAt, ItemsAt, PointerAt, StoresAt, ObjectAt, AddressAt, ConvertedOperandAt, CountAt, SavedAt, LoadedAt, FollowedAt}
+use Rattle.cyc_lower.proofs.Stands.{CheckAt, ConversionAt, PlaceAt, OperatorAt, TruthAt, CopyAt, ExpressionAt, ArgumentsAt, OperationsAt, ValueAt, ConditionAt, FailingAt, ComparesAt, DiscardedAt, StatementAt, ItemsAt, PointerAt, StoresAt, ObjectAt, AddressAt, ConvertedOperandAt, CountAt, SavedAt, LoadedAt, FollowedAt, ReachedAt}
 
 -- ---- values in slots
 
@@ -98,6 +99,8 @@ held (Needs (Choose first second) ∷ k) = []
 held (Needs (Test condition body) ∷ k) = []
 held (Needs Return ∷ k) = []
 held (Needs (Follow pointer target) ∷ k) = held k
+held (Needs (Index peek target index) ∷ k) = held k
+held (Needs (Advance peek target base) ∷ k) = base ∷ held k
 held (Needs (FollowMember pointer fields field) ∷ k) = held k
 held (NeedsPlace a ∷ k) = held k
 held (entry ∷ k) = []
@@ -422,6 +425,15 @@ module _ (source : Program) where
     ValueStack g locals kind o p frames (Needs (FollowMember pointer fields field) ∷ k) =
         (c : ℕ) × (q : ℕ) × (is_thin pointer ≡ true) × CheckAt (code_of g) (bounds_at g) (types_at g) null_exception o p q × (field < length fields)
         × (4 * before field fields < 2 ^ 32 → c ≡ 4 * before field fields) × PlaceStack g locals o c q frames k
+    ValueStack g locals kind o p frames (Needs (Index peek target index) ∷ k) =
+        (x : Operand) × (m : ℕ) × (q : ℕ) × (o ≡ operands.Slot (top g k)) × ValueAt (code_of g) (bounds_at g) (types_at g) index (top g k + 3) x p m
+        × At (code_of g) m (instructions.Binary plain_binary.Add (top g k + 2) (operands.Slot (top g k + 2)) x)
+        × ReachedAt (code_of g) (bounds_at g) (types_at g) (option_map words_of_kind target) (top g k) (top g k + 2) (top g k) (m + 1) q
+        × PlaceStack g locals (operands.Slot (top g k)) 0 q frames k
+    ValueStack g locals kind o p frames (Needs (Advance peek target base) ∷ k) =
+        (q : ℕ) × At (code_of g) p (instructions.Binary plain_binary.Add (top g k + 2) (operands.Slot (top g k + 2)) o)
+        × ReachedAt (code_of g) (bounds_at g) (types_at g) (option_map words_of_kind target) (top g k) (top g k + 2) (top g k) (p + 1) q
+        × PlaceStack g locals (operands.Slot (top g k)) 0 q frames k
     ValueStack g locals kind o p frames (Discard ∷ k) = (exits : Exits) × StatementStack g exits p frames k
     ValueStack g locals kind o p frames (entry ∷ k) = ⊥
 

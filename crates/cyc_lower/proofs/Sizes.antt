@@ -316,7 +316,23 @@ module _ (starts : Starts) where
     place_size (Member k a n f ty) p t =
         let slot = value_slot starts a t in
         omega (arith, tested_by_size starts (operand_of starts a) (expression_code starts a p slot t) (value_operand starts a t) (size_per_weight * expression_weight a) (expression_size a p slot t))
-    place_size (Element a i ty) p t = omega (arith, some_token a)
+    place_size (Element a i ty) p t =
+        let front = expression_code starts a p t t in
+        let slot = value_slot starts i (t + 3) in
+        let inner = expression_code starts i (p + length front) slot (t + 3) in
+        let operand = code_unless (operand_of starts i) inner in
+        let reached = reached_code starts (span_in ty) t (t + 2) t in
+        let sum = instructions.Binary plain_binary.Add (t + 2) (operands.Slot (t + 2)) (value_operand starts i (t + 3)) in
+        omega (
+          arith,
+          both front (operand ++ sum ∷ reached),
+          both operand (sum ∷ reached),
+          cons sum reached,
+          unless_size (operand_of starts i) inner,
+          expression_size a p t t,
+          expression_size i (p + length front) slot (t + 3),
+          reached_size starts (span_in ty) t (t + 2) t,
+        )
 
     -- with the address in a slot
     store_address_size : (x : Dereference) (p t : ℕ) → code_size (store_address_code starts x p t) + 12 ≤ size_per_weight * dereference_weight x
@@ -343,7 +359,7 @@ module _ (starts : Starts) where
           address_size o (place_offset starts x) t,
         )
     store_address_size (Element a i ty) p t =
-        omega (arith, both (instructions.Move t (operands.Word 0) ∷ []) (copy_code 1 (operands.Slot t) t), copied_address_size (operands.Slot t) t, some_token a)
+        omega (arith, both (place_code starts (Element a i ty) p t) (copy_code 1 (operands.Slot t) t), copied_address_size (operands.Slot t) t, place_size (Element a i ty) p t)
 
     initial_size : (c : Converted) (p d t : ℕ) → code_size (initial_code starts c p d t) ≤ size_per_weight * converted_weight c + 38
     initial_size (Convert from to a) p d t =

@@ -8,7 +8,7 @@ use Rattle.cyc_types.specs.declared.typed.Operator.{Operator}
 use Rattle.cyc_types.specs.declared.typed.Operator.TheVariants as operators
 use Rattle.cyc_types.specs.declared.typed.PointerOperator.{PointerOperator}
 use Rattle.cyc_types.specs.declared.typed.PointerOperator.TheVariants as pointers
-use Rattle.cyc_types.specs.TypedTrees.{type_of_place, Load, Dereference, Target, Lvalue, Local, Global, Expression, Number, NullPointer, Copy, Call, Unary, Binary, Assign, Converted, Convert, Arguments, NoArguments, MoreArguments, Operations, NoOperations, ThenCompute, ThenTest, ThenPointer, Statement, Block, Empty, Evaluate, If, While, Return, Break, Continue, Items, NoItems, MoreItems, Execute, Declare, Move, Peek, ThenPointerPeek, New, OnHeap, Initial, Plain, Fields, AddressOfCell, Store, Member, NumberOfElements}
+use Rattle.cyc_types.specs.TypedTrees.{type_of_place, Load, Dereference, Target, Lvalue, Local, Global, Expression, Number, NullPointer, Copy, Call, Unary, Binary, Assign, Converted, Convert, Arguments, NoArguments, MoreArguments, Operations, NoOperations, ThenCompute, ThenTest, ThenPointer, Statement, Block, Empty, Evaluate, If, While, Return, Break, Continue, Items, NoItems, MoreItems, Execute, Declare, Move, Peek, ThenPointerPeek, New, OnHeap, Initial, Plain, Fields, AddressOfCell, Store, Member, NumberOfElements, Element}
 use Rattle.cyc_types.specs.Types.{words_of}
 use Rattle.cyc_types.specs.Numbered.{Numbering, argument_count}
 use Rattle.cyc_plain.specs.declared.instruction.UnaryOperator.TheVariants as plain_unary
@@ -233,7 +233,10 @@ module _ (code : List Instruction) (bounds : Numbering) (types : Types) where
     PlaceAt (Member k a s f ty) o c t p q =
         (m : ℕ) × OperandBy (operand_of (starts_of types) a) (ExpressionAt a (value_slot (starts_of types) a t) t p m) (value_slot (starts_of types) a t) o p m
         × (is_thin k ≡ true) × CheckAt null_exception o m q × HasField types s f × (c ≡ field_of (starts_of types) s f)
-    PlaceAt x o c t p q = ⊥
+    PlaceAt (Element a i ty) o c t p q =
+        (x : Operand) × (m : ℕ) × (r : ℕ) × ExpressionAt a t t p m
+        × OperandBy (operand_of (starts_of types) i) (ExpressionAt i (value_slot (starts_of types) i (t + 3)) (t + 3) m r) (value_slot (starts_of types) i (t + 3)) x m r
+        × At code r (instructions.Binary plain_binary.Add (t + 2) (operands.Slot (t + 2)) x) × ReachedAt (span_in ty) t (t + 2) t (r + 1) q × (o ≡ operands.Slot t) × (c ≡ 0)
 
     -- the value comes to slot d, converted
     pub InitialAt : Converted → (d t p q : ℕ) → Type 0

@@ -13,7 +13,7 @@ use Rattle.cyc_types.specs.declared.typed.PointerOperator.TheVariants as pointer
 use Rattle.cyc_types.specs.declared.typed.LogicalOperator.{LogicalOperator}
 use Rattle.cyc_types.specs.declared.typed.LogicalOperator.TheVariants as logical
 use Rattle.cyc_types.specs.Types.{Ty, words_of, ValueType, Void, Null, Value}
-use Rattle.cyc_types.specs.TypedTrees.{Load, New, OnHeap, AsUnique, ByHandle, Initial, Plain, Fields, Array, Dereference, Target, type_of_place, Lvalue, Local, Global, Expression, Number, NullPointer, Copy, Call, Unary, Binary, Assign, Converted, Convert, Arguments, NoArguments, MoreArguments, Operations, NoOperations, ThenCompute, ThenTest, ThenPointer, type_of, Statement, Block, Empty, Evaluate, If, While, Return, Break, Continue, Items, NoItems, MoreItems, Execute, Declare, GlobalVariable, Signature, StructType, Function, Program, Move, Peek, ThenPointerPeek, AddressOfCell, Store, Member, NumberOfElements}
+use Rattle.cyc_types.specs.TypedTrees.{Load, New, OnHeap, AsUnique, ByHandle, Initial, Plain, Fields, Array, Dereference, Target, type_of_place, Lvalue, Local, Global, Expression, Number, NullPointer, Copy, Call, Unary, Binary, Assign, Converted, Convert, Arguments, NoArguments, MoreArguments, Operations, NoOperations, ThenCompute, ThenTest, ThenPointer, type_of, Statement, Block, Empty, Evaluate, If, While, Return, Break, Continue, Items, NoItems, MoreItems, Execute, Declare, GlobalVariable, Signature, StructType, Function, Program, Move, Peek, ThenPointerPeek, AddressOfCell, Store, Member, NumberOfElements, Element}
 use Rattle.cyc_types.specs.typing.WellTyped.{signature_of}
 use Rattle.cyc_types.specs.Numbered.{Numbering, argument_count, signatures_of, numbering_of}
 use Rattle.cyc_plain.specs.declared.instruction.Comparison.{Comparison}
@@ -175,8 +175,8 @@ module _ (program : PlainProgram) (r : Routine) (b : Numbering) (types : Types) 
   given_needs (Binary a os t) (numbered, rest) = omega (arith, given_needs a numbered, chain_needs os (kind_at a) t (operand_words (type_of a)) rest)
   given_needs (Assign l (Convert from to a) t) numbered = omega arith
   given_needs (Load (Target k a t)) numbered = omega (arith, type_words t)
+  given_needs (Load (Element a i t)) numbered = omega (arith, type_words t)
   given_needs (Load (Member k a s f t)) numbered = omega (arith, type_words t)
-  given_needs (Load x) numbered = absurd numbered
   given_needs (New OnHeap (Plain kind a) t) numbered = omega arith
   given_needs (New OnHeap (Fields cs) t) numbered = omega arith
   given_needs (New OnHeap (Array p level n kind a) t) numbered = absurd numbered
@@ -459,7 +459,7 @@ module _ (program : PlainProgram) (r : Routine) (b : Numbering) (types : Types) 
   place_operand_in (Target k a ty) own t (pointer, kind_is, numbered) some few =
       followed_operand_in (is_thin k) (span_in ty) (value_operand (starts_of types) a t) t (value_in a t numbered (omega (arith, few, given_needs a numbered, some))) (omega (arith, few, some))
   place_operand_in (Member k a s f ty) own t (thin, there, numbered) some few = value_in a t numbered (omega (arith, few, given_needs a numbered, some))
-  place_operand_in x own t numbered some few = absurd numbered
+  place_operand_in (Element a i ty) own t (fat, three, first, second) some few = omega (arith, few, some)
 
   addressed_in : (x : Dereference) (p d t : ℕ) → FitsCell b types x → d < r.slots → t + dereference_need x place_words ≤ r.slots
       → p + length (addressed_by (place_code (starts_of types) x p t) (place_operand (starts_of types) x t) (place_offset (starts_of types) x) d) < length r.code
@@ -659,7 +659,24 @@ module _ (program : PlainProgram) (r : Routine) (b : Numbering) (types : Types) 
         let free : t + words_of_kind (kind_at a) ≤ r.slots = omega (arith, few, given_needs a numbered, some) in
         append front check (unless_in (operand_of (starts_of types) a) inner p (omega (arith, short, long)) (λ less. expression_in a p slot t numbered (slot_fits a t numbered free) (omega (arith, few)) less))
         (check_in null_exception o (omega arith) (value_in a t numbered free))
-    place_in x own p t numbered some few short = absurd numbered
+    place_in (Element a i ty) own p t (fat, three, first, second) some few short =
+        let front = expression_code (starts_of types) a p t t in
+        let m = p + length front in
+        let slot = value_slot (starts_of types) i (t + 3) in
+        let o = value_operand (starts_of types) i (t + 3) in
+        let inner = expression_code (starts_of types) i m slot (t + 3) in
+        let operand = code_unless (operand_of (starts_of types) i) inner in
+        let reached = reached_code (starts_of types) (span_in ty) t (t + 2) t in
+        let back = instructions.Binary plain_binary.Add (t + 2) (operands.Slot (t + 2)) o ∷ reached in
+        let long = length-append front (operand ++ back) in
+        let behind = length-append operand back in
+        let room : t + words_of_kind (kind_at a) ≤ r.slots = omega (arith, few, given_needs a first, some) in
+        let wide = ap words_of_kind fat in
+        let free : t + 3 + words_of_kind (kind_at i) ≤ r.slots = omega (arith, few, three, given_needs i second, operand_positive (type_of i)) in
+        let third : t + 2 < r.slots = omega (arith, room, wide) in
+        append front (operand ++ back) (expression_in a p t t first room (omega (arith, few)) (omega (arith, short, long)))
+        (append operand back (unless_in (operand_of (starts_of types) i) inner m (omega (arith, short, long, behind)) (λ less. expression_in i m slot (t + 3) second (slot_fits i (t + 3) second free) (omega (arith, few, three)) less))
+        ((third, third, value_in i (t + 3) second free), reached_in (span_in ty) t (t + 2) t (omega (arith, room, wide)) third (omega (arith, room, wide))))
 
     initial_in : (c : Converted) (p d t : ℕ) → FitsConverted b types c → d + words_of_kind (passed_kind c) ≤ r.slots → t + converted_words c ≤ r.slots → t + converted_need c ≤ r.slots → p + length (initial_code (starts_of types) c p d t) < length r.code → AreIn (initial_code (starts_of types) c p d t)
     initial_in (Convert from to a) p d t (kind, wide, numbered) room free few short =

@@ -256,7 +256,7 @@ module _ (starts : Starts) where
   place_word : (x : Dereference) (t : ℕ) → IsOfWordsCell x → IsOfWord (place_operand starts x t)
   place_word (Target k a ty) t words = followed_word (is_thin k) (span_in ty) (value_operand starts a t) t (known_word a (value_slot starts a t) words)
   place_word (Member k a s f ty) t words = known_word a (value_slot starts a t) words
-  place_word x t words = absurd words
+  place_word (Element a i ty) t words = tt
 
   offset_word : (x : Dereference) → IsWord (place_offset starts x)
   offset_word (Target k a ty) = omega arith
@@ -330,7 +330,12 @@ module _ (starts : Starts) where
     place_words (Member k a s f ty) p t words =
         let slot = value_slot starts a t in
         tested_by_words starts (operand_of starts a) (expression_code starts a p slot t) (value_operand starts a t) (expression_words a p slot t words) (known_word a slot words)
-    place_words x p t words = absurd words
+    place_words (Element a i ty) p t (first, second) =
+        let q = p + length (expression_code starts a p t t) in
+        let inner = expression_code starts i q (value_slot starts i (t + 3)) (t + 3) in
+        append (expression_code starts a p t t) _ (expression_words a p t t first)
+        (append (code_unless (operand_of starts i) inner) _ (unless_words (operand_of starts i) inner (expression_words i q (value_slot starts i (t + 3)) (t + 3) second))
+        ((tt, known_word i (value_slot starts i (t + 3)) second), reached_words starts (span_in ty) t (t + 2) t))
 
     -- its address comes to a slot
     address_of_words : (x : Dereference) (p d t : ℕ) → IsOfWordsCell x → HaveWords (addressed_by (place_code starts x p t) (place_operand starts x t) (place_offset starts x) d)
@@ -348,7 +353,8 @@ module _ (starts : Starts) where
         append (place_code starts x p t) _
         (tested_by_words starts (operand_of starts a) (expression_code starts a p slot t) o (expression_words a p slot t words) (known_word a slot words))
         (address_words o (place_offset starts x) d (known_word a slot words) (offset_word x))
-    address_of_words x p d t words = absurd words
+    address_of_words (Element a i ty) p d t words =
+        append (place_code starts (Element a i ty) p t) _ (place_words (Element a i ty) p t words) (address_words (operands.Slot t) 0 d tt (omega arith))
 
     initial_words : (c : Converted) (p d t : ℕ) → IsOfWordsConverted c → HaveWords (initial_code starts c p d t)
     initial_words (Convert from to a) p d t words =

@@ -372,6 +372,11 @@ moved_by starts known code from to span o p d = converted_by starts known code f
 abbrev pub followed_by : Starts → Option Operand → (code : List Instruction) → (thin : Bool) → (span : Option ℕ) → Operand → (t : ℕ) → List Instruction
 followed_by starts known code thin span o t = code_unless known code ++ followed_code starts thin span o t
 
+-- code that brings a fat pointer to slot t, and an index, by which it moves before the access
+abbrev pub element_by : Starts → (pointer index : List Instruction) → (span : Option ℕ) → Operand → (t : ℕ) → List Instruction
+element_by starts pointer index span o t =
+    pointer ++ (index ++ instructions.Binary plain_binary.Add (t + 2) (operands.Slot (t + 2)) o ∷ reached_code starts span t (t + 2) t)
+
 -- code that brings a pointer, which is tested where it is then
 abbrev pub tested_by : Starts → Option Operand → (code : List Instruction) → Operand → List Instruction
 tested_by starts known code o = code_unless known code ++ check_code starts null_exception o
@@ -576,7 +581,8 @@ module _ (starts : Starts) where
     pub place_code : Dereference → (p t : ℕ) → List Instruction
     place_code (Target k a ty) p t = followed_by starts (operand_of a) (expression_code a p (value_slot a t) t) (is_thin k) (span_in ty) (value_operand a t) t
     place_code (Member k a s f ty) p t = tested_by starts (operand_of a) (expression_code a p (value_slot a t) t) (value_operand a t)
-    place_code (Element a i ty) p t = instructions.Move t (operands.Word 0) ∷ []
+    place_code (Element a i ty) p t =
+        element_by starts (expression_code a p t t) (code_unless (operand_of i) (expression_code i (p + length (expression_code a p t t)) (value_slot i (t + 3)) (t + 3))) (span_in ty) (value_operand i (t + 3)) t
 
     -- a new object in the region of this handle
     pub made_code : Initial → (handle p d t : ℕ) → List Instruction
