@@ -32,7 +32,7 @@ use Rattle.cyc_store.specs.declared.range.TheConstants.{HEAP}
 use Rattle.cyc_meaning.specs.Values.{kind_of, words_of_kind, is_thin}
 use Rattle.cyc_meaning.specs.Operators.{null_exception}
 use Rattle.cyc_lower.proofs.Widths.{kind_few, type_words}
-use Rattle.cyc_lower.specs.Lowering.{types_of, converts_there, passed_words, all_passed, source_of, source_slot, converted_by, moved_by, move_of, unary_operator, binary_operator, operand_of, operand_or, code_unless, slot_or, code_unless_slot, left_of, value_slot, next_slot, left_slot, value_operand, converted_operand, printed_operand, conversion_code, divisor_code, checked_code, operator_code, truth_code, load_code, low_byte, test_code, is_in, copy_code, expression_code, arguments_code, converted_code, converted_operand_code, printed_code, initial_code, assignment_code, operations_code, discarded_code, failing_comparison, compared_or, left_with, slot_with, first_code, second_code, pair_code, condition_code, condition_of, failing_jump, break_target, continue_target, return_code, declaration_code, statement_code, items_code, first_temporary, jump_if_zero, jump_if_nonzero, lower_function, behind_left, pointer_code, outside_loops, inside_loop, pointer_operator, index_of, first_two, pointer_instructions, stores_code, object_code, made_code, place_operand, place_offset, place_code, address_code, store_address_code, count_code, span_of, tested_code, widened_code, conversion_by, tested_by, check_code, are_as_wide, saved_code, loaded_code, bounds_code, stepped_code, reached_code, followed_code, followed_operand, followed_by, span_in, blocks}
+use Rattle.cyc_lower.specs.Lowering.{element_by, types_of, converts_there, passed_words, all_passed, source_of, source_slot, converted_by, moved_by, move_of, unary_operator, binary_operator, operand_of, operand_or, code_unless, slot_or, code_unless_slot, left_of, value_slot, next_slot, left_slot, value_operand, converted_operand, printed_operand, conversion_code, divisor_code, checked_code, operator_code, truth_code, load_code, low_byte, test_code, is_in, copy_code, expression_code, arguments_code, converted_code, converted_operand_code, printed_code, initial_code, assignment_code, operations_code, discarded_code, failing_comparison, compared_or, left_with, slot_with, first_code, second_code, pair_code, condition_code, condition_of, failing_jump, break_target, continue_target, return_code, declaration_code, statement_code, items_code, first_temporary, jump_if_zero, jump_if_nonzero, lower_function, behind_left, pointer_code, outside_loops, inside_loop, pointer_operator, index_of, first_two, pointer_instructions, stores_code, object_code, made_code, place_operand, place_offset, place_code, address_code, store_address_code, count_code, span_of, tested_code, widened_code, conversion_by, tested_by, check_code, are_as_wide, saved_code, loaded_code, bounds_code, stepped_code, reached_code, followed_code, followed_operand, followed_by, span_in, blocks}
 use Rattle.cyc_lower.specs.Lowered.{size_per_weight}
 
 abbrev code_size : List Instruction → ℕ
@@ -186,6 +186,25 @@ count_size : (o : Operand) (p d : ℕ) → code_size (count_code o p d) ≤ 41
 count_size (operands.Word n) p d = omega arith
 count_size (operands.Slot n) p d = omega arith
 
+element_by_size : (starts : Starts) (front : List Instruction) (known : Option Operand) (inner : List Instruction) (span : Option ℕ) (o : Operand) (t n m : ℕ)
+    → code_size front ≤ n
+    → code_size inner ≤ m
+    → code_size (element_by starts front (code_unless known inner) span o t) ≤ n + m + 72
+element_by_size starts front known inner span o t n m first second =
+    let operand = code_unless known inner in
+    let sum = instructions.Binary plain_binary.Add (t + 2) (operands.Slot (t + 2)) o in
+    let reached = reached_code starts span t (t + 2) t in
+    omega (
+      arith,
+      both front (operand ++ sum ∷ reached),
+      both operand (sum ∷ reached),
+      cons sum reached,
+      unless_size known inner,
+      first,
+      second,
+      reached_size starts span t (t + 2) t,
+    )
+
 test_size : (o : LogicalOperator) (operand : List Instruction) (p d t : ℕ) → code_size (test_code o operand p d t) ≤ 25 + code_size operand
 test_size logical.AndThen operand p d t = omega (arith, both operand (truth_code t d), cons (jump_if_zero (operands.Slot t) (p + 1 + length operand)) (operand ++ truth_code t d))
 test_size logical.OrElse operand p d t = omega (arith, both operand (truth_code t d), cons (jump_if_nonzero (operands.Slot t) (p + 1 + length operand)) (operand ++ truth_code t d))
@@ -319,19 +338,10 @@ module _ (starts : Starts) where
     place_size (Element a i ty) p t =
         let front = expression_code starts a p t t in
         let slot = value_slot starts i (t + 3) in
-        let inner = expression_code starts i (p + length front) slot (t + 3) in
-        let operand = code_unless (operand_of starts i) inner in
-        let reached = reached_code starts (span_in ty) t (t + 2) t in
-        let sum = instructions.Binary plain_binary.Add (t + 2) (operands.Slot (t + 2)) (value_operand starts i (t + 3)) in
+        let q = p + length front in
         omega (
           arith,
-          both front (operand ++ sum ∷ reached),
-          both operand (sum ∷ reached),
-          cons sum reached,
-          unless_size (operand_of starts i) inner,
-          expression_size a p t t,
-          expression_size i (p + length front) slot (t + 3),
-          reached_size starts (span_in ty) t (t + 2) t,
+          element_by_size starts front (operand_of starts i) (expression_code starts i q slot (t + 3)) (span_in ty) (value_operand starts i (t + 3)) t (size_per_weight * expression_weight a) (size_per_weight * expression_weight i) (expression_size a p t t) (expression_size i q slot (t + 3)),
         )
 
     -- with the address in a slot
@@ -359,7 +369,15 @@ module _ (starts : Starts) where
           address_size o (place_offset starts x) t,
         )
     store_address_size (Element a i ty) p t =
-        omega (arith, both (place_code starts (Element a i ty) p t) (copy_code 1 (operands.Slot t) t), copied_address_size (operands.Slot t) t, place_size (Element a i ty) p t)
+        let front = expression_code starts a p t t in
+        let slot = value_slot starts i (t + 3) in
+        let q = p + length front in
+        omega (
+          arith,
+          both (place_code starts (Element a i ty) p t) (copy_code 1 (operands.Slot t) t),
+          copied_address_size (operands.Slot t) t,
+          element_by_size starts front (operand_of starts i) (expression_code starts i q slot (t + 3)) (span_in ty) (value_operand starts i (t + 3)) t (size_per_weight * expression_weight a) (size_per_weight * expression_weight i) (expression_size a p t t) (expression_size i q slot (t + 3)),
+        )
 
     initial_size : (c : Converted) (p d t : ℕ) → code_size (initial_code starts c p d t) ≤ size_per_weight * converted_weight c + 38
     initial_size (Convert from to a) p d t =

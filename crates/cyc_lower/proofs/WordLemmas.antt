@@ -31,7 +31,7 @@ use Rattle.cyc_types.specs.Types.{words_of, Ty}
 use Rattle.cyc_types.specs.Numbered.{argument_count}
 use Rattle.cyc_store.specs.declared.range.TheConstants.{HEAP}
 use Rattle.cyc_meaning.specs.Values.{words_of_kind, is_thin}
-use Rattle.cyc_lower.specs.Lowering.{types_of, are_as_wide, converts_there, passed_words, source_of, source_slot, converted_by, moved_by, move_of, operand_of, operand_or, code_unless, slot_or, code_unless_slot, left_with, left_of, value_slot, next_slot, left_slot, value_operand, converted_operand, printed_operand, check_code, conversion_code, divisor_code, checked_code, operator_code, truth_code, load_code, test_code, is_in, copy_code, expression_code, arguments_code, converted_code, converted_operand_code, printed_code, initial_code, assignment_code, operations_code, discarded_code, failing_comparison, compared_or, compared_of, slot_with, first_code, second_code, pair_code, condition_code, condition_of, return_code, declaration_code, statement_code, items_code, first_temporary, initial_word, lower_function, lower_global, lower_program, behind_left, pointer_code, outside_loops, inside_loop, index_of, first_two, pointer_instructions, stores_code, object_code, made_code, place_operand, place_offset, place_code, address_code, addressed_by, store_address_code, store_code, count_code, span_of, null_of, tested_code, widened_code, conversion_by, tested_by, saved_code, loaded_code, all_passed, bounds_code, stepped_code, reached_code, followed_code, followed_operand, followed_by, span_in, guard_code, blocks}
+use Rattle.cyc_lower.specs.Lowering.{element_by, types_of, are_as_wide, converts_there, passed_words, source_of, source_slot, converted_by, moved_by, move_of, operand_of, operand_or, code_unless, slot_or, code_unless_slot, left_with, left_of, value_slot, next_slot, left_slot, value_operand, converted_operand, printed_operand, check_code, conversion_code, divisor_code, checked_code, operator_code, truth_code, load_code, test_code, is_in, copy_code, expression_code, arguments_code, converted_code, converted_operand_code, printed_code, initial_code, assignment_code, operations_code, discarded_code, failing_comparison, compared_or, compared_of, slot_with, first_code, second_code, pair_code, condition_code, condition_of, return_code, declaration_code, statement_code, items_code, first_temporary, initial_word, lower_function, lower_global, lower_program, behind_left, pointer_code, outside_loops, inside_loop, index_of, first_two, pointer_instructions, stores_code, object_code, made_code, place_operand, place_offset, place_code, address_code, addressed_by, store_address_code, store_code, count_code, span_of, null_of, tested_code, widened_code, conversion_by, tested_by, saved_code, loaded_code, all_passed, bounds_code, stepped_code, reached_code, followed_code, followed_operand, followed_by, span_in, guard_code, blocks}
 use Rattle.cyc_lower.proofs.Widths.{kind_few}
 use Rattle.cyc_lower.proofs.WellFormed.{all_append, all_of}
 
@@ -161,6 +161,11 @@ followed_word false span (operands.Word w) t word = word
 followed_by_words : (starts : Starts) (known : Option Operand) (inner : List Instruction) (thin : Bool) (span : Option ℕ) (o : Operand) (t : ℕ) → HaveWords inner → IsOfWord o → HaveWords (followed_by starts known inner thin span o t)
 followed_by_words starts known inner thin span o t all word =
     append (code_unless known inner) (followed_code starts thin span o t) (unless_words known inner all) (followed_words starts thin span o t word)
+
+element_by_words : (starts : Starts) (front : List Instruction) (known : Option Operand) (inner : List Instruction) (span : Option ℕ) (o : Operand) (t : ℕ) → HaveWords front → HaveWords inner → IsOfWord o
+    → HaveWords (element_by starts front (code_unless known inner) span o t)
+element_by_words starts front known inner span o t first second word =
+    append front _ first (append (code_unless known inner) _ (unless_words known inner second) ((tt, word), reached_words starts span t (t + 2) t))
 
 tested_by_words : (starts : Starts) (known : Option Operand) (inner : List Instruction) (o : Operand) → HaveWords inner → IsOfWord o → HaveWords (tested_by starts known inner o)
 tested_by_words starts known inner o all word = append (code_unless known inner) (check_code starts null_exception o) (unless_words known inner all) (check_words starts null_exception o word)
@@ -332,10 +337,8 @@ module _ (starts : Starts) where
         tested_by_words starts (operand_of starts a) (expression_code starts a p slot t) (value_operand starts a t) (expression_words a p slot t words) (known_word a slot words)
     place_words (Element a i ty) p t (first, second) =
         let q = p + length (expression_code starts a p t t) in
-        let inner = expression_code starts i q (value_slot starts i (t + 3)) (t + 3) in
-        append (expression_code starts a p t t) _ (expression_words a p t t first)
-        (append (code_unless (operand_of starts i) inner) _ (unless_words (operand_of starts i) inner (expression_words i q (value_slot starts i (t + 3)) (t + 3) second))
-        ((tt, known_word i (value_slot starts i (t + 3)) second), reached_words starts (span_in ty) t (t + 2) t))
+        let slot = value_slot starts i (t + 3) in
+        element_by_words starts (expression_code starts a p t t) (operand_of starts i) (expression_code starts i q slot (t + 3)) (span_in ty) (value_operand starts i (t + 3)) t (expression_words a p t t first) (expression_words i q slot (t + 3) second) (known_word i slot second)
 
     -- its address comes to a slot
     address_of_words : (x : Dereference) (p d t : ℕ) → IsOfWordsCell x → HaveWords (addressed_by (place_code starts x p t) (place_operand starts x t) (place_offset starts x) d)
@@ -353,8 +356,12 @@ module _ (starts : Starts) where
         append (place_code starts x p t) _
         (tested_by_words starts (operand_of starts a) (expression_code starts a p slot t) o (expression_words a p slot t words) (known_word a slot words))
         (address_words o (place_offset starts x) d (known_word a slot words) (offset_word x))
-    address_of_words (Element a i ty) p d t words =
-        append (place_code starts (Element a i ty) p t) _ (place_words (Element a i ty) p t words) (address_words (operands.Slot t) 0 d tt (omega arith))
+    address_of_words (Element a i ty) p d t (first, second) =
+        let q = p + length (expression_code starts a p t t) in
+        let slot = value_slot starts i (t + 3) in
+        append (place_code starts (Element a i ty) p t) _
+        (element_by_words starts (expression_code starts a p t t) (operand_of starts i) (expression_code starts i q slot (t + 3)) (span_in ty) (value_operand starts i (t + 3)) t (expression_words a p t t first) (expression_words i q slot (t + 3) second) (known_word i slot second))
+        (address_words (operands.Slot t) 0 d tt (omega arith))
 
     initial_words : (c : Converted) (p d t : ℕ) → IsOfWordsConverted c → HaveWords (initial_code starts c p d t)
     initial_words (Convert from to a) p d t words =
