@@ -1,5 +1,5 @@
 -- Code that is made piece by piece: lists of nodes, nodes with lists, and jumps whose targets are written back.
-use Rattle.std.proofs.Common.{◌≡◌, ℕ, zero, suc, ◌+◌, ◌*◌, ◌<◌, ◌≤◌, Bool, true, false, List, [], ◌∷◌, ◌++◌, length, get_or, drop, set, Option, Some, None, refl, sym, ap, ◌∙◌, arith, append_assoc, append-nil}
+use Rattle.std.proofs.Common.{◌≡◌, ℕ, zero, suc, ◌+◌, ◌-◌, ◌*◌, ◌<◌, ◌≤◌, Bool, true, false, List, [], ◌∷◌, ◌++◌, length, get_or, drop, set, Option, Some, None, refl, sym, ap, ◌∙◌, arith, append_assoc, append-nil}
 use Rattle.std.specs.Prelude.{◌==◌, is_some, if◌then◌else◌}
 use Rattle.std.proofs.lemmas.Bool.{eqb-true, eq-eqb}
 use Rattle.std.proofs.lemmas.List.{drop_all, drop_more, length-append, length-drop}
@@ -22,6 +22,7 @@ use Rattle.cyc_types.specs.declared.typed.Expr.TheVariants as expr
 use Rattle.cyc_types.specs.declared.typed.Initial.{Initial as InitialCode}
 use Rattle.cyc_types.specs.declared.typed.Initial.TheVariants as initial
 use Rattle.cyc_types.specs.declared.typed.Dereference.{Dereference as DereferenceCode}
+use Rattle.cyc_types.specs.declared.typed.Dereference.TheVariants as dereference
 use Rattle.cyc_types.specs.declared.typed.Converted.{Converted as ConvertedCode}
 use Rattle.cyc_types.specs.declared.typed.Operation.{Operation}
 use Rattle.cyc_types.specs.declared.typed.Operation.TheVariants as operation
@@ -34,12 +35,13 @@ use Rattle.cyc_types.specs.TypedTreeView.{view_lvalue, view_initial, view_expres
 use Rattle.cyc_types.specs.declared.typed.Kind.{Kind}
 use Rattle.cyc_meaning.specs.Values.{words_of_kind, is_thin}
 use Rattle.cyc_types.proofs.TypedTreeViewLemmas.{view_call, view_binary, view_fields}
+use Rattle.cyc_plain.specs.declared.instruction.BinaryOperator.TheVariants as plain_binary
 use Rattle.cyc_plain.specs.declared.instruction.Operand.{Operand}
 use Rattle.cyc_plain.specs.declared.instruction.Operand.TheVariants as operands
 use Rattle.cyc_plain.specs.declared.instruction.Instruction.{Instruction}
 use Rattle.cyc_plain.specs.declared.instruction.Instruction.TheVariants as instructions
 use Rattle.cyc_lower.specs.Slots.{slot_of, Starts}
-use Rattle.cyc_lower.specs.Lowering.{passed_words, all_passed, converts_there, source_of, source_slot, converted_by, moved_by, move_of, operand_of, operand_or, code_unless, left_with, left_of, slot_with, left_slot, low_byte, value_operand, next_slot, converted_operand, printed_operand, operator_code, load_code, compute_code, test_jump, truth_code, test_code, copy_code, expression_code, value_slot, arguments_code, converted_code, converted_operand_code, printed_code, initial_code, assignment_code, assigned_operand, operations_code, discarded_code, binary_operator, behind_left, pointer_instructions, stores_code, object_code, made_code, address_code, addressed_by, place_operand, place_offset, place_code, store_address_code, store_code, count_code, span_of, saved_code, loaded_code, followed_code, span_in}
+use Rattle.cyc_lower.specs.Lowering.{reached_code, passed_words, all_passed, converts_there, source_of, source_slot, converted_by, moved_by, move_of, operand_of, operand_or, code_unless, left_with, left_of, slot_with, left_slot, low_byte, value_operand, next_slot, converted_operand, printed_operand, operator_code, load_code, compute_code, test_jump, truth_code, test_code, copy_code, expression_code, value_slot, arguments_code, converted_code, converted_operand_code, printed_code, initial_code, assignment_code, assigned_operand, operations_code, discarded_code, binary_operator, behind_left, pointer_instructions, stores_code, object_code, made_code, address_code, addressed_by, place_operand, place_offset, place_code, store_address_code, store_code, count_code, span_of, saved_code, loaded_code, followed_code, span_in}
 use Rattle.cyc_lower.specs.Emission.{most_locals, value_code, print_code, left_code, takes_operand, HasRoom, operation_code}
 
 behind : (xs ys : List Instruction) → 0 < length ys → 0 < length (xs ++ ys)
@@ -566,6 +568,30 @@ module _ (starts : Starts) where
       ap view_expression is
       ∙ ap (λ (z : DereferenceCode). Store (view_dereference z) (view_converted b'.value) (view_value_type ty)) (sym x_at)
       ∙ ap (λ (z : ConvertedCode). Store (view_dereference x) (view_converted z) (view_value_type ty)) (sym y_at)
+
+  -- a cell at an index behind a fat pointer
+  pub made_element : (x : DereferenceCode) (e i : Expr) (ty : TyCode) → x ≡ dereference.Element e i ty → (old m1 m2 m3 m4 : List Instruction) (o : Operand) (behind t : ℕ) → behind ≡ t + 3
+      → m1 ≡ old ++ expression_code starts (view_expression e) (length old) t t
+      → o ≡ value_operand starts (view_expression i) behind → m2 ≡ m1 ++ value_code starts (view_expression i) (length m1) behind
+      → m3 ≡ m2 ++ instructions.Binary plain_binary.Add (behind - 1) (operands.Slot (behind - 1)) o ∷ []
+      → m4 ≡ m3 ++ reached_code starts (span_in (view_ty ty)) t (behind - 1) t
+      → m4 ≡ old ++ place_code starts (view_dereference x) (length old) t
+  made_element x e i ty is old m1 m2 m3 m4 o behind t there e1 o_is e2 e3 e4 =
+      let a = view_expression i in
+      let less : behind - 1 ≡ t + 2 = omega (arith, there) in
+      let front = expression_code starts (view_expression e) (length old) t t in
+      let index = value_code starts a (length old + length front) (t + 3) in
+      let sum = instructions.Binary plain_binary.Add (t + 2) (operands.Slot (t + 2)) (value_operand starts a (t + 3)) in
+      let reached = reached_code starts (span_in (view_ty ty)) t (t + 2) t in
+      let second = joined old front (λ p. value_code starts a p (t + 3)) m1 m2 e1 (e2 ∙ ap (λ (n : ℕ). m1 ++ value_code starts a (length m1) n) there) in
+      let third : m3 ≡ m2 ++ sum ∷ [] =
+          e3
+          ∙ ap (λ (n : ℕ). m2 ++ instructions.Binary plain_binary.Add n (operands.Slot n) o ∷ []) less
+          ∙ ap (λ (w : Operand). m2 ++ instructions.Binary plain_binary.Add (t + 2) (operands.Slot (t + 2)) w ∷ []) (o_is ∙ ap (value_operand starts a) there) in
+      let fourth = joined m2 (sum ∷ []) (λ p. reached) m3 m4 third (e4 ∙ ap (λ (n : ℕ). m3 ++ reached_code starts (span_in (view_ty ty)) t n t) less) in
+      joined old (front ++ index) (λ p. sum ∷ reached) m2 m4 second fourth
+      ∙ ap (λ (l : List Instruction). old ++ l) (append_assoc front index (sum ∷ reached))
+      ∙ ap (λ (z : DereferenceCode). old ++ place_code starts (view_dereference z) (length old) t) (sym is)
 
   -- the address, and behind it what is stored there
   made_store : (x : Dereference) (c : Converted) (old m1 m2 : List Instruction) (t : ℕ)

@@ -499,8 +499,21 @@ impl Emitter {
                 self.check(starts, NULL_EXCEPTION, address)?;
                 Ok(address)
             }
-            Dereference::Element { .. } => {
-                self.emit_missing(free)?;
+            Dereference::Element {
+                pointer,
+                index,
+                of_type,
+            } => {
+                self.lower_expression(starts, pointer, free, free)?;
+                let behind = slot_behind(free, Kind::Fat)?;
+                let moved = self.lower_operand(starts, index, behind)?;
+                self.emit(Instruction::Binary {
+                    operator: BinaryOperator::Add,
+                    destination: behind - 1,
+                    left: Operand::Slot { number: behind - 1 },
+                    right: moved,
+                })?;
+                self.reach(starts, span_in(of_type), free, behind - 1, free)?;
                 Ok(Operand::Slot { number: free })
             }
         }
