@@ -411,8 +411,7 @@ module _ (code : List Instruction) (b : Numbering) (types : Types) (raised : Blo
         let m = p + length both in
         let has_both = has_front code p both back has in
         let has_address = has_front code p address (value ++ write) has_both in
-        let has_value = has_back code p address (value ++ write) has_both in
-        (
+        let has_value = has_back code p address (value ++ write) has_both in (
           o,
           m,
           (
@@ -640,8 +639,7 @@ module _ (code : List Instruction) (b : Numbering) (types : Types) (raised : Blo
       let u = s + length value in
       let write = saved_code (passed_words c) t o in
       let has_address = has_front code p address (value ++ write) has in
-      let has_value = has_back code p address (value ++ write) has in
-      (
+      let has_value = has_back code p address (value ++ write) has in (
         o,
         (
           a,

@@ -207,8 +207,7 @@ module _ (source : Program) (pages calls : ℕ) where
         let first : before n ≡ slots n = put-other slots (t + 2) n bytes (λ same. absurd (omega (arith, same, low))) in
         by_path source pages calls focus k₀ e w c next
         (past_null ∷ in_bounds ∷ record { instruction = scale_of words (t + 2) m; behind = b } ∷ [])
-        (instructions.Binary plain_binary.Add t (operands.Slot n) (operands.Slot (t + 2))) does shared
-        (
+        (instructions.Binary plain_binary.Add t (operands.Slot n) (operands.Slot (t + 2))) does shared (
           jump,
           past_null_leads some,
           omega (arith, end),
@@ -278,8 +277,7 @@ module _ (source : Program) (pages calls : ℕ) where
             subst (λ (i : ℕ). Points shared.tables object (start + index) (add_of (slots n) (scaled words i))) (sym index_is) (subst (λ (j : ℕ). Points shared.tables object (start + index) (add_of (slots n) (scaled j index))) wide (element_is index part below)) in
             let after = put (put slots (free + 2) (scaled words (slots m))) free address in
             let there : Points shared.tables object (start + index) (after free) = subst (Points shared.tables object (start + index)) (sym (put-same (put slots (free + 2) (scaled words (slots m))) free address)) points in
-            reaches_cell (Given (given x)) waiting k e w c (Some words) n m free q shared here words refl (Running (GivenPlace (Thin object (start + index))) k e w) low some less does
-            (
+            reaches_cell (Given (given x)) waiting k e w c (Some words) n m free q shared here words refl (Running (GivenPlace (Thin object (start + index))) k e w) low some less does (
               shared,
               data_above shared.tables source g w.objects e.locals (callers k) slots after c.globals c.frames free 3 (height-least base (held k)) (λ x out. elsewhere slots free (scaled words (slots m)) address x out) facts,
               (operands.Slot free, 0, pointer-word there, stays there, Holds-same shared.tables slots after base (held k) (λ x short. elsewhere slots free (scaled words (slots m)) address x (inl short)) holds, place),
@@ -363,8 +361,7 @@ module _ (source : Program) (pages calls : ℕ) where
       let goes = Running (Evaluating i) (Needs (Advance peek target base) ∷ k) e w in
       let fits = is_fitting (is_kind base.kind kinds.Fat) goes w well in
       let fat : base.kind ≡ kinds.Fat = same_kind base.kind kinds.Fat fits in
-      silently source pages calls (Running (Given base) (Needs (Index peek target i) ∷ k) e w) goes (plain.Running c) (ap (λ (b : Bool). if b then goes else wrong w) fits)
-      (
+      silently source pages calls (Running (Given base) (Needs (Index peek target i) ∷ k) e w) goes (plain.Running c) (ap (λ (b : Bool). if b then goes else wrong w) fits) (
         shared,
         facts,
         as_operand x m (subst (λ n. ValueAt (code_of source g) (bounds_at source g) (types_at source g) i (top source g k + n) x c.active.next m) (sym (ap words_of_kind fat)) at_i)
@@ -396,8 +393,7 @@ module _ (source : Program) (pages calls : ℕ) where
       let after = put slots (t + 2) (add_of (slots (t + 2)) n) in
       let elsewhere_same = λ (m : ℕ) (out : Outside t 3 m). outside_index slots t (add_of (slots (t + 2)) n) m out in
       by_one source pages calls (ap (λ (r : Result). computed kinds.Fat r waiting e w) result.gives) shared sum
-      (λ choice. subst (λ (y : ℕ). Matches source pages calls (Running (Given v) waiting e w) (plain.Running (advanced (with_slots c (put slots (t + 2) (add_of (slots (t + 2)) y)))))) (sym word)
-      (
+      (λ choice. subst (λ (y : ℕ). Matches source pages calls (Running (Given v) waiting e w) (plain.Running (advanced (with_slots c (put slots (t + 2) (add_of (slots (t + 2)) y)))))) (sym word) (
         shared,
         in_operand (operands.Slot t)
             (data_above shared.tables source g w.objects e.locals (callers k) slots after c.globals c.frames t 3 (height-least (base_of source g) (held k)) elsewhere_same facts)

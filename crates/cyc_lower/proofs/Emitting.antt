@@ -585,9 +585,9 @@ module _ (starts : Starts) where
       let reached = reached_code starts (span_in (view_ty ty)) t (t + 2) t in
       let second = joined old front (λ p. value_code starts a p (t + 3)) m1 m2 e1 (e2 ∙ ap (λ (n : ℕ). m1 ++ value_code starts a (length m1) n) there) in
       let third : m3 ≡ m2 ++ sum ∷ [] =
-          e3
-          ∙ ap (λ (n : ℕ). m2 ++ instructions.Binary plain_binary.Add n (operands.Slot n) o ∷ []) less
-          ∙ ap (λ (w : Operand). m2 ++ instructions.Binary plain_binary.Add (t + 2) (operands.Slot (t + 2)) w ∷ []) (o_is ∙ ap (value_operand starts a) there) in
+      e3
+      ∙ ap (λ (n : ℕ). m2 ++ instructions.Binary plain_binary.Add n (operands.Slot n) o ∷ []) less
+      ∙ ap (λ (w : Operand). m2 ++ instructions.Binary plain_binary.Add (t + 2) (operands.Slot (t + 2)) w ∷ []) (o_is ∙ ap (value_operand starts a) there) in
       let fourth = joined m2 (sum ∷ []) (λ p. reached) m3 m4 third (e4 ∙ ap (λ (n : ℕ). m3 ++ reached_code starts (span_in (view_ty ty)) t n t) less) in
       joined old (front ++ index) (λ p. sum ∷ reached) m2 m4 second fourth
       ∙ ap (λ (l : List Instruction). old ++ l) (append_assoc front index (sum ∷ reached))

@@ -106,8 +106,7 @@ module _ (source : Program) (pages calls : ℕ) where
     counts_past : slots n ≢ 0 → nat_lt (slots (n + 1)) (slots (n + 2)) ≡ true → Counted 0 → IsMatched source pages calls (Running (Given v) (Needs CountElements ∷ k) e w) (plain.Running c)
     counts_past some less does =
         let (null, past, subtract, jump, move, end) = here in
-        by_path source pages calls (Given v) (Needs CountElements ∷ k) e w c (Running (Given (record { kind = kinds.Int; value = Int 0 })) k e w) (past_null ∷ in_bounds (at c (p + 4)) ∷ []) (instructions.Move d (operands.Word 0)) does shared
-        (
+        by_path source pages calls (Given v) (Needs CountElements ∷ k) e w c (Running (Given (record { kind = kinds.Int; value = Int 0 })) k e w) (past_null ∷ in_bounds (at c (p + 4)) ∷ []) (instructions.Move d (operands.Word 0)) does shared (
           null,
           (λ choice. passed c (slots n == 0) (p + 4) (ne_eqb (slots n) 0 some)),
           omega arith,
@@ -125,8 +124,7 @@ module _ (source : Program) (pages calls : ℕ) where
         let fifth : p + 4 + 1 ≡ q = omega (arith, end) in
         by_path source pages calls (Given v) (Needs CountElements ∷ k) e w c (Running (Given (record { kind = kinds.Int; value = Int many })) k e w)
         (past_null ∷ in_bounds (at c (p + 2)) ∷ record { instruction = instructions.Binary plain_binary.Subtract d (operands.Slot (n + 1)) (operands.Slot (n + 2)); behind = computed_at } ∷ [])
-        (instructions.Jump q) does shared
-        (
+        (instructions.Jump q) does shared (
           null,
           (λ choice. passed c (slots n == 0) (p + 4) (ne_eqb (slots n) 0 some)),
           omega arith,

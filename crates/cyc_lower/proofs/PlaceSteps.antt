@@ -222,8 +222,7 @@ module _ (source : Program) (pages calls : ℕ) where
       let after = all_in source shared.tables w b shared.related object offset d found.at found.value found.there points_there wide content in
       by_path source pages calls (GivenPlace (Thin object offset)) (NeedsPlace (LoadFrom kind) ∷ k) e w c (Running (Given v) k e w)
       (record { instruction = i; behind = b } ∷ load_links source shared.tables w b shared.related object offset d found.at found.value found.there points_there wide content) (instructions.Load d (operands.Slot d) 0)
-      found.gives shared
-      (
+      found.gives shared (
         here,
         goes,
         omega arith,

@@ -934,13 +934,25 @@ module _ (source : Program) (pages calls : ℕ) where
       gives shared
       (store_path source pages calls k e w c shared object offset place free 0 n cell v.value found is_place wide fat_is words first second third at_first at_second)
       at_third (store_last source pages calls k e w c shared object offset place free 0 n cell v.value found is_place wide fat_is words first second third)
-      (λ path. (path.0, path.1, path.2, path.3, (path.4.0, path.4.1, path.4.2, path.4.3, (
-        at_third,
-        store_last source pages calls k e w c shared object offset place free 0 n cell v.value found is_place wide fat_is words first second third,
-        omega arith,
-        stage_quiet c (two_put source pages calls k e w c shared object offset place free 0 n cell v.value found is_place wide fat_is words first second third) after.store.memory (c.active.next + 1 + 1) (c.active.next + 1 + 1 + 1),
-        tt,
-      )))) refl
+      (λ path. (
+        path.0,
+        path.1,
+        path.2,
+        path.3,
+        (
+          path.4.0,
+          path.4.1,
+          path.4.2,
+          path.4.3,
+          (
+            at_third,
+            store_last source pages calls k e w c shared object offset place free 0 n cell v.value found is_place wide fat_is words first second third,
+            omega arith,
+            stage_quiet c (two_put source pages calls k e w c shared object offset place free 0 n cell v.value found is_place wide fat_is words first second third) after.store.memory (c.active.next + 1 + 1) (c.active.next + 1 + 1 + 1),
+            tt,
+          ),
+        ),
+      )) refl
       (handed v (operands.Slot n) k e next after q end (kept, facts_kept, is, holds) hands)
 
   stores_cell : (peek : Option ℕ) (place : Value) (v : Kinded) (o : Operand) (k : List Entry) (e : Environment) (w : World) (c : Configuration) → HasWords (lower_program source) → plain.HoldsWords (plain.Running c)

@@ -15,8 +15,8 @@ use crate::emitter::Emitter;
 use crate::frame_count::{words_at, words_of, words_of_kind};
 use crate::locals::{field_of, slot_of};
 use crate::operands::{
-    Condition, are_as_wide, converts_there, index_of, is_in, is_thin, null_of, operand_of, slot_behind, span_in,
-    takes_operand, value_slot,
+    Condition, are_as_wide, converts_there, index_of, is_in, is_thin, null_of, operand_of,
+    slot_behind, span_in, takes_operand, value_slot,
 };
 use crate::operators::{
     binary_operator, failing_comparison, jump_if_zero, left_kind, move_of, pointer_operator,
@@ -432,7 +432,12 @@ impl Emitter {
             }
             Expr::Load { source } => {
                 let address = self.locate(starts, source, free)?;
-                self.load_cell(words_at(source), address, place_offset(starts, source), slot)
+                self.load_cell(
+                    words_at(source),
+                    address,
+                    place_offset(starts, source),
+                    slot,
+                )
             }
             Expr::AddressOfCell { place, .. } => self.take_address(starts, place, slot, free),
             Expr::Store { target, value, .. } => {
