@@ -36,12 +36,13 @@ use Rattle.cyc_types.specs.declared.typed.Kind.{Kind}
 use Rattle.cyc_meaning.specs.Values.{words_of_kind, is_thin}
 use Rattle.cyc_types.proofs.TypedTreeViewLemmas.{view_call, view_binary, view_fields}
 use Rattle.cyc_plain.specs.declared.instruction.BinaryOperator.TheVariants as plain_binary
+use Rattle.cyc_plain.specs.declared.instruction.Comparison.TheVariants as comparisons
 use Rattle.cyc_plain.specs.declared.instruction.Operand.{Operand}
 use Rattle.cyc_plain.specs.declared.instruction.Operand.TheVariants as operands
 use Rattle.cyc_plain.specs.declared.instruction.Instruction.{Instruction}
 use Rattle.cyc_plain.specs.declared.instruction.Instruction.TheVariants as instructions
 use Rattle.cyc_lower.specs.Slots.{slot_of, Starts}
-use Rattle.cyc_lower.specs.Lowering.{reached_code, passed_words, all_passed, converts_there, source_of, source_slot, converted_by, moved_by, move_of, operand_of, operand_or, code_unless, left_with, left_of, slot_with, left_slot, low_byte, value_operand, next_slot, converted_operand, printed_operand, operator_code, load_code, compute_code, test_jump, truth_code, test_code, copy_code, expression_code, value_slot, arguments_code, converted_code, converted_operand_code, printed_code, initial_code, assignment_code, assigned_operand, operations_code, discarded_code, binary_operator, behind_left, pointer_instructions, stores_code, object_code, made_code, address_code, addressed_by, place_operand, place_offset, place_code, store_address_code, store_code, count_code, span_of, saved_code, loaded_code, followed_code, span_in}
+use Rattle.cyc_lower.specs.Lowering.{jump_if_zero, reached_code, passed_words, all_passed, converts_there, source_of, source_slot, converted_by, moved_by, move_of, operand_of, operand_or, code_unless, left_with, left_of, slot_with, left_slot, low_byte, value_operand, next_slot, converted_operand, printed_operand, operator_code, load_code, compute_code, test_jump, truth_code, test_code, copy_code, expression_code, value_slot, arguments_code, converted_code, converted_operand_code, printed_code, initial_code, assignment_code, assigned_operand, operations_code, discarded_code, binary_operator, behind_left, pointer_instructions, stores_code, object_code, made_code, address_code, addressed_by, place_operand, place_offset, place_code, store_address_code, store_code, count_code, span_of, saved_code, loaded_code, followed_code, span_in}
 use Rattle.cyc_lower.specs.Emission.{most_locals, value_code, print_code, left_code, takes_operand, HasRoom, operation_code}
 
 behind : (xs ys : List Instruction) → 0 < length ys → 0 < length (xs ++ ys)
@@ -186,6 +187,49 @@ slot_by_count xs i zero to d t counted none some = none refl ∙ sym (slot_at_en
 slot_by_count xs i (suc many) to d t counted none some = some (omega arith) ∙ sym (slot_behind (drop (i + 1) xs) d t (omega (arith, length-drop (i + 1) xs, counted)))
 
 -- ---- new objects
+
+-- how many elements a fat pointer in a slot has
+pub made_count : (pointer : Operand) (j : Instruction) (n behind here d : ℕ) (old m1 m2 m3 m4 m5 m6 : List Instruction)
+    → pointer ≡ operands.Slot n
+    → behind ≡ n + 3
+    → here ≡ length old
+    → j ≡ jump_if_zero (operands.Slot n) (here + 4)
+    → m1 ≡ old ++ j ∷ []
+    → m2 ≡ m1 ++ instructions.Branch comparisons.LessUnsigned (operands.Slot (behind - 2)) (operands.Slot (behind - 1)) (here + 4) ∷ []
+    → m3 ≡ m2 ++ instructions.Binary plain_binary.Subtract d (operands.Slot (behind - 2)) (operands.Slot (behind - 1)) ∷ []
+    → m4 ≡ m3 ++ instructions.Jump (here + 4 + 1) ∷ []
+    → m5 ≡ m4
+    → m6 ≡ m5 ++ instructions.Move d (operands.Word 0) ∷ []
+    → m6 ≡ old ++ count_code pointer (length old) d
+made_count pointer j n behind here d old m1 m2 m3 m4 m5 m6 pointer_is behind_is here_is j_is e1 e2 e3 e4 e5 e6 =
+    let first : behind - 2 ≡ n + 1 = omega (arith, behind_is) in
+    let second : behind - 1 ≡ n + 2 = omega (arith, behind_is) in
+    let target = length old + 4 in
+    let there : here + 4 ≡ target = omega (arith, here_is) in
+    let past : here + 4 + 1 ≡ length old + 5 = omega (arith, here_is) in
+    let a = jump_if_zero (operands.Slot n) target in
+    let b = instructions.Branch comparisons.LessUnsigned (operands.Slot (n + 1)) (operands.Slot (n + 2)) target in
+    let less = instructions.Binary plain_binary.Subtract d (operands.Slot (n + 1)) (operands.Slot (n + 2)) in
+    let jump = instructions.Jump (length old + 5) in
+    let none = instructions.Move d (operands.Word 0) in
+    let s1 : m1 ≡ old ++ a ∷ [] =
+    e1 ∙ ap (λ (x : Instruction). old ++ x ∷ []) (j_is ∙ ap (λ (x : ℕ). jump_if_zero (operands.Slot n) x) there) in
+    let s2 : m2 ≡ m1 ++ b ∷ [] =
+    e2
+    ∙ ap (λ (x : ℕ). m1 ++ instructions.Branch comparisons.LessUnsigned (operands.Slot x) (operands.Slot (behind - 1)) (here + 4) ∷ []) first
+    ∙ ap (λ (x : ℕ). m1 ++ instructions.Branch comparisons.LessUnsigned (operands.Slot (n + 1)) (operands.Slot x) (here + 4) ∷ []) second
+    ∙ ap (λ (x : ℕ). m1 ++ instructions.Branch comparisons.LessUnsigned (operands.Slot (n + 1)) (operands.Slot (n + 2)) x ∷ []) there in
+    let s3 : m3 ≡ m2 ++ less ∷ [] =
+    e3
+    ∙ ap (λ (x : ℕ). m2 ++ instructions.Binary plain_binary.Subtract d (operands.Slot x) (operands.Slot (behind - 1)) ∷ []) first
+    ∙ ap (λ (x : ℕ). m2 ++ instructions.Binary plain_binary.Subtract d (operands.Slot (n + 1)) (operands.Slot x) ∷ []) second in
+    let s4 : m4 ≡ m3 ++ jump ∷ [] = e4 ∙ ap (λ (x : ℕ). m3 ++ instructions.Jump x ∷ []) past in
+    let s5 : m6 ≡ m4 ++ none ∷ [] = e6 ∙ ap (λ (l : List Instruction). l ++ none ∷ []) e5 in
+    let two = joined old (a ∷ []) (λ p. b ∷ []) m1 m2 s1 s2 in
+    let three = joined old (a ∷ b ∷ []) (λ p. less ∷ []) m2 m3 two s3 in
+    let four = joined old (a ∷ b ∷ less ∷ []) (λ p. jump ∷ []) m3 m4 three s4 in
+    joined old (a ∷ b ∷ less ∷ jump ∷ []) (λ p. none ∷ []) m4 m6 four s5
+    ∙ ap (λ (o : Operand). old ++ count_code o (length old) d) (sym pointer_is)
 
 -- words that come to memory one after the other: from the word of this number on they are left
 abbrev pub StoresLeft : (old code : List Instruction) → (many address first i : ℕ) → Type 0
