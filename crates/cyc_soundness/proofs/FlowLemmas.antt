@@ -136,7 +136,7 @@ emptied_implied (n ∷ ns) f =
 -- ---- what holds
 
 one_implied : (g : Typing) (f h : State) (b : InScope) → Implies f h → HoldsIts g f b → HoldsIts g h b
-one_implied g f h (Variable b) i is = λ e. is (i.set b.number e)
+one_implied g f h (Variable b) i (set, full) = (λ e. set (i.set b.number e), λ e. full (i.full b.number e))
 one_implied g f h b i is = tt
 
 are_set_implied : (g : Typing) (f h : State) (bs : List InScope) → Implies f h → AreSet g f bs → AreSet g h bs
