@@ -1,6 +1,7 @@
 -- The typing of stacks: it stays when the typing of the world grows, and what is found of the locals in scope.
 use Rattle.std.proofs.Common.{◌≡◌, ◌≢◌, inl, inr, ℕ, ◌≤◌, ◌<◌, Bool, true, false, List, [], ◌∷◌, Option, Some, None, slice_get, eqb, refl, sym, ap, subst, ◌∙◌, arith}
-use Rattle.std.specs.Prelude.{if◌then◌else◌}
+use Rattle.std.specs.Prelude.{if◌then◌else◌, nat_lt, ◌⊎◌, suc, length}
+use Rattle.std.proofs.lemmas.Bool.{ltb-true}
 use Rattle.std.proofs.lemmas.Bool.{eqb-true, eq-eqb, false_from_ne_true}
 use Rattle.cyc_syntax.specs.declared.tree.PointerKind.TheVariants as marks
 use Rattle.cyc_types.specs.declared.typed.PointerOperator.{PointerOperator}
@@ -10,23 +11,24 @@ use Rattle.cyc_types.specs.TypedTrees.{Operations, NoOperations, ThenCompute, Th
 use Rattle.cyc_types.specs.typing.Tests.{is_tested, is_moved}
 use Rattle.cyc_types.specs.typing.WellTyped.{LocalInScope, Context, HasLocal, HasPlace, Converts, PointerOperation, adds, subtracts, equals, differs, thin_null, thin_there, fat_null, fat_there, null_is, null_is_not, IsChain}
 use Rattle.cyc_types.specs.flow.States as flow
-use Rattle.cyc_types.specs.flow.States.{Full, with_fullness}
+use Rattle.cyc_types.specs.flow.States.{Unreached, Reached, Full, fullness, is_reached, with_fullness}
+use Rattle.cyc_meaning.specs.Values.{Operand}
 use Rattle.cyc_meaning.specs.Values as values
 use Rattle.cyc_meaning.specs.State.{Object, Region, Access, Found, Closed, Missing, found_region, is_open, heap_number, globals_number, World, FillElement, AwaitingPlace, SwapRight, Write, Environment, with_local, Awaiting, Entry, Needs, NeedsPlace, Discard, Rest, Join, Loop, CloseRegion, CloseLexical, EndLoan, Handler, Caller, Main}
 use Rattle.cyc_meaning.specs.Nesting.{ends_of, IsFound, AreOpen, IsHome, IsNested}
 use Rattle.cyc_meaning.specs.Nesting as nesting
 use Rattle.cyc_soundness.specs.Lives.{Life, OfRegion, OfObject, Never, Kept, heap_life, RunTy, RunValue, Void, Null, Value, Lives, at, value_at, Reading}
 use Rattle.cyc_soundness.specs.Lives as lives
-use Rattle.cyc_soundness.specs.Worlds.{ObjectType, Typing, IsKnownLife, IsTyped, IsFull, variable_type, IsEndOf, whole, behind, Outlasts, alike, heap as for_ever, globals as with_globals, stays, encloses, IsOpenLife, Grows}
-use Rattle.cyc_soundness.specs.Frames.{IsAmong, first, later, Bound, InScope, Variable, Level, Home, lives_in, read, home_of, IsHomed, IsScope, AreBelow, IsBound, AreVariables, IsLasting, AreLiveIn, home_in, LiveIn, IsInner, Within, itself, older, IsSet, AreSet, Holds, IsFullAt, AreFullAt, Exits}
-use Rattle.cyc_soundness.specs.Classes.{Relied, InOperations, Source}
-use Rattle.cyc_soundness.specs.Stacks.{IsAccepted, Want, Nothing, Val, PlaceOf, Go, held, Waits, IsArrayOf, Keeps, IsSpot, of_local, of_global, of_cell, KeepsPlace, AreSwapped, IsStack}
+use Rattle.cyc_soundness.specs.Worlds.{Holder, Nobody, Hand, In, Lent, Claims, giving, given, is_lent_by, Stays, IsOpenIn, AreOperands, ObjectType, Typing, IsKnownLife, IsTyped, IsFull, variable_type, IsEndOf, whole, behind, Outlasts, alike, heap as for_ever, globals as with_globals, stays, encloses, IsOpenLife, Grows}
+use Rattle.cyc_soundness.specs.Frames.{IsAmong, first, later, Bound, InScope, Variable, Level, Home, lives_in, read, home_of, IsHomed, IsScope, AreBelow, IsBound, AreVariables, IsLasting, AreLiveIn, home_in, LiveIn, IsInner, Within, itself, older, IsSet, AreSet, IsFullIn, HoldsIts, Holds, IsFullAt, AreFullAt, Exits, relying}
+use Rattle.cyc_soundness.specs.Classes.{is_full, Relied, IsSparedBy, IsSpared, InOperations, Source}
+use Rattle.cyc_soundness.specs.Stacks.{IsAccepted, Want, Nothing, Val, PlaceOf, Go, held, Waits, IsArrayOf, AreClaimed, operands_in, Keeps, IsSpot, of_local, of_global, of_cell, KeepsPlace, AreSwapped, IsStack}
 use Rattle.cyc_soundness.specs.Stacks as stacks
 use Rattle.cyc_soundness.proofs.Numbers.{same_or_other}
 use Rattle.cyc_soundness.proofs.FlowLemmas.{other_set, reached_with}
 use Rattle.cyc_soundness.proofs.ValueLemmas.{ends_through}
 use Rattle.cyc_soundness.proofs.RegionLemmas.{lasting_more}
-use Rattle.cyc_soundness.proofs.WorldLemmas.{dynamic_open, type_grown, result_grown, operands_grown, variables_grown, holds_grown}
+use Rattle.cyc_soundness.proofs.WorldLemmas.{dynamic_open, giving_grows, claims_stay, claims_other, variables_other, type_grown, result_grown, operands_grown, variables_grown, holds_grown}
 
 -- the functions of a program, each of which the rules accept
 abbrev pub AreAccepted : Source → Type 0
@@ -38,10 +40,6 @@ module _ (p : Source) (g h : Typing) (grows : Grows g h) where
   array_grown : (ts : List RunTy) (object count index : ℕ) → IsArrayOf g ts object count index → IsArrayOf h ts object count index
   array_grown (lives.Pointer m t l ∷ []) object count index (less, (y, there, shown, life, cells, filled, few)) = (less, (y, grows.objects object y there, shown, life, cells, grows.filled object index filled, few))
   array_grown ts object count index is = absurd is
-
-  keeps_grown : (a : Awaiting) (ts : List RunTy) → Keeps g a ts → Keeps h a ts
-  keeps_grown (FillElement object count index level kind element) ts are = array_grown ts object count index are
-  keeps_grown a ts are = operands_grown g h grows ts (held a) are
 
   pub spot_grown : (bs : List InScope) (t : Ty) (f : flow.State) (v : values.Value) → IsSpot p g bs t f v → IsSpot p h bs t f v
   spot_grown bs t f v (of_local b among of_type is) = of_local b among of_type is
@@ -56,43 +54,281 @@ module _ (p : Source) (g h : Typing) (grows : Grows g h) where
   swapped_grown bs f [] are = tt
   swapped_grown bs f (w ∷ ws) ((t, plain, spot, is), are) = ((t, plain, spot_grown bs t f w.place spot, result_grown g h grows (Value (read bs t)) w.operand is), swapped_grown bs f ws are)
 
-  one_at_grown : (n : ℕ) (b : InScope) → IsFullAt g n b → IsFullAt h n b
-  one_at_grown n (Variable b) is = λ same. grows.filled b.object 1 (is same)
-  one_at_grown n b is = tt
+  one_at_grown : (n : ℕ) (t : RunTy) (b : InScope) → IsFullAt g n t b → IsFullAt h n t b
+  one_at_grown n t (Variable b) is = λ same. (grows.filled b.object 1 (is same).0, (is same).1)
+  one_at_grown n t b is = tt
 
-  full_at_grown : (n : ℕ) (bs : List InScope) → AreFullAt g n bs → AreFullAt h n bs
-  full_at_grown n [] are = tt
-  full_at_grown n (b ∷ bs) (is, are) = (one_at_grown n b is, full_at_grown n bs are)
+  full_at_grown : (n : ℕ) (t : RunTy) (bs : List InScope) → AreFullAt g n t bs → AreFullAt h n t bs
+  full_at_grown n t [] are = tt
+  full_at_grown n t (b ∷ bs) (is, are) = (one_at_grown n t b is, full_at_grown n t bs are)
 
-  pub stack_grown : (x : Exits) (bs : List InScope) (w : Want) (k : List Entry) → IsStack p g x bs w k → IsStack p h x bs w k
-  stack_grown x bs Nothing [] is = tt
-  stack_grown x bs (Val r f) (Needs a ∷ k) (ts, cs, next, waits, are, rest) = (ts, cs, next, waits, keeps_grown a ts are, stack_grown x cs next k rest)
-  stack_grown x bs (PlaceOf t l f) (NeedsPlace a ∷ k) (next, waits, keeps, rest) = (next, waits, keeps_place_grown bs a t f keeps, stack_grown x bs next k rest)
-  stack_grown x bs (Val r f) (Discard ∷ k) is = stack_grown x bs (Go f) k is
-  stack_grown x bs (Go f) (Discard ∷ k) is = stack_grown x bs (Go f) k is
-  stack_grown x bs (Go f) (Rest js ∷ k) (cs, c, end, within, stands, continues, rest) = (cs, c, end, within, stands, continues, stack_grown x cs (Go end) k rest)
-  stack_grown x bs (Go f) (Join ∷ k) (end, i, rest) = (end, i, stack_grown x bs (Go end) k rest)
-  stack_grown x bs (Go f) (Loop condition body ∷ k) (y, l, v, u, end, same, loop, i, rest) = (y, l, v, u, end, same, loop, i, stack_grown y bs (Go end) k rest)
-  stack_grown x bs (Go f) (CloseRegion region home ∷ k) (cs, number, l, alive, end, same, i, live, rest) = (cs, number, l, alive, end, same, i, live, stack_grown x cs (Go end) k rest)
-  stack_grown x bs (Go f) (CloseLexical region ∷ k) (end, i, live, rest) = (end, i, live, stack_grown x bs (Go end) k rest)
-  stack_grown x bs (Go f) (EndLoan lent ∷ k) (y, end, same, i, full, rest) = (y, end, same, i, full_at_grown lent bs full, stack_grown y bs (Go end) k rest)
-  stack_grown x bs (Go f) (Handler cs ∷ k) (y, c, start, end, same, stands, holds, catches, i, rest) =
-      (y, c, start, end, same, stands, holds_grown g h grows start bs holds, catches, i, stack_grown y bs (Go end) k rest)
-  stack_grown x bs (Go f) (Caller e ∷ k) (y, cs, end, loop, blocked, gives, bound, variables, live, holds, rest) = (
-    y,
-    cs,
-    end,
-    loop,
-    blocked,
-    gives,
-    bound,
-    variables_grown g h grows cs variables,
-    live,
-    holds_grown g h grows end cs holds,
-    stack_grown y cs (Val x.gives end) k rest,
+  -- what waits keeps its types, and whoever claims its keys
+  keeps_grown : (below : ℕ) (a : Awaiting) (ts : List RunTy) → (AreOperands g ts (held a) → AreClaimed g.own below ts → AreClaimed h.own below ts) → Keeps g below a ts → Keeps h below a ts
+  keeps_grown below (FillElement object count index level kind element) ts claimed are = array_grown ts object count index are
+  keeps_grown below a [] claimed are = operands_grown g h grows [] (held a) are
+  keeps_grown below a (t ∷ ts) claimed (are, claims) = (operands_grown g h grows (t ∷ ts) (held a) are, claimed are claims)
+
+claimed_stays : (g h : Typing) → Stays g h → (i : ℕ) (ts : List RunTy) → AreClaimed g.own i ts → AreClaimed h.own i ts
+claimed_stays g h stays i [] are = tt
+claimed_stays g h stays i (t ∷ ts) (is, are) = (claims_stay g h stays (Hand (i + length ts)) t is, claimed_stays g h stays i ts are)
+
+-- also behind a loan, and in a call around
+stays_behind : (g h : Typing) → Stays g h → (j : ℕ) → Stays (record g { loans = j }) (record h { loans = j })
+stays_behind g h stays j = record {
+  grows = record { objects = stays.grows.objects; filled = stays.grows.filled; fields = stays.grows.fields; kept = stays.grows.kept };
+  own = stays.own;
+  depth = stays.depth;
+  loans = refl;
+}
+
+stays_outside : (g h : Typing) → Stays g h → (d : ℕ) → Stays (record g { depth = d }) (record h { depth = d })
+stays_outside g h stays d = record {
+  grows = record { objects = stays.grows.objects; filled = stays.grows.filled; fields = stays.grows.fields; kept = stays.grows.kept };
+  own = stays.own;
+  depth = refl;
+  loans = stays.loans;
+}
+
+pub stack_grown : (p : Source) (g h : Typing) → Stays g h → (x : Exits) (bs : List InScope) (w : Want) (k : List Entry) → IsStack p g x bs w k → IsStack p h x bs w k
+stack_grown p g h stays x bs Nothing [] is = tt
+stack_grown p g h stays x bs (Val r f) (Needs a ∷ k) (ts, cs, next, waits, are, rest) =
+    (ts, cs, next, waits, keeps_grown p g h stays.grows (operands_in k) a ts (λ operands claims. claimed_stays g h stays (operands_in k) ts claims) are, stack_grown p g h stays x cs next k rest)
+stack_grown p g h stays x bs (PlaceOf t l f) (NeedsPlace a ∷ k) (next, waits, keeps, rest) = (next, waits, keeps_place_grown p g h stays.grows bs a t f keeps, stack_grown p g h stays x bs next k rest)
+stack_grown p g h stays x bs (Val r f) (Discard ∷ k) is = stack_grown p g h stays x bs (Go f) k is
+stack_grown p g h stays x bs (Go f) (Discard ∷ k) is = stack_grown p g h stays x bs (Go f) k is
+stack_grown p g h stays x bs (Go f) (Rest js ∷ k) (cs, c, end, within, stands, continues, rest) = (cs, c, end, within, stands, continues, stack_grown p g h stays x cs (Go end) k rest)
+stack_grown p g h stays x bs (Go f) (Join ∷ k) (end, i, rest) = (end, i, stack_grown p g h stays x bs (Go end) k rest)
+stack_grown p g h stays x bs (Go f) (Loop condition body ∷ k) (y, l, v, u, end, same, loop, i, rest) = (y, l, v, u, end, same, loop, i, stack_grown p g h stays y bs (Go end) k rest)
+stack_grown p g h stays x bs (Go f) (CloseRegion region home ∷ k) (cs, number, l, alive, end, same, i, live, rest) = (cs, number, l, alive, end, same, i, live, stack_grown p g h stays x cs (Go end) k rest)
+stack_grown p g h stays x bs (Go f) (CloseLexical region ∷ k) (end, i, live, rest) = (end, i, live, stack_grown p g h stays x bs (Go end) k rest)
+stack_grown p g h stays x bs (Go f) (EndLoan lent ∷ k) (y, end, j, t, same, loans, claims, i, full, variables, rest) = (
+  y,
+  end,
+  j,
+  t,
+  same,
+  stays.loans ∙ loans,
+  claims_stay g h stays (Lent j) t claims,
+  i,
+  full_at_grown p g h stays.grows lent t bs full,
+  variables_grown (record g { loans = j }) (record h { loans = j }) (stays_behind g h stays j) bs variables,
+  stack_grown p (record g { loans = j }) (record h { loans = j }) (stays_behind g h stays j) y bs (Go end) k rest,
+)
+stack_grown p g h stays x bs (Go f) (Handler cs ∷ k) (y, c, start, end, same, stands, holds, catches, i, rest) =
+    (y, c, start, end, same, stands, holds_grown g h stays start bs holds, catches, i, stack_grown p g h stays y bs (Go end) k rest)
+stack_grown p g h stays x bs (Go f) (Caller e ∷ k) (y, cs, end, d, depth, loop, blocked, gives, bound, variables, live, holds, rest) = (
+  y,
+  cs,
+  end,
+  d,
+  stays.depth ∙ depth,
+  loop,
+  blocked,
+  gives,
+  bound,
+  variables_grown (record g { depth = d }) (record h { depth = d }) (stays_outside g h stays d) cs variables,
+  live,
+  holds_grown (record g { depth = d }) (record h { depth = d }) (stays_outside g h stays d) end cs holds,
+  stack_grown p (record g { depth = d }) (record h { depth = d }) (stays_outside g h stays d) y cs (Val x.gives end) k rest,
+)
+stack_grown p g h stays x bs (Go f) (Main ∷ k) (loop, int, gives, blocked, rest) = (loop, int, gives, blocked, stack_grown p g h stays x bs Nothing k rest)
+stack_grown p g h stays x bs w k is = absurd is
+
+-- ---- a key changes hands
+
+-- nothing that waits on this stack claims a key by what had it
+abbrev pub IsAbove : Exits → Typing → List Entry → Holder → Type 0
+IsAbove x g k Nobody = Unit {0}
+IsAbove x g k (Hand i) = operands_in k ≤ i
+IsAbove x g k (In d n) = ((d ≡ g.depth) × IsSpared x.relied n) ⊎ (g.depth < d)
+IsAbove x g k (Lent j) = g.loans ≤ j
+
+hand_same : (i j : ℕ) → Hand i ≡ Hand j → i ≡ j
+hand_same i j e = let k : Hand i ≡ Hand j = e in cc
+
+in_same : (c d m n : ℕ) → In c m ≡ In d n → (c ≡ d) × (m ≡ n)
+in_same c d m n e = let k : In c m ≡ In d n = e in (cc, cc)
+
+lent_same : (i j : ℕ) → Lent i ≡ Lent j → i ≡ j
+lent_same i j e = let k : Lent i ≡ Lent j = e in cc
+
+hand_other : (x : Exits) (g : Typing) (k : List Entry) (i : ℕ) (old : Holder) → IsAbove x g k old → i < operands_in k → Hand i ≢ old
+hand_other x g k i Nobody above less = λ e. (let z : Hand i ≡ Nobody = e in absurd (cc))
+hand_other x g k i (Hand j) above less = λ e. (let same : i ≡ j = hand_same i j e in absurd (omega (arith, above, less, same)))
+hand_other x g k i (In d n) above less = λ e. (let z : Hand i ≡ In d n = e in absurd (cc))
+hand_other x g k i (Lent j) above less = λ e. (let z : Hand i ≡ Lent j = e in absurd (cc))
+
+lent_other : (x : Exits) (g : Typing) (k : List Entry) (i : ℕ) (old : Holder) → IsAbove x g k old → i < g.loans → Lent i ≢ old
+lent_other x g k i Nobody above less = λ e. (let z : Lent i ≡ Nobody = e in absurd (cc))
+lent_other x g k i (Hand j) above less = λ e. (let z : Lent i ≡ Hand j = e in absurd (cc))
+lent_other x g k i (In d n) above less = λ e. (let z : Lent i ≡ In d n = e in absurd (cc))
+lent_other x g k i (Lent j) above less = λ e. (let same : i ≡ j = lent_same i j e in absurd (omega (arith, above, less, same)))
+
+-- what is lent stays so
+pub none_lent : (x : Exits) (g : Typing) (k : List Entry) (old : Holder) → IsAbove x g k old → is_lent_by g.loans old ≡ false
+none_lent x g k Nobody above = refl
+none_lent x g k (Hand i) above = refl
+none_lent x g k (In d n) above = refl
+none_lent x g k (Lent j) above = not_below j g.loans above
+  where
+    not_below : (j n : ℕ) → n ≤ j → nat_lt j n ≡ false
+    not_below j n less = false_from_ne_true (nat_lt j n) (λ e. (let below : j < n = ltb-true j n e in absurd (omega (arith, below, less))))
+
+operands_long : (g : Typing) (ts : List RunTy) (vs : List Operand) → AreOperands g ts vs → length ts ≡ length vs
+operands_long g [] [] are = refl
+operands_long g [] (v ∷ vs) are = absurd are
+operands_long g (t ∷ ts) [] are = absurd are
+operands_long g (t ∷ ts) (v ∷ vs) (is, are) = ap suc (operands_long g ts vs are)
+
+above_needs : (x : Exits) (g : Typing) (a : Awaiting) (k : List Entry) (old : Holder) → IsAbove x g (Needs a ∷ k) old → IsAbove x g k old
+above_needs x g a k Nobody above = tt
+above_needs x g a k (Hand i) above = let few : operands_in k ≤ i = omega (arith, above) in few
+above_needs x g a k (In d n) above = above
+above_needs x g a k (Lent j) above = above
+
+above_same : (x : Exits) (g : Typing) (b : Entry) (k : List Entry) (old : Holder) → operands_in (b ∷ k) ≡ operands_in k → IsAbove x g (b ∷ k) old → IsAbove x g k old
+above_same x g b k Nobody same above = tt
+above_same x g b k (Hand i) same above = let few : operands_in k ≤ i = omega (arith, above, same) in few
+above_same x g b k (In d n) same above = above
+above_same x g b k (Lent j) same above = above
+
+above_from : (x y : Exits) (g : Typing) (k : List Entry) (old : Holder) → ((n : ℕ) → IsSpared x.relied n → IsSpared y.relied n) → IsAbove x g k old → IsAbove y g k old
+above_from x y g k Nobody less above = tt
+above_from x y g k (Hand i) less above = above
+above_from x y g k (In d n) less (inl (same, spared)) = inl (same, less n spared)
+above_from x y g k (In d n) less (inr deeper) = inr deeper
+above_from x y g k (Lent j) less above = above
+
+above_behind : (x : Exits) (g : Typing) (k : List Entry) (j : ℕ) (old : Holder) → g.loans ≡ suc j → IsAbove x g k old → IsAbove x (record g { loans = j }) k old
+above_behind x g k j Nobody same above = tt
+above_behind x g k j (Hand i) same above = above
+above_behind x g k j (In d n) same above = above
+above_behind x g k j (Lent i) same above = let few : j ≤ i = omega (arith, above, same) in few
+
+above_outside : (x y : Exits) (g : Typing) (k : List Entry) (d : ℕ) (old : Holder) → g.depth ≡ suc d → IsAbove x g k old → IsAbove y (record g { depth = d }) k old
+above_outside x y g k d Nobody same above = tt
+above_outside x y g k d (Hand i) same above = above
+above_outside x y g k d (In e n) same (inl (here, spared)) = inr (let less : d < e = omega (arith, here, same) in less)
+above_outside x y g k d (In e n) same (inr deeper) = inr (let less : d < e = omega (arith, deeper, same) in less)
+above_outside x y g k d (Lent j) same above = above
+
+-- a variable that clauses rely on is another one
+relied_other : (x y : Exits) (g : Typing) (k : List Entry) (f : flow.State) (old : Holder) (m : ℕ) → x ≡ relying y f → is_reached f ≡ true → IsAbove x g k old → IsFullIn f m → In g.depth m ≢ old
+relied_other x y g k f Nobody m same reached above full = λ e. (let z : In g.depth m ≡ Nobody = e in absurd (cc))
+relied_other x y g k f (Hand i) m same reached above full = λ e. (let z : In g.depth m ≡ Hand i = e in absurd (cc))
+relied_other x y g k f (Lent j) m same reached above full = λ e. (let z : In g.depth m ≡ Lent j = e in absurd (cc))
+relied_other x y g k f (In d n) m same reached (inr deeper) full = λ e. (let (here, number) = in_same g.depth d m n e in absurd (omega (arith, here, deeper)))
+relied_other x y g k f (In d n) m same reached (inl (here, spared)) full = λ e. (let (depth, number) = in_same g.depth d m n e in
+    let one : IsSparedBy f n = (subst (λ (z : Exits). IsSpared z.relied n) same spared).0 in
+    let z : true ≡ false = sym (subst (λ i. IsFullIn f i) number full) ∙ not_full f n reached one in absurd (cc))
+  where
+    not_full : (f : flow.State) (n : ℕ) → is_reached f ≡ true → IsSparedBy f n → is_full (fullness f n) ≡ false
+    not_full Unreached n reached one = absurd (let k : false ≡ true = reached in cc)
+    not_full (Reached as') n reached one = one
+
+outer_other : (x : Exits) (g : Typing) (k : List Entry) (d : ℕ) (old : Holder) (m : ℕ) → g.depth ≡ suc d → IsAbove x g k old → In d m ≢ old
+outer_other x g k d Nobody m same above = λ e. (let z : In d m ≡ Nobody = e in absurd (cc))
+outer_other x g k d (Hand i) m same above = λ e. (let z : In d m ≡ Hand i = e in absurd (cc))
+outer_other x g k d (Lent j) m same above = λ e. (let z : In d m ≡ Lent j = e in absurd (cc))
+outer_other x g k d (In e n) m same (inl (here, spared)) = λ q. (let (one, two) = in_same d e m n q in absurd (omega (arith, one, here, same)))
+outer_other x g k d (In e n) m same (inr deeper) = λ q. (let (one, two) = in_same d e m n q in absurd (omega (arith, one, deeper, same)))
+
+module _ (t : RunTy) (old new : Holder) where
+  one_holds_other : (g : Typing) (f : flow.State) (b : InScope) → Claims g.own old t → ((m : ℕ) → IsFullIn f m → In g.depth m ≢ old) → HoldsIts g f b → HoldsIts (giving g t new) f b
+  one_holds_other g f (Variable b) has other (set, full) = (set, λ s. claims_other g t old new (In g.depth b.number) b.of_type has (other b.number s) (full s))
+  one_holds_other g f b has other is = tt
+
+  set_other : (g : Typing) (f : flow.State) (bs : List InScope) → Claims g.own old t → ((m : ℕ) → IsFullIn f m → In g.depth m ≢ old) → AreSet g f bs → AreSet (giving g t new) f bs
+  set_other g f [] has other are = tt
+  set_other g f (b ∷ bs) has other (is, are) = (one_holds_other g f b has other is, set_other g f bs has other are)
+
+  -- what is known of locals stays so, where none of them had the key
+  pub holds_other : (g : Typing) (f : flow.State) (bs : List InScope) → Claims g.own old t → ((m : ℕ) → IsFullIn f m → In g.depth m ≢ old) → Holds g f bs → Holds (giving g t new) f bs
+  holds_other g f bs has other (reached, are) = (reached, set_other g f bs has other are)
+
+  claimed_other : (g : Typing) (i : ℕ) (ts : List RunTy) → Claims g.own old t → ((j : ℕ) → j < i + length ts → Hand j ≢ old) → AreClaimed g.own i ts → AreClaimed (given t new g.own) i ts
+  claimed_other g i [] has other are = tt
+  claimed_other g i (u ∷ ts) has other (is, are) = (
+    claims_other g t old new (Hand (i + length ts)) u has (other (i + length ts) (let less : i + length ts < i + suc (length ts) = omega arith in less)) is,
+    claimed_other g i ts has (λ j less. other j (let more : j < i + suc (length ts) = omega (arith, less) in more)) are,
   )
-  stack_grown x bs (Go f) (Main ∷ k) (loop, int, gives, blocked, rest) = (loop, int, gives, blocked, stack_grown x bs Nothing k rest)
-  stack_grown x bs w k is = absurd is
+
+  -- A stack stays typed while a key changes hands that nothing on it claims.
+  pub stack_other : (p : Source) (g : Typing) (x : Exits) (bs : List InScope) (w : Want) (k : List Entry) → Claims g.own old t → IsAbove x g k old → IsStack p g x bs w k → IsStack p (giving g t new) x bs w k
+  stack_other p g x bs Nothing [] has above is = tt
+  stack_other p g x bs (Val r f) (Needs a ∷ k) has above (ts, cs, next, waits, are, rest) = (
+    ts,
+    cs,
+    next,
+    waits,
+    keeps_grown p g (giving g t new) (giving_grows g t new) (operands_in k) a ts (λ operands claims. claimed_other g (operands_in k) ts has
+        (λ j less. hand_other x g (Needs a ∷ k) j old above (let long : length ts ≡ length (held a) = operands_long g ts (held a) operands in let few : j < length (held a) + operands_in k = omega (arith, less, long) in few)) claims) are,
+    stack_other p g x cs next k has (above_needs x g a k old above) rest,
+  )
+  stack_other p g x bs (PlaceOf u l f) (NeedsPlace a ∷ k) has above (next, waits, keeps, rest) = (next, waits, keeps_place_grown p g (giving g t new) (giving_grows g t new) bs a u f keeps, stack_other p g x bs next k has (above_same x g (NeedsPlace a) k old refl above) rest)
+  stack_other p g x bs (Val r f) (Discard ∷ k) has above is = stack_other p g x bs (Go f) k has (above_same x g Discard k old refl above) is
+  stack_other p g x bs (Go f) (Discard ∷ k) has above is = stack_other p g x bs (Go f) k has (above_same x g Discard k old refl above) is
+  stack_other p g x bs (Go f) (Rest js ∷ k) has above (cs, c, end, within, stands, continues, rest) =
+      (cs, c, end, within, stands, continues, stack_other p g x cs (Go end) k has (above_same x g (Rest js) k old refl above) rest)
+  stack_other p g x bs (Go f) (Join ∷ k) has above (end, i, rest) = (end, i, stack_other p g x bs (Go end) k has (above_same x g Join k old refl above) rest)
+  stack_other p g x bs (Go f) (Loop condition body ∷ k) has above (y, l, v, u, end, same, loop, i, rest) =
+      let inner = above_from x y g k old (λ n spared. subst (λ (z : Exits). IsSpared z.relied n) same spared) (above_same x g (Loop condition body) k old refl above) in
+      (y, l, v, u, end, same, loop, i, stack_other p g y bs (Go end) k has inner rest)
+  stack_other p g x bs (Go f) (CloseRegion region home ∷ k) has above (cs, number, l, alive, end, same, i, live, rest) =
+      (cs, number, l, alive, end, same, i, live, stack_other p g x cs (Go end) k has (above_same x g (CloseRegion region home) k old refl above) rest)
+  stack_other p g x bs (Go f) (CloseLexical region ∷ k) has above (end, i, live, rest) = (end, i, live, stack_other p g x bs (Go end) k has (above_same x g (CloseLexical region) k old refl above) rest)
+  stack_other p g x bs (Go f) (EndLoan lent ∷ k) has above (y, end, j, u, same, loans, claims, i, full, variables, rest) =
+      let here = above_same x g (EndLoan lent) k old refl above in
+      let inner = above_from x y g k old (λ n spared. subst (λ (z : Exits). IsSpared z.relied n) same spared) here in
+      let behind' = above_behind y g k j old loans inner in
+      (
+        y,
+        end,
+        j,
+        u,
+        same,
+        loans,
+        claims_other g t old new (Lent j) u has (lent_other x g (EndLoan lent ∷ k) j old above (let less : j < g.loans = omega (arith, loans) in less)) claims,
+        i,
+        full_at_grown p g (giving g t new) (giving_grows g t new) lent u bs full,
+        variables_other (record g { loans = j }) t old new bs has (none_lent y (record g { loans = j }) k old behind') variables,
+        stack_other p (record g { loans = j }) y bs (Go end) k has behind' rest,
+      )
+  stack_other p g x bs (Go f) (Handler cs ∷ k) has above (y, c, start, end, same, stands, holds, catches, i, rest) =
+      let here = above_same x g (Handler cs) k old refl above in
+      let inner = above_from x y g k old (λ n spared. (subst (λ (z : Exits). IsSpared z.relied n) same spared).1) here in
+      (
+        y,
+        c,
+        start,
+        end,
+        same,
+        stands,
+        holds_other g start bs has (λ m full. relied_other x y g k start old m same holds.0 here full) holds,
+        catches,
+        i,
+        stack_other p g y bs (Go end) k has inner rest,
+      )
+  stack_other p g x bs (Go f) (Caller e ∷ k) has above (y, cs, end, d, depth, loop, blocked, gives, bound, variables, live, holds, rest) =
+      let here = above_same x g (Caller e) k old refl above in
+      let outer = above_outside x y g k d old depth here in
+      (
+        y,
+        cs,
+        end,
+        d,
+        depth,
+        loop,
+        blocked,
+        gives,
+        bound,
+        variables_other (record g { depth = d }) t old new cs has (none_lent y (record g { depth = d }) k old outer) variables,
+        live,
+        holds_other (record g { depth = d }) end cs has (λ m full. outer_other x g k d old m depth here) holds,
+        stack_other p (record g { depth = d }) y cs (Val x.gives end) k has outer rest,
+      )
+  stack_other p g x bs (Go f) (Main ∷ k) has above (loop, int, gives, blocked, rest) = (loop, int, gives, blocked, stack_other p g x bs Nothing k has (above_same x g Main k old refl above) rest)
+  stack_other p g x bs w k has above is = absurd is
 
 -- ---- what has no value is only dropped
 

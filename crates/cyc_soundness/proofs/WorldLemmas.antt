@@ -98,7 +98,7 @@ module _ (g h : Typing) (stays : Stays g h) where
   open_stays (OfObject object) is = tt
   open_stays Never is = tt
 
-  pub claims_stay : (holder : Holder) (t : RunTy) → Claims g holder t → Claims h holder t
+  pub claims_stay : (holder : Holder) (t : RunTy) → Claims g.own holder t → Claims h.own holder t
   claims_stay holder (Key (Kept region)) is = ap (λ f. f region) stays.own ∙ is
   claims_stay holder (Key (OfRegion number ns us)) is = tt
   claims_stay holder (Key (OfObject object)) is = tt
@@ -119,7 +119,7 @@ module _ (g h : Typing) (stays : Stays g h) where
   variables_grown (b ∷ bs) (is, are) = (variable_grown b is, variables_grown bs are)
 
   one_set_grown : (f : flow.State) (b : InScope) → HoldsIts g f b → HoldsIts h f b
-  one_set_grown f (Variable b) (set, full) = (λ s. stays.grows.filled b.object 1 (set s), λ s. subst (λ d. Claims h (In d b.number) b.of_type) (sym stays.depth) (claims_stay (In g.depth b.number) b.of_type (full s)))
+  one_set_grown f (Variable b) (set, full) = (λ s. stays.grows.filled b.object 1 (set s), λ s. subst (λ d. Claims h.own (In d b.number) b.of_type) (sym stays.depth) (claims_stay (In g.depth b.number) b.of_type (full s)))
   one_set_grown f b is = tt
 
   pub set_grown : (f : flow.State) (bs : List InScope) → AreSet g f bs → AreSet h f bs
@@ -237,7 +237,7 @@ other_number : {A : Type 0} (n r : ℕ) (a b : A) → n ≢ r → (if n == r the
 other_number n r a b apart = ap (λ (z : Bool). if z then a else b) (false_from_ne_true (eqb n r) (λ h. apart (eqb-true n r h)))
 
 -- who has been given a key has it
-pub given_now : (g : Typing) (t : RunTy) (holder : Holder) → Claims (giving g t holder) holder t
+pub given_now : (g : Typing) (t : RunTy) (holder : Holder) → Claims (given t holder g.own) holder t
 given_now g (Key (Kept region)) holder = same_number region region holder (g.own region) refl
 given_now g (Key (OfRegion number ns us)) holder = tt
 given_now g (Key (OfObject object)) holder = tt
@@ -248,7 +248,7 @@ given_now g (Handle l) holder = tt
 given_now g (Struct n ls) holder = tt
 
 -- and nobody else has another one
-given_other : (g : Typing) (t : RunTy) (old new holder : Holder) (region : ℕ) → Claims g old t → holder ≢ old → g.own region ≡ holder → given t new g.own region ≡ holder
+given_other : (g : Typing) (t : RunTy) (old new holder : Holder) (region : ℕ) → Claims g.own old t → holder ≢ old → g.own region ≡ holder → given t new g.own region ≡ holder
 given_other g (Key (Kept r)) old new holder region has other is = elim (same_or_other region r) [
   | inl same ↦ absurd (other (sym is ∙ ap (λ i. g.own i) same ∙ has))
   | inr apart ↦ other_number region r new (g.own region) apart ∙ is
@@ -261,7 +261,7 @@ given_other g (Pointer k t l) old new holder region has other is = is
 given_other g (Handle l) old new holder region has other is = is
 given_other g (Struct n ls) old new holder region has other is = is
 
-pub claims_other : (g : Typing) (t : RunTy) (old new holder : Holder) (u : RunTy) → Claims g old t → holder ≢ old → Claims g holder u → Claims (giving g t new) holder u
+pub claims_other : (g : Typing) (t : RunTy) (old new holder : Holder) (u : RunTy) → Claims g.own old t → holder ≢ old → Claims g.own holder u → Claims (given t new g.own) holder u
 claims_other g t old new holder (Key (Kept region)) has other is = given_other g t old new holder region has other is
 claims_other g t old new holder (Key (OfRegion number ns us)) has other is = tt
 claims_other g t old new holder (Key (OfObject object)) has other is = tt
@@ -271,36 +271,36 @@ claims_other g t old new holder (Pointer k s l) has other is = tt
 claims_other g t old new holder (Handle l) has other is = tt
 claims_other g t old new holder (Struct n ls) has other is = tt
 
-pub claims_by_other : (g : Typing) (t : RunTy) (old new holder : Holder) (r : RunValue) → Claims g old t → holder ≢ old → ClaimsBy g holder r → ClaimsBy (giving g t new) holder r
+pub claims_by_other : (g : Typing) (t : RunTy) (old new holder : Holder) (r : RunValue) → Claims g.own old t → holder ≢ old → ClaimsBy g.own holder r → ClaimsBy (given t new g.own) holder r
 claims_by_other g t old new holder (Value u) has other is = claims_other g t old new holder u has other is
 claims_by_other g t old new holder Void has other is = tt
 claims_by_other g t old new holder Null has other is = tt
 claims_by_other g t old new holder (Seen u) has other is = tt
 
-lent_other : (g : Typing) (t : RunTy) (old new : Holder) (region : ℕ) → Claims g old t → is_lent_by g.loans old ≡ false → lent_now g region ≡ true → lent_now (giving g t new) region ≡ true
+lent_other : (g : Typing) (t : RunTy) (old new : Holder) (region : ℕ) → Claims g.own old t → is_lent_by g.loans old ≡ false → lent_now g region ≡ true → lent_now (giving g t new) region ≡ true
 lent_other g t old new region has none e =
     let apart : g.own region ≢ old = (λ same. (let k : true ≡ false = sym e ∙ ap (λ h. is_lent_by g.loans h) same ∙ none in absurd (cc))) in
     subst (λ h. is_lent_by g.loans h ≡ true) (sym (given_other g t old new (g.own region) region has apart refl)) e
 
-open_other : (g : Typing) (t : RunTy) (old new : Holder) (l : Life) → Claims g old t → is_lent_by g.loans old ≡ false → IsOpenIn g l → IsOpenIn (giving g t new) l
+open_other : (g : Typing) (t : RunTy) (old new : Holder) (l : Life) → Claims g.own old t → is_lent_by g.loans old ≡ false → IsOpenIn g l → IsOpenIn (giving g t new) l
 open_other g t old new (Kept region) has none is = lent_other g t old new region has none is
 open_other g t old new (OfRegion number ns us) has none is = λ r e. lent_other g t old new r has none (is r e)
 open_other g t old new (OfObject object) has none is = tt
 open_other g t old new Never has none is = tt
 
-one_other : (g : Typing) (t : RunTy) (old new : Holder) (b : InScope) → Claims g old t → is_lent_by g.loans old ≡ false → IsOfVariable g b → IsOfVariable (giving g t new) b
+one_other : (g : Typing) (t : RunTy) (old new : Holder) (b : InScope) → Claims g.own old t → is_lent_by g.loans old ≡ false → IsOfVariable g b → IsOfVariable (giving g t new) b
 one_other g t old new (Variable b) has none (is, opens) = (is, open_other g t old new b.life has none opens)
 one_other g t old new (Names number l live) has none (is, opens) = (life_grown g (giving g t new) (giving_grows g t new) l is, λ e. open_other g t old new l has none (opens e))
 one_other g t old new (Instance these live) has none is = λ n. (life_grown g (giving g t new) (giving_grows g t new) (these n) (is n).0, λ e. open_other g t old new (these n) has none ((is n).1 e))
 one_other g t old new b has none is = tt
 
 -- where what is lent stays lent, the scope is as it was
-pub variables_other : (g : Typing) (t : RunTy) (old new : Holder) (bs : List InScope) → Claims g old t → is_lent_by g.loans old ≡ false → AreVariables g bs → AreVariables (giving g t new) bs
+pub variables_other : (g : Typing) (t : RunTy) (old new : Holder) (bs : List InScope) → Claims g.own old t → is_lent_by g.loans old ≡ false → AreVariables g bs → AreVariables (giving g t new) bs
 variables_other g t old new [] has none are = tt
 variables_other g t old new (b ∷ bs) has none (is, are) = (one_other g t old new b has none is, variables_other g t old new bs has none are)
 
 -- a key that somebody has goes to another
-pub given_typed : (g : Typing) (t : RunTy) (old new : Holder) (regions : List Region) (objects : List Object) → Claims g old t → IsHeld old → IsTyped g regions objects → IsTyped (giving g t new) regions objects
+pub given_typed : (g : Typing) (t : RunTy) (old new : Holder) (regions : List Region) (objects : List Object) → Claims g.own old t → IsHeld old → IsTyped g regions objects → IsTyped (giving g t new) regions objects
 given_typed g t old new regions objects has held typed = record {
   count = typed.count;
   counts = typed.counts;
@@ -310,7 +310,7 @@ given_typed g t old new regions objects has held typed = record {
   fresh = λ n less. fresh t has n less;
 }
   where
-    kept : (t : RunTy) → Claims g old t → (n : ℕ) → IsAmong n g.kept → IsHeld (given t new g.own n) → IsDynamic (slice_get regions n)
+    kept : (t : RunTy) → Claims g.own old t → (n : ℕ) → IsAmong n g.kept → IsHeld (given t new g.own n) → IsDynamic (slice_get regions n)
     kept (Key (Kept r)) has n among now = elim (same_or_other n r) [
       | inl same ↦ (typed.kept n among).1 (subst (λ h. IsHeld h) (sym (ap (λ i. g.own i) same ∙ has)) held)
       | inr apart ↦ (typed.kept n among).1 (subst (λ h. IsHeld h) (other_number n r new (g.own n) apart) now)
@@ -323,7 +323,7 @@ given_typed g t old new regions objects has held typed = record {
     kept (Handle l) has n among now = (typed.kept n among).1 now
     kept (Struct m ls) has n among now = (typed.kept n among).1 now
 
-    fresh : (t : RunTy) → Claims g old t → (n : ℕ) → length regions ≤ n → given t new g.own n ≡ Nobody
+    fresh : (t : RunTy) → Claims g.own old t → (n : ℕ) → length regions ≤ n → given t new g.own n ≡ Nobody
     fresh (Key (Kept r)) has n less = elim (same_or_other n r) [
       | inl same ↦ absurd (subst (λ h. IsHeld h) (sym has ∙ ap (λ i. g.own i) (sym same) ∙ typed.fresh n less) held)
       | inr apart ↦ other_number n r new (g.own n) apart ∙ typed.fresh n less

@@ -182,7 +182,7 @@ abbrev pub IsFullIn : flow.State → ℕ → Type 0
 IsFullIn f n = is_full (fullness f n) ≡ true
 
 abbrev pub HoldsIts : Typing → flow.State → InScope → Type 0
-HoldsIts g f (Variable b) = (IsSet f b.number → IsFull g b.object) × (IsFullIn f b.number → Claims g (In g.depth b.number) b.of_type)
+HoldsIts g f (Variable b) = (IsSet f b.number → IsFull g b.object) × (IsFullIn f b.number → Claims g.own (In g.depth b.number) b.of_type)
 HoldsIts g f b = Unit {0}
 
 abbrev pub AreSet : Typing → flow.State → List InScope → Type 0

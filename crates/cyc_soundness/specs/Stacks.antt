@@ -290,14 +290,14 @@ IsArrayOf g (lives.Pointer m t l ∷ []) object count index = (index < count) ×
 IsArrayOf g ts object count index = ⊥
 
 -- operands on the stack, the newest first, above so many others
-abbrev pub AreClaimed : Typing → (below : ℕ) → List RunTy → Type 0
-AreClaimed g i [] = Unit {0}
-AreClaimed g i (t ∷ ts) = Claims g (Hand (i + length ts)) t × AreClaimed g i ts
+abbrev pub AreClaimed : (own : ℕ → Holder) → (below : ℕ) → List RunTy → Type 0
+AreClaimed own i [] = Unit {0}
+AreClaimed own i (t ∷ ts) = Claims own (Hand (i + length ts)) t × AreClaimed own i ts
 
 -- and in order, from this one on
-abbrev pub AreGiven : Typing → (place : ℕ) → List RunTy → Type 0
-AreGiven g i [] = Unit {0}
-AreGiven g i (t ∷ ts) = Claims g (Hand i) t × AreGiven g (suc i) ts
+abbrev pub AreGiven : (own : ℕ → Holder) → (place : ℕ) → List RunTy → Type 0
+AreGiven own i [] = Unit {0}
+AreGiven own i (t ∷ ts) = Claims own (Hand i) t × AreGiven own (suc i) ts
 
 -- how many operands wait on a stack
 abbrev pub operands_in : List Entry → ℕ
@@ -307,14 +307,14 @@ operands_in (entry ∷ stack) = operands_in stack
 
 -- a value that comes to this stack
 abbrev pub Comes : Typing → RunValue → List Entry → Type 0
-Comes g r stack = ClaimsBy g (Hand (operands_in stack)) r
+Comes g r stack = ClaimsBy g.own (Hand (operands_in stack)) r
 
 -- The operands that wait in an entry, above so many others, are of these types, and this is the type of the pointer to an array that is
 -- being made.
 abbrev pub Keeps : Typing → (below : ℕ) → Awaiting → List RunTy → Type 0
 Keeps g i (FillElement object count index level kind element) ts = IsArrayOf g ts object count index
 Keeps g i a [] = AreOperands g [] (held a)
-Keeps g i a (t ∷ ts) = AreOperands g (t ∷ ts) (held a) × AreClaimed g i (t ∷ ts)
+Keeps g i a (t ∷ ts) = AreOperands g (t ∷ ts) (held a) × AreClaimed g.own i (t ∷ ts)
 
 -- ---- swaps
 
@@ -367,7 +367,7 @@ IsStack p g x bs (Go f) (CloseRegion region home ∷ k) =
 IsStack p g x bs (Go f) (CloseLexical region ∷ k) = (h : flow.State) × Implies f h × LiveIn k bs × IsStack p g x bs (Go h) k
 -- what was lent is not so any more
 IsStack p g x bs (Go f) (EndLoan lent ∷ k) =
-    (y : Exits) × (h : flow.State) × (j : ℕ) × (t : RunTy) × (x ≡ lending y lent) × (g.loans ≡ suc j) × Claims g (Lent j) t × Implies (with_fullness Full f lent) h × AreFullAt g lent t bs × AreVariables (record g { loans = j }) bs
+    (y : Exits) × (h : flow.State) × (j : ℕ) × (t : RunTy) × (x ≡ lending y lent) × (g.loans ≡ suc j) × Claims g.own (Lent j) t × Implies (with_fullness Full f lent) h × AreFullAt g lent t bs × AreVariables (record g { loans = j }) bs
     × IsStack p (record g { loans = j }) y bs (Go h) k
 IsStack p g x bs (Go f) (Handler cs ∷ k) =
     (y : Exits) × (c : Context) × (start h : flow.State) × (x ≡ relying y start) × IsContext p y bs c × Holds g start bs × Catches p.reading y c start cs f h × Implies f h × IsStack p g y bs (Go h) k
@@ -411,7 +411,7 @@ pub record IsMaking (g : Typing) (writes : List Write) (v : Operand) (t : RunTy)
 -- a function with a result returns a value of this type, and one without returns none
 abbrev pub IsReturn : Typing → (below : ℕ) → Option Ty → RunValue → Option Operand → Type 0
 IsReturn g i None r None = Unit {0}
-IsReturn g i (Some t) r (Some v) = IsResult g r v × ClaimsBy g (Hand i) r
+IsReturn g i (Some t) r (Some v) = IsResult g r v × ClaimsBy g.own (Hand i) r
 IsReturn g i result r v = ⊥
 
 -- these locals all hold something
@@ -425,7 +425,7 @@ AreFull g (b ∷ bs) = IsFilledIn g b × AreFull g bs
 
 -- and have what they hold
 abbrev pub IsOwnIn : Typing → InScope → Type 0
-IsOwnIn g (Variable b) = Claims g (In g.depth b.number) b.of_type
+IsOwnIn g (Variable b) = Claims g.own (In g.depth b.number) b.of_type
 IsOwnIn g b = Unit {0}
 
 abbrev pub AreOwn : Typing → List InScope → Type 0
@@ -459,14 +459,14 @@ IsFocus p g x bs (Executing s) k =
     (c : Context) × (f h : flow.State) × IsContext p x bs c × Holds g f bs × Executes p.reading x c s f h × IsStack p g x bs (Go h) k
 IsFocus p g x bs Proceeding k = (f : flow.State) × Holds g f bs × IsStack p g x bs (Go f) k
 IsFocus p g x bs (Calling callee arguments) k =
-    (ts : List RunTy) × (r : RunValue) × (f : flow.State) × Holds g f bs × IsCalled p bs callee (turned ts []) r × AreOperands g ts arguments × AreClaimed g (operands_in k) ts × IsStack p g x bs (Val r f) k
+    (ts : List RunTy) × (r : RunValue) × (f : flow.State) × Holds g f bs × IsCalled p bs callee (turned ts []) r × AreOperands g ts arguments × AreClaimed g.own (operands_in k) ts × IsStack p g x bs (Val r f) k
 IsFocus p g x bs (Entering h arguments) k =
     (end : flow.State) × (these : ℕ → Life) × (live : ℕ → Bool) × IsAccepted p h end × IsBody x bs h × (bs ≡ Instance these live ∷ []) × Stand p.reading (regions_at_call h) bs
-    × AreOperands g (map (read bs) h.parameters) arguments × AreGiven g (operands_in k) (map (read bs) h.parameters) × IsStack p g x bs (Go end) k
+    × AreOperands g (map (read bs) h.parameters) arguments × AreGiven g.own (operands_in k) (map (read bs) h.parameters) × IsStack p g x bs (Go end) k
 IsFocus p g x bs (Binding number ts arguments body) k =
     (h : Function) × (end : flow.State) × (vs : List LocalInScope) × (cs : List InScope) × Within cs bs × IsAccepted p h end × IsBody x bs h × (body ≡ h.body) × (parameters_in_scope ts number vs ≡ parameters_in_scope h.parameters 0 [])
     × (number + length ts ≡ length h.parameters) × AreOperands g (map (read bs) ts) arguments × IsScope p.reading (lives_in bs) vs bs × AreBelow number bs × AreFull g bs
-    × Stand p.reading (body_context p.program h).regions bs × IsHome p.reading 0 bs × ((i : ℕ) × (operands_in k ≤ i) × AreGiven g i (map (read bs) ts)) × AreOwn g bs × IsStack p g x cs (Go end) k
+    × Stand p.reading (body_context p.program h).regions bs × IsHome p.reading 0 bs × ((i : ℕ) × (operands_in k ≤ i) × AreGiven g.own i (map (read bs) ts)) × AreOwn g bs × IsStack p g x cs (Go end) k
 IsFocus p g x bs (Naming number v js) k =
     (c : Context) × (is_place : Bool) × (t : Ty) × (cs : List InScope) × (f h : flow.State) × Within cs bs × IsContext p x bs c × Holds g f bs × IsNew p.reading c t × (number ≡ c.next_local)
     × IsResult g (Value (read bs t)) v × Comes g (Value (read bs t)) k × Continues p.reading x (with_local is_place t c) js (with_fullness Full f number) h × IsStack p g x cs (Go h) k

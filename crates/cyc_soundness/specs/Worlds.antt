@@ -212,17 +212,17 @@ IsOpenLife regions l = ⊥
 -- ---- keys
 
 -- a value of this type, that may be used, is there
-abbrev pub ClaimsLife : Typing → Holder → Life → Type 0
-ClaimsLife g h (Kept region) = g.own region ≡ h
-ClaimsLife g h l = Unit {0}
+abbrev pub ClaimsLife : (own : ℕ → Holder) → Holder → Life → Type 0
+ClaimsLife own h (Kept region) = own region ≡ h
+ClaimsLife own h l = Unit {0}
 
-abbrev pub Claims : Typing → Holder → RunTy → Type 0
-Claims g h (Key l) = ClaimsLife g h l
-Claims g h t = Unit {0}
+abbrev pub Claims : (own : ℕ → Holder) → Holder → RunTy → Type 0
+Claims own h (Key l) = ClaimsLife own h l
+Claims own h t = Unit {0}
 
-abbrev pub ClaimsBy : Typing → Holder → RunValue → Type 0
-ClaimsBy g h (Value t) = Claims g h t
-ClaimsBy g h r = Unit {0}
+abbrev pub ClaimsBy : (own : ℕ → Holder) → Holder → RunValue → Type 0
+ClaimsBy own h (Value t) = Claims own h t
+ClaimsBy own h r = Unit {0}
 
 -- and is there from now on
 abbrev pub given_life : Life → Holder → (ℕ → Holder) → ℕ → Holder
