@@ -1,10 +1,11 @@
 -- The typing of stacks: it stays when the typing of the world grows, and what is found of the locals in scope.
-use Rattle.std.proofs.Common.{◌≡◌, ◌≢◌, inl, inr, ℕ, ◌≤◌, ◌<◌, Bool, true, false, List, [], ◌∷◌, Option, Some, None, slice_get, eqb, refl, sym, ap, subst, ◌∙◌, arith}
+use Rattle.std.proofs.Common.{◌≡◌, ◌≢◌, inl, inr, ℕ, ◌≤◌, ◌<◌, ◌+◌, Bool, true, false, List, [], ◌∷◌, Option, Some, None, slice_get, eqb, refl, sym, ap, subst, ◌∙◌, arith}
 use Rattle.std.specs.Prelude.{if◌then◌else◌, nat_lt, ◌⊎◌, suc, length}
 use Rattle.std.proofs.lemmas.Bool.{ltb-true}
 use Rattle.std.proofs.lemmas.Bool.{eqb-true, eq-eqb, false_from_ne_true}
 use Rattle.cyc_syntax.specs.declared.tree.PointerKind.TheVariants as marks
 use Rattle.cyc_types.specs.declared.typed.PointerOperator.{PointerOperator}
+use Rattle.cyc_types.specs.declared.region.Region.{Region as Region'}
 use Rattle.cyc_types.specs.Types.{Ty, ValueType, result_type}
 use Rattle.cyc_types.specs.Types as types
 use Rattle.cyc_types.specs.TypedTrees.{Operations, NoOperations, ThenCompute, ThenTest, ThenPointer, ThenPointerPeek, Function}
@@ -17,18 +18,18 @@ use Rattle.cyc_meaning.specs.Values as values
 use Rattle.cyc_meaning.specs.State.{Object, Region, Access, Found, Closed, Missing, found_region, is_open, heap_number, globals_number, World, FillElement, AwaitingPlace, SwapRight, Write, Environment, with_local, Awaiting, Entry, Needs, NeedsPlace, Discard, Rest, Join, Loop, CloseRegion, CloseLexical, EndLoan, Handler, Caller, Main}
 use Rattle.cyc_meaning.specs.Nesting.{ends_of, IsFound, AreOpen, IsHome, IsNested}
 use Rattle.cyc_meaning.specs.Nesting as nesting
-use Rattle.cyc_soundness.specs.Lives.{Life, OfRegion, OfObject, Never, Kept, heap_life, RunTy, RunValue, Void, Null, Value, Lives, at, value_at, Reading}
+use Rattle.cyc_soundness.specs.Lives.{Life, OfRegion, OfObject, Never, Kept, heap_life, RunTy, RunValue, Void, Null, Value, Seen, Lives, at, value_at, Reading}
 use Rattle.cyc_soundness.specs.Lives as lives
-use Rattle.cyc_soundness.specs.Worlds.{Holder, Nobody, Hand, In, Lent, Claims, giving, given, is_lent_by, Stays, IsOpenIn, AreOperands, ObjectType, Typing, IsKnownLife, IsTyped, IsFull, variable_type, IsEndOf, whole, behind, Outlasts, alike, heap as for_ever, globals as with_globals, stays, encloses, IsOpenLife, Grows}
-use Rattle.cyc_soundness.specs.Frames.{IsAmong, first, later, Bound, InScope, Variable, Level, Home, lives_in, read, home_of, IsHomed, IsScope, AreBelow, IsBound, AreVariables, IsLasting, AreLiveIn, home_in, LiveIn, IsInner, Within, itself, older, IsSet, AreSet, IsFullIn, HoldsIts, Holds, IsFullAt, AreFullAt, Exits, relying}
+use Rattle.cyc_soundness.specs.Worlds.{IsHeld, Holder, Nobody, Hand, In, Lent, Claims, giving, given, is_lent_by, Stays, IsOpenIn, AreOperands, ObjectType, Typing, IsKnownLife, IsTyped, IsFull, variable_type, IsEndOf, whole, behind, Outlasts, alike, heap as for_ever, globals as with_globals, stays, encloses, IsOpenLife, Grows}
+use Rattle.cyc_soundness.specs.Frames.{IsAmong, first, later, Bound, InScope, Variable, Level, Home, lives_in, read, IsThere, home_of, IsHomed, IsScope, AreBelow, IsBound, AreVariables, IsLasting, AreLiveIn, home_in, LiveIn, IsInner, Within, itself, older, IsSet, AreSet, IsFullIn, HoldsIts, Holds, IsFullAt, AreFullAt, Exits, relying}
 use Rattle.cyc_soundness.specs.Classes.{is_full, Relied, IsSparedBy, IsSpared, InOperations, Source}
 use Rattle.cyc_soundness.specs.Stacks.{IsAccepted, Want, Nothing, Val, PlaceOf, Go, held, Waits, IsArrayOf, AreClaimed, operands_in, Keeps, IsSpot, of_local, of_global, of_cell, KeepsPlace, AreSwapped, IsStack}
 use Rattle.cyc_soundness.specs.Stacks as stacks
-use Rattle.cyc_soundness.proofs.Numbers.{same_or_other}
-use Rattle.cyc_soundness.proofs.FlowLemmas.{other_set, reached_with}
+use Rattle.cyc_soundness.proofs.Numbers.{same_or_other, some_same}
+use Rattle.cyc_soundness.proofs.FlowLemmas.{other_set, other_full, full_put, reached_with}
 use Rattle.cyc_soundness.proofs.ValueLemmas.{ends_through}
-use Rattle.cyc_soundness.proofs.RegionLemmas.{lasting_more}
-use Rattle.cyc_soundness.proofs.WorldLemmas.{dynamic_open, giving_grows, claims_stay, claims_other, variables_other, type_grown, result_grown, operands_grown, variables_grown, holds_grown}
+use Rattle.cyc_soundness.proofs.RegionLemmas.{lasting_more, there_lasting, there_open}
+use Rattle.cyc_soundness.proofs.WorldLemmas.{dynamic_open, giving_grows, claims_stay, claims_other, given_now, variables_other, type_grown, result_grown, operands_grown, variables_grown, holds_grown}
 
 -- the functions of a program, each of which the rules accept
 abbrev pub AreAccepted : Source → Type 0
@@ -69,70 +70,70 @@ module _ (p : Source) (g h : Typing) (grows : Grows g h) where
   keeps_grown below a (t ∷ ts) claimed (are, claims) = (operands_grown g h grows (t ∷ ts) (held a) are, claimed are claims)
 
 claimed_stays : (g h : Typing) → Stays g h → (i : ℕ) (ts : List RunTy) → AreClaimed g.own i ts → AreClaimed h.own i ts
-claimed_stays g h stays i [] are = tt
-claimed_stays g h stays i (t ∷ ts) (is, are) = (claims_stay g h stays (Hand (i + length ts)) t is, claimed_stays g h stays i ts are)
+claimed_stays g h same' i [] are = tt
+claimed_stays g h same' i (t ∷ ts) (is, are) = (claims_stay g h same' (Hand (i + length ts)) t is, claimed_stays g h same' i ts are)
 
 -- also behind a loan, and in a call around
 stays_behind : (g h : Typing) → Stays g h → (j : ℕ) → Stays (record g { loans = j }) (record h { loans = j })
-stays_behind g h stays j = record {
-  grows = record { objects = stays.grows.objects; filled = stays.grows.filled; fields = stays.grows.fields; kept = stays.grows.kept };
-  own = stays.own;
-  depth = stays.depth;
+stays_behind g h same' j = record {
+  grows = record { objects = same'.grows.objects; filled = same'.grows.filled; fields = same'.grows.fields; kept = same'.grows.kept };
+  own = same'.own;
+  depth = same'.depth;
   loans = refl;
 }
 
 stays_outside : (g h : Typing) → Stays g h → (d : ℕ) → Stays (record g { depth = d }) (record h { depth = d })
-stays_outside g h stays d = record {
-  grows = record { objects = stays.grows.objects; filled = stays.grows.filled; fields = stays.grows.fields; kept = stays.grows.kept };
-  own = stays.own;
+stays_outside g h same' d = record {
+  grows = record { objects = same'.grows.objects; filled = same'.grows.filled; fields = same'.grows.fields; kept = same'.grows.kept };
+  own = same'.own;
   depth = refl;
-  loans = stays.loans;
+  loans = same'.loans;
 }
 
 pub stack_grown : (p : Source) (g h : Typing) → Stays g h → (x : Exits) (bs : List InScope) (w : Want) (k : List Entry) → IsStack p g x bs w k → IsStack p h x bs w k
-stack_grown p g h stays x bs Nothing [] is = tt
-stack_grown p g h stays x bs (Val r f) (Needs a ∷ k) (ts, cs, next, waits, are, rest) =
-    (ts, cs, next, waits, keeps_grown p g h stays.grows (operands_in k) a ts (λ operands claims. claimed_stays g h stays (operands_in k) ts claims) are, stack_grown p g h stays x cs next k rest)
-stack_grown p g h stays x bs (PlaceOf t l f) (NeedsPlace a ∷ k) (next, waits, keeps, rest) = (next, waits, keeps_place_grown p g h stays.grows bs a t f keeps, stack_grown p g h stays x bs next k rest)
-stack_grown p g h stays x bs (Val r f) (Discard ∷ k) is = stack_grown p g h stays x bs (Go f) k is
-stack_grown p g h stays x bs (Go f) (Discard ∷ k) is = stack_grown p g h stays x bs (Go f) k is
-stack_grown p g h stays x bs (Go f) (Rest js ∷ k) (cs, c, end, within, stands, continues, rest) = (cs, c, end, within, stands, continues, stack_grown p g h stays x cs (Go end) k rest)
-stack_grown p g h stays x bs (Go f) (Join ∷ k) (end, i, rest) = (end, i, stack_grown p g h stays x bs (Go end) k rest)
-stack_grown p g h stays x bs (Go f) (Loop condition body ∷ k) (y, l, v, u, end, same, loop, i, rest) = (y, l, v, u, end, same, loop, i, stack_grown p g h stays y bs (Go end) k rest)
-stack_grown p g h stays x bs (Go f) (CloseRegion region home ∷ k) (cs, number, l, alive, end, same, i, live, rest) = (cs, number, l, alive, end, same, i, live, stack_grown p g h stays x cs (Go end) k rest)
-stack_grown p g h stays x bs (Go f) (CloseLexical region ∷ k) (end, i, live, rest) = (end, i, live, stack_grown p g h stays x bs (Go end) k rest)
-stack_grown p g h stays x bs (Go f) (EndLoan lent ∷ k) (y, end, j, t, same, loans, claims, i, full, variables, rest) = (
+stack_grown p g h same' x bs Nothing [] is = tt
+stack_grown p g h same' x bs (Val r f) (Needs a ∷ k) (ts, cs, next, waits, are, rest) =
+    (ts, cs, next, waits, keeps_grown p g h same'.grows (operands_in k) a ts (λ operands claims. claimed_stays g h same' (operands_in k) ts claims) are, stack_grown p g h same' x cs next k rest)
+stack_grown p g h same' x bs (PlaceOf t l f) (NeedsPlace a ∷ k) (next, waits, keeps, rest) = (next, waits, keeps_place_grown p g h same'.grows bs a t f keeps, stack_grown p g h same' x bs next k rest)
+stack_grown p g h same' x bs (Val r f) (Discard ∷ k) is = stack_grown p g h same' x bs (Go f) k is
+stack_grown p g h same' x bs (Go f) (Discard ∷ k) is = stack_grown p g h same' x bs (Go f) k is
+stack_grown p g h same' x bs (Go f) (Rest js ∷ k) (cs, c, end, within, stands, continues, rest) = (cs, c, end, within, stands, continues, stack_grown p g h same' x cs (Go end) k rest)
+stack_grown p g h same' x bs (Go f) (Join ∷ k) (end, i, rest) = (end, i, stack_grown p g h same' x bs (Go end) k rest)
+stack_grown p g h same' x bs (Go f) (Loop condition body ∷ k) (y, l, v, u, end, same, loop, i, rest) = (y, l, v, u, end, same, loop, i, stack_grown p g h same' y bs (Go end) k rest)
+stack_grown p g h same' x bs (Go f) (CloseRegion region home ∷ k) (cs, number, l, alive, end, same, i, live, rest) = (cs, number, l, alive, end, same, i, live, stack_grown p g h same' x cs (Go end) k rest)
+stack_grown p g h same' x bs (Go f) (CloseLexical region ∷ k) (end, i, live, rest) = (end, i, live, stack_grown p g h same' x bs (Go end) k rest)
+stack_grown p g h same' x bs (Go f) (EndLoan lent ∷ k) (y, end, j, t, same, loans, claims, i, full, variables, rest) = (
   y,
   end,
   j,
   t,
   same,
-  stays.loans ∙ loans,
-  claims_stay g h stays (Lent j) t claims,
+  same'.loans ∙ loans,
+  claims_stay g h same' (Lent j) t claims,
   i,
-  full_at_grown p g h stays.grows lent t bs full,
-  variables_grown (record g { loans = j }) (record h { loans = j }) (stays_behind g h stays j) bs variables,
-  stack_grown p (record g { loans = j }) (record h { loans = j }) (stays_behind g h stays j) y bs (Go end) k rest,
+  full_at_grown p g h same'.grows lent t bs full,
+  variables_grown (record g { loans = j }) (record h { loans = j }) (stays_behind g h same' j) bs variables,
+  stack_grown p (record g { loans = j }) (record h { loans = j }) (stays_behind g h same' j) y bs (Go end) k rest,
 )
-stack_grown p g h stays x bs (Go f) (Handler cs ∷ k) (y, c, start, end, same, stands, holds, catches, i, rest) =
-    (y, c, start, end, same, stands, holds_grown g h stays start bs holds, catches, i, stack_grown p g h stays y bs (Go end) k rest)
-stack_grown p g h stays x bs (Go f) (Caller e ∷ k) (y, cs, end, d, depth, loop, blocked, gives, bound, variables, live, holds, rest) = (
+stack_grown p g h same' x bs (Go f) (Handler cs ∷ k) (y, c, start, end, same, stands, holds, catches, i, rest) =
+    (y, c, start, end, same, stands, holds_grown g h same' start bs holds, catches, i, stack_grown p g h same' y bs (Go end) k rest)
+stack_grown p g h same' x bs (Go f) (Caller e ∷ k) (y, cs, end, d, depth, loop, blocked, gives, bound, variables, live, holds, rest) = (
   y,
   cs,
   end,
   d,
-  stays.depth ∙ depth,
+  same'.depth ∙ depth,
   loop,
   blocked,
   gives,
   bound,
-  variables_grown (record g { depth = d }) (record h { depth = d }) (stays_outside g h stays d) cs variables,
+  variables_grown (record g { depth = d }) (record h { depth = d }) (stays_outside g h same' d) cs variables,
   live,
-  holds_grown (record g { depth = d }) (record h { depth = d }) (stays_outside g h stays d) end cs holds,
-  stack_grown p (record g { depth = d }) (record h { depth = d }) (stays_outside g h stays d) y cs (Val x.gives end) k rest,
+  holds_grown (record g { depth = d }) (record h { depth = d }) (stays_outside g h same' d) end cs holds,
+  stack_grown p (record g { depth = d }) (record h { depth = d }) (stays_outside g h same' d) y cs (Val x.gives end) k rest,
 )
-stack_grown p g h stays x bs (Go f) (Main ∷ k) (loop, int, gives, blocked, rest) = (loop, int, gives, blocked, stack_grown p g h stays x bs Nothing k rest)
-stack_grown p g h stays x bs w k is = absurd is
+stack_grown p g h same' x bs (Go f) (Main ∷ k) (loop, int, gives, blocked, rest) = (loop, int, gives, blocked, stack_grown p g h same' x bs Nothing k rest)
+stack_grown p g h same' x bs w k is = absurd is
 
 -- ---- a key changes hands
 
@@ -360,6 +361,9 @@ pointer_left (null_is_not k t r) e = let z : types.Null ≡ types.Void = e in ab
 value_void : {t : RunTy} → Value t ≡ Void → ⊥
 value_void {t} e = let k : Value t ≡ Void = e in absurd (cc)
 
+seen_void : {t : RunTy} → Seen t ≡ Void → ⊥
+seen_void {t} e = let k : Seen t ≡ Void = e in absurd (cc)
+
 null_void : Null ≡ Void → ⊥
 null_void e = cc
 
@@ -404,7 +408,7 @@ void_waits (stacks.indexes c t r f h stands evaluates target alive) e = value_vo
 void_waits (stacks.advances t r f target alive) e = value_void e
 void_waits (stacks.counts_elements t l f) e = value_void e
 void_waits (stacks.places_by c m t r f h stands makes alive) e = value_void e
-void_waits (stacks.makes_plain t r f alive owner kind) e = value_void e
+void_waits (stacks.makes_plain t r f plain alive owner kind) e = value_void e
 void_waits (stacks.makes_fields c done t ts n ls r f h alive owner stands passes fields) e = value_void e
 void_waits (stacks.makes_array c t r f alive owner stands repeats) e = value_void e
 void_waits (stacks.fills cs c t r f h same alive stands repeats i) e = value_void e
@@ -414,8 +418,8 @@ void_waits {bs = bs} (stacks.chooses c d v f g h i tested first_stands second_st
 void_waits {bs = bs} (stacks.tests l v f h loop) e = void_tested (lives_in bs) v e loop.tested
 void_waits (stacks.returns t u f h result gives) e = value_void e
 void_waits (stacks.throws f h) e = value_void e
-void_waits (stacks.opens_by cs c b r f h i loans within stands among number set less alive next continues again) e = value_void e
-void_waits (stacks.aliases cs c b u t f h i loans within stands among number set unique known of_type alive next continues again) e = value_void e
+void_waits (stacks.opens_by cs c b r f h i loans within stands among number set spared full less alive next continues again) e = seen_void e
+void_waits (stacks.aliases cs c b u t f h i loans within stands among number set spared full unique known of_type alive next continues again) e = seen_void e
 
 pub void_goes : (p : Source) (g : Typing) (x : Exits) (bs : List InScope) (f : flow.State) (r : RunValue) (k : List Entry) → r ≡ Void → IsStack p g x bs (Val r f) k → IsStack p g x bs (Go f) k
 void_goes p g x bs f r (Needs a ∷ k) e (ts, cs, next, waits, are, rest) = absurd (void_waits waits e)
@@ -465,16 +469,25 @@ among_bound e (first cs) (is, are) = is
 among_bound e (later c cs among) (is, are) = among_bound e among are
 
 pub among_variable : {b : Bound} {bs : List InScope} (g : Typing) → IsAmong (Variable b) bs → AreVariables g bs → slice_get g.objects b.object ≡ Some (variable_type b.of_type b.life b.is_hidden)
-among_variable g (first cs) (is, are) = is
+among_variable g (first cs) (is, are) = is.0
 among_variable g (later c cs among) (is, are) = among_variable g among are
+
+pub among_open : {b : Bound} {bs : List InScope} (g : Typing) → IsAmong (Variable b) bs → AreVariables g bs → IsOpenIn g b.life
+among_open g (first cs) (is, are) = is.1
+among_open g (later c cs among) (is, are) = among_open g among are
 
 pub among_live : {b : Bound} {bs : List InScope} (regions : List ℕ) → IsAmong (Variable b) bs → AreLiveIn regions bs → IsLasting regions b.life
 among_live regions (first cs) (is, are) = is
 among_live regions (later c cs among) (is, are) = among_live regions among are
 
 pub among_set : {b : Bound} {bs : List InScope} (g : Typing) (f : flow.State) → IsAmong (Variable b) bs → AreSet g f bs → IsSet f b.number → IsFull g b.object
-among_set g f (first cs) (is, are) s = is s
+among_set g f (first cs) (is, are) s = is.0 s
 among_set g f (later c cs among) (is, are) s = among_set g f among are s
+
+-- it has what it holds
+pub among_own : {b : Bound} {bs : List InScope} (g : Typing) (f : flow.State) → IsAmong (Variable b) bs → AreSet g f bs → IsFullIn f b.number → Claims g.own (In g.depth b.number) b.of_type
+among_own g f (first cs) (is, are) s = is.1 s
+among_own g f (later c cs among) (is, are) s = among_own g f among are s
 
 pub among_level : {l : ℕ} {bs : List InScope} (e : Environment) → IsAmong (Level l) bs → IsBound e.locals e.counters bs → (index : ℕ) × (e.counters l ≡ Some index)
 among_level e (first cs) (is, are) = is
@@ -533,21 +546,45 @@ bound_more e number object (b ∷ bs) (less, below) (is, are) = (is, bound_more 
 
 pub set_more : (g : Typing) (a : flow.Fullness) (f : flow.State) (number : ℕ) (bs : List InScope) → AreBelow number bs → AreSet g f bs → AreSet g (with_fullness a f number) bs
 set_more g a f number [] below are = tt
-set_more g a f number (Variable b ∷ bs) (less, below) (is, are) =
-    (λ s. is (other_set a f number b.number (λ e. (let k : b.number ≡ number = e in absurd (omega (arith, less, k)))) s), set_more g a f number bs below are)
+set_more g a f number (Variable b ∷ bs) (less, below) ((set, full), are) =
+    let apart : b.number ≢ number = (λ e. (let k : b.number ≡ number = e in absurd (omega (arith, less, k)))) in
+    ((λ s. set (other_set a f number b.number apart s), λ s. full (other_full a f number b.number apart s)), set_more g a f number bs below are)
 set_more g a f number (b ∷ bs) (less, below) (is, are) = (tt, set_more g a f number bs below are)
 
--- two numbers that are one lead to one object
-pub set_stored : (g : Typing) (e : Environment) (a : flow.Fullness) (f : flow.State) (number object : ℕ) (bs : List InScope) → IsBound e.locals e.counters bs → e.locals number ≡ Some object → IsFull g object → AreSet g f bs → AreSet g (with_fullness a f number) bs
-set_stored g e a f number object [] bound there full are = tt
-set_stored g e a f number object (Variable b ∷ bs) (here, bound) there full (is, are) = (go, set_stored g e a f number object bs bound there full are)
+-- the locals of one number have one object, and one type
+pub record OneLocal (g : Typing) (e : Environment) (bs : List InScope) (number object : ℕ) (t : RunTy) : Type 0 where
+  pub there : e.locals number ≡ Some object
+  pub life : Life
+  pub hidden : Bool
+  pub of_type : slice_get g.objects object ≡ Some (variable_type t life hidden)
+
+one_type : (g : Typing) (e : Environment) (bs : List InScope) (number object : ℕ) (t : RunTy) (b : Bound) → OneLocal g e bs number object t → e.locals b.number ≡ Some b.object
+    → slice_get g.objects b.object ≡ Some (variable_type b.of_type b.life b.is_hidden) → b.number ≡ number → (object ≡ b.object) × (b.of_type ≡ t)
+one_type g e bs number object t b one here of same =
+    let k : Some object ≡ Some b.object = sym one.there ∙ ap e.locals (sym same) ∙ here in
+    let object_is : object ≡ b.object = cc in
+    let types : Some (variable_type t one.life one.hidden) ≡ Some (variable_type b.of_type b.life b.is_hidden) = sym one.of_type ∙ ap (λ i. slice_get g.objects i) object_is ∙ of in
+    let cells : t ∷ [] ≡ b.of_type ∷ [] = ap (λ (z : ObjectType). z.cells) (some_same (variable_type t one.life one.hidden) (variable_type b.of_type b.life b.is_hidden) types) in
+    (object_is, (let z : t ≡ b.of_type = cc in sym z))
+
+pub set_stored : (g : Typing) (e : Environment) (a : flow.Fullness) (f : flow.State) (number object : ℕ) (t : RunTy) (bs cs : List InScope) → IsBound e.locals e.counters bs → AreVariables g bs → OneLocal g e cs number object t
+    → IsFull g object → is_reached f ≡ true → (is_full a ≡ true → Claims g.own (In g.depth number) t) → AreSet g f bs → AreSet g (with_fullness a f number) bs
+set_stored g e a f number object t [] cs bound variables one full reached own are = tt
+set_stored g e a f number object t (Variable b ∷ bs) cs (here, bound) ((of, opens), variables) one full reached own ((set, has), are) = ((go, goes), set_stored g e a f number object t bs cs bound variables one full reached own are)
   where
     go : IsSet (with_fullness a f number) b.number → IsFull g b.object
     go s = elim (same_or_other b.number number) [
-      | inl same ↦ (let k : Some object ≡ Some b.object = sym there ∙ ap e.locals (sym same) ∙ here in let one : object ≡ b.object = cc in subst (λ o. IsFull g o) one full)
-      | inr apart ↦ is (other_set a f number b.number apart s)
+      | inl same ↦ subst (λ i. IsFull g i) (one_type g e cs number object t b one here of same).0 full
+      | inr apart ↦ set (other_set a f number b.number apart s)
     ]
-set_stored g e a f number object (b ∷ bs) (here, bound) there full (is, are) = (tt, set_stored g e a f number object bs bound there full are)
+
+    goes : IsFullIn (with_fullness a f number) b.number → Claims g.own (In g.depth b.number) b.of_type
+    goes s = elim (same_or_other b.number number) [
+      | inl same ↦ subst (λ i. Claims g.own (In g.depth i) b.of_type) (sym same) (subst (λ u. Claims g.own (In g.depth number) u) (sym (one_type g e cs number object t b one here of same).1)
+          (own (full_put a f number reached (subst (λ i. IsFullIn (with_fullness a f number) i) same s) )))
+      | inr apart ↦ has (other_full a f number b.number apart s)
+    ]
+set_stored g e a f number object t (b ∷ bs) cs (here, bound) (of, variables) one full reached own (is, are) = (tt, set_stored g e a f number object t bs cs bound variables one full reached own are)
 
 -- ---- what is lent
 
@@ -555,27 +592,35 @@ pub none_among : {A B : Type 0} {a : A} → IsAmong a [] → B
 none_among among = elim among [ ]
 
 -- what this local has is in one object
-pub full_here : (g : Typing) (e : Environment) (n object : ℕ) (bs : List InScope) → IsBound e.locals e.counters bs → e.locals n ≡ Some object → IsFull g object → AreFullAt g n bs
-full_here g e n object [] bound there full = tt
-full_here g e n object (Variable b ∷ bs) (here, bound) there full =
-    ((λ same. (let k : Some object ≡ Some b.object = sym there ∙ ap e.locals (sym same) ∙ here in let one : object ≡ b.object = cc in subst (λ o. IsFull g o) one full)), full_here g e n object bs bound there full)
-full_here g e n object (b ∷ bs) (here, bound) there full = (tt, full_here g e n object bs bound there full)
+pub full_here : (g : Typing) (e : Environment) (n object : ℕ) (t : RunTy) (bs cs : List InScope) → IsBound e.locals e.counters bs → AreVariables g bs → OneLocal g e cs n object t → IsFull g object → AreFullAt g n t bs
+full_here g e n object t [] cs bound variables one full = tt
+full_here g e n object t (Variable b ∷ bs) cs (here, bound) ((of, opens), variables) one full =
+    ((λ same. (subst (λ i. IsFull g i) (one_type g e cs n object t b one here of same).0 full, (one_type g e cs n object t b one here of same).1)), full_here g e n object t bs cs bound variables one full)
+full_here g e n object t (b ∷ bs) cs (here, bound) (of, variables) one full = (tt, full_here g e n object t bs cs bound variables one full)
 
-pub within_full_at : (g : Typing) (n : ℕ) (cs bs : List InScope) → Within cs bs → AreFullAt g n bs → AreFullAt g n cs
-within_full_at g n cs bs (itself _) are = are
-within_full_at g n cs bs (older b _ ds inner within) (is, are) = within_full_at g n cs ds within are
+pub within_full_at : (g : Typing) (n : ℕ) (t : RunTy) (cs bs : List InScope) → Within cs bs → AreFullAt g n t bs → AreFullAt g n t cs
+within_full_at g n t cs bs (itself _) are = are
+within_full_at g n t cs bs (older b _ ds inner within) (is, are) = within_full_at g n t cs ds within are
 
-refilled_set : (g : Typing) (f : flow.State) (n : ℕ) (bs : List InScope) → AreFullAt g n bs → AreSet g f bs → AreSet g (with_fullness Full f n) bs
-refilled_set g f n [] at are = tt
-refilled_set g f n (Variable b ∷ bs) (here, at) (is, are) = (go, refilled_set g f n bs at are)
+refilled_set : (g : Typing) (f : flow.State) (n : ℕ) (t : RunTy) (old : Holder) (bs : List InScope) → Claims g.own old t → ((m : ℕ) → In g.depth m ≢ old) → AreFullAt g n t bs → AreSet g f bs
+    → AreSet (giving g t (In g.depth n)) (with_fullness Full f n) bs
+refilled_set g f n t old [] has other at are = tt
+refilled_set g f n t old (Variable b ∷ bs) has other (here, at) ((set, full), are) = ((go, goes), refilled_set g f n t old bs has other at are)
   where
     go : IsSet (with_fullness Full f n) b.number → IsFull g b.object
-    go s = elim (same_or_other b.number n) [ inl same ↦ here same | inr apart ↦ is (other_set Full f n b.number apart s) ]
-refilled_set g f n (b ∷ bs) (here, at) (is, are) = (tt, refilled_set g f n bs at are)
+    go s = elim (same_or_other b.number n) [ inl same ↦ (here same).0 | inr apart ↦ set (other_set Full f n b.number apart s) ]
+
+    goes : IsFullIn (with_fullness Full f n) b.number → Claims (given t (In g.depth n) g.own) (In g.depth b.number) b.of_type
+    goes s = elim (same_or_other b.number n) [
+      | inl same ↦ subst (λ i. Claims (given t (In g.depth n) g.own) (In g.depth i) b.of_type) (sym same) (subst (λ u. Claims (given t (In g.depth n) g.own) (In g.depth n) u) (sym (here same).1) (given_now g t (In g.depth n)))
+      | inr apart ↦ claims_other g t old (In g.depth n) (In g.depth b.number) b.of_type has (other b.number) (full (other_full Full f n b.number apart s))
+    ]
+refilled_set g f n t old (b ∷ bs) has other (here, at) (is, are) = (tt, refilled_set g f n t old bs has other at are)
 
 -- what was lent is full where it is given back
-pub given_back : (g : Typing) (f : flow.State) (n : ℕ) (bs : List InScope) → AreFullAt g n bs → Holds g f bs → Holds g (with_fullness Full f n) bs
-given_back g f n bs at (reached, are) = (reached_with Full f n reached, refilled_set g f n bs at are)
+pub given_back : (g : Typing) (f : flow.State) (n : ℕ) (t : RunTy) (old : Holder) (bs : List InScope) → Claims g.own old t → ((m : ℕ) → In g.depth m ≢ old) → AreFullAt g n t bs → Holds g f bs
+    → Holds (giving g t (In g.depth n)) (with_fullness Full f n) bs
+given_back g f n t old bs has other at (reached, are) = (reached_with Full f n reached, refilled_set g f n t old bs has other at are)
 
 -- ---- regions that will end
 
@@ -624,10 +669,10 @@ globals_end (CloseLexical region ∷ k) = behind region (ends_of k) (globals_end
 globals_end (entry ∷ k) = globals_end k
 
 -- it will end
-pub home_lasting : (k : List Entry) → (ns : List ℕ) × IsLasting (ends_of k) (OfRegion (home_in k) ns)
+pub home_lasting : (k : List Entry) → (ns : List ℕ) × IsLasting (ends_of k) (OfRegion (home_in k) ns (λ number. false))
 home_lasting [] = ([], inr whole)
 home_lasting (CloseRegion region outer ∷ k) = (ends_of k, inr whole)
-home_lasting (CloseLexical region ∷ k) = let (ns, is) = home_lasting k in (ns, lasting_more region (ends_of k) (OfRegion (home_in k) ns) is)
+home_lasting (CloseLexical region ∷ k) = let (ns, is) = home_lasting k in (ns, lasting_more region (ends_of k) (OfRegion (home_in k) ns (λ number. false)) is)
 home_lasting (Caller outer ∷ k) = ([], inr (globals_end k))
 home_lasting (entry ∷ k) = home_lasting k
 
@@ -641,24 +686,49 @@ abbrev pub IsKeptOpen : List Region → Life → Type 0
 IsKeptOpen regions (Kept number) = is_open (slice_get regions number) ≡ true
 IsKeptOpen regions l = Unit {0}
 
-pub kept_open : (g : Typing) (regions : List Region) (objects : List Object) (l : Life) → IsTyped g regions objects → IsKnownLife g l → IsKeptOpen regions l
-kept_open g regions objects (Kept number) typed known = dynamic_open (slice_get regions number) (typed.kept number known)
-kept_open g regions objects (OfRegion number ns) typed known = tt
-kept_open g regions objects (OfObject object) typed known = tt
-kept_open g regions objects Never typed known = tt
+pub kept_open : (g : Typing) (regions : List Region) (objects : List Object) (l : Life) → IsTyped g regions objects → IsKnownLife g l → IsOpenIn g l → IsKeptOpen regions l
+kept_open g regions objects (Kept number) typed known opens = dynamic_open (slice_get regions number) ((typed.kept number known).1 (lent_held g.loans (g.own number) opens))
+  where
+    lent_held : (count : ℕ) (h : Holder) → is_lent_by count h ≡ true → IsHeld h
+    lent_held count Nobody e = absurd (let k : false ≡ true = e in cc)
+    lent_held count (Hand i) e = tt
+    lent_held count (In d n) e = tt
+    lent_held count (Lent j) e = tt
+kept_open g regions objects (OfRegion number ns us) typed known opens = tt
+kept_open g regions objects (OfObject object) typed known opens = tt
+kept_open g regions objects Never typed known opens = tt
+
+-- what has this life has not ended
+abbrev pub IsPresent : Typing → List ℕ → Life → Type 0
+IsPresent g ns l = IsLasting ns l × IsOpenIn g l
+
+pub there_present : (g : Typing) (ns : List ℕ) (bs : List InScope) (r : Region') → AreLiveIn ns bs → AreVariables g bs → IsThere bs r → IsPresent g ns (lives_in bs r)
+there_present g ns bs r live variables there = (there_lasting ns bs r live there, there_open g bs r variables there)
 
 pub object_known : (g : Typing) (regions : List Region) (objects : List Object) (number : ℕ) (t : ObjectType) → IsTyped g regions objects → slice_get g.objects number ≡ Some t → IsKnownLife g t.life
 object_known g regions objects number t typed there = let (x, m, at, flag, is) = typed.each number t there in is.known
 
 pub lasting_open : (regions : List Region) (ns : List ℕ) (l : Life) → AreOpen regions ns → is_open (slice_get regions heap_number) ≡ true → IsKeptOpen regions l → IsLasting ns l → IsOpenLife regions l
-lasting_open regions ns (OfRegion m ms) opens heap kept (inl is_heap) = subst (λ l. IsOpenLife regions l) (sym is_heap) heap
-lasting_open regions ns (OfRegion m ms) opens heap kept (inr end) = open_of regions (end_among m ms ns end) opens
+lasting_open regions ns (OfRegion m ms us) opens heap kept (inl is_heap) = subst (λ l. IsOpenLife regions l) (sym is_heap) heap
+lasting_open regions ns (OfRegion m ms us) opens heap kept (inr end) = open_of regions (end_among m ms ns end) opens
 lasting_open regions ns (OfObject o) opens heap kept is = is
 lasting_open regions ns Never opens heap kept is = is
 lasting_open regions ns (Kept number) opens heap kept is = kept
 
-around_heap : (n : ℕ) (ns : List ℕ) → OfRegion n ns ≡ heap_life → ns ≡ []
-around_heap n ns e = let k : OfRegion n ns ≡ OfRegion 0 [] = e in cc
+around_heap : (n : ℕ) (ns : List ℕ) (us : ℕ → Bool) → OfRegion n ns us ≡ heap_life → ns ≡ []
+around_heap n ns us e = ap around_of e
+  where
+    around_of : Life → List ℕ
+    around_of (OfRegion n ns us) = ns
+    around_of l = []
+
+-- what outlasts what is open is open
+pub open_outlasting : (g : Typing) (l m : Life) → Outlasts l m → IsOpenIn g m → IsOpenIn g l
+open_outlasting g l m (alike _) opens = opens
+open_outlasting g l m (for_ever _) opens = λ r e. absurd (let k : false ≡ true = e in cc)
+open_outlasting g l m (with_globals _) opens = λ r e. absurd (let k : false ≡ true = e in cc)
+open_outlasting g l m (stays r n ns us has) opens = opens r has
+open_outlasting g l m (encloses a b as' bs us vs end more) opens = λ r e. opens r (more r e)
 
 -- what lasts as long as what has not ended is there
 pub outlasting_open : (regions : List Region) (ns : List ℕ) (l m : Life) → AreOpen regions ns → is_open (slice_get regions heap_number) ≡ true → is_open (slice_get regions globals_number) ≡ true → IsKeptOpen regions l → Outlasts l m
@@ -666,9 +736,9 @@ pub outlasting_open : (regions : List Region) (ns : List ℕ) (l m : Life) → A
 outlasting_open regions ns l m opens heap globals kept (alike _) is = lasting_open regions ns l opens heap kept is
 outlasting_open regions ns l m opens heap globals kept (for_ever _) is = heap
 outlasting_open regions ns l m opens heap globals kept (with_globals _) is = globals
-outlasting_open regions ns l m opens heap globals kept (stays number _) is = kept
-outlasting_open regions ns l m opens heap globals kept (encloses a b as' bs end) (inl heap_is) = elim (subst (λ z. IsEndOf (a ∷ as') z) (around_heap b bs heap_is) end) [ ]
-outlasting_open regions ns l m opens heap globals kept (encloses a b as' bs end) (inr later') = open_of regions (end_among a as' ns (ends_through (a ∷ as') bs b ns end later')) opens
+outlasting_open regions ns l m opens heap globals kept (stays r n os us has) is = kept
+outlasting_open regions ns l m opens heap globals kept (encloses a b as' bs us vs end more) (inl heap_is) = elim (subst (λ z. IsEndOf (a ∷ as') z) (around_heap b bs vs heap_is) end) [ ]
+outlasting_open regions ns l m opens heap globals kept (encloses a b as' bs us vs end more) (inr later') = open_of regions (end_among a as' ns (ends_through (a ∷ as') bs b ns end later')) opens
 
 pub found_is : (a : Access Region) → IsFound a → (r : Region) × (a ≡ Found r)
 found_is (Found r) h = (r, refl)
@@ -694,7 +764,7 @@ waits_within {bs = bs} (stacks.indexes c t r f h stands evaluates target alive) 
 waits_within {bs = bs} (stacks.advances t r f target alive) = itself bs
 waits_within {bs = bs} (stacks.counts_elements t l f) = itself bs
 waits_within {bs = bs} (stacks.places_by c m t r f h stands makes alive) = itself bs
-waits_within {bs = bs} (stacks.makes_plain t r f alive owner kind) = itself bs
+waits_within {bs = bs} (stacks.makes_plain t r f plain alive owner kind) = itself bs
 waits_within {bs = bs} (stacks.makes_fields c done t ts n ls r f h alive owner stands passes fields) = itself bs
 waits_within {bs = bs} (stacks.makes_array c t r f alive owner stands repeats) = itself bs
 waits_within (stacks.fills {level = level} cs c t r f h same alive stands repeats i) = subst (λ z. Within cs z) (sym same) (older (Level level) cs cs tt (itself cs))
@@ -704,5 +774,5 @@ waits_within {bs = bs} (stacks.chooses c d v f g h i tested first_stands second_
 waits_within {bs = bs} (stacks.tests l v f h loop) = itself bs
 waits_within {bs = bs} (stacks.returns t u f h result gives) = itself bs
 waits_within {bs = bs} (stacks.throws f h) = itself bs
-waits_within (stacks.opens_by cs c b r f h i loans within stands among number set less alive next continues again) = within
-waits_within (stacks.aliases cs c b u t f h i loans within stands among number set unique known of_type alive next continues again) = within
+waits_within (stacks.opens_by cs c b r f h i loans within stands among number set spared full less alive next continues again) = within
+waits_within (stacks.aliases cs c b u t f h i loans within stands among number set spared full unique known of_type alive next continues again) = within
