@@ -33,7 +33,7 @@ use Rattle.cyc_meaning.specs.Nesting.{ends_of, AreOpen}
 use Rattle.cyc_meaning.specs.Step.{step_evaluating, addressed, counts, passes, assigned, decided, tested, awaits_right, chained, converts}
 use Rattle.cyc_soundness.specs.Lives.{Life, heap_life, as_heap, Reading, Lives, AsHeap, ByScope, RunTy, RunValue, Value, kind_at}
 use Rattle.cyc_soundness.specs.Lives as lives
-use Rattle.cyc_soundness.specs.Worlds.{Typing, IsFull, variable_type, global_type, Outlasts, alike, globals as with_globals, AgreesWith, IsResult, AreOperands, IsTyped, IsOpenLife}
+use Rattle.cyc_soundness.specs.Worlds.{Hand, Claims, HasType, Stays, Typing, IsFull, variable_type, global_type, Outlasts, alike, globals as with_globals, AgreesWith, IsResult, AreOperands, IsTyped, IsOpenLife}
 use Rattle.cyc_soundness.specs.Frames.{IsAmong, Bound, InScope, Variable, IsBound, AreVariables, IsHomed, LiveIn, IsSet, Holds, Implies, Exits, IsContext, KnowsProgram, lives_in, read, read_value}
 use Rattle.cyc_soundness.specs.Classes.{Relied, HasScopes, InExpression, InArguments, InOperations, Source}
 use Rattle.cyc_soundness.specs.Stacks.{Evaluates, Val, turned, IsCalled, null, IsStack, IsFocus, IsWell}
@@ -42,7 +42,7 @@ use Rattle.cyc_soundness.proofs.Numbers.{some_same, both}
 use Rattle.cyc_soundness.proofs.TypeLemmas.{place_type, target_typed, is_kind_same, kind_read, kind_meant}
 use Rattle.cyc_soundness.proofs.FlowLemmas.{implies_self, meet_first, meet_second, vacant_implied, holds_implied, reached_with}
 use Rattle.cyc_soundness.proofs.WorldLemmas.{risen, with_filled, result_grown, holds_grown}
-use Rattle.cyc_soundness.proofs.StackLemmas.{stack_grown, pointer_left, bound_of, bound_to, lasting_open, kept_open, object_known, place_local, among_bound, among_variable, among_live, among_level, among_set, set_stored, open_of, globals_among}
+use Rattle.cyc_soundness.proofs.StackLemmas.{stack_grown, pointer_left, bound_of, bound_to, lasting_open, kept_open, object_known, among_open, among_own, place_local, among_bound, among_variable, among_live, among_level, among_set, set_stored, open_of, globals_among}
 use Rattle.cyc_soundness.proofs.ValueLemmas.{zero_is, converted_by, kind_given}
 use Rattle.cyc_soundness.proofs.RegionLemmas.{agrees_of, there_of, cell_live, global_means, these_by, live_by, instance_is, parameters_mean, result_means}
 use Rattle.cyc_soundness.proofs.Cells.{running, part_at, reads, writes}
@@ -70,6 +70,28 @@ homed : (m : Reading) (these : Lives) (region : ℕ) (l : Life) → HasScopes m 
 homed AsHeap these region l scopes is = absurd scopes
 homed (ByScope lends) these region l scopes is = is
 
+-- a global is no key, and what is copied or only looked at neither
+heap_comes : (g : Typing) (i : ℕ) (t : Ty) → Claims g.own (Hand i) (lives.at as_heap t)
+heap_comes g i types.Int = tt
+heap_comes g i (types.Pointer k t r) = tt
+heap_comes g i (types.Handle r) = tt
+heap_comes g i (types.Key r) = tt
+heap_comes g i (types.Struct n rs) = tt
+
+copied_comes : (g : Typing) (i : ℕ) (n : Lives) (t : Ty) → is_moved t ≡ false → Claims g.own (Hand i) (lives.at n t)
+copied_comes g i n types.Int plain = tt
+copied_comes g i n (types.Pointer k t r) plain = tt
+copied_comes g i n (types.Handle r) plain = tt
+copied_comes g i n (types.Key r) plain = absurd (let k : true ≡ false = plain in cc)
+copied_comes g i n (types.Struct s rs) plain = tt
+
+unique_comes : (g : Typing) (i : ℕ) (n : Lives) (t : Ty) → tests.is_unique t ≡ true → Claims g.own (Hand i) (lives.at n t)
+unique_comes g i n types.Int unique = tt
+unique_comes g i n (types.Pointer k t r) unique = tt
+unique_comes g i n (types.Handle r) unique = tt
+unique_comes g i n (types.Key r) unique = absurd (let k : false ≡ true = unique in cc)
+unique_comes g i n (types.Struct s rs) unique = tt
+
 module _ (p : Source) where
   -- what is called takes and gives this, where its region variables stand for what is put in their place
   called_is : (x : Exits) (bs : List InScope) (c : Context) (callee : Callee) (s : Signature) (m : List Region) → IsContext p x bs c → IsCallee c callee s → AreLive c (instantiated m s).effect
@@ -91,16 +113,16 @@ module _ (p : Source) where
     on focus k live stands = running p g x bs e w typed globals bound variables focus k live stands
 
     -- a value is handed on
-    pub hands : (k : List Entry) (r s : RunValue) (v : Operand) (f h : flow.State) → LiveIn k bs → Holds g f bs → h ≡ f → r ≡ s → IsResult g s v → IsStack p g x bs (Val r h) k
+    pub hands : (k : List Entry) (r s : RunValue) (v : Operand) (f h : flow.State) → LiveIn k bs → Holds g f bs → h ≡ f → r ≡ s → IsResult g s v → stacks.Comes g s k → IsStack p g x bs (Val r h) k
         → IsWell p (Running (Given v) k e w)
-    hands k r s v f h live holds same_flow same_type is stack =
-        on (Given v) k live (r, h, subst (λ z. Holds g z bs) (sym same_flow) holds, subst (λ z. IsResult g z v) (sym same_type) is, stack)
+    hands k r s v f h live holds same_flow same_type is comes stack =
+        on (Given v) k live (r, h, subst (λ z. Holds g z bs) (sym same_flow) holds, subst (λ z. IsResult g z v) (sym same_type) is, subst (λ z. stacks.Comes g z k) (sym same_type) comes, stack)
 
     -- ---- variables
 
     open_local : (k : List Entry) (b : Bound) → AreOpen w.regions (ends_of k) → LiveIn k bs → IsAmong (Variable b) bs → IsOpenLife w.regions b.life
     open_local k b opens live among = lasting_open w.regions (ends_of k) b.life opens typed.heap
-        (kept_open g w.regions w.objects b.life typed (object_known g w.regions w.objects b.object (variable_type b.of_type b.life b.is_hidden) typed (among_variable g among variables))) (among_live (ends_of k) among live.0)
+        (kept_open g w.regions w.objects b.life typed (object_known g w.regions w.objects b.object (variable_type b.of_type b.life b.is_hidden) typed (among_variable g among variables)) (among_open g among variables)) (among_live (ends_of k) among live.0)
 
     -- a global, whose type means the same everywhere
     global_there : (n : ℕ) (u : Ty) (c : Context) → IsContext p x bs c → slice_get c.globals n ≡ Some u
@@ -110,17 +132,23 @@ module _ (p : Source) where
         let (at, full, closed) = globals.globals n u there in
         (there, global_means p.reading c.regions bs u stands.regions closed)
 
-    pub from_local : (k : List Entry) (c : Context) (n : ℕ) (u : Ty) (t : ValueType) (f h : flow.State) → AreOpen w.regions (ends_of k) → LiveIn k bs → IsContext p x bs c → Holds g f bs
-        → (r : ℕ) × HasLocal c.locals n u r → IsSet f n → Implies f h → t ≡ types.Value u → IsStack p g x bs (Val (read_value bs t) h) k
-        → IsWell p (loaded_from (values.kind_of u) (e.locals n) k e w)
-    from_local k c n u t f h opens live stands holds (r, has) is_set implies same stack =
-        let (b, among, number, of_type) = bound_of p.reading (lives_in bs) c.locals bs n u r stands.scope has in
-        let full : IsFull g b.object = among_set g f among holds.1 (subst (λ m. IsSet f m) (sym number) is_set) in
+    -- a local's value, for what waits
+    pub from_bound : (k : List Entry) (n : ℕ) (u : Ty) (b : Bound) (h : flow.State) (r : RunValue) → AreOpen w.regions (ends_of k) → LiveIn k bs → Holds g h bs → IsAmong (Variable b) bs → b.number ≡ n → b.of_type ≡ read bs u → IsFull g b.object
+        → ((v : values.Value) → HasType g b.of_type v → IsResult g r (record { kind = values.kind_of u; value = v })) → stacks.Comes g r k → IsStack p g x bs (Val r h) k → IsWell p (loaded_from (values.kind_of u) (e.locals n) k e w)
+    from_bound k n u b h r opens live holds among number of_type full fits comes stack =
         let there : e.locals n ≡ Some b.object = ap e.locals (sym number) ∙ among_bound e among bound in
         subst (λ o. IsWell p (loaded_from (values.kind_of u) o k e w)) (sym there)
-        (reads p g x bs e w typed globals bound variables k (values.kind_of u) b.object 0 b.of_type (variable_type b.of_type b.life b.is_hidden) h live (holds_implied g f h bs implies holds)
-        (among_variable g among variables) refl (open_local k b opens live among) full (ap kind_at of_type ∙ kind_meant (lives_in bs) u)
-        (subst (λ z. IsStack p g x bs (Val z h) k) (ap (read_value bs) same ∙ ap Value (sym of_type)) stack))
+        (reads p g x bs e w typed globals bound variables k (values.kind_of u) b.object 0 b.of_type (variable_type b.of_type b.life b.is_hidden) h live holds
+        (among_variable g among variables) refl (open_local k b opens live among) full (ap kind_at of_type ∙ kind_meant (lives_in bs) u) r fits comes stack)
+
+    pub from_local : (k : List Entry) (c : Context) (n : ℕ) (u : Ty) (t : ValueType) (f h : flow.State) → AreOpen w.regions (ends_of k) → LiveIn k bs → IsContext p x bs c → Holds g f bs
+        → (r : ℕ) × HasLocal c.locals n u r → IsSet f n → Implies f h → t ≡ types.Value u → stacks.Comes g (Value (read bs u)) k → IsStack p g x bs (Val (read_value bs t) h) k
+        → IsWell p (loaded_from (values.kind_of u) (e.locals n) k e w)
+    from_local k c n u t f h opens live stands holds (r, has) is_set implies same comes stack =
+        let (b, among, number, of_type) = bound_of p.reading (lives_in bs) c.locals bs n u r stands.scope has in
+        let full : IsFull g b.object = among_set g f among holds.1 (subst (λ m. IsSet f m) (sym number) is_set) in
+        from_bound k n u b h (Value (read bs u)) opens live (holds_implied g f h bs implies holds) among number of_type full
+        (λ v is. (sym (kind_meant (lives_in bs) u), subst (λ z. HasType g z v) of_type is)) comes (subst (λ z. IsStack p g x bs (Val z h) k) (ap (read_value bs) same) stack)
 
     from_global : (k : List Entry) (c : Context) (n : ℕ) (u : Ty) (t : ValueType) (f : flow.State) → AreOpen w.regions (ends_of k) → LiveIn k bs → IsContext p x bs c → Holds g f bs
         → slice_get c.globals n ≡ Some u → t ≡ types.Value u → IsStack p g x bs (Val (read_value bs t) f) k
@@ -129,18 +157,18 @@ module _ (p : Source) where
         let (there, means) = global_there n u c stands has in
         let (at, full, closed) = globals.globals n u there in
         reads p g x bs e w typed globals bound variables k (values.kind_of u) n 0 (lives.at as_heap u) (global_type (lives.at as_heap u)) f live holds at refl (open_of w.regions (globals_among k) opens) full (kind_meant as_heap u)
-        (subst (λ z. IsStack p g x bs (Val z f) k) (ap (read_value bs) same ∙ ap Value means) stack)
+        (Value (lives.at as_heap u)) (λ v is. (sym (kind_meant as_heap u), is)) (heap_comes g (stacks.operands_in k) u) (subst (λ z. IsStack p g x bs (Val z f) k) (ap (read_value bs) same ∙ ap Value means) stack)
 
     -- ---- arguments
 
     pub pass_on : (k : List Entry) (callee : Callee) (before : List Operand) (done : List RunTy) (as' : Arguments) (ts : List Ty) (c : Context) (r : ValueType) (f h : flow.State) (q : List ℕ)
-        → LiveIn k bs → IsContext p x bs c → Holds g f bs → ArePassed c ts as' → Derives (rule_arguments q as' f) h → InArguments p.reading x.relied as' → AreOperands g done before
+        → LiveIn k bs → IsContext p x bs c → Holds g f bs → ArePassed c ts as' → Derives (rule_arguments q as' f) h → InArguments p.reading x.relied as' → AreOperands g done before → stacks.AreClaimed g.own (stacks.operands_in k) done
         → IsCalled p bs callee (turned done (map (read bs) ts)) (read_value bs r) → IsStack p g x bs (Val (read_value bs r) h) k → IsWell p (passes callee before as' k e w)
-    pass_on k callee before done NoArguments [] c r f h q live stands holds passed (u, same) kept operands called stack =
-        on (Calling callee before) k live (done, read_value bs r, h, subst (λ z. Holds g z bs) (sym same) holds, called, operands, stack)
-    pass_on k callee before done NoArguments (t ∷ ts) c r f h q live stands holds passed flows kept operands called stack = absurd passed
-    pass_on k callee before done (MoreArguments d as') [] c r f h q live stands holds passed flows kept operands called stack = absurd passed
-    pass_on k callee before done (MoreArguments (Convert from to a) as') (t ∷ ts) c r f h q live stands holds ((v, well, conv, from_is, to_is), passed) (f1, d, ds) (one, kept) operands called stack =
+    pass_on k callee before done NoArguments [] c r f h q live stands holds passed (u, same) kept operands claims called stack =
+        on (Calling callee before) k live (done, read_value bs r, h, subst (λ z. Holds g z bs) (sym same) holds, called, operands, claims, stack)
+    pass_on k callee before done NoArguments (t ∷ ts) c r f h q live stands holds passed flows kept operands claims called stack = absurd passed
+    pass_on k callee before done (MoreArguments d as') [] c r f h q live stands holds passed flows kept operands claims called stack = absurd passed
+    pass_on k callee before done (MoreArguments (Convert from to a) as') (t ∷ ts) c r f h q live stands holds ((v, well, conv, from_is, to_is), passed) (f1, d, ds) (one, kept) operands claims called stack =
         on (Evaluating a) (Needs (ConvertTo from to (target_by a)) ∷ Needs (Pass callee before as') ∷ k) live (
           c,
           v,
@@ -164,23 +192,23 @@ module _ (p : Source) where
     pub evaluate : (a : Expression) (k : List Entry) (c : Context) (t : ValueType) (f h : flow.State) (q : List ℕ) → AreOpen w.regions (ends_of k) → LiveIn k bs → IsContext p x bs c → Holds g f bs
         → WellTyped c a t ⊎ IsPeek c a t → Derives (rule q a f) h → InExpression p.reading x.relied a → IsStack p g x bs (Val (read_value bs t) h) k → IsWell p (step_evaluating a k e w)
     evaluate (Number n) k c t f h q opens live stands holds (inl is) (u, same) kept stack =
-        hands k (read_value bs t) (Value lives.Int) (record { kind = kinds.Int; value = values.Int n }) f h live holds same (ap (read_value bs) is) (refl, tt) stack
+        hands k (read_value bs t) (Value lives.Int) (record { kind = kinds.Int; value = values.Int n }) f h live holds same (ap (read_value bs) is) (refl, tt) tt stack
     evaluate NullPointer k c t f h q opens live stands holds (inl is) (u, same) kept stack =
-        hands k (read_value bs t) lives.Null (record { kind = kinds.Nullable; value = values.Null }) f h live holds same (ap (read_value bs) is) (refl, refl) stack
+        hands k (read_value bs t) lives.Null (record { kind = kinds.Nullable; value = values.Null }) f h live holds same (ap (read_value bs) is) (refl, refl) tt stack
     evaluate HeapRegion k c t f h q opens live stands holds (inl is) (u, same) kept stack =
-        hands k (read_value bs t) (Value (lives.Handle heap_life)) (record { kind = kinds.Handle; value = values.Handle 0 }) f h live holds same (ap (read_value bs) is) (refl, refl) stack
+        hands k (read_value bs t) (Value (lives.Handle heap_life)) (record { kind = kinds.Handle; value = values.Handle 0 }) f h live holds same (ap (read_value bs) is) (refl, refl) tt stack
     evaluate (Counter l) k c t f h q opens live stands holds (inl (less, is)) (u, same) kept stack =
         let (index, counted) = among_level e (stands.counters l less) bound in
         subst (λ o. IsWell p (counts o k e w)) (sym counted)
-        (hands k (read_value bs t) (Value lives.Int) (record { kind = kinds.Int; value = values.Int index }) f h live holds same (ap (read_value bs) is) (refl, tt) stack)
+        (hands k (read_value bs t) (Value lives.Int) (record { kind = kinds.Int; value = values.Int index }) f h live holds same (ap (read_value bs) is) (refl, tt) tt stack)
     evaluate (Copy (Local place n) u) k c t f h q opens live stands holds (inl ((has, there), moved, same)) (demands, known) kept stack =
-        from_local k c n u t f h opens live stands holds has (not_true (is_vacant (fullness f n)) demands.0) (subst (λ z. Implies f z) (sym known) (implies_self f)) same stack
+        from_local k c n u t f h opens live stands holds has (not_true (is_vacant (fullness f n)) demands.0) (subst (λ z. Implies f z) (sym known) (implies_self f)) same (copied_comes g (stacks.operands_in k) (lives_in bs) u moved) stack
     evaluate (Copy (Global n) u) k c t f h q opens live stands holds (inl (there, moved, same)) (demands, known) kept stack =
         from_global k c n u t h opens live stands (subst (λ z. Holds g z bs) (sym known) holds) there same stack
     evaluate (Move place n u) k c t f h q opens live stands holds (inl ((has, there), moved, same)) (demands, known) kept stack =
         from_local k c n u t f h opens live stands holds has (not_true (is_vacant (fullness f n)) demands.0) (subst (λ z. Implies f z) (sym known) (vacant_implied f n)) same stack
     evaluate (Peek place n u) k c t f h q opens live stands holds (inr ((has, there), unique, same)) (demands, known) kept stack =
-        from_local k c n u t f h opens live stands holds has (not_true (is_vacant (fullness f n)) demands.0) (subst (λ z. Implies f z) (sym known) (implies_self f)) same stack
+        from_local k c n u t f h opens live stands holds has (not_true (is_vacant (fullness f n)) demands.0) (subst (λ z. Implies f z) (sym known) (implies_self f)) same (unique_comes g (stacks.operands_in k) (lives_in bs) u unique) stack
     evaluate (Call callee as' u) k c t f h q opens live stands holds (inl (s, m, is, count, apart, passed, alive, outlive, gives_u, same)) flows kept stack =
         pass_on k callee [] [] as' (map (substituted_ty m) s.parameters) c (result_type (option_map (substituted_ty m) s.result)) f h q live stands holds passed flows kept tt
         (called_is x bs c callee s m stands is alive outlive) (subst (λ z. IsStack p g x bs (Val (read_value bs z) h) k) (same ∙ gives_u) stack)
@@ -313,7 +341,7 @@ module _ (p : Source) where
         let is : read_value bs t ≡ Value (lives.Pointer marks.NonNull (lives.at as_heap v) (lives_in bs r)) =
         ap (read_value bs) (same ∙ ap types.Value u_is) ∙ ap (λ z. Value (lives.Pointer marks.NonNull z (lives_in bs r))) means in
         hands k (read_value bs t) (Value (lives.Pointer marks.NonNull (lives.at as_heap v) (lives_in bs r))) (record { kind = kinds.NonNull; value = values.Thin n 0 }) f h live holds known
-        is (refl, (global_type (lives.at as_heap v), at, refl, with_globals (lives_in bs r), part)) stack
+        is (refl, (global_type (lives.at as_heap v), at, refl, with_globals (lives_in bs r), part)) tt stack
     evaluate (AddressOf (Local place n) u) k c t f h q opens live stands holds (inl (v, r, (m, has, region, there), plain, u_is, same)) (demands, known) kept stack =
         let l = bound_to p.reading (lives_in bs) c.locals bs n v m stands.scope (place_local c.locals n v m has) in
         let b = l.bound in
@@ -325,7 +353,7 @@ module _ (p : Source) where
         subst (λ o. IsWell p (addressed o k e w)) (sym at)
         (hands k (read_value bs t) (Value (lives.Pointer marks.NonNull (read bs v) (lives_in bs r))) (record { kind = kinds.NonNull; value = values.Thin b.object 0 }) f h live holds known
         (ap (read_value bs) (same ∙ ap types.Value u_is))
-        (refl, (y, among_variable g l.among variables, l.hidden ∙ plain, subst (λ z. Outlasts b.life z) life (alike b.life), part)) stack)
+        (refl, (y, among_variable g l.among variables, l.hidden ∙ plain, subst (λ z. Outlasts b.life z) life (alike b.life), part)) tt stack)
     evaluate (AddressOfCell d u) k c t f h q opens live stands holds (inl (v, r, cell, plain, other, u_is, same)) flows kept stack =
         on (Locating d) (NeedsPlace TakeAddress ∷ k) live (
           c,
@@ -409,7 +437,7 @@ module _ (p : Source) where
         subst (λ z. IsWell p (Running (Evaluating b) (Needs (ApplyPointer peek o (record { kind = z; value = value })) ∷ Needs (Chain os) ∷ k) e w)) (sym kind_is)
         (subst (λ z. IsWell p (Running (Evaluating b) (Needs (ApplyPointer peek o (record { kind = kinds.Nullable; value = z })) ∷ Needs (Chain os) ∷ k) e w)) (sym value_is)
         (on (Evaluating b) (Needs (ApplyPointer peek o null) ∷ Needs (Chain os) ∷ k) live
-        (c, v, f, f1, stands, holds, evaluates, (lives.Pointer marks.Nullable lives.Int heap_life ∷ [], bs, Val (read_value bs w') f1, stacks.null_points c v w' f1 op, ((refl, tt), tt), stack))))
+        (c, v, f, f1, stands, holds, evaluates, (lives.Pointer marks.Nullable lives.Int heap_life ∷ [], bs, Val (read_value bs w') f1, stacks.null_points c v w' f1 op, (((refl, tt), tt), (tt, tt)), stack))))
 
     pointed : (o : PointerOperator) (peek : Option ℕ) (q : List ℕ) (left : Operand) (b : Expression) (os : Operations) (k : List Entry) (c : Context) (s v w' : ValueType) (f f1 : flow.State) → LiveIn k bs → IsContext p x bs c → Holds g f bs
         → IsResult g (read_value bs s) left → PointerOperation c o s v w' → Evaluates p.reading x.relied c b f v f1 → IsStack p g x bs (Val (read_value bs w') f1) (Needs (Chain os) ∷ k)
@@ -487,13 +515,13 @@ module _ (p : Source) where
         → IsStack p g x bs (Val (Value lives.Int) f) k → IsWell p (computed kinds.Int (truth_result (is_zero v.value)) k e w)
     denied_on v k s f live holds is_tested' is stack =
         let (b, at_zero) = zero_is g (lives_in bs) s v is_tested' is in
-        subst (λ z. IsWell p (computed kinds.Int (truth_result z) k e w)) (sym at_zero) (gives p g x bs e w typed globals bound variables k kinds.Int lives.Int f (Gives (values.Int (truth b))) live holds refl tt stack)
+        subst (λ z. IsWell p (computed kinds.Int (truth_result z) k e w)) (sym at_zero) (gives p g x bs e w typed globals bound variables k kinds.Int lives.Int f (Gives (values.Int (truth b))) live holds tt refl tt stack)
 
     pub decided_on : (v : Operand) (k : List Entry) (s : ValueType) (f h : flow.State) → LiveIn k bs → Holds g f bs → is_tested s ≡ true → Implies f h → IsResult g (read_value bs s) v
         → IsStack p g x bs (Val (Value lives.Int) h) k → IsWell p (computed kinds.Int (truth_of (is_zero v.value)) k e w)
     decided_on v k s f h live holds is_tested' implies is stack =
         let (b, at_zero) = zero_is g (lives_in bs) s v is_tested' is in
-        subst (λ z. IsWell p (computed kinds.Int (truth_of z) k e w)) (sym at_zero) (gives p g x bs e w typed globals bound variables k kinds.Int lives.Int h (Gives (values.Int (truth (not b)))) live (holds_implied g f h bs implies holds) refl tt stack)
+        subst (λ z. IsWell p (computed kinds.Int (truth_of z) k e w)) (sym at_zero) (gives p g x bs e w typed globals bound variables k kinds.Int lives.Int h (Gives (values.Int (truth (not b)))) live (holds_implied g f h bs implies holds) tt refl tt stack)
 
     handed : (h : Typing) (t : Ty) (v : Operand) (b : Bool) → IsResult h (Value (read bs t)) v → IsResult h (read_value bs (if b then types.Void else types.Value t)) v
     handed h t v true is = tt
@@ -514,7 +542,7 @@ module _ (p : Source) where
             reached_with Full f b.number reached,
             set_stored (with_filled g b.object (risen 0 m)) e Full f b.number b.object bs bound (among_bound e among bound) now (holds_grown g (with_filled g b.object (risen 0 m)) grows f bs (reached, are)).1,
           ),
-          handed (with_filled g b.object (risen 0 m)) t v (is_moved t) (result_grown g (with_filled g b.object (risen 0 m)) grows (Value (read bs t)) v is),
+          handed (with_filled g b.object (risen 0 m)) t v (is_moved t) (result_grown g (with_filled g b.object (risen 0 m)) grows.grows (Value (read bs t)) v is),
           stack_grown p g (with_filled g b.object (risen 0 m)) grows x bs (Val (read_value bs (assigned_type t)) (with_fullness Full f b.number)) k stack,
         ))
 
@@ -530,6 +558,6 @@ module _ (p : Source) where
           read_value bs (assigned_type t),
           f,
           holds_grown g (with_filled g n (risen 0 m)) grows f bs holds,
-          handed (with_filled g n (risen 0 m)) t v (is_moved t) (result_grown g (with_filled g n (risen 0 m)) grows (Value (read bs t)) v is),
+          handed (with_filled g n (risen 0 m)) t v (is_moved t) (result_grown g (with_filled g n (risen 0 m)) grows.grows (Value (read bs t)) v is),
           stack_grown p g (with_filled g n (risen 0 m)) grows x bs (Val (read_value bs (assigned_type t)) f) k stack,
         ))

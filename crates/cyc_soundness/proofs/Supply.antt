@@ -134,7 +134,7 @@ module _ (p : Source) (g : Typing) (x : Exits) (bs : List InScope) (e : Environm
       let below : AreBelow number bs = subst (λ n. AreBelow n bs) (sym number_is) stands.below in
       let l = new_life p.reading bs c.region e.home k live stands.home nests.2 in
       let h1 = new_typing t l.life 1 in
-      declares number kind t (Some v) 1 l.life Proceeding (Rest js ∷ k) nests live below l.number l.lasting (l.known g variables) (λ grows. ((kind_is, type_grown g h1 grows (read bs t) v has), tt))
+      declares number kind t (Some v) 1 l.life Proceeding (Rest js ∷ k) nests live below l.number l.lasting (l.known g variables) (λ grows. ((kind_is, type_grown g h1 grows.grows (read bs t) v has), tt))
       (λ grows full. (
         with_fullness Full f number,
         (reached_with Full f number reached, (λ s. full, set_more h1 Full f number bs below (set_grown g h1 grows f bs are))),
@@ -235,14 +235,14 @@ module _ (p : Source) (g : Typing) (x : Exits) (bs : List InScope) (e : Environm
   given v k nests live holds is (stacks.converts {from} {to} {target} c s t f agrees conv from_is to_is same) are stack =
       converted_on p g x bs e w typed globals bound variables from to target v k c s t f live agrees holds is conv from_is to_is same stack
   given v k nests live holds is (stacks.negates f) are stack =
-      gives p g x bs e w typed globals bound variables k kinds.Int lives.Int f (unary_result unary.Negate v.value) live holds refl (negated g v.value is.1) stack
+      gives p g x bs e w typed globals bound variables k kinds.Int lives.Int f (unary_result unary.Negate v.value) live holds tt refl (negated g v.value is.1) stack
   given v k nests live holds is (stacks.complements f) are stack =
-      gives p g x bs e w typed globals bound variables k kinds.Int lives.Int f (unary_result unary.Complement v.value) live holds refl (complemented g v.value is.1) stack
+      gives p g x bs e w typed globals bound variables k kinds.Int lives.Int f (unary_result unary.Complement v.value) live holds tt refl (complemented g v.value is.1) stack
   given v k nests live holds is (stacks.denies s f tested) are stack = denied_on p g x bs e w typed globals bound variables v k s f live holds tested is stack
   given v k nests live holds is (stacks.chains {os} c s t f h stands computes) are stack =
       chain_on p g x bs e w typed globals bound variables os v k c s t f h computes.waiting live stands holds is computes.typed computes.flows computes.kept stack
   given v k nests live holds is (stacks.applies {o} {left} f) (left_is, unit) stack =
-      gives p g x bs e w typed globals bound variables k kinds.Int lives.Int f (binary_result o left.value v.value) live holds refl (combined g o left.value v.value left_is.1 is.1) stack
+      gives p g x bs e w typed globals bound variables k kinds.Int lives.Int f (binary_result o left.value v.value) live holds tt refl (combined g o left.value v.value left_is.1 is.1) stack
   given v k nests live holds is (stacks.decides s f h tested i) are stack = decided_on p g x bs e w typed globals bound variables v k s f h live holds tested i is stack
   given v k nests live holds is (stacks.stores_local b t f among same) are stack =
       writes_local p g x bs e w typed globals bound variables v k b t f nests.0 live among same holds is stack

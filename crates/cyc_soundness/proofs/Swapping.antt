@@ -28,7 +28,7 @@ use Rattle.cyc_soundness.proofs.Numbers.{some_same}
 use Rattle.cyc_soundness.proofs.TypeLemmas.{is_kind_same, kind_meant, place_type}
 use Rattle.cyc_soundness.proofs.FlowLemmas.{not_vacant}
 use Rattle.cyc_soundness.proofs.WorldLemmas.{cell_there, holds_grown}
-use Rattle.cyc_soundness.proofs.StackLemmas.{stack_grown, swapped_grown, bound_of, place_local, among_bound, among_variable, among_live, among_set, open_of, globals_among, lasting_open, kept_open, object_known}
+use Rattle.cyc_soundness.proofs.StackLemmas.{stack_grown, swapped_grown, bound_of, place_local, among_bound, among_variable, among_live, among_set, open_of, globals_among, lasting_open, kept_open, object_known, among_open, IsPresent, there_present}
 use Rattle.cyc_soundness.proofs.RegionLemmas.{there_lasting, there_of, cell_live, global_means}
 use Rattle.cyc_soundness.proofs.Cells.{running, life_of, value_part, writes}
 
@@ -48,7 +48,7 @@ pub record SpotAt (g : Typing) (w : World) (t : RunTy) (v : values.Value) : Type
   pub full : IsFilled g number (suc offset)
 
 module _ (p : Source) (g : Typing) (x : Exits) (bs : List InScope) (e : Environment) (w : World) (typed : IsTyped g w.regions w.objects) (globals : KnowsProgram g p) (bound : IsBound e.locals e.counters bs) (variables : AreVariables g bs) where
-  cell_spot : (t : Ty) (l : Life) (place : values.Value) (k : List Entry) → AreOpen w.regions (ends_of k) → IsLasting (ends_of k) l → is_struct t ≡ false → HasType g (lives.Pointer marks.NonNull (read bs t) l) place
+  cell_spot : (t : Ty) (l : Life) (place : values.Value) (k : List Entry) → AreOpen w.regions (ends_of k) → IsPresent g (ends_of k) l → is_struct t ≡ false → HasType g (lives.Pointer marks.NonNull (read bs t) l) place
       → SpotAt g w (read bs t) place
   cell_spot t l (values.Thin object offset) k opens lasting plain (y, there, shown, outlasts, part) =
       let open' = life_of g w typed k object y l there opens outlasts lasting in
@@ -65,7 +65,7 @@ module _ (p : Source) (g : Typing) (x : Exits) (bs : List InScope) (e : Environm
     there = among_variable g among variables;
     cell = ap (λ u. Some u) of_type;
     opens = lasting_open w.regions (ends_of k) b.life opens typed.heap
-        (kept_open g w.regions w.objects b.life typed (object_known g w.regions w.objects b.object (variable_type b.of_type b.life b.is_hidden) typed (among_variable g among variables))) (among_live (ends_of k) among live.0);
+        (kept_open g w.regions w.objects b.life typed (object_known g w.regions w.objects b.object (variable_type b.of_type b.life b.is_hidden) typed (among_variable g among variables)) (among_open g among variables)) (among_live (ends_of k) among live.0);
     full = among_set g f among holds.1 set;
   }
   spot_at t f v k opens live holds plain (of_global number there same) =
@@ -80,7 +80,7 @@ module _ (p : Source) (g : Typing) (x : Exits) (bs : List InScope) (e : Environm
         opens = open_of w.regions (globals_among k) opens;
         full = full;
       }
-  spot_at t f v k opens live holds plain (of_cell place r alive has) = cell_spot t (lives_in bs r) place k opens (there_lasting (ends_of k) bs r live.0 alive) plain has
+  spot_at t f v k opens live holds plain (of_cell place r alive has) = cell_spot t (lives_in bs r) place k opens (there_present g (ends_of k) bs r live.0 variables alive) plain has
 
   -- ---- both places are found
 
@@ -194,4 +194,4 @@ module _ (p : Source) (g : Typing) (x : Exits) (bs : List InScope) (e : Environm
       subst (λ v. IsWell p (stored_at v one.operand (Writing ws None) k e w)) (sym s.is)
       (writes p g x bs e w typed globals bound variables one.operand (Writing ws None) k s.number s.offset m (read bs t) s.of_type live s.there s.cell s.opens flag
       (let few : s.offset ≤ m = omega (arith, enough) in few) is
-      (λ grows now. (f, holds_grown g _ grows f bs holds, swapped_grown p g _ grows bs f ws are, stack_grown p g _ grows x bs (Go f) k stack)))
+      (λ grows now. (f, holds_grown g _ grows f bs holds, swapped_grown p g _ grows.grows bs f ws are, stack_grown p g _ grows x bs (Go f) k stack)))
