@@ -2,11 +2,11 @@
 use Rattle.std.proofs.Common.{◌≡◌, ℕ, suc, ◌+◌, true, false, List, [], ◌∷◌, Option, Some, None}
 use Rattle.std.specs.Prelude.{◌&&◌}
 use Rattle.std.specs.List.{list_all}
-use Rattle.cyc_types.specs.TypedTrees.{Expression, Number, NullPointer, Copy, Load, AddressOfCell, Call, Unary, Binary, Assign, Store, New, Dereference, Target, Member, Placement, OnHeap, Initial, Plain, Fields, Converted, Convert, Arguments, NoArguments, MoreArguments, Operations, NoOperations, ThenCompute, ThenTest, ThenPointer, Statement, Block, Empty, Evaluate, If, While, Return, Break, Continue, Items, NoItems, MoreItems, Execute, Declare, Function, Program}
+use Rattle.cyc_types.specs.TypedTrees.{Expression, Number, NullPointer, Counter, Copy, Load, AddressOfCell, NumberOfElements, Call, Unary, Binary, Assign, Store, New, Dereference, Target, Member, Element, Placement, OnHeap, Initial, Plain, Fields, Array, Converted, Convert, Arguments, NoArguments, MoreArguments, Operations, NoOperations, ThenCompute, ThenTest, ThenPointer, Statement, Block, Empty, Evaluate, If, While, Return, Break, Continue, Items, NoItems, MoreItems, Execute, Declare, Function, Program}
 use Rattle.cyc_types.specs.Declarations.{declared_regions}
 use Rattle.cyc_types.specs.Numbered.{argument_count}
 use Rattle.cyc_types.specs.IntPart.{is_empty}
-use Rattle.cyc_types.specs.Built.{is_built_type, is_built_result, is_built_value_type, is_built_kind, is_built_operator, is_built_placement, is_built_size, is_built_expression, is_built_place, is_built_initial, is_built_converted, are_built_arguments, are_built_operations, is_built_value, is_built_statement, are_built_items, is_built_struct, is_built_global, is_built_function, is_built}
+use Rattle.cyc_types.specs.Built.{is_built_type, is_built_result, is_built_value_type, is_built_kind, is_built_placement, is_built_size, is_built_expression, is_built_place, is_built_initial, is_built_converted, are_built_arguments, are_built_operations, is_built_value, is_built_statement, are_built_items, is_built_struct, is_built_global, is_built_function, is_built}
 use Rattle.cyc_soundness.specs.Lives.{AsHeap}
 use Rattle.cyc_soundness.specs.Classes.{InExpression, InPlace, InPlacement, InInitial, InConverted, InArguments, InOperations, InValue, InStatement, InItems, InFunctions, IsOfTheHeap}
 use Rattle.cyc_soundness.proofs.Numbers.{both_true}
@@ -22,9 +22,11 @@ mutual
   expression_kept : (a : Expression) → is_built_expression a ≡ true → InExpression AsHeap a
   expression_kept (Number n) e = tt
   expression_kept NullPointer e = tt
+  expression_kept (Counter l) e = tt
   expression_kept (Copy l t) e = tt
   expression_kept (Load d) e = place_kept d e
   expression_kept (AddressOfCell d t) e = place_kept d (both_true (is_built_place d) (is_built_type t) e).0
+  expression_kept (NumberOfElements a) e = expression_kept a e
   expression_kept (Call f cs t) e = arguments_kept cs (both_true (are_built_arguments cs) (is_built_value_type t) e).0
   expression_kept (Unary o a) e = expression_kept a e
   expression_kept (Binary a os t) e =
@@ -42,12 +44,16 @@ mutual
   place_kept : (d : Dereference) → is_built_place d ≡ true → InPlace AsHeap d
   place_kept (Target k a t) e = expression_kept a (both_true (is_built_expression a) (is_built_kind k && is_built_type t) e).0
   place_kept (Member k a s f t) e = expression_kept a (both_true (is_built_expression a) (is_built_kind k && is_built_type t) e).0
-  place_kept d e = not_built e
+  place_kept (Element a i t) e =
+      let whole = both_true (is_built_expression a) (is_built_expression i && is_built_type t) e in
+      (expression_kept a whole.0, expression_kept i (both_true (is_built_expression i) (is_built_type t) whole.1).0)
 
   initial_kept : (i : Initial) → is_built_initial i ≡ true → InInitial AsHeap i
   initial_kept (Plain k a) e = expression_kept a (both_true (is_built_expression a) (is_built_kind k) e).0
   initial_kept (Fields cs) e = arguments_kept cs (both_true (is_built_size (argument_count cs)) (are_built_arguments cs) e).1
-  initial_kept i e = not_built e
+  initial_kept (Array p l n k a) e =
+      let whole = both_true (is_built_expression n) (is_built_expression a && is_built_kind k) e in
+      (expression_kept n whole.0, expression_kept a (both_true (is_built_expression a) (is_built_kind k) whole.1).0)
 
   converted_kept : (c : Converted) → is_built_converted c ≡ true → InConverted AsHeap c
   converted_kept (Convert from to a) e = expression_kept a (both_true (is_built_expression a) (is_built_kind from && is_built_kind to) e).0
@@ -67,7 +73,7 @@ mutual
       let both = both_true (is_built_expression a) (are_built_operations os) e in
       (expression_kept a both.0, operations_kept os both.1)
   operations_kept (ThenPointer o a os) e =
-      let both = both_true (is_built_expression a) (are_built_operations os) (both_true (is_built_operator o) (is_built_expression a && are_built_operations os) e).1 in
+      let both = both_true (is_built_expression a) (are_built_operations os) e in
       (expression_kept a both.0, operations_kept os both.1)
   operations_kept os e = not_built e
 

@@ -1,6 +1,6 @@
 -- WHICH TYPED PROGRAMS ARE BUILT: those that what stands behind the flow check handles so far. Such a program has no exceptions of its
--- own, and each of its values and cells is an int or a thin pointer that is not unique: one word. Its objects are made in the heap, and
--- its expressions and statements have the forms that these need. (What is built first is this project's own choice.)
+-- own, and each of its values and cells is an int or a pointer that is not unique. Its objects are made in the heap, and its expressions
+-- and statements have the forms that these need. (What is built first is this project's own choice.)
 --
 -- What a pointer leads to is looked at where it is followed, and not in its type.
 use Rattle.std.specs.Prelude.{ℕ, nat_le, Bool, true, false, not, ◌&&◌, Option, None, Some}
@@ -10,12 +10,9 @@ use Rattle.cyc_words.specs.declared.fault.Fault.{Fault}
 use Rattle.cyc_types.specs.declared.region.Region.TheVariants as regions
 use Rattle.cyc_types.specs.declared.typed.Kind.{Kind}
 use Rattle.cyc_types.specs.declared.typed.Kind.TheVariants as kinds
-use Rattle.cyc_types.specs.declared.typed.PointerOperator.{PointerOperator}
-use Rattle.cyc_types.specs.declared.typed.PointerOperator.TheVariants as pointers
 use Rattle.cyc_types.specs.Regions.{region_eq}
 use Rattle.cyc_types.specs.Types.{Ty, Int, Pointer, Struct, ValueType, Void, Value}
-use Rattle.cyc_types.specs.TypedTrees.{Expression, Number, NullPointer, Copy, Load, AddressOfCell, Call, Unary, Binary, Assign, Store, New, Dereference, Target, Member, Placement, OnHeap, Initial, Plain, Fields, Converted, Convert, Arguments, NoArguments, MoreArguments, Operations, NoOperations, ThenCompute, ThenTest, ThenPointer, Statement, Block, Empty, Evaluate, If, While, Return, Break, Continue, Items, NoItems, MoreItems, Execute, Declare, StructType, GlobalVariable, Function, Program}
-use Rattle.cyc_types.specs.typing.Tests.{is_thin_mark}
+use Rattle.cyc_types.specs.TypedTrees.{Expression, Number, NullPointer, Counter, Copy, Load, AddressOfCell, NumberOfElements, Call, Unary, Binary, Assign, Store, New, Dereference, Target, Member, Element, Placement, OnHeap, Initial, Plain, Fields, Array, Converted, Convert, Arguments, NoArguments, MoreArguments, Operations, NoOperations, ThenCompute, ThenTest, ThenPointer, Statement, Block, Empty, Evaluate, If, While, Return, Break, Continue, Items, NoItems, MoreItems, Execute, Declare, StructType, GlobalVariable, Function, Program}
 use Rattle.cyc_types.specs.IntPart.{is_empty}
 use Rattle.cyc_types.specs.Numbered.{argument_count}
 
@@ -24,7 +21,7 @@ use Rattle.cyc_types.specs.Numbered.{argument_count}
 -- A struct has no value: it is only what a pointer leads to.
 abbrev pub is_built_type : Ty → Bool
 is_built_type Int = true
-is_built_type (Pointer k t r) = is_thin_mark k && not (region_eq r regions.Unique)
+is_built_type (Pointer k t r) = not (region_eq r regions.Unique)
 is_built_type (Struct n rs) = true
 is_built_type t = false
 
@@ -39,40 +36,31 @@ is_built_value_type Void = true
 is_built_value_type (Value t) = is_built_type t
 is_built_value_type t = false
 
--- what has this kind is one word, and neither a handle nor a key
+-- what has this kind is neither a handle nor a key
 abbrev pub is_built_kind : Kind → Bool
-is_built_kind kinds.Int = true
-is_built_kind kinds.Nullable = true
-is_built_kind kinds.NonNull = true
-is_built_kind k = false
+is_built_kind kinds.Handle = false
+is_built_kind kinds.Key = false
+is_built_kind k = true
 
 -- ---- expressions
-
--- it works on thin pointers
-abbrev pub is_built_operator : PointerOperator → Bool
-is_built_operator pointers.EqualThin = true
-is_built_operator pointers.NotEqualThin = true
-is_built_operator pointers.ThinIsNull = true
-is_built_operator pointers.ThinIsNotNull = true
-is_built_operator pointers.NullIs = true
-is_built_operator pointers.NullIsNot = true
-is_built_operator o = false
 
 abbrev pub is_built_placement : Placement → Bool
 is_built_placement OnHeap = true
 is_built_placement w = false
 
--- An object has a word at least, and a block of the store has room for it. (So it is in a text, where a struct has from 1 to 64 fields.)
+-- An object has a word at least, and a block of the store has room for it. (In a text a struct has from 1 to 64 fields.)
 abbrev pub is_built_size : ℕ → Bool
-is_built_size n = nat_le 1 n && nat_le n 1000
+is_built_size n = nat_le 1 n && nat_le n 64
 
 abbrev mutual
   pub is_built_expression : Expression → Bool
   is_built_expression (Number n) = true
   is_built_expression NullPointer = true
+  is_built_expression (Counter l) = true
   is_built_expression (Copy l t) = is_built_type t
   is_built_expression (Load d) = is_built_place d
   is_built_expression (AddressOfCell d t) = is_built_place d && is_built_type t
+  is_built_expression (NumberOfElements a) = is_built_expression a
   is_built_expression (Call f cs t) = are_built_arguments cs && is_built_value_type t
   is_built_expression (Unary o a) = is_built_expression a
   is_built_expression (Binary a os t) = is_built_expression a && (are_built_operations os && is_built_type t)
@@ -84,12 +72,12 @@ abbrev mutual
   pub is_built_place : Dereference → Bool
   is_built_place (Target k a t) = is_built_expression a && (is_built_kind k && is_built_type t)
   is_built_place (Member k a s f t) = is_built_expression a && (is_built_kind k && is_built_type t)
-  is_built_place d = false
+  is_built_place (Element a i t) = is_built_expression a && (is_built_expression i && is_built_type t)
 
   pub is_built_initial : Initial → Bool
   is_built_initial (Plain k a) = is_built_expression a && is_built_kind k
   is_built_initial (Fields cs) = is_built_size (argument_count cs) && are_built_arguments cs
-  is_built_initial i = false
+  is_built_initial (Array p l n k a) = is_built_expression n && (is_built_expression a && is_built_kind k)
 
   pub is_built_converted : Converted → Bool
   is_built_converted (Convert from to a) = is_built_expression a && (is_built_kind from && is_built_kind to)
@@ -102,7 +90,7 @@ abbrev mutual
   are_built_operations NoOperations = true
   are_built_operations (ThenCompute o a os) = is_built_expression a && are_built_operations os
   are_built_operations (ThenTest o a os) = is_built_expression a && are_built_operations os
-  are_built_operations (ThenPointer o a os) = is_built_operator o && (is_built_expression a && are_built_operations os)
+  are_built_operations (ThenPointer o a os) = is_built_expression a && are_built_operations os
   are_built_operations os = false
 
 -- a value that may be left out

@@ -4,39 +4,33 @@ ghost use Rattle.std.specs.Result.{is_ok};
 ghost use Rattle.std.specs.List.{list_all};
 ghost use Rattle.cyc_types.specs.TypeView.{view_ty, view_value_type};
 ghost use Rattle.cyc_types.specs.TypedTreeView.{view_expression, view_dereference, view_placement, view_initial, view_converted, arguments_of, operations_of, view_statement, items_of, view_struct, view_global, view_function, view_program};
-ghost use Rattle.cyc_types.specs.Built.{is_built_type, is_built_result, is_built_value_type, is_built_kind, is_built_operator, is_built_placement, is_built_size, is_built_expression, is_built_place, is_built_initial, is_built_converted, are_built_arguments, are_built_operations, is_built_value, is_built_statement, are_built_items, is_built_struct, is_built_global, is_built_function, is_built};
+ghost use Rattle.cyc_types.specs.Built.{is_built_type, is_built_result, is_built_value_type, is_built_kind, is_built_placement, is_built_size, is_built_expression, is_built_place, is_built_initial, is_built_converted, are_built_arguments, are_built_operations, is_built_value, is_built_statement, are_built_items, is_built_struct, is_built_global, is_built_function, is_built};
 
 use crate::typed::{
     Converted, Dereference, Expr, Function, Global, Initial, Item, Kind, Operation, Placement,
-    PointerOperator, Stmt, StructType, TypedTree, ValueType,
+    Stmt, StructType, TypedTree, ValueType,
 };
 use crate::{Region, Ty};
-use cyc_syntax::PointerKind;
 use cyc_words::{Code, Fault, Span};
 
 /// What a program may have that is not built yet.
 #[derive(Clone, Copy, Debug, PartialEq, Eq)]
 pub enum Construct {
-    /// Without fields, or with more than a thousand.
+    /// Without fields, or with more than 64.
     Struct,
     Exception,
-    FatPointer,
     UniquePointer,
     /// The handle of a region.
     Handle,
     Key,
     /// `&` of a variable.
     AddressOf,
-    /// `numelts`
-    NumberOfElements,
     /// `ufree`
     FreeUnique,
     /// `free_ukey`
     FreeKey,
     /// `rnew`
     RegionNew,
-    /// `new {for ..}`
-    Array,
     /// `:=:`
     Swap,
     /// `throw`
@@ -81,10 +75,6 @@ fn check_type(of_type: &Ty, span: Option<Span>) -> Result<(), Unbuilt>
 {
     let construct = match of_type {
         Ty::Pointer {
-            kind: PointerKind::Fat,
-            ..
-        } => Construct::FatPointer,
-        Ty::Pointer {
             region: Region::Unique,
             ..
         } => Construct::UniquePointer,
@@ -127,27 +117,9 @@ fn check_kind(kind: Kind, name: Span) -> Result<(), Unbuilt>
     ensures { is_ok result ≡ is_built_kind kind }
 {
     match kind {
-        Kind::Int | Kind::Nullable | Kind::NonNull => Ok(()),
-        Kind::Fat => stop(Construct::FatPointer, name),
+        Kind::Int | Kind::Nullable | Kind::NonNull | Kind::Fat => Ok(()),
         Kind::Handle => stop(Construct::Handle, name),
         Kind::Key => stop(Construct::Key, name),
-    }
-}
-
-fn check_operator(operator: PointerOperator, name: Span) -> Result<(), Unbuilt>
-    ensures { is_ok result ≡ is_built_operator operator }
-{
-    match operator {
-        PointerOperator::EqualThin
-        | PointerOperator::NotEqualThin
-        | PointerOperator::ThinIsNull
-        | PointerOperator::ThinIsNotNull
-        | PointerOperator::NullIs
-        | PointerOperator::NullIsNot => Ok(()),
-        PointerOperator::AddFat
-        | PointerOperator::SubtractFat
-        | PointerOperator::FatIsNull
-        | PointerOperator::FatIsNotNull => stop(Construct::FatPointer, name),
     }
 }
 
@@ -164,7 +136,7 @@ fn check_placement(placement: &Placement, name: Span) -> Result<(), Unbuilt>
 fn check_size(values: &[Converted], name: Span) -> Result<(), Unbuilt>
     ensures { is_ok result ≡ is_built_size (length values.now) }
 {
-    if 1 <= values.len() && values.len() <= 1000 {
+    if 1 <= values.len() && values.len() <= 64 {
         Ok(())
     } else {
         stop(Construct::Struct, name)
@@ -175,9 +147,7 @@ fn check_size(values: &[Converted], name: Span) -> Result<(), Unbuilt>
 fn form_of(expression: &Expr) -> Construct {
     match expression {
         Expr::HeapRegion => Construct::Handle,
-        Expr::Counter { .. } => Construct::Array,
         Expr::AddressOf { .. } => Construct::AddressOf,
-        Expr::NumberOfElements { .. } => Construct::NumberOfElements,
         Expr::FreeUnique { .. } => Construct::FreeUnique,
         Expr::FreeKey { .. } => Construct::FreeKey,
         _ => Construct::UniquePointer,
@@ -189,13 +159,14 @@ fn check_expression(expression: &Expr, name: Span) -> Result<(), Unbuilt>
     ensures { is_ok result ≡ is_built_expression (view_expression expression.now) }
 {
     match expression {
-        Expr::Number { .. } | Expr::NullPointer => Ok(()),
+        Expr::Number { .. } | Expr::NullPointer | Expr::Counter { .. } => Ok(()),
         Expr::Copy { of_type, .. } => check_type(of_type, Some(name)),
         Expr::Load { source } => check_place(source, name),
         Expr::AddressOfCell { place, of_type } => {
             check_place(place, name)?;
             check_type(of_type, Some(name))
         }
+        Expr::NumberOfElements { pointer } => check_expression(pointer, name),
         Expr::Call {
             arguments,
             result,
@@ -237,11 +208,9 @@ fn check_expression(expression: &Expr, name: Span) -> Result<(), Unbuilt>
             check_type(of_type, Some(name))
         }
         Expr::HeapRegion
-        | Expr::Counter { .. }
         | Expr::Move { .. }
         | Expr::Peek { .. }
         | Expr::AddressOf { .. }
-        | Expr::NumberOfElements { .. }
         | Expr::FreeUnique { .. }
         | Expr::FreeKey { .. } => stop(form_of(expression), name),
     }
@@ -267,7 +236,15 @@ fn check_place(place: &Dereference, name: Span) -> Result<(), Unbuilt>
             check_kind(*kind, name)?;
             check_type(of_type, Some(name))
         }
-        Dereference::Element { .. } => stop(Construct::FatPointer, name),
+        Dereference::Element {
+            pointer,
+            index,
+            of_type,
+        } => {
+            check_expression(pointer, name)?;
+            check_expression(index, name)?;
+            check_type(of_type, Some(name))
+        }
     }
 }
 
@@ -284,7 +261,16 @@ fn check_initial(initial: &Initial, name: Span) -> Result<(), Unbuilt>
             check_size(values, name)?;
             check_arguments(values, name)
         }
-        Initial::Array { .. } => stop(Construct::Array, name),
+        Initial::Array {
+            length,
+            kind,
+            element,
+            ..
+        } => {
+            check_expression(length, name)?;
+            check_expression(element, name)?;
+            check_kind(*kind, name)
+        }
     }
 }
 
@@ -313,13 +299,9 @@ fn check_operations(operations: &[Operation], name: Span) -> Result<(), Unbuilt>
 {
     for operation in operations {
         match operation {
-            Operation::Compute { operand, .. } | Operation::Test { operand, .. } => {
-                check_expression(operand, name)?;
-            }
-            Operation::Pointer { operator, operand } => {
-                check_operator(*operator, name)?;
-                check_expression(operand, name)?;
-            }
+            Operation::Compute { operand, .. }
+            | Operation::Test { operand, .. }
+            | Operation::Pointer { operand, .. } => check_expression(operand, name)?,
             Operation::PointerPeek { .. } => return stop(Construct::UniquePointer, name),
         }
     }
