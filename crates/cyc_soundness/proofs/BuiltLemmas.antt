@@ -2,11 +2,12 @@
 use Rattle.std.proofs.Common.{◌≡◌, ℕ, suc, ◌+◌, true, false, List, [], ◌∷◌, Option, Some, None}
 use Rattle.std.specs.Prelude.{◌&&◌}
 use Rattle.std.specs.List.{list_all}
+use Rattle.cyc_types.specs.Types.{Ty}
 use Rattle.cyc_types.specs.TypedTrees.{Expression, Number, NullPointer, Counter, Copy, Load, AddressOfCell, NumberOfElements, Call, Unary, Binary, Assign, Store, New, Dereference, Target, Member, Element, Placement, OnHeap, Initial, Plain, Fields, Array, Converted, Convert, Arguments, NoArguments, MoreArguments, Operations, NoOperations, ThenCompute, ThenTest, ThenPointer, Statement, Block, Empty, Evaluate, If, While, Return, Break, Continue, Items, NoItems, MoreItems, Execute, Declare, Function, Program}
 use Rattle.cyc_types.specs.Declarations.{declared_regions}
 use Rattle.cyc_types.specs.Numbered.{argument_count}
 use Rattle.cyc_types.specs.IntPart.{is_empty}
-use Rattle.cyc_types.specs.Built.{is_built_type, is_built_result, is_built_value_type, is_built_kind, is_built_placement, is_built_size, is_built_expression, is_built_place, is_built_initial, is_built_converted, are_built_arguments, are_built_operations, is_built_value, is_built_statement, are_built_items, is_built_struct, is_built_global, is_built_function, is_built}
+use Rattle.cyc_types.specs.Built.{is_built_type, is_built_result, is_built_value_type, is_built_kind, is_built_operator, is_built_placement, is_built_size, is_built_expression, is_built_place, is_built_initial, is_built_converted, are_built_arguments, are_built_operations, is_built_value, is_built_statement, are_built_items, is_built_struct, is_built_global, is_built_function, is_built}
 use Rattle.cyc_soundness.specs.Lives.{AsHeap}
 use Rattle.cyc_soundness.specs.Classes.{InExpression, InPlace, InPlacement, InInitial, InConverted, InArguments, InOperations, InValue, InStatement, InItems, InFunctions, IsOfTheHeap}
 use Rattle.cyc_soundness.proofs.Numbers.{both_true}
@@ -30,8 +31,8 @@ mutual
   expression_kept (Call f cs t) e = arguments_kept cs (both_true (are_built_arguments cs) (is_built_value_type t) e).0
   expression_kept (Unary o a) e = expression_kept a e
   expression_kept (Binary a os t) e =
-      let whole = both_true (is_built_expression a) (are_built_operations os && is_built_type t) e in
-      (expression_kept a whole.0, operations_kept os (both_true (are_built_operations os) (is_built_type t) whole.1).0)
+      let whole = both_true (is_built_expression a) (are_built_operations t os && is_built_type t) e in
+      (expression_kept a whole.0, operations_kept t os (both_true (are_built_operations t os) (is_built_type t) whole.1).0)
   expression_kept (Assign l c t) e = converted_kept c (both_true (is_built_converted c) (is_built_value_type t) e).0
   expression_kept (Store d c t) e =
       let whole = both_true (is_built_place d) (is_built_converted c && is_built_value_type t) e in
@@ -64,18 +65,18 @@ mutual
       let both = both_true (is_built_converted c) (are_built_arguments cs) e in
       (converted_kept c both.0, arguments_kept cs both.1)
 
-  operations_kept : (os : Operations) → are_built_operations os ≡ true → InOperations AsHeap os
-  operations_kept NoOperations e = tt
-  operations_kept (ThenCompute o a os) e =
-      let both = both_true (is_built_expression a) (are_built_operations os) e in
-      (expression_kept a both.0, operations_kept os both.1)
-  operations_kept (ThenTest o a os) e =
-      let both = both_true (is_built_expression a) (are_built_operations os) e in
-      (expression_kept a both.0, operations_kept os both.1)
-  operations_kept (ThenPointer o a os) e =
-      let both = both_true (is_built_expression a) (are_built_operations os) e in
-      (expression_kept a both.0, operations_kept os both.1)
-  operations_kept os e = not_built e
+  operations_kept : (t : Ty) (os : Operations) → are_built_operations t os ≡ true → InOperations AsHeap os
+  operations_kept t NoOperations e = tt
+  operations_kept t (ThenCompute o a os) e =
+      let both = both_true (is_built_expression a) (are_built_operations t os) e in
+      (expression_kept a both.0, operations_kept t os both.1)
+  operations_kept t (ThenTest o a os) e =
+      let both = both_true (is_built_expression a) (are_built_operations t os) e in
+      (expression_kept a both.0, operations_kept t os both.1)
+  operations_kept t (ThenPointer o a os) e =
+      let both = both_true (is_built_expression a) (are_built_operations t os) (both_true (is_built_operator t o) (is_built_expression a && are_built_operations t os) e).1 in
+      (expression_kept a both.0, operations_kept t os both.1)
+  operations_kept t os e = not_built e
 
 value_kept : (v : Option Converted) → is_built_value v ≡ true → InValue AsHeap v
 value_kept None e = tt

@@ -10,6 +10,8 @@ use Rattle.cyc_words.specs.declared.fault.Fault.{Fault}
 use Rattle.cyc_types.specs.declared.region.Region.TheVariants as regions
 use Rattle.cyc_types.specs.declared.typed.Kind.{Kind}
 use Rattle.cyc_types.specs.declared.typed.Kind.TheVariants as kinds
+use Rattle.cyc_types.specs.declared.typed.PointerOperator.{PointerOperator}
+use Rattle.cyc_types.specs.declared.typed.PointerOperator.TheVariants as pointers
 use Rattle.cyc_types.specs.Regions.{region_eq}
 use Rattle.cyc_types.specs.Types.{Ty, Int, Pointer, Struct, ValueType, Void, Value}
 use Rattle.cyc_types.specs.TypedTrees.{Expression, Number, NullPointer, Counter, Copy, Load, AddressOfCell, NumberOfElements, Call, Unary, Binary, Assign, Store, New, Dereference, Target, Member, Element, Placement, OnHeap, Initial, Plain, Fields, Array, Converted, Convert, Arguments, NoArguments, MoreArguments, Operations, NoOperations, ThenCompute, ThenTest, ThenPointer, Statement, Block, Empty, Evaluate, If, While, Return, Break, Continue, Items, NoItems, MoreItems, Execute, Declare, StructType, GlobalVariable, Function, Program}
@@ -44,6 +46,14 @@ is_built_kind k = true
 
 -- ---- expressions
 
+-- A sum of a pointer and an int stands in a chain of sums alone, whose value is a pointer. (So it is in a text, where `+` binds more
+-- closely than what compares pointers.)
+abbrev pub is_built_operator : Ty → PointerOperator → Bool
+is_built_operator (Pointer k t r) o = true
+is_built_operator t pointers.AddFat = false
+is_built_operator t pointers.SubtractFat = false
+is_built_operator t o = true
+
 abbrev pub is_built_placement : Placement → Bool
 is_built_placement OnHeap = true
 is_built_placement w = false
@@ -63,7 +73,7 @@ abbrev mutual
   is_built_expression (NumberOfElements a) = is_built_expression a
   is_built_expression (Call f cs t) = are_built_arguments cs && is_built_value_type t
   is_built_expression (Unary o a) = is_built_expression a
-  is_built_expression (Binary a os t) = is_built_expression a && (are_built_operations os && is_built_type t)
+  is_built_expression (Binary a os t) = is_built_expression a && (are_built_operations t os && is_built_type t)
   is_built_expression (Assign l c t) = is_built_converted c && is_built_value_type t
   is_built_expression (Store d c t) = is_built_place d && (is_built_converted c && is_built_value_type t)
   is_built_expression (New w i t) = is_built_placement w && (is_built_initial i && is_built_type t)
@@ -86,12 +96,13 @@ abbrev mutual
   are_built_arguments NoArguments = true
   are_built_arguments (MoreArguments c cs) = is_built_converted c && are_built_arguments cs
 
-  pub are_built_operations : Operations → Bool
-  are_built_operations NoOperations = true
-  are_built_operations (ThenCompute o a os) = is_built_expression a && are_built_operations os
-  are_built_operations (ThenTest o a os) = is_built_expression a && are_built_operations os
-  are_built_operations (ThenPointer o a os) = is_built_expression a && are_built_operations os
-  are_built_operations os = false
+  -- of a chain whose value has this type
+  pub are_built_operations : Ty → Operations → Bool
+  are_built_operations t NoOperations = true
+  are_built_operations t (ThenCompute o a os) = is_built_expression a && are_built_operations t os
+  are_built_operations t (ThenTest o a os) = is_built_expression a && are_built_operations t os
+  are_built_operations t (ThenPointer o a os) = is_built_operator t o && (is_built_expression a && are_built_operations t os)
+  are_built_operations t os = false
 
 -- a value that may be left out
 abbrev pub is_built_value : Option Converted → Bool

@@ -4,11 +4,11 @@ ghost use Rattle.std.specs.Result.{is_ok};
 ghost use Rattle.std.specs.List.{list_all};
 ghost use Rattle.cyc_types.specs.TypeView.{view_ty, view_value_type};
 ghost use Rattle.cyc_types.specs.TypedTreeView.{view_expression, view_dereference, view_placement, view_initial, view_converted, arguments_of, operations_of, view_statement, items_of, view_struct, view_global, view_function, view_program};
-ghost use Rattle.cyc_types.specs.Built.{is_built_type, is_built_result, is_built_value_type, is_built_kind, is_built_placement, is_built_size, is_built_expression, is_built_place, is_built_initial, is_built_converted, are_built_arguments, are_built_operations, is_built_value, is_built_statement, are_built_items, is_built_struct, is_built_global, is_built_function, is_built};
+ghost use Rattle.cyc_types.specs.Built.{is_built_type, is_built_result, is_built_value_type, is_built_kind, is_built_operator, is_built_placement, is_built_size, is_built_expression, is_built_place, is_built_initial, is_built_converted, are_built_arguments, are_built_operations, is_built_value, is_built_statement, are_built_items, is_built_struct, is_built_global, is_built_function, is_built};
 
 use crate::typed::{
     Converted, Dereference, Expr, Function, Global, Initial, Item, Kind, Operation, Placement,
-    Stmt, StructType, TypedTree, ValueType,
+    PointerOperator, Stmt, StructType, TypedTree, ValueType,
 };
 use crate::{Region, Ty};
 use cyc_words::{Code, Fault, Span};
@@ -20,6 +20,8 @@ pub enum Construct {
     Struct,
     Exception,
     UniquePointer,
+    /// A sum of a pointer and an int, as an operand beside one that compares pointers.
+    Sum,
     /// The handle of a region.
     Handle,
     Key,
@@ -123,6 +125,19 @@ fn check_kind(kind: Kind, name: Span) -> Result<(), Unbuilt>
     }
 }
 
+/// In a chain whose value has this type.
+fn check_operator(operator: PointerOperator, of_type: &Ty, name: Span) -> Result<(), Unbuilt>
+    ensures { is_ok result ≡ is_built_operator (view_ty of_type.now) operator }
+{
+    match of_type {
+        Ty::Pointer { .. } => Ok(()),
+        Ty::Int | Ty::Struct { .. } | Ty::Handle { .. } | Ty::Key { .. } => match operator {
+            PointerOperator::AddFat | PointerOperator::SubtractFat => stop(Construct::Sum, name),
+            _ => Ok(()),
+        },
+    }
+}
+
 fn check_placement(placement: &Placement, name: Span) -> Result<(), Unbuilt>
     ensures { is_ok result ≡ is_built_placement (view_placement placement.now) }
 {
@@ -182,7 +197,7 @@ fn check_expression(expression: &Expr, name: Span) -> Result<(), Unbuilt>
             of_type,
         } => {
             check_expression(first, name)?;
-            check_operations(rest, name)?;
+            check_operations(rest, of_type, name)?;
             check_type(of_type, Some(name))
         }
         Expr::Assign { value, result, .. } => {
@@ -294,14 +309,18 @@ fn check_arguments(arguments: &[Converted], name: Span) -> Result<(), Unbuilt>
 }
 
 #[cycle(expression)]
-fn check_operations(operations: &[Operation], name: Span) -> Result<(), Unbuilt>
-    ensures { is_ok result ≡ are_built_operations (operations_of operations.now) }
+fn check_operations(operations: &[Operation], of_type: &Ty, name: Span) -> Result<(), Unbuilt>
+    ensures { is_ok result ≡ are_built_operations (view_ty of_type.now) (operations_of operations.now) }
 {
     for operation in operations {
         match operation {
-            Operation::Compute { operand, .. }
-            | Operation::Test { operand, .. }
-            | Operation::Pointer { operand, .. } => check_expression(operand, name)?,
+            Operation::Compute { operand, .. } | Operation::Test { operand, .. } => {
+                check_expression(operand, name)?;
+            }
+            Operation::Pointer { operator, operand } => {
+                check_operator(*operator, of_type, name)?;
+                check_expression(operand, name)?;
+            }
             Operation::PointerPeek { .. } => return stop(Construct::UniquePointer, name),
         }
     }

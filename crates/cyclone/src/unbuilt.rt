@@ -15,6 +15,7 @@ pub fn name_of(construct: Construct) -> &'static str {
     match construct {
         Construct::Struct => "a struct of this size",
         Construct::Exception => "an exception of its own",
+        Construct::Sum => "a sum of a pointer that is compared at once",
         Construct::UniquePointer => "a unique pointer",
         Construct::Handle => "the handle of a region",
         Construct::Key => "the key of a region",
