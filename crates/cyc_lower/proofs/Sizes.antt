@@ -178,210 +178,211 @@ module _ (starts : Starts) where
       let operand = code_unless (operand_of starts a) inner in
       omega (arith, both (pointer_code o l r operand d) back, both operand (pointer_instructions o l r d), unless_size (operand_of starts a) inner, pointer_size o l r d, few)
 
-  mutual
-    expression_size : (a : Expression) (p d t : ℕ) → code_size (expression_code starts a p d t) ≤ size_per_weight * expression_weight a
-    expression_size (Number n) p d t = omega arith
-    expression_size (Copy l ty) p d t = omega (arith, load_size l ty d)
-    expression_size (Move w n ty) p d t = omega (arith, load_size (Local w n) ty d)
-    expression_size (Peek w n ty) p d t = omega (arith, load_size (Local w n) ty d)
-    expression_size (Call callees.Putchar cs ty) p d t =
-        let o = printed_operand starts cs (operands.Slot t) t in
-        omega (arith, both (printed_code starts cs p t) (instructions.WriteByte o ∷ low_byte o d ∷ []), printed_size cs p t)
-    expression_size (Call callees.Getchar cs ty) p d t =
-        omega (arith, both (arguments_code starts cs p t) (instructions.ReadByte d ∷ []), arguments_size cs p t)
-    expression_size (Call (callees.Function n) cs ty) p d t =
-        omega (arith, both (arguments_code starts cs p t) (instructions.Call n t (all_passed cs) d ∷ []), arguments_size cs p t)
-    expression_size (Unary o a) p d t =
-        let inner = expression_code starts a p (value_slot starts a t) t in
-        omega (arith, both (code_unless (operand_of starts a) inner) (instructions.Unary (unary_operator o) d (value_operand starts a t) ∷ []), unless_size (operand_of starts a) inner, expression_size a p (value_slot starts a t) t)
-    expression_size (Binary a os ty) p d t =
-        let inner = expression_code starts a p (left_slot starts a os d t) t in
-        let front = code_unless (left_of starts a os) inner in
-        let l = operand_or (left_of starts a os) (left_slot starts a os d t) in
-        omega (arith, both front (operations_code starts os (p + length front) l d t), unless_size (left_of starts a os) inner, expression_size a p (left_slot starts a os d t) t, operations_size os (p + length front) l d t)
-    expression_size (Assign (Local w n) c ty) p d t =
-        let o = operands.Slot (slot_of starts n) in
-        omega (arith, both (initial_code starts c p (slot_of starts n) t) (copy_code (passed_words c) o d), initial_size c p (slot_of starts n) t, copy_size c o d)
-    expression_size (Assign (Global n) c ty) p d t =
-        let o = converted_operand starts c t in
-        let front = converted_operand_code starts c p t in
-        let store = instructions.StoreGlobal n o ∷ [] in
-        omega (arith, both (front ++ store) (copy_code (passed_words c) o d), both front store, converted_operand_size c p t, copy_size c o d)
-    expression_size (Load x) p d t =
-        omega (arith, both (place_code starts x p t) (instructions.Load d (place_operand starts x t) (place_offset starts x) ∷ []), place_size x p t)
-    expression_size (AddressOfCell x ty) p d t =
-        let address = address_code (place_operand starts x t) (place_offset starts x) d in
-        omega (arith, both (place_code starts x p t) address, place_size x p t, address_size (place_operand starts x t) (place_offset starts x) d)
-    expression_size (Store x c ty) p d t =
-        let address = store_address_code starts x p t in
-        let value = converted_operand_code starts c (p + length address) (t + 1) in
-        let o = converted_operand starts c (t + 1) in
-        let write = instructions.Store (operands.Slot t) 0 o ∷ [] in
-        omega (
-          arith,
-          both (address ++ (value ++ write)) (copy_code (passed_words c) o d),
-          both address (value ++ write),
-          both value write,
-          store_address_size x p t,
-          converted_operand_size c (p + length address) (t + 1),
-          copy_size c o d,
-        )
-    expression_size (New OnHeap i ty) p d t = made_size i HEAP p d t
-    expression_size (New AsUnique i ty) p d t = omega arith
-    expression_size (New (ByHandle h) i ty) p d t = omega arith
-    expression_size a p d t = omega (arith, some_token a)
+mutual
+  expression_size : (starts : Starts) → (a : Expression) (p d t : ℕ) → code_size (expression_code starts a p d t) ≤ size_per_weight * expression_weight a
+  expression_size starts (Number n) p d t = omega arith
+  expression_size starts (Copy l ty) p d t = omega (arith, load_size starts l ty d)
+  expression_size starts (Move w n ty) p d t = omega (arith, load_size starts (Local w n) ty d)
+  expression_size starts (Peek w n ty) p d t = omega (arith, load_size starts (Local w n) ty d)
+  expression_size starts (Call callees.Putchar cs ty) p d t =
+      let o = printed_operand starts cs (operands.Slot t) t in
+      omega (arith, both (printed_code starts cs p t) (instructions.WriteByte o ∷ low_byte o d ∷ []), printed_size starts cs p t)
+  expression_size starts (Call callees.Getchar cs ty) p d t =
+      omega (arith, both (arguments_code starts cs p t) (instructions.ReadByte d ∷ []), arguments_size starts cs p t)
+  expression_size starts (Call (callees.Function n) cs ty) p d t =
+      omega (arith, both (arguments_code starts cs p t) (instructions.Call n t (all_passed cs) d ∷ []), arguments_size starts cs p t)
+  expression_size starts (Unary o a) p d t =
+      let inner = expression_code starts a p (value_slot starts a t) t in
+      omega (arith, both (code_unless (operand_of starts a) inner) (instructions.Unary (unary_operator o) d (value_operand starts a t) ∷ []), unless_size (operand_of starts a) inner, expression_size starts a p (value_slot starts a t) t)
+  expression_size starts (Binary a os ty) p d t =
+      let inner = expression_code starts a p (left_slot starts a os d t) t in
+      let front = code_unless (left_of starts a os) inner in
+      let l = operand_or (left_of starts a os) (left_slot starts a os d t) in
+      omega (arith, both front (operations_code starts os (p + length front) l d t), unless_size (left_of starts a os) inner, expression_size starts a p (left_slot starts a os d t) t, operations_size starts os (p + length front) l d t)
+  expression_size starts (Assign (Local w n) c ty) p d t =
+      let o = operands.Slot (slot_of starts n) in
+      omega (arith, both (initial_code starts c p (slot_of starts n) t) (copy_code (passed_words c) o d), initial_size starts c p (slot_of starts n) t, copy_size c o d)
+  expression_size starts (Assign (Global n) c ty) p d t =
+      let o = converted_operand starts c t in
+      let front = converted_operand_code starts c p t in
+      let store = instructions.StoreGlobal n o ∷ [] in
+      omega (arith, both (front ++ store) (copy_code (passed_words c) o d), both front store, converted_operand_size starts c p t, copy_size c o d)
+  expression_size starts (Load x) p d t =
+      omega (arith, both (place_code starts x p t) (instructions.Load d (place_operand starts x t) (place_offset starts x) ∷ []), place_size starts x p t)
+  expression_size starts (AddressOfCell x ty) p d t =
+      let address = address_code (place_operand starts x t) (place_offset starts x) d in
+      omega (arith, both (place_code starts x p t) address, place_size starts x p t, address_size (place_operand starts x t) (place_offset starts x) d)
+  expression_size starts (Store x c ty) p d t =
+      let address = store_address_code starts x p t in
+      let value = converted_operand_code starts c (p + length address) (t + 1) in
+      let o = converted_operand starts c (t + 1) in
+      let write = instructions.Store (operands.Slot t) 0 o ∷ [] in
+      omega (
+        arith,
+        both (address ++ (value ++ write)) (copy_code (passed_words c) o d),
+        both address (value ++ write),
+        both value write,
+        store_address_size starts x p t,
+        converted_operand_size starts c (p + length address) (t + 1),
+        copy_size c o d,
+      )
+  expression_size starts (New OnHeap i ty) p d t = made_size starts i HEAP p d t
+  expression_size starts (New AsUnique i ty) p d t = omega arith
+  expression_size starts (New (ByHandle h) i ty) p d t = omega arith
+  expression_size starts a p d t = omega (arith, some_token a)
 
-    made_size : (i : Initial) (handle p d t : ℕ) → code_size (made_code starts i handle p d t) ≤ size_per_weight * (1 + initial_weight i)
-    made_size (Plain kind a) handle p d t =
-        omega (arith, both (expression_code starts a p t t) (object_code handle 1 d t), expression_size a p t t, object_size handle 1 d t)
-    made_size (Fields cs) handle p d t =
-        omega (arith, both (arguments_code starts cs p t) (object_code handle (argument_count cs) d t), fields_size cs p t, more_weight cs, object_size handle (argument_count cs) d t)
-    made_size (Array w level n kind a) handle p d t = omega arith
+  made_size : (starts : Starts) → (i : Initial) (handle p d t : ℕ) → code_size (made_code starts i handle p d t) ≤ size_per_weight * (1 + initial_weight i)
+  made_size starts (Plain kind a) handle p d t =
+      omega (arith, both (expression_code starts a p t t) (object_code handle 1 d t), expression_size starts a p t t, object_size handle 1 d t)
+  made_size starts (Fields cs) handle p d t =
+      omega (arith, both (arguments_code starts cs p t) (object_code handle (argument_count cs) d t), fields_size starts cs p t, more_weight cs, object_size handle (argument_count cs) d t)
+  made_size starts (Array w level n kind a) handle p d t = omega arith
 
-    place_size : (x : Dereference) (p t : ℕ) → code_size (place_code starts x p t) + 18 ≤ size_per_weight * dereference_weight x
-    place_size (Target k a ty) p t =
-        let slot = value_slot starts a t in
-        omega (arith, converted_by_size (operand_of starts a) (expression_code starts a p slot t) kinds.NonNull (value_operand starts a t) p (size_per_weight * expression_weight a) (expression_size a p slot t))
-    place_size (Member k a n f ty) p t =
-        let slot = value_slot starts a t in
-        omega (arith, converted_by_size (operand_of starts a) (expression_code starts a p slot t) kinds.NonNull (value_operand starts a t) p (size_per_weight * expression_weight a) (expression_size a p slot t))
-    place_size (Element a i ty) p t = omega (arith, some_token a)
+  place_size : (starts : Starts) → (x : Dereference) (p t : ℕ) → code_size (place_code starts x p t) + 18 ≤ size_per_weight * dereference_weight x
+  place_size starts (Target k a ty) p t =
+      let slot = value_slot starts a t in
+      omega (arith, converted_by_size (operand_of starts a) (expression_code starts a p slot t) kinds.NonNull (value_operand starts a t) p (size_per_weight * expression_weight a) (expression_size starts a p slot t))
+  place_size starts (Member k a n f ty) p t =
+      let slot = value_slot starts a t in
+      omega (arith, converted_by_size (operand_of starts a) (expression_code starts a p slot t) kinds.NonNull (value_operand starts a t) p (size_per_weight * expression_weight a) (expression_size starts a p slot t))
+  place_size starts (Element a i ty) p t = omega (arith, some_token a)
 
-    -- with the address in a slot
-    store_address_size : (x : Dereference) (p t : ℕ) → code_size (store_address_code starts x p t) + 12 ≤ size_per_weight * dereference_weight x
-    store_address_size (Target k a ty) p t =
-        let slot = value_slot starts a t in
-        let o = value_operand starts a t in
-        let front = place_code starts (Target k a ty) p t in
-        omega (
-          arith,
-          both front (copy_code 1 o t),
-          converted_by_size (operand_of starts a) (expression_code starts a p slot t) kinds.NonNull o p (size_per_weight * expression_weight a) (expression_size a p slot t),
-          copied_address_size o t,
-        )
-    store_address_size (Member k a n f ty) p t =
-        let slot = value_slot starts a t in
-        let o = value_operand starts a t in
-        let x = Member k a n f ty in
-        let front = place_code starts x p t in
-        omega (
-          arith,
-          both front (address_code o (place_offset starts x) t),
-          converted_by_size (operand_of starts a) (expression_code starts a p slot t) kinds.NonNull o p (size_per_weight * expression_weight a) (expression_size a p slot t),
-          address_size o (place_offset starts x) t,
-        )
-    store_address_size (Element a i ty) p t =
-        omega (arith, both (instructions.Move t (operands.Word 0) ∷ []) (copy_code 1 (operands.Slot t) t), copied_address_size (operands.Slot t) t, some_token a)
+  -- with the address in a slot
+  store_address_size : (starts : Starts) → (x : Dereference) (p t : ℕ) → code_size (store_address_code starts x p t) + 12 ≤ size_per_weight * dereference_weight x
+  store_address_size starts (Target k a ty) p t =
+      let slot = value_slot starts a t in
+      let o = value_operand starts a t in
+      let front = place_code starts (Target k a ty) p t in
+      omega (
+        arith,
+        both front (copy_code 1 o t),
+        converted_by_size (operand_of starts a) (expression_code starts a p slot t) kinds.NonNull o p (size_per_weight * expression_weight a) (expression_size starts a p slot t),
+        copied_address_size o t,
+      )
+  store_address_size starts (Member k a n f ty) p t =
+      let slot = value_slot starts a t in
+      let o = value_operand starts a t in
+      let x = Member k a n f ty in
+      let front = place_code starts x p t in
+      omega (
+        arith,
+        both front (address_code o (place_offset starts x) t),
+        converted_by_size (operand_of starts a) (expression_code starts a p slot t) kinds.NonNull o p (size_per_weight * expression_weight a) (expression_size starts a p slot t),
+        address_size o (place_offset starts x) t,
+      )
+  store_address_size starts (Element a i ty) p t =
+      omega (arith, both (instructions.Move t (operands.Word 0) ∷ []) (copy_code 1 (operands.Slot t) t), copied_address_size (operands.Slot t) t, some_token a)
 
-    initial_size : (c : Converted) (p d t : ℕ) → code_size (initial_code starts c p d t) ≤ size_per_weight * converted_weight c + 38
-    initial_size (Convert from to a) p d t =
-        let slot = source_slot starts (Convert from to a) t in
-        initial_by_size (converts_there from to) (source_of starts (Convert from to a)) (expression_code starts a p d t) (expression_code starts a p slot t) to (converted_operand starts (Convert from to a) t) p d
-        (size_per_weight * expression_weight a) (expression_size a p d t) (expression_size a p slot t)
+  initial_size : (starts : Starts) → (c : Converted) (p d t : ℕ) → code_size (initial_code starts c p d t) ≤ size_per_weight * converted_weight c + 38
+  initial_size starts (Convert from to a) p d t =
+      let slot = source_slot starts (Convert from to a) t in
+      initial_by_size (converts_there from to) (source_of starts (Convert from to a)) (expression_code starts a p d t) (expression_code starts a p slot t) to (converted_operand starts (Convert from to a) t) p d
+      (size_per_weight * expression_weight a) (expression_size starts a p d t) (expression_size starts a p slot t)
 
-    converted_size : (c : Converted) (p t : ℕ) → code_size (converted_code starts c p t) ≤ size_per_weight * converted_weight c + 18
-    converted_size (Convert from to a) p t =
-        let front = expression_code starts a p t t in
-        omega (arith, both front (conversion_code to (operands.Slot t) (p + length front)), expression_size a p t t, conversion_size to (operands.Slot t) (p + length front))
+  converted_size : (starts : Starts) → (c : Converted) (p t : ℕ) → code_size (converted_code starts c p t) ≤ size_per_weight * converted_weight c + 18
+  converted_size starts (Convert from to a) p t =
+      let front = expression_code starts a p t t in
+      omega (arith, both front (conversion_code to (operands.Slot t) (p + length front)), expression_size starts a p t t, conversion_size to (operands.Slot t) (p + length front))
 
-    converted_operand_size : (c : Converted) (p t : ℕ) → code_size (converted_operand_code starts c p t) ≤ size_per_weight * converted_weight c + 18
-    converted_operand_size (Convert from to a) p t =
-        let slot = source_slot starts (Convert from to a) t in
-        converted_by_size (source_of starts (Convert from to a)) (expression_code starts a p slot t) to (converted_operand starts (Convert from to a) t) p
-        (size_per_weight * expression_weight a) (expression_size a p slot t)
+  converted_operand_size : (starts : Starts) → (c : Converted) (p t : ℕ) → code_size (converted_operand_code starts c p t) ≤ size_per_weight * converted_weight c + 18
+  converted_operand_size starts (Convert from to a) p t =
+      let slot = source_slot starts (Convert from to a) t in
+      converted_by_size (source_of starts (Convert from to a)) (expression_code starts a p slot t) to (converted_operand starts (Convert from to a) t) p
+      (size_per_weight * expression_weight a) (expression_size starts a p slot t)
 
-    printed_size : (cs : Arguments) (p t : ℕ) → code_size (printed_code starts cs p t) ≤ size_per_weight * arguments_weight cs + 18
-    printed_size NoArguments p t = omega arith
-    printed_size (MoreArguments c cs) p t =
-        let front = converted_operand_code starts c p t in
-        omega (arith, both front (printed_code starts cs (p + length front) t), converted_operand_size c p t, more_printed_size cs (p + length front) t)
+  printed_size : (starts : Starts) → (cs : Arguments) (p t : ℕ) → code_size (printed_code starts cs p t) ≤ size_per_weight * arguments_weight cs + 18
+  printed_size starts NoArguments p t = omega arith
+  printed_size starts (MoreArguments c cs) p t =
+      let front = converted_operand_code starts c p t in
+      omega (arith, both front (printed_code starts cs (p + length front) t), converted_operand_size starts c p t, more_printed_size starts cs (p + length front) t)
 
-    more_printed_size : (cs : Arguments) (p t : ℕ) → code_size (printed_code starts cs p t) ≤ size_per_weight * more_arguments_weight cs
-    more_printed_size NoArguments p t = omega arith
-    more_printed_size (MoreArguments c cs) p t =
-        let front = converted_operand_code starts c p t in
-        omega (arith, both front (printed_code starts cs (p + length front) t), converted_operand_size c p t, more_printed_size cs (p + length front) t)
+  more_printed_size : (starts : Starts) → (cs : Arguments) (p t : ℕ) → code_size (printed_code starts cs p t) ≤ size_per_weight * more_arguments_weight cs
+  more_printed_size starts NoArguments p t = omega arith
+  more_printed_size starts (MoreArguments c cs) p t =
+      let front = converted_operand_code starts c p t in
+      omega (arith, both front (printed_code starts cs (p + length front) t), converted_operand_size starts c p t, more_printed_size starts cs (p + length front) t)
 
-    -- with a store for each field
-    fields_size : (cs : Arguments) (p t : ℕ) → code_size (arguments_code starts cs p t) + 18 * argument_count cs ≤ size_per_weight * more_arguments_weight cs
-    fields_size NoArguments p t = omega arith
-    fields_size (MoreArguments c cs) p t =
-        let q = p + length (converted_code starts c p t) in
-        omega (arith, both (converted_code starts c p t) (arguments_code starts cs q (t + passed_words c)), converted_size c p t, fields_size cs q (t + passed_words c))
+  -- with a store for each field
+  fields_size : (starts : Starts) → (cs : Arguments) (p t : ℕ) → code_size (arguments_code starts cs p t) + 18 * argument_count cs ≤ size_per_weight * more_arguments_weight cs
+  fields_size starts NoArguments p t = omega arith
+  fields_size starts (MoreArguments c cs) p t =
+      let q = p + length (converted_code starts c p t) in
+      omega (arith, both (converted_code starts c p t) (arguments_code starts cs q (t + passed_words c)), converted_size starts c p t, fields_size starts cs q (t + passed_words c))
 
-    -- with the words that are passed
-    arguments_size : (cs : Arguments) (p t : ℕ) → code_size (arguments_code starts cs p t) + 4 * all_passed cs ≤ size_per_weight * arguments_weight cs + 30
-    arguments_size NoArguments p t = omega arith
-    arguments_size (MoreArguments c cs) p t =
-        let q = p + length (converted_code starts c p t) in
-        omega (arith, both (converted_code starts c p t) (arguments_code starts cs q (t + passed_words c)), converted_size c p t, passed_few c, more_arguments_size cs q (t + passed_words c))
+  -- with the words that are passed
+  arguments_size : (starts : Starts) → (cs : Arguments) (p t : ℕ) → code_size (arguments_code starts cs p t) + 4 * all_passed cs ≤ size_per_weight * arguments_weight cs + 30
+  arguments_size starts NoArguments p t = omega arith
+  arguments_size starts (MoreArguments c cs) p t =
+      let q = p + length (converted_code starts c p t) in
+      omega (arith, both (converted_code starts c p t) (arguments_code starts cs q (t + passed_words c)), converted_size starts c p t, passed_few c, more_arguments_size starts cs q (t + passed_words c))
 
-    more_arguments_size : (cs : Arguments) (p t : ℕ) → code_size (arguments_code starts cs p t) + 4 * all_passed cs ≤ size_per_weight * more_arguments_weight cs
-    more_arguments_size NoArguments p t = omega arith
-    more_arguments_size (MoreArguments c cs) p t =
-        let q = p + length (converted_code starts c p t) in
-        omega (arith, both (converted_code starts c p t) (arguments_code starts cs q (t + passed_words c)), converted_size c p t, passed_few c, more_arguments_size cs q (t + passed_words c))
+  more_arguments_size : (starts : Starts) → (cs : Arguments) (p t : ℕ) → code_size (arguments_code starts cs p t) + 4 * all_passed cs ≤ size_per_weight * more_arguments_weight cs
+  more_arguments_size starts NoArguments p t = omega arith
+  more_arguments_size starts (MoreArguments c cs) p t =
+      let q = p + length (converted_code starts c p t) in
+      omega (arith, both (converted_code starts c p t) (arguments_code starts cs q (t + passed_words c)), converted_size starts c p t, passed_few c, more_arguments_size starts cs q (t + passed_words c))
 
-    operations_size : (os : Operations) (p : ℕ) (l : Operand) (d t : ℕ) → code_size (operations_code starts os p l d t) ≤ size_per_weight * operations_weight os
-    operations_size NoOperations p l d t = omega arith
-    operations_size (ThenCompute o a os) p l d t =
-        let inner = expression_code starts a p (value_slot starts a (suc t)) (suc t) in
-        let operand = code_unless (operand_of starts a) inner in
-        let next = next_slot os d t in
-        let operator = operator_code o l (value_operand starts a (suc t)) (p + length operand) next in
-        let q = p + length (operand ++ operator) in
-        omega (
-          arith,
-          both (operand ++ operator) (operations_code starts os q (operands.Slot next) d t),
-          both operand operator,
-          unless_size (operand_of starts a) inner,
-          expression_size a p (value_slot starts a (suc t)) (suc t),
-          operator_size o l (value_operand starts a (suc t)) (p + length operand) next,
-          operations_size os q (operands.Slot next) d t,
-        )
-    operations_size (ThenTest o a os) p l d t =
-        let operand = expression_code starts a (p + 1) t t in
-        let next = next_slot os d t in
-        let front = test_code o operand p next t in
-        let q = p + length front in
-        omega (arith, both front (operations_code starts os q (operands.Slot next) d t), test_size o operand p next t, expression_size a (p + 1) t t, operations_size os q (operands.Slot next) d t)
-    operations_size (ThenPointer o a os) p l d t =
-        let slot = value_slot starts a (behind_left o t) in
-        let next = next_slot os d t in
-        let q = p + length (pointer_code o l (value_operand starts a (behind_left o t)) (code_unless (operand_of starts a) (expression_code starts a p slot (behind_left o t))) next) in
-        omega (arith, right_size o a p l next t (operations_code starts os q (operands.Slot next) d t) (expression_size a p slot (behind_left o t)), operations_size os q (operands.Slot next) d t)
-    operations_size (ThenPointerPeek n o a os) p l d t =
-        let slot = value_slot starts a (behind_left o t) in
-        let next = next_slot os d t in
-        let q = p + length (pointer_code o l (value_operand starts a (behind_left o t)) (code_unless (operand_of starts a) (expression_code starts a p slot (behind_left o t))) next) in
-        omega (arith, right_size o a p l next t (operations_code starts os q (operands.Slot next) d t) (expression_size a p slot (behind_left o t)), operations_size os q (operands.Slot next) d t)
+  operations_size : (starts : Starts) → (os : Operations) (p : ℕ) (l : Operand) (d t : ℕ) → code_size (operations_code starts os p l d t) ≤ size_per_weight * operations_weight os
+  operations_size starts NoOperations p l d t = omega arith
+  operations_size starts (ThenCompute o a os) p l d t =
+      let inner = expression_code starts a p (value_slot starts a (suc t)) (suc t) in
+      let operand = code_unless (operand_of starts a) inner in
+      let next = next_slot os d t in
+      let operator = operator_code o l (value_operand starts a (suc t)) (p + length operand) next in
+      let q = p + length (operand ++ operator) in
+      omega (
+        arith,
+        both (operand ++ operator) (operations_code starts os q (operands.Slot next) d t),
+        both operand operator,
+        unless_size (operand_of starts a) inner,
+        expression_size starts a p (value_slot starts a (suc t)) (suc t),
+        operator_size o l (value_operand starts a (suc t)) (p + length operand) next,
+        operations_size starts os q (operands.Slot next) d t,
+      )
+  operations_size starts (ThenTest o a os) p l d t =
+      let operand = expression_code starts a (p + 1) t t in
+      let next = next_slot os d t in
+      let front = test_code o operand p next t in
+      let q = p + length front in
+      omega (arith, both front (operations_code starts os q (operands.Slot next) d t), test_size o operand p next t, expression_size starts a (p + 1) t t, operations_size starts os q (operands.Slot next) d t)
+  operations_size starts (ThenPointer o a os) p l d t =
+      let slot = value_slot starts a (behind_left o t) in
+      let next = next_slot os d t in
+      let q = p + length (pointer_code o l (value_operand starts a (behind_left o t)) (code_unless (operand_of starts a) (expression_code starts a p slot (behind_left o t))) next) in
+      omega (arith, right_size starts o a p l next t (operations_code starts os q (operands.Slot next) d t) (expression_size starts a p slot (behind_left o t)), operations_size starts os q (operands.Slot next) d t)
+  operations_size starts (ThenPointerPeek n o a os) p l d t =
+      let slot = value_slot starts a (behind_left o t) in
+      let next = next_slot os d t in
+      let q = p + length (pointer_code o l (value_operand starts a (behind_left o t)) (code_unless (operand_of starts a) (expression_code starts a p slot (behind_left o t))) next) in
+      omega (arith, right_size starts o a p l next t (operations_code starts os q (operands.Slot next) d t) (expression_size starts a p slot (behind_left o t)), operations_size starts os q (operands.Slot next) d t)
 
+module _ (starts : Starts) where
   assignment_size : (l : Lvalue) (c : Converted) (p t : ℕ) → code_size (assignment_code starts l c p t) ≤ size_per_weight * converted_weight c + 38
-  assignment_size (Local w n) c p t = initial_size c p (slot_of starts n) t
+  assignment_size (Local w n) c p t = initial_size starts c p (slot_of starts n) t
   assignment_size (Global n) c p t =
       let front = converted_operand_code starts c p t in
-      omega (arith, both front (instructions.StoreGlobal n (converted_operand starts c t) ∷ []), converted_operand_size c p t)
+      omega (arith, both front (instructions.StoreGlobal n (converted_operand starts c t) ∷ []), converted_operand_size starts c p t)
 
   discarded_size : (a : Expression) (p t : ℕ) → code_size (discarded_code starts a p t) ≤ size_per_weight * expression_weight a
   discarded_size (Call callees.Putchar cs ty) p t =
-      omega (arith, both (printed_code starts cs p t) (instructions.WriteByte (printed_operand starts cs (operands.Slot t) t) ∷ []), printed_size cs p t)
+      omega (arith, both (printed_code starts cs p t) (instructions.WriteByte (printed_operand starts cs (operands.Slot t) t) ∷ []), printed_size starts cs p t)
   discarded_size (Assign l c ty) p t = omega (arith, assignment_size l c p t)
   discarded_size (Store x c ty) p t =
       let address = store_address_code starts x p t in
       let value = converted_operand_code starts c (p + length address) (t + 1) in
       let write = instructions.Store (operands.Slot t) 0 (converted_operand starts c (t + 1)) ∷ [] in
-      omega (arith, both address (value ++ write), both value write, store_address_size x p t, converted_operand_size c (p + length address) (t + 1))
-  discarded_size a p t = omega (arith, unless_size (operand_of starts a) (expression_code starts a p t t), expression_size a p t t)
+      omega (arith, both address (value ++ write), both value write, store_address_size starts x p t, converted_operand_size starts c (p + length address) (t + 1))
+  discarded_size a p t = omega (arith, unless_size (operand_of starts a) (expression_code starts a p t t), expression_size starts a p t t)
 
   -- ---- statements
 
   first_size : (a b : Expression) (p t : ℕ) → code_size (first_code starts a b p t) ≤ size_per_weight * expression_weight a
   first_size a b p t =
       let slot = slot_with starts (operand_of starts b) a t in
-      omega (arith, unless_size (left_with (operand_of starts b) (operand_of starts a)) (expression_code starts a p slot t), expression_size a p slot t)
+      omega (arith, unless_size (left_with (operand_of starts b) (operand_of starts a)) (expression_code starts a p slot t), expression_size starts a p slot t)
 
   second_size : (b : Expression) (p t : ℕ) → code_size (second_code starts b p t) ≤ size_per_weight * expression_weight b
-  second_size b p t = omega (arith, unless_size (operand_of starts b) (expression_code starts b p (value_slot starts b (suc t)) (suc t)), expression_size b p (value_slot starts b (suc t)) (suc t))
+  second_size b p t = omega (arith, unless_size (operand_of starts b) (expression_code starts b p (value_slot starts b (suc t)) (suc t)), expression_size starts b p (value_slot starts b (suc t)) (suc t))
 
   -- a value that is compared with 0
   alone_size : (a : Expression) (p t : ℕ) → code_size (pair_code starts a (Number 0) p t) ≤ size_per_weight * expression_weight a
@@ -407,7 +408,7 @@ module _ (starts : Starts) where
       let front = code_unless_slot known inner in
       let s = slot_or known t in
       let conversion = conversion_code to (operands.Slot s) (p + length front) in
-      omega (arith, both (front ++ conversion) (instructions.Return s ∷ []), both front conversion, unless_slot_size known inner, expression_size a p t t, conversion_size to (operands.Slot s) (p + length front))
+      omega (arith, both (front ++ conversion) (instructions.Return s ∷ []), both front conversion, unless_slot_size known inner, expression_size starts a p t t, conversion_size to (operands.Slot s) (p + length front))
 
   else_size : (t : Statement) (p : ℕ) (exits : Exits) (d : ℕ) → code_size (statement_code starts t p exits d) ≤ size_per_weight * statement_weight t → code_size (statement_code starts t p exits d) ≤ size_per_weight * else_weight t (statement_weight t)
   else_size Empty p exits d bound = omega arith
@@ -468,7 +469,7 @@ module _ (starts : Starts) where
     items_size (MoreItems (Declare n t (Some c)) js) p exits d =
         let front = declaration_code starts n (Some c) p d in
         let q = p + length front in
-        omega (arith, both front (items_code starts js q exits d), initial_size c p (slot_of starts n) d, items_size js q exits d)
+        omega (arith, both front (items_code starts js q exits d), initial_size starts c p (slot_of starts n) d, items_size js q exits d)
     items_size (MoreItems j js) p exits d = omega (arith, items_size js p exits d)
 
 pub function_size : (structs : List StructType) (h : Function) → size (lower_function structs h) ≤ size_per_weight * function_weight h

@@ -116,125 +116,127 @@ module _ (code : List Instruction) (bounds : Numbering) (types : Types) where
       × At code p (instructions.Ask (requests.Allocate (t + words) (operands.Word handle) (operands.Word (max 1 words))))
       × StoresAt words (t + words) 0 t (p + 1) m × At code m (instructions.Move d (operands.Slot (t + words))) × (m + 1 ≡ q)
 
+module _ (code : List Instruction) (bounds : Numbering) where
   abbrev mutual
     -- the value comes to slot d by the last instruction
-    pub ExpressionAt : Expression → (d t p q : ℕ) → Type 0
-    ExpressionAt (Number n) d t p q = At code p (instructions.Move d (operands.Word n)) × (p + 1 ≡ q)
-    ExpressionAt NullPointer d t p q = At code p (instructions.Move d (operands.Word 0)) × (p + 1 ≡ q)
-    ExpressionAt (Copy l ty) d t p q = LoadAt (words_of ty) l d p q
-    ExpressionAt (Move w n ty) d t p q = LoadAt (words_of ty) (Local w n) d p q
-    ExpressionAt (Peek w n ty) d t p q = LoadAt (words_of ty) (Local w n) d p q
-    ExpressionAt (Call callees.Putchar cs ty) d t p q =
-        (o : Operand) × (m : ℕ) × PrintedAt cs t o p m × At code m (instructions.WriteByte o) × At code (m + 1) (low_byte o d) × (m + 1 + 1 ≡ q)
-    ExpressionAt (Call callees.Getchar cs ty) d t p q = (m : ℕ) × ArgumentsAt cs t p m × At code m (instructions.ReadByte d) × (m + 1 ≡ q)
-    ExpressionAt (Call (callees.Function n) cs ty) d t p q =
-        (m : ℕ) × ArgumentsAt cs t p m × At code m (instructions.Call n t (all_passed cs) d) × (m + 1 ≡ q)
-    ExpressionAt (Unary o a) d t p q =
-        (r : Operand) × (m : ℕ) × OperandBy (operand_of (starts_of types) a) (ExpressionAt a (value_slot (starts_of types) a t) t p m) (value_slot (starts_of types) a t) r p m
+    pub ExpressionAt : (types : Types) → Expression → (d t p q : ℕ) → Type 0
+    ExpressionAt types (Number n) d t p q = At code p (instructions.Move d (operands.Word n)) × (p + 1 ≡ q)
+    ExpressionAt types NullPointer d t p q = At code p (instructions.Move d (operands.Word 0)) × (p + 1 ≡ q)
+    ExpressionAt types (Copy l ty) d t p q = LoadAt code bounds types (words_of ty) l d p q
+    ExpressionAt types (Move w n ty) d t p q = LoadAt code bounds types (words_of ty) (Local w n) d p q
+    ExpressionAt types (Peek w n ty) d t p q = LoadAt code bounds types (words_of ty) (Local w n) d p q
+    ExpressionAt types (Call callees.Putchar cs ty) d t p q =
+        (o : Operand) × (m : ℕ) × PrintedAt types cs t o p m × At code m (instructions.WriteByte o) × At code (m + 1) (low_byte o d) × (m + 1 + 1 ≡ q)
+    ExpressionAt types (Call callees.Getchar cs ty) d t p q = (m : ℕ) × ArgumentsAt types cs t p m × At code m (instructions.ReadByte d) × (m + 1 ≡ q)
+    ExpressionAt types (Call (callees.Function n) cs ty) d t p q =
+        (m : ℕ) × ArgumentsAt types cs t p m × At code m (instructions.Call n t (all_passed cs) d) × (m + 1 ≡ q)
+    ExpressionAt types (Unary o a) d t p q =
+        (r : Operand) × (m : ℕ) × OperandBy code bounds types (operand_of (starts_of types) a) (ExpressionAt types a (value_slot (starts_of types) a t) t p m) (value_slot (starts_of types) a t) r p m
         × At code m (instructions.Unary (unary_operator o) d r) × (m + 1 ≡ q)
-    ExpressionAt (Binary a os ty) d t p q =
-        (l : Operand) × (m : ℕ) × OperandBy (left_of (starts_of types) a os) (ExpressionAt a (left_slot (starts_of types) a os d t) t p m) (left_slot (starts_of types) a os d t) l p m
-        × OperationsAt os l d t m q
-    ExpressionAt (Assign (Local w n) c ty) d t p q =
-        (o : Operand) × (m : ℕ) × ((o ≡ operands.Slot (slot_of (starts_of types) n)) × HasRoom types n (passed_kind c) × InitialAt c (slot_of (starts_of types) n) t p m)
+    ExpressionAt types (Binary a os ty) d t p q =
+        (l : Operand) × (m : ℕ) × OperandBy code bounds types (left_of (starts_of types) a os) (ExpressionAt types a (left_slot (starts_of types) a os d t) t p m) (left_slot (starts_of types) a os d t) l p m
+        × OperationsAt types os l d t m q
+    ExpressionAt types (Assign (Local w n) c ty) d t p q =
+        (o : Operand) × (m : ℕ) × ((o ≡ operands.Slot (slot_of (starts_of types) n)) × HasRoom types n (passed_kind c) × InitialAt types c (slot_of (starts_of types) n) t p m)
         × CopyAt code (passed_words c) o d m q
-    ExpressionAt (Assign (Global n) c ty) d t p q =
+    ExpressionAt types (Assign (Global n) c ty) d t p q =
         (o : Operand) × (m : ℕ)
-        × ((r : ℕ) × ConvertedOperandAt c t o p r × (n < bounds.globals) × (words_of_kind (passed_kind c) ≡ 1) × At code r (instructions.StoreGlobal n o) × (r + 1 ≡ m))
+        × ((r : ℕ) × ConvertedOperandAt types c t o p r × (n < bounds.globals) × (words_of_kind (passed_kind c) ≡ 1) × At code r (instructions.StoreGlobal n o) × (r + 1 ≡ m))
         × CopyAt code (passed_words c) o d m q
-    ExpressionAt (Load x) d t p q =
-        (o : Operand) × (c : ℕ) × (r : ℕ) × PlaceAt x o c t p r × (words_of (type_of_place x) ≡ 1) × At code r (instructions.Load d o c) × (r + 1 ≡ q)
-    ExpressionAt (New OnHeap i ty) d t p q = MadeAt i HEAP d t p q
-    ExpressionAt (AddressOfCell x ty) d t p q = (o : Operand) × (c : ℕ) × (r : ℕ) × PlaceAt x o c t p r × AddressAt code o c d r q
-    ExpressionAt (Store x v ty) d t p q =
+    ExpressionAt types (Load x) d t p q =
+        (o : Operand) × (c : ℕ) × (r : ℕ) × PlaceAt types x o c t p r × (words_of (type_of_place x) ≡ 1) × At code r (instructions.Load d o c) × (r + 1 ≡ q)
+    ExpressionAt types (New OnHeap i ty) d t p q = MadeAt types i HEAP d t p q
+    ExpressionAt types (AddressOfCell x ty) d t p q = (o : Operand) × (c : ℕ) × (r : ℕ) × PlaceAt types x o c t p r × AddressAt code o c d r q
+    ExpressionAt types (Store x v ty) d t p q =
         (o : Operand) × (m : ℕ)
-        × ((a : Operand) × (c : ℕ) × (r : ℕ) × (s : ℕ) × (u : ℕ) × PlaceAt x a c t p r × AddressAt code a c t r s × ConvertedOperandAt v (t + 1) o s u
+        × ((a : Operand) × (c : ℕ) × (r : ℕ) × (s : ℕ) × (u : ℕ) × PlaceAt types x a c t p r × AddressAt code a c t r s × ConvertedOperandAt types v (t + 1) o s u
         × (words_of_kind (passed_kind v) ≡ 1) × At code u (instructions.Store (operands.Slot t) 0 o) × (u + 1 ≡ m))
         × CopyAt code (passed_words v) o d m q
-    ExpressionAt a d t p q = ⊥
+    ExpressionAt types a d t p q = ⊥
 
     -- a new object in the region of this handle
-    pub MadeAt : Initial → (handle d t p q : ℕ) → Type 0
-    MadeAt (Plain kind a) handle d t p q =
-        (m : ℕ) × ExpressionAt a t t p m × (words_of_kind (given bounds.functions a) ≡ words_of_kind kind) × ObjectAt handle 1 (words_of_kind kind) t d m q
-    MadeAt (Fields cs) handle d t p q = (m : ℕ) × ArgumentsAt cs t p m × ObjectAt handle (argument_count cs) (all_passed cs) t d m q
-    MadeAt i handle d t p q = ⊥
+    pub MadeAt : (types : Types) → Initial → (handle d t p q : ℕ) → Type 0
+    MadeAt types (Plain kind a) handle d t p q =
+        (m : ℕ) × ExpressionAt types a t t p m × (words_of_kind (given bounds.functions a) ≡ words_of_kind kind) × ObjectAt code bounds types handle 1 (words_of_kind kind) t d m q
+    MadeAt types (Fields cs) handle d t p q = (m : ℕ) × ArgumentsAt types cs t p m × ObjectAt code bounds types handle (argument_count cs) (all_passed cs) t d m q
+    MadeAt types i handle d t p q = ⊥
 
     -- The address of a place comes to an operand, but for so many bytes that are to be added to it.
-    pub PlaceAt : Dereference → Operand → (c t p q : ℕ) → Type 0
-    PlaceAt (Target k a ty) o c t p q =
-        (m : ℕ) × OperandBy (operand_of (starts_of types) a) (ExpressionAt a (value_slot (starts_of types) a t) t p m) (value_slot (starts_of types) a t) o p m
-        × (is_thin k ≡ true) × CheckAt null_exception o m q × (c ≡ 0)
-    PlaceAt (Member k a s f ty) o c t p q =
-        (m : ℕ) × OperandBy (operand_of (starts_of types) a) (ExpressionAt a (value_slot (starts_of types) a t) t p m) (value_slot (starts_of types) a t) o p m
-        × (is_thin k ≡ true) × CheckAt null_exception o m q × HasField types s f × (c ≡ field_of (starts_of types) s f)
-    PlaceAt x o c t p q = ⊥
+    pub PlaceAt : (types : Types) → Dereference → Operand → (c t p q : ℕ) → Type 0
+    PlaceAt types (Target k a ty) o c t p q =
+        (m : ℕ) × OperandBy code bounds types (operand_of (starts_of types) a) (ExpressionAt types a (value_slot (starts_of types) a t) t p m) (value_slot (starts_of types) a t) o p m
+        × (is_thin k ≡ true) × CheckAt code bounds types null_exception o m q × (c ≡ 0)
+    PlaceAt types (Member k a s f ty) o c t p q =
+        (m : ℕ) × OperandBy code bounds types (operand_of (starts_of types) a) (ExpressionAt types a (value_slot (starts_of types) a t) t p m) (value_slot (starts_of types) a t) o p m
+        × (is_thin k ≡ true) × CheckAt code bounds types null_exception o m q × HasField types s f × (c ≡ field_of (starts_of types) s f)
+    PlaceAt types x o c t p q = ⊥
 
     -- the value comes to slot d, converted
-    pub InitialAt : Converted → (d t p q : ℕ) → Type 0
-    InitialAt (Convert from to a) d t p q =
-        EitherBy (converts_there from to) ((words_of_kind (given bounds.functions a) ≡ words_of_kind to) × ExpressionAt a d t p q)
+    pub InitialAt : (types : Types) → Converted → (d t p q : ℕ) → Type 0
+    InitialAt types (Convert from to a) d t p q =
+        EitherBy code bounds types (converts_there from to) ((words_of_kind (given bounds.functions a) ≡ words_of_kind to) × ExpressionAt types a d t p q)
         ((o : Operand) × (m : ℕ) × (r : ℕ)
-        × OperandBy (source_of (starts_of types) (Convert from to a)) (ExpressionAt a (source_slot (starts_of types) (Convert from to a) t) t p m) (source_slot (starts_of types) (Convert from to a) t) o p m
-        × ConversionAt from to o m r × At code r (move_of (words_of_kind to) d o) × (r + 1 ≡ q))
+        × OperandBy code bounds types (source_of (starts_of types) (Convert from to a)) (ExpressionAt types a (source_slot (starts_of types) (Convert from to a) t) t p m) (source_slot (starts_of types) (Convert from to a) t) o p m
+        × ConversionAt code bounds types from to o m r × At code r (move_of (words_of_kind to) d o) × (r + 1 ≡ q))
 
     -- the value comes to slot t and is converted there
-    pub ConvertedAt : Converted → (t p q : ℕ) → Type 0
-    ConvertedAt (Convert from to a) t p q = (m : ℕ) × ExpressionAt a t t p m × ConversionAt from to (operands.Slot t) m q
+    pub ConvertedAt : (types : Types) → Converted → (t p q : ℕ) → Type 0
+    ConvertedAt types (Convert from to a) t p q = (m : ℕ) × ExpressionAt types a t t p m × ConversionAt code bounds types from to (operands.Slot t) m q
 
     -- the value is converted where it is
-    pub ConvertedOperandAt : Converted → (t : ℕ) → Operand → (p q : ℕ) → Type 0
-    ConvertedOperandAt (Convert from to a) t o p q =
-        (m : ℕ) × OperandBy (source_of (starts_of types) (Convert from to a)) (ExpressionAt a (source_slot (starts_of types) (Convert from to a) t) t p m) (source_slot (starts_of types) (Convert from to a) t) o p m
-        × ConversionAt from to o m q
+    pub ConvertedOperandAt : (types : Types) → Converted → (t : ℕ) → Operand → (p q : ℕ) → Type 0
+    ConvertedOperandAt types (Convert from to a) t o p q =
+        (m : ℕ) × OperandBy code bounds types (source_of (starts_of types) (Convert from to a)) (ExpressionAt types a (source_slot (starts_of types) (Convert from to a) t) t p m) (source_slot (starts_of types) (Convert from to a) t) o p m
+        × ConversionAt code bounds types from to o m q
 
     -- the only argument of `putchar`
-    pub PrintedAt : Arguments → (t : ℕ) → Operand → (p q : ℕ) → Type 0
-    PrintedAt (MoreArguments c NoArguments) t o p q = ConvertedOperandAt c t o p q
-    PrintedAt cs t o p q = ⊥
+    pub PrintedAt : (types : Types) → Arguments → (t : ℕ) → Operand → (p q : ℕ) → Type 0
+    PrintedAt types (MoreArguments c NoArguments) t o p q = ConvertedOperandAt types c t o p q
+    PrintedAt types cs t o p q = ⊥
 
-    pub ArgumentsAt : Arguments → (t p q : ℕ) → Type 0
-    ArgumentsAt NoArguments t p q = p ≡ q
-    ArgumentsAt (MoreArguments c cs) t p q = (m : ℕ) × ConvertedAt c t p m × ArgumentsAt cs (t + passed_words c) m q
+    pub ArgumentsAt : (types : Types) → Arguments → (t p q : ℕ) → Type 0
+    ArgumentsAt types NoArguments t p q = p ≡ q
+    ArgumentsAt types (MoreArguments c cs) t p q = (m : ℕ) × ConvertedAt types c t p m × ArgumentsAt types cs (t + passed_words c) m q
 
     -- The left operand is l. It is slot t where it may not be any operand.
-    pub OperationsAt : Operations → (l : Operand) → (d t p q : ℕ) → Type 0
-    OperationsAt NoOperations l d t p q = (l ≡ operands.Slot d) × (p ≡ q)
-    OperationsAt (ThenCompute o a os) l d t p q =
+    pub OperationsAt : (types : Types) → Operations → (l : Operand) → (d t p q : ℕ) → Type 0
+    OperationsAt types NoOperations l d t p q = (l ≡ operands.Slot d) × (p ≡ q)
+    OperationsAt types (ThenCompute o a os) l d t p q =
         (r : Operand) × (m : ℕ) × (s : ℕ)
-        × OperandBy (operand_of (starts_of types) a) ((l ≡ operands.Slot t) × ExpressionAt a (value_slot (starts_of types) a (suc t)) (suc t) p m) (value_slot (starts_of types) a (suc t)) r p m
-        × OperatorAt o (next_slot os d t) l r m s × OperationsAt os (operands.Slot (next_slot os d t)) d t s q
-    OperationsAt (ThenTest o a os) l d t p q =
-        (m : ℕ) × (r : ℕ) × (l ≡ operands.Slot t) × At code p (test_jump o t m) × ExpressionAt a t t (p + 1) m × TruthAt t (next_slot os d t) m r
-        × OperationsAt os (operands.Slot (next_slot os d t)) d t r q
-    OperationsAt (ThenPointer o a os) l d t p q =
+        × OperandBy code bounds types (operand_of (starts_of types) a) ((l ≡ operands.Slot t) × ExpressionAt types a (value_slot (starts_of types) a (suc t)) (suc t) p m) (value_slot (starts_of types) a (suc t)) r p m
+        × OperatorAt code bounds types o (next_slot os d t) l r m s × OperationsAt types os (operands.Slot (next_slot os d t)) d t s q
+    OperationsAt types (ThenTest o a os) l d t p q =
+        (m : ℕ) × (r : ℕ) × (l ≡ operands.Slot t) × At code p (test_jump o t m) × ExpressionAt types a t t (p + 1) m × TruthAt code bounds types t (next_slot os d t) m r
+        × OperationsAt types os (operands.Slot (next_slot os d t)) d t r q
+    OperationsAt types (ThenPointer o a os) l d t p q =
         (r : Operand) × (m : ℕ) × (s : ℕ) × (l ≡ operands.Slot t)
-        × OperandBy (operand_of (starts_of types) a) (ExpressionAt a (value_slot (starts_of types) a (behind_left o t)) (behind_left o t) p m) (value_slot (starts_of types) a (behind_left o t)) r p m
-        × PointerAt o r t (next_slot os d t) m s × OperationsAt os (operands.Slot (next_slot os d t)) d t s q
-    OperationsAt (ThenPointerPeek n o a os) l d t p q =
+        × OperandBy code bounds types (operand_of (starts_of types) a) (ExpressionAt types a (value_slot (starts_of types) a (behind_left o t)) (behind_left o t) p m) (value_slot (starts_of types) a (behind_left o t)) r p m
+        × PointerAt code bounds types o r t (next_slot os d t) m s × OperationsAt types os (operands.Slot (next_slot os d t)) d t s q
+    OperationsAt types (ThenPointerPeek n o a os) l d t p q =
         (r : Operand) × (m : ℕ) × (s : ℕ) × (l ≡ operands.Slot t)
-        × OperandBy (operand_of (starts_of types) a) (ExpressionAt a (value_slot (starts_of types) a (behind_left o t)) (behind_left o t) p m) (value_slot (starts_of types) a (behind_left o t)) r p m
-        × PointerAt o r t (next_slot os d t) m s × OperationsAt os (operands.Slot (next_slot os d t)) d t s q
+        × OperandBy code bounds types (operand_of (starts_of types) a) (ExpressionAt types a (value_slot (starts_of types) a (behind_left o t)) (behind_left o t) p m) (value_slot (starts_of types) a (behind_left o t)) r p m
+        × PointerAt code bounds types o r t (next_slot os d t) m s × OperationsAt types os (operands.Slot (next_slot os d t)) d t s q
 
+module _ (code : List Instruction) (bounds : Numbering) (types : Types) where
   -- a value that comes to slot d, where it is told whether it does so before it is converted
   abbrev pub InitialBy : Bool → (from to : Kind) → Expression → (d t p q : ℕ) → Type 0
   InitialBy there from to a d t p q =
-      EitherBy there ((words_of_kind (given bounds.functions a) ≡ words_of_kind to) × ExpressionAt a d t p q)
+      EitherBy code bounds types there ((words_of_kind (given bounds.functions a) ≡ words_of_kind to) × ExpressionAt code bounds types a d t p q)
       ((o : Operand) × (m : ℕ) × (r : ℕ)
-      × OperandBy (source_of (starts_of types) (Convert from to a)) (ExpressionAt a (source_slot (starts_of types) (Convert from to a) t) t p m) (source_slot (starts_of types) (Convert from to a) t) o p m
-      × ConversionAt from to o m r × At code r (move_of (words_of_kind to) d o) × (r + 1 ≡ q))
+      × OperandBy code bounds types (source_of (starts_of types) (Convert from to a)) (ExpressionAt code bounds types a (source_slot (starts_of types) (Convert from to a) t) t p m) (source_slot (starts_of types) (Convert from to a) t) o p m
+      × ConversionAt code bounds types from to o m r × At code r (move_of (words_of_kind to) d o) × (r + 1 ≡ q))
 
   -- where the value of an expression stands that is an operand
   abbrev pub ValueAt : Expression → (t : ℕ) → Operand → (p q : ℕ) → Type 0
-  ValueAt a t o p q = OperandBy (operand_of (starts_of types) a) (ExpressionAt a (value_slot (starts_of types) a t) t p q) (value_slot (starts_of types) a t) o p q
+  ValueAt a t o p q = OperandBy code bounds types (operand_of (starts_of types) a) (ExpressionAt code bounds types a (value_slot (starts_of types) a t) t p q) (value_slot (starts_of types) a t) o p q
 
   -- the second of two operands that are compared, where the first one is l
   abbrev pub SecondAt : Expression → (l r : Operand) → (t p q : ℕ) → Type 0
-  SecondAt a l r t p q = OperandBy (operand_of (starts_of types) a) ((l ≡ operands.Slot t) × ExpressionAt a (value_slot (starts_of types) a (suc t)) (suc t) p q) (value_slot (starts_of types) a (suc t)) r p q
+  SecondAt a l r t p q = OperandBy code bounds types (operand_of (starts_of types) a) ((l ≡ operands.Slot t) × ExpressionAt code bounds types a (value_slot (starts_of types) a (suc t)) (suc t) p q) (value_slot (starts_of types) a (suc t)) r p q
 
   abbrev pub PairAt : (a b : Expression) → (l r : Operand) → (t p q : ℕ) → Type 0
   PairAt a b l r t p q =
-      (m : ℕ) × OperandBy (left_with (operand_of (starts_of types) b) (operand_of (starts_of types) a)) (ExpressionAt a (slot_with (starts_of types) (operand_of (starts_of types) b) a t) t p m) (slot_with (starts_of types) (operand_of (starts_of types) b) a t) l p m
+      (m : ℕ) × OperandBy code bounds types (left_with (operand_of (starts_of types) b) (operand_of (starts_of types) a)) (ExpressionAt code bounds types a (slot_with (starts_of types) (operand_of (starts_of types) b) a t) t p m) (slot_with (starts_of types) (operand_of (starts_of types) b) a t) l p m
       × SecondAt b l r t m q
 
   abbrev pub ConditionAt : Expression → (l r : Operand) → (t p q : ℕ) → Type 0
@@ -251,22 +253,22 @@ module _ (code : List Instruction) (bounds : Numbering) (types : Types) where
 
   -- what is assigned comes to its place, and then stands in an operand too
   abbrev pub AssignmentAt : Lvalue → Converted → Operand → (t p q : ℕ) → Type 0
-  AssignmentAt (Local w n) c o t p q = (o ≡ operands.Slot (slot_of (starts_of types) n)) × HasRoom types n (passed_kind c) × InitialAt c (slot_of (starts_of types) n) t p q
+  AssignmentAt (Local w n) c o t p q = (o ≡ operands.Slot (slot_of (starts_of types) n)) × HasRoom types n (passed_kind c) × InitialAt code bounds types c (slot_of (starts_of types) n) t p q
   AssignmentAt (Global n) c o t p q =
-      (r : ℕ) × ConvertedOperandAt c t o p r × (n < bounds.globals) × (words_of_kind (passed_kind c) ≡ 1) × At code r (instructions.StoreGlobal n o) × (r + 1 ≡ q)
+      (r : ℕ) × ConvertedOperandAt code bounds types c t o p r × (n < bounds.globals) × (words_of_kind (passed_kind c) ≡ 1) × At code r (instructions.StoreGlobal n o) × (r + 1 ≡ q)
 
   -- a value is stored in a cell, whose address waits in slot t, and then stands in an operand
   abbrev pub StoredAt : Dereference → Converted → (t : ℕ) → Operand → (p q : ℕ) → Type 0
   StoredAt x v t o p q =
-      (a : Operand) × (c : ℕ) × (r : ℕ) × (s : ℕ) × (u : ℕ) × PlaceAt x a c t p r × AddressAt code a c t r s × ConvertedOperandAt v (t + 1) o s u
+      (a : Operand) × (c : ℕ) × (r : ℕ) × (s : ℕ) × (u : ℕ) × PlaceAt code bounds types x a c t p r × AddressAt code a c t r s × ConvertedOperandAt code bounds types v (t + 1) o s u
       × (words_of_kind (passed_kind v) ≡ 1) × At code u (instructions.Store (operands.Slot t) 0 o) × (u + 1 ≡ q)
 
   -- the value of an expression is dropped
   abbrev pub DiscardedAt : Expression → (t p q : ℕ) → Type 0
-  DiscardedAt (Call callees.Putchar cs ty) t p q = (o : Operand) × (m : ℕ) × PrintedAt cs t o p m × At code m (instructions.WriteByte o) × (m + 1 ≡ q)
+  DiscardedAt (Call callees.Putchar cs ty) t p q = (o : Operand) × (m : ℕ) × PrintedAt code bounds types cs t o p m × At code m (instructions.WriteByte o) × (m + 1 ≡ q)
   DiscardedAt (Assign l c ty) t p q = (o : Operand) × AssignmentAt l c o t p q
   DiscardedAt (Store x v ty) t p q = (o : Operand) × StoredAt x v t o p q
-  DiscardedAt a t p q = (o : Operand) × OperandBy (operand_of (starts_of types) a) (ExpressionAt a t t p q) t o p q
+  DiscardedAt a t p q = (o : Operand) × OperandBy code bounds types (operand_of (starts_of types) a) (ExpressionAt code bounds types a t t p q) t o p q
 
   -- ---- statements
 
@@ -278,12 +280,12 @@ module _ (code : List Instruction) (bounds : Numbering) (types : Types) where
   abbrev pub ReturnAt : Option Converted → (t p : ℕ) → Type 0
   ReturnAt None t p = (s : ℕ) × At code p (instructions.Return s)
   ReturnAt (Some (Convert from to a)) t p =
-      (s : ℕ) × (m : ℕ) × (r : ℕ) × ReturnedAt (source_of (starts_of types) (Convert from to a)) (ExpressionAt a t t p m) t s p m × ConversionAt from to (operands.Slot s) m r
+      (s : ℕ) × (m : ℕ) × (r : ℕ) × ReturnedAt (source_of (starts_of types) (Convert from to a)) (ExpressionAt code bounds types a t t p m) t s p m × ConversionAt code bounds types from to (operands.Slot s) m r
       × At code r (instructions.Return s) × (results_of bounds.result ≡ words_of_kind to) × (to ≡ kind_of_result bounds.result)
 
   abbrev pub DeclarationAt : ℕ → Option Converted → (t p q : ℕ) → Type 0
   DeclarationAt n None t p q = (n < bounds.locals) × (p ≡ q)
-  DeclarationAt n (Some c) t p q = (n < bounds.locals) × HasRoom types n (passed_kind c) × InitialAt c (slot_of (starts_of types) n) t p q
+  DeclarationAt n (Some c) t p q = (n < bounds.locals) × HasRoom types n (passed_kind c) × InitialAt code bounds types c (slot_of (starts_of types) n) t p q
 
   -- with these ways out
   abbrev mutual

@@ -99,7 +99,7 @@ record IsKnown (program : PlainProgram) (n : ℕ) (s : Signature) : Type 0 where
   pub parameters : (routine_at program n).parameters ≡ words_of_all s.parameters
   pub results : (routine_at program n).results ≡ results_of s.result
 
-module _ (program : PlainProgram) (r : Routine) (b : Numbering) (types : Types) (locals : (n : ℕ) → n < b.locals → slot_of (starts_of types) n + words_in types.locals n ≤ r.slots) (globals : b.globals ≡ length program.globals) (known : (n : ℕ) (s : Signature) → slice_get b.functions n ≡ Some s → IsKnown program n s) (results : r.results ≡ results_of b.result) where
+module _ (program : PlainProgram) (r : Routine) (b : Numbering) (types : Types) (locals : (n : ℕ) → n < b.locals → slot_of (starts_of types) n + words_in types.locals n ≤ r.slots) (globals : b.globals ≡ length program.globals) (called : (n : ℕ) (s : Signature) → slice_get b.functions n ≡ Some s → IsKnown program n s) (results : r.results ≡ results_of b.result) where
   abbrev AreIn : List Instruction → Type 0
   AreIn code = AllByRecursion (IsInRange program r) code
 
@@ -450,30 +450,31 @@ module _ (program : PlainProgram) (r : Routine) (b : Numbering) (types : Types) 
       (append front conversion (unless_in known inner p (omega (arith, short, long, long_front)) (λ less. inside slot (source_fits from to a t (kind, wide, numbered) free) less))
       (conversion_in to o (p + length front) (converted_value_in c t (kind, wide, numbered) free) (omega (arith, short, long, long_front)))) (move_in to d o room (converted_room c t (kind, wide, numbered) free), tt)
 
+module _ (program : PlainProgram) (r : Routine) (b : Numbering) (globals : b.globals ≡ length program.globals) (called : (n : ℕ) (s : Signature) → slice_get b.functions n ≡ Some s → IsKnown program n s) (results : r.results ≡ results_of b.result) where
   mutual
-    expression_in : (a : Expression) (p d t : ℕ) → Fits b types a → d + words_of_kind (kind_at a) ≤ r.slots → t + expression_need a ≤ r.slots → p + length (expression_code (starts_of types) a p d t) < length r.code → AreIn (expression_code (starts_of types) a p d t)
-    expression_in (Number n) p d t numbered room few short = ((omega (arith, room), tt), tt)
-    expression_in NullPointer p d t numbered room few short = ((omega (arith, room), tt), tt)
-    expression_in (Copy l ty) p d t numbered room few short = load_in l ty d numbered room
-    expression_in (Move w n ty) p d t numbered room few short = load_in (Local w n) ty d numbered room
-    expression_in (Peek w n ty) p d t numbered room few short = load_in (Local w n) ty d numbered room
-    expression_in (Call callees.Putchar cs ty) p d t (s, signature, many, passed, result, numbered) room few short =
+    expression_in : (types : Types) (locals : (n : ℕ) → n < b.locals → slot_of (starts_of types) n + words_in types.locals n ≤ r.slots) → (a : Expression) (p d t : ℕ) → Fits b types a → d + words_of_kind (kind_at program r b types locals globals called results a) ≤ r.slots → t + expression_need a ≤ r.slots → p + length (expression_code (starts_of types) a p d t) < length r.code → AreIn program r b types locals globals called results (expression_code (starts_of types) a p d t)
+    expression_in types locals (Number n) p d t numbered room few short = ((omega (arith, room), tt), tt)
+    expression_in types locals NullPointer p d t numbered room few short = ((omega (arith, room), tt), tt)
+    expression_in types locals (Copy l ty) p d t numbered room few short = load_in program r b types locals globals called results l ty d numbered room
+    expression_in types locals (Move w n ty) p d t numbered room few short = load_in program r b types locals globals called results (Local w n) ty d numbered room
+    expression_in types locals (Peek w n ty) p d t numbered room few short = load_in program r b types locals globals called results (Local w n) ty d numbered room
+    expression_in types locals (Call callees.Putchar cs ty) p d t (s, signature, many, passed, result, numbered) room few short =
         let o = printed_operand (starts_of types) cs (operands.Slot t) t in
         let front = printed_code (starts_of types) cs p t in
         let back = instructions.WriteByte o ∷ low_byte o d ∷ [] in
         let gives : 1 ≤ result_words ty = omega (arith, result, ap (λ (x : Signature). results_of x.result) signature) in
-        let inside = printed_value_in cs (operands.Slot t) t numbered (omega (arith, few, gives)) (omega (arith, few)) in
-        append front back (printed_in cs p t t 0 numbered (omega (arith, few)) (omega arith) (omega (arith, few)) (omega (arith, short, length-append front back)))
+        let inside = printed_value_in program r b types locals globals called results cs (operands.Slot t) t numbered (omega (arith, few, gives)) (omega (arith, few)) in
+        append program r b types locals globals called results front back (printed_in types locals cs p t t 0 numbered (omega (arith, few)) (omega arith) (omega (arith, few)) (omega (arith, short, length-append front back)))
         (inside, ((omega (arith, room), inside, tt), tt))
-    expression_in (Call callees.Getchar cs ty) p d t (s, signature, many, passed, result, numbered) room few short =
+    expression_in types locals (Call callees.Getchar cs ty) p d t (s, signature, many, passed, result, numbered) room few short =
         let front = arguments_code (starts_of types) cs p t in
         let back = instructions.ReadByte d ∷ [] in
-        append front back (arguments_in cs p t t 0 numbered (omega arith) (omega (arith, few)) (omega (arith, few)) (omega (arith, short, length-append front back))) (omega (arith, room), tt)
-    expression_in (Call (callees.Function g) cs ty) p d t (s, signature, many, passed, result, numbered) room few short =
+        append program r b types locals globals called results front back (arguments_in types locals cs p t t 0 numbered (omega arith) (omega (arith, few)) (omega (arith, few)) (omega (arith, short, length-append front back))) (omega (arith, room), tt)
+    expression_in types locals (Call (callees.Function g) cs ty) p d t (s, signature, many, passed, result, numbered) room few short =
         let front = arguments_code (starts_of types) cs p t in
         let back = instructions.Call g t (all_passed cs) d ∷ [] in
-        let f = known g s signature in
-        append front back (arguments_in cs p t t 0 numbered (omega arith) (omega (arith, few)) (omega (arith, few)) (omega (arith, short, length-append front back))) (
+        let f = called g s signature in
+        append program r b types locals globals called results front back (arguments_in types locals cs p t t 0 numbered (omega arith) (omega (arith, few)) (omega (arith, few)) (omega (arith, short, length-append front back))) (
           record {
             function_in_range = f.there;
             takes = passed ∙ sym f.parameters;
@@ -482,146 +483,146 @@ module _ (program : PlainProgram) (r : Routine) (b : Numbering) (types : Types) 
           },
           tt,
         )
-    expression_in (Unary o a) p d t numbered room few short =
+    expression_in types locals (Unary o a) p d t numbered room few short =
         let inner = expression_code (starts_of types) a p (value_slot (starts_of types) a t) t in
         let front = code_unless (operand_of (starts_of types) a) inner in
         let back = instructions.Unary (unary_operator o) d (value_operand (starts_of types) a t) ∷ [] in
-        let free : t + words_of_kind (kind_at a) ≤ r.slots = omega (arith, few, given_needs a numbered) in
-        append front back
-        (unless_in (operand_of (starts_of types) a) inner p (omega (arith, short, length-append front back)) (λ less. expression_in a p (value_slot (starts_of types) a t) t numbered (slot_fits a t numbered free) (omega (arith, few)) less))
-        ((omega (arith, room), value_in a t numbered free), tt)
-    expression_in (Binary a os ty) p d t (numbered, rest) room few short =
+        let free : t + words_of_kind (kind_at program r b types locals globals called results a) ≤ r.slots = omega (arith, few, given_needs program r b types locals globals called results a numbered) in
+        append program r b types locals globals called results front back
+        (unless_in program r b types locals globals called results (operand_of (starts_of types) a) inner p (omega (arith, short, length-append front back)) (λ less. expression_in types locals a p (value_slot (starts_of types) a t) t numbered (slot_fits program r b types locals globals called results a t numbered free) (omega (arith, few)) less))
+        ((omega (arith, room), value_in program r b types locals globals called results a t numbered free), tt)
+    expression_in types locals (Binary a os ty) p d t (numbered, rest) room few short =
         let inner = expression_code (starts_of types) a p (left_slot (starts_of types) a os d t) t in
         let front = code_unless (left_of (starts_of types) a os) inner in
         let back = operations_code (starts_of types) os (p + length front) (operand_or (left_of (starts_of types) a os) (left_slot (starts_of types) a os d t)) d t in
         let some = operand_positive (type_of a) in
-        let free = has_room os ty t (operand_words (type_of a)) rest some (omega (arith, few)) in
-        let first = left_room os a t numbered (omega (arith, few)) free in
-        append front back
-        (unless_in (left_of (starts_of types) a os) inner p (omega (arith, short, length-append front back)) (λ less. expression_in a p (left_slot (starts_of types) a os d t) t numbered (left_slot_in a os ty d t numbered room first) (omega (arith, few)) less))
-        (operations_in os ty (kind_at a) (p + length front) (operand_or (left_of (starts_of types) a os) (left_slot (starts_of types) a os d t)) d t (operand_words (type_of a)) rest room (first_left_in a os ty d t (operand_words (type_of a)) rest (omega (arith, few))) (left_in a os ty d t numbered room first) some (omega (arith, few)) (omega (arith, short, length-append front back)))
-    expression_in (Assign (Local w n) c ty) p d t ((within, own), numbered) room few short =
+        let free = has_room program r b types locals globals called results os ty t (operand_words (type_of a)) rest some (omega (arith, few)) in
+        let first = left_room program r b types locals globals called results os a t numbered (omega (arith, few)) free in
+        append program r b types locals globals called results front back
+        (unless_in program r b types locals globals called results (left_of (starts_of types) a os) inner p (omega (arith, short, length-append front back)) (λ less. expression_in types locals a p (left_slot (starts_of types) a os d t) t numbered (left_slot_in program r b types locals globals called results a os ty d t numbered room first) (omega (arith, few)) less))
+        (operations_in types locals os ty (kind_at program r b types locals globals called results a) (p + length front) (operand_or (left_of (starts_of types) a os) (left_slot (starts_of types) a os d t)) d t (operand_words (type_of a)) rest room (first_left_in program r b types locals globals called results a os ty d t (operand_words (type_of a)) rest (omega (arith, few))) (left_in program r b types locals globals called results a os ty d t numbered room first) some (omega (arith, few)) (omega (arith, short, length-append front back)))
+    expression_in types locals (Assign (Local w n) c ty) p d t ((within, own), numbered) room few short =
         let o = operands.Slot (slot_of (starts_of types) n) in
         let front = initial_code (starts_of types) c p (slot_of (starts_of types) n) t in
         let back = copy_code (passed_words c) o d in
         let there : slot_of (starts_of types) n + words_of_kind (passed_kind c) ≤ r.slots = omega (arith, locals n within, own) in
-        append front back (initial_in c p (slot_of (starts_of types) n) t numbered there (omega (arith, few)) (omega (arith, few)) (omega (arith, short, length-append front back)))
-        (copy_in (is_in o d) c o d there (omega (arith, room, ap words_of_kind (assigned_kind (Local w n) c ty))))
-    expression_in (Assign (Global n) c ty) p d t ((within, single), numbered) room few short =
+        append program r b types locals globals called results front back (initial_in types locals c p (slot_of (starts_of types) n) t numbered there (omega (arith, few)) (omega (arith, few)) (omega (arith, short, length-append front back)))
+        (copy_in program r b types locals globals called results (is_in o d) c o d there (omega (arith, room, ap words_of_kind (assigned_kind program r b types locals globals called results (Local w n) c ty))))
+    expression_in types locals (Assign (Global n) c ty) p d t ((within, single), numbered) room few short =
         let o = converted_operand (starts_of types) c t in
         let front = converted_operand_code (starts_of types) c p t in
         let store = instructions.StoreGlobal n o ∷ [] in
         let back = copy_code (passed_words c) o d in
-        append (front ++ store) back
-        (append front store (converted_operand_in c p t numbered (omega (arith, few)) (omega (arith, few)) (omega (arith, short, length-append (front ++ store) back, length-append front store))) ((omega (arith, within, globals), converted_value_in c t numbered (omega (arith, few))), tt))
-        (copy_in (is_in o d) c o d (converted_room c t numbered (omega (arith, few))) (omega (arith, room, ap words_of_kind (assigned_kind (Global n) c ty))))
-    expression_in (Load x) p d t numbered room few short =
+        append program r b types locals globals called results (front ++ store) back
+        (append program r b types locals globals called results front store (converted_operand_in types locals c p t numbered (omega (arith, few)) (omega (arith, few)) (omega (arith, short, length-append (front ++ store) back, length-append front store))) ((omega (arith, within, globals), converted_value_in program r b types locals globals called results c t numbered (omega (arith, few))), tt))
+        (copy_in program r b types locals globals called results (is_in o d) c o d (converted_room program r b types locals globals called results c t numbered (omega (arith, few))) (omega (arith, room, ap words_of_kind (assigned_kind program r b types locals globals called results (Global n) c ty))))
+    expression_in types locals (Load x) p d t numbered room few short =
         let own = words_of (type_of_place x) in
         let some = words_positive (type_of_place x) in
         let load = instructions.Load d (place_operand (starts_of types) x t) (place_offset (starts_of types) x) ∷ [] in
-        append (place_code (starts_of types) x p t) load
-        (place_in x own p t numbered some few (omega (arith, short, length-append (place_code (starts_of types) x p t) load)))
-        ((omega (arith, room, kind_positive (kind_of (type_of_place x))), place_operand_in x own t numbered some few), tt)
-    expression_in (AddressOfCell x ty) p d t numbered room few short =
-        addressed_in x p d t numbered (omega (arith, room)) (omega (arith, few)) short (λ less. place_in x place_words p t numbered (omega arith) (omega (arith, few)) less)
-    expression_in (Store x c ty) p d t (place, single, numbered) room few short =
+        append program r b types locals globals called results (place_code (starts_of types) x p t) load
+        (place_in types locals x own p t numbered some few (omega (arith, short, length-append (place_code (starts_of types) x p t) load)))
+        ((omega (arith, room, kind_positive (kind_of (type_of_place x))), place_operand_in program r b types locals globals called results x own t numbered some few), tt)
+    expression_in types locals (AddressOfCell x ty) p d t numbered room few short =
+        addressed_in program r b types locals globals called results x p d t numbered (omega (arith, room)) (omega (arith, few)) short (λ less. place_in types locals x place_words p t numbered (omega arith) (omega (arith, few)) less)
+    expression_in types locals (Store x c ty) p d t (place, single, numbered) room few short =
         let o = converted_operand (starts_of types) c (t + 1) in
         let front = store_code (starts_of types) x c p t in
         let back = copy_code (passed_words c) o d in
-        append front back
-        (stored_in x c p t numbered (omega (arith, few)) (omega (arith, short, length-append front back))
-        (λ less. addressed_in x p t t place (omega (arith, few)) (omega (arith, few)) less (λ shorter. place_in x place_words p t place (omega arith) (omega (arith, few)) shorter))
-        (λ q less. converted_operand_in c q (t + 1) numbered (omega (arith, few)) (omega (arith, few)) less))
-        (copy_in (is_in o d) c o d (converted_room c (t + 1) numbered (omega (arith, few))) (omega (arith, room, ap words_of_kind (stored_kind x c ty))))
-    expression_in (New OnHeap i ty) p d t numbered room few short = made_in i HEAP ty p d t numbered (omega (arith, room, kind_positive (made_kind i))) (omega (arith, few)) short
-    expression_in (New AsUnique i ty) p d t numbered room few short = absurd numbered
-    expression_in (New (ByHandle h) i ty) p d t numbered room few short = absurd numbered
-    expression_in a p d t numbered room few short = absurd numbered
+        append program r b types locals globals called results front back
+        (stored_in program r b types locals globals called results x c p t numbered (omega (arith, few)) (omega (arith, short, length-append front back))
+        (λ less. addressed_in program r b types locals globals called results x p t t place (omega (arith, few)) (omega (arith, few)) less (λ shorter. place_in types locals x place_words p t place (omega arith) (omega (arith, few)) shorter))
+        (λ q less. converted_operand_in types locals c q (t + 1) numbered (omega (arith, few)) (omega (arith, few)) less))
+        (copy_in program r b types locals globals called results (is_in o d) c o d (converted_room program r b types locals globals called results c (t + 1) numbered (omega (arith, few))) (omega (arith, room, ap words_of_kind (stored_kind program r b types locals globals called results x c ty))))
+    expression_in types locals (New OnHeap i ty) p d t numbered room few short = made_in types locals i HEAP ty p d t numbered (omega (arith, room, kind_positive (made_kind i))) (omega (arith, few)) short
+    expression_in types locals (New AsUnique i ty) p d t numbered room few short = absurd numbered
+    expression_in types locals (New (ByHandle h) i ty) p d t numbered room few short = absurd numbered
+    expression_in types locals a p d t numbered room few short = absurd numbered
 
-    made_in : (i : Initial) (handle : ℕ) (ty : Ty) (p d t : ℕ) → FitsObject b types i → d < r.slots → t + initial_value_need i 0 (words_of ty) ≤ r.slots → p + length (made_code (starts_of types) i handle p d t) < length r.code → AreIn (made_code (starts_of types) i handle p d t)
-    made_in (Plain kind a) handle ty p d t (single, kind_is, numbered) room few short =
+    made_in : (types : Types) (locals : (n : ℕ) → n < b.locals → slot_of (starts_of types) n + words_in types.locals n ≤ r.slots) → (i : Initial) (handle : ℕ) (ty : Ty) (p d t : ℕ) → FitsObject b types i → d < r.slots → t + initial_value_need i 0 (words_of ty) ≤ r.slots → p + length (made_code (starts_of types) i handle p d t) < length r.code → AreIn program r b types locals globals called results (made_code (starts_of types) i handle p d t)
+    made_in types locals (Plain kind a) handle ty p d t (single, kind_is, numbered) room few short =
         let front = expression_code (starts_of types) a p t t in
         let back = object_code handle 1 d t in
-        append front back
-        (expression_in a p t t numbered (omega (arith, few, single, ap words_of_kind kind_is, words_positive ty)) (omega (arith, few)) (omega (arith, short, length-append front back)))
-        (object_in handle 1 d t room (omega (arith, few, single, words_positive ty)))
-    made_in (Fields cs) handle ty p d t (single, some, many, numbered) room few short =
+        append program r b types locals globals called results front back
+        (expression_in types locals a p t t numbered (omega (arith, few, single, ap words_of_kind kind_is, words_positive ty)) (omega (arith, few)) (omega (arith, short, length-append front back)))
+        (object_in program r b types locals globals called results handle 1 d t room (omega (arith, few, single, words_positive ty)))
+    made_in types locals (Fields cs) handle ty p d t (single, some, many, numbered) room few short =
         let front = arguments_code (starts_of types) cs p t in
         let back = object_code handle (argument_count cs) d t in
-        append front back
-        (arguments_in cs p t t 0 numbered (omega arith) (omega (arith, few)) (omega (arith, few)) (omega (arith, short, length-append front back)))
-        (object_in handle (argument_count cs) d t room (omega (arith, few, single, arguments_words cs, words_positive ty)))
-    made_in i handle ty p d t numbered room few short = absurd numbered
+        append program r b types locals globals called results front back
+        (arguments_in types locals cs p t t 0 numbered (omega arith) (omega (arith, few)) (omega (arith, few)) (omega (arith, short, length-append front back)))
+        (object_in program r b types locals globals called results handle (argument_count cs) d t room (omega (arith, few, single, arguments_words cs, words_positive ty)))
+    made_in types locals i handle ty p d t numbered room few short = absurd numbered
 
     -- a place of what has so many words
-    place_in : (x : Dereference) (own p t : ℕ) → FitsCell b types x → 1 ≤ own → t + dereference_need x own ≤ r.slots → p + length (place_code (starts_of types) x p t) < length r.code → AreIn (place_code (starts_of types) x p t)
-    place_in (Target k a ty) own p t (thin, single, numbered) some few short =
+    place_in : (types : Types) (locals : (n : ℕ) → n < b.locals → slot_of (starts_of types) n + words_in types.locals n ≤ r.slots) → (x : Dereference) (own p t : ℕ) → FitsCell b types x → 1 ≤ own → t + dereference_need x own ≤ r.slots → p + length (place_code (starts_of types) x p t) < length r.code → AreIn program r b types locals globals called results (place_code (starts_of types) x p t)
+    place_in types locals (Target k a ty) own p t (thin, single, numbered) some few short =
         let slot = value_slot (starts_of types) a t in
         let o = value_operand (starts_of types) a t in
         let inner = expression_code (starts_of types) a p slot t in
         let front = code_unless (operand_of (starts_of types) a) inner in
         let check = check_code null_exception o (p + length front) in
         let long = length-append front check in
-        let free : t + words_of_kind (kind_at a) ≤ r.slots = omega (arith, few, given_needs a numbered, some) in
-        append front check (unless_in (operand_of (starts_of types) a) inner p (omega (arith, short, long)) (λ less. expression_in a p slot t numbered (slot_fits a t numbered free) (omega (arith, few)) less))
-        (check_in null_exception o (p + length front) (value_in a t numbered free) (omega (arith, short, long)))
-    place_in (Member k a s f ty) own p t (thin, single, there, numbered) some few short =
+        let free : t + words_of_kind (kind_at program r b types locals globals called results a) ≤ r.slots = omega (arith, few, given_needs program r b types locals globals called results a numbered, some) in
+        append program r b types locals globals called results front check (unless_in program r b types locals globals called results (operand_of (starts_of types) a) inner p (omega (arith, short, long)) (λ less. expression_in types locals a p slot t numbered (slot_fits program r b types locals globals called results a t numbered free) (omega (arith, few)) less))
+        (check_in program r b types locals globals called results null_exception o (p + length front) (value_in program r b types locals globals called results a t numbered free) (omega (arith, short, long)))
+    place_in types locals (Member k a s f ty) own p t (thin, single, there, numbered) some few short =
         let slot = value_slot (starts_of types) a t in
         let o = value_operand (starts_of types) a t in
         let inner = expression_code (starts_of types) a p slot t in
         let front = code_unless (operand_of (starts_of types) a) inner in
         let check = check_code null_exception o (p + length front) in
         let long = length-append front check in
-        let free : t + words_of_kind (kind_at a) ≤ r.slots = omega (arith, few, given_needs a numbered, some) in
-        append front check (unless_in (operand_of (starts_of types) a) inner p (omega (arith, short, long)) (λ less. expression_in a p slot t numbered (slot_fits a t numbered free) (omega (arith, few)) less))
-        (check_in null_exception o (p + length front) (value_in a t numbered free) (omega (arith, short, long)))
-    place_in x own p t numbered some few short = absurd numbered
+        let free : t + words_of_kind (kind_at program r b types locals globals called results a) ≤ r.slots = omega (arith, few, given_needs program r b types locals globals called results a numbered, some) in
+        append program r b types locals globals called results front check (unless_in program r b types locals globals called results (operand_of (starts_of types) a) inner p (omega (arith, short, long)) (λ less. expression_in types locals a p slot t numbered (slot_fits program r b types locals globals called results a t numbered free) (omega (arith, few)) less))
+        (check_in program r b types locals globals called results null_exception o (p + length front) (value_in program r b types locals globals called results a t numbered free) (omega (arith, short, long)))
+    place_in types locals x own p t numbered some few short = absurd numbered
 
-    initial_in : (c : Converted) (p d t : ℕ) → FitsConverted b types c → d + words_of_kind (passed_kind c) ≤ r.slots → t + converted_words c ≤ r.slots → t + converted_need c ≤ r.slots → p + length (initial_code (starts_of types) c p d t) < length r.code → AreIn (initial_code (starts_of types) c p d t)
-    initial_in (Convert from to a) p d t (kind, wide, numbered) room free few short =
-        initial_by (converts_there from to) from to a p d t kind wide numbered room free refl (λ slot fits less. expression_in a p slot t numbered fits few less) short
+    initial_in : (types : Types) (locals : (n : ℕ) → n < b.locals → slot_of (starts_of types) n + words_in types.locals n ≤ r.slots) → (c : Converted) (p d t : ℕ) → FitsConverted b types c → d + words_of_kind (passed_kind c) ≤ r.slots → t + converted_words c ≤ r.slots → t + converted_need c ≤ r.slots → p + length (initial_code (starts_of types) c p d t) < length r.code → AreIn program r b types locals globals called results (initial_code (starts_of types) c p d t)
+    initial_in types locals (Convert from to a) p d t (kind, wide, numbered) room free few short =
+        initial_by program r b types locals globals called results (converts_there from to) from to a p d t kind wide numbered room free refl (λ slot fits less. expression_in types locals a p slot t numbered fits few less) short
 
-    converted_in : (c : Converted) (p t : ℕ) → FitsConverted b types c → t + converted_words c ≤ r.slots → t + converted_need c ≤ r.slots → p + length (converted_code (starts_of types) c p t) < length r.code → AreIn (converted_code (starts_of types) c p t)
-    converted_in (Convert from to a) p t (kind, wide, numbered) room few short =
+    converted_in : (types : Types) (locals : (n : ℕ) → n < b.locals → slot_of (starts_of types) n + words_in types.locals n ≤ r.slots) → (c : Converted) (p t : ℕ) → FitsConverted b types c → t + converted_words c ≤ r.slots → t + converted_need c ≤ r.slots → p + length (converted_code (starts_of types) c p t) < length r.code → AreIn program r b types locals globals called results (converted_code (starts_of types) c p t)
+    converted_in types locals (Convert from to a) p t (kind, wide, numbered) room few short =
         let front = expression_code (starts_of types) a p t t in
         let back = conversion_code to (operands.Slot t) (p + length front) in
-        append front back (expression_in a p t t numbered (omega (arith, room, ap words_of_kind kind)) few (omega (arith, short, length-append front back)))
-        (conversion_in to (operands.Slot t) (p + length front) (omega (arith, room, kind_positive to)) (omega (arith, short, length-append front back)))
+        append program r b types locals globals called results front back (expression_in types locals a p t t numbered (omega (arith, room, ap words_of_kind kind)) few (omega (arith, short, length-append front back)))
+        (conversion_in program r b types locals globals called results to (operands.Slot t) (p + length front) (omega (arith, room, kind_positive to)) (omega (arith, short, length-append front back)))
 
-    converted_operand_in : (c : Converted) (p t : ℕ) → FitsConverted b types c → t + converted_words c ≤ r.slots → t + converted_need c ≤ r.slots → p + length (converted_operand_code (starts_of types) c p t) < length r.code → AreIn (converted_operand_code (starts_of types) c p t)
-    converted_operand_in (Convert from to a) p t (kind, wide, numbered) room few short =
+    converted_operand_in : (types : Types) (locals : (n : ℕ) → n < b.locals → slot_of (starts_of types) n + words_in types.locals n ≤ r.slots) → (c : Converted) (p t : ℕ) → FitsConverted b types c → t + converted_words c ≤ r.slots → t + converted_need c ≤ r.slots → p + length (converted_operand_code (starts_of types) c p t) < length r.code → AreIn program r b types locals globals called results (converted_operand_code (starts_of types) c p t)
+    converted_operand_in types locals (Convert from to a) p t (kind, wide, numbered) room few short =
         let known = source_of (starts_of types) (Convert from to a) in
         let slot = source_slot (starts_of types) (Convert from to a) t in
         let o = converted_operand (starts_of types) (Convert from to a) t in
         let inner = expression_code (starts_of types) a p slot t in
         let front = code_unless known inner in
         let back = conversion_code to o (p + length front) in
-        append front back
-        (unless_in known inner p (omega (arith, short, length-append front back)) (λ less. expression_in a p slot t numbered (source_fits from to a t (kind, wide, numbered) room) few less))
-        (conversion_in to o (p + length front) (converted_value_in (Convert from to a) t (kind, wide, numbered) room) (omega (arith, short, length-append front back)))
+        append program r b types locals globals called results front back
+        (unless_in program r b types locals globals called results known inner p (omega (arith, short, length-append front back)) (λ less. expression_in types locals a p slot t numbered (source_fits program r b types locals globals called results from to a t (kind, wide, numbered) room) few less))
+        (conversion_in program r b types locals globals called results to o (p + length front) (converted_value_in program r b types locals globals called results (Convert from to a) t (kind, wide, numbered) room) (omega (arith, short, length-append front back)))
 
     -- the arguments of `putchar`, which all are evaluated with the same temporaries
-    printed_in : (cs : Arguments) (p t first before : ℕ) → FitArguments b types cs → t + argument_words cs ≤ r.slots → t ≤ first + before → first + arguments_need cs before ≤ r.slots → p + length (printed_code (starts_of types) cs p t) < length r.code → AreIn (printed_code (starts_of types) cs p t)
-    printed_in NoArguments p t first before numbered room place few short = tt
-    printed_in (MoreArguments c cs) p t first before (numbered, rest) room place few short =
+    printed_in : (types : Types) (locals : (n : ℕ) → n < b.locals → slot_of (starts_of types) n + words_in types.locals n ≤ r.slots) → (cs : Arguments) (p t first before : ℕ) → FitArguments b types cs → t + argument_words cs ≤ r.slots → t ≤ first + before → first + arguments_need cs before ≤ r.slots → p + length (printed_code (starts_of types) cs p t) < length r.code → AreIn program r b types locals globals called results (printed_code (starts_of types) cs p t)
+    printed_in types locals NoArguments p t first before numbered room place few short = tt
+    printed_in types locals (MoreArguments c cs) p t first before (numbered, rest) room place few short =
         let front = converted_operand_code (starts_of types) c p t in
         let back = printed_code (starts_of types) cs (p + length front) t in
-        append front back (converted_operand_in c p t numbered (omega (arith, room)) (omega (arith, few, place)) (omega (arith, short, length-append front back)))
-        (printed_in cs (p + length front) t first (before + converted_words c) rest (omega (arith, room)) (omega (arith, place)) (omega (arith, few)) (omega (arith, short, length-append front back)))
+        append program r b types locals globals called results front back (converted_operand_in types locals c p t numbered (omega (arith, room)) (omega (arith, few, place)) (omega (arith, short, length-append front back)))
+        (printed_in types locals cs (p + length front) t first (before + converted_words c) rest (omega (arith, room)) (omega (arith, place)) (omega (arith, few)) (omega (arith, short, length-append front back)))
 
     -- the arguments begin at `first`, and those before have so many words
-    arguments_in : (cs : Arguments) (p t first before : ℕ) → FitArguments b types cs → t ≤ first + before → first + (before + argument_words cs) ≤ r.slots → first + arguments_need cs before ≤ r.slots → p + length (arguments_code (starts_of types) cs p t) < length r.code → AreIn (arguments_code (starts_of types) cs p t)
-    arguments_in NoArguments p t first before numbered place few needs short = tt
-    arguments_in (MoreArguments c cs) p t first before (numbered, rest) place few needs short =
+    arguments_in : (types : Types) (locals : (n : ℕ) → n < b.locals → slot_of (starts_of types) n + words_in types.locals n ≤ r.slots) → (cs : Arguments) (p t first before : ℕ) → FitArguments b types cs → t ≤ first + before → first + (before + argument_words cs) ≤ r.slots → first + arguments_need cs before ≤ r.slots → p + length (arguments_code (starts_of types) cs p t) < length r.code → AreIn program r b types locals globals called results (arguments_code (starts_of types) cs p t)
+    arguments_in types locals NoArguments p t first before numbered place few needs short = tt
+    arguments_in types locals (MoreArguments c cs) p t first before (numbered, rest) place few needs short =
         let front = converted_code (starts_of types) c p t in
         let back = arguments_code (starts_of types) cs (p + length front) (t + passed_words c) in
-        append front back
-        (converted_in c p t numbered (omega (arith, few, place)) (omega (arith, needs, place)) (omega (arith, short, length-append front back)))
-        (arguments_in cs (p + length front) (t + passed_words c) first (before + converted_words c) rest (omega (arith, place, passed_is c, converted_least c)) (omega (arith, few)) (omega (arith, needs)) (omega (arith, short, length-append front back)))
+        append program r b types locals globals called results front back
+        (converted_in types locals c p t numbered (omega (arith, few, place)) (omega (arith, needs, place)) (omega (arith, short, length-append front back)))
+        (arguments_in types locals cs (p + length front) (t + passed_words c) first (before + converted_words c) rest (omega (arith, place, passed_is c, converted_least c)) (omega (arith, few)) (omega (arith, needs)) (omega (arith, short, length-append front back)))
 
-    operations_in : (os : Operations) (ty : Ty) (kind : Kind) (p : ℕ) (l : Operand) (d t left : ℕ) → FitOperations b types left ty os → d + words_of_kind (chain_kind kind os) ≤ r.slots → LeftIn os l → IsOperand r l → 1 ≤ left → t + operations_need os ty left ≤ r.slots → p + length (operations_code (starts_of types) os p l d t) < length r.code → AreIn (operations_code (starts_of types) os p l d t)
-    operations_in NoOperations ty kind p l d t left numbered room all inside some few short = tt
-    operations_in (ThenCompute o a os) ty kind p l d t left (numbered, rest) room all inside some few short =
+    operations_in : (types : Types) (locals : (n : ℕ) → n < b.locals → slot_of (starts_of types) n + words_in types.locals n ≤ r.slots) → (os : Operations) (ty : Ty) (kind : Kind) (p : ℕ) (l : Operand) (d t left : ℕ) → FitOperations b types left ty os → d + words_of_kind (chain_kind kind os) ≤ r.slots → LeftIn program r b types locals globals called results os l → IsOperand r l → 1 ≤ left → t + operations_need os ty left ≤ r.slots → p + length (operations_code (starts_of types) os p l d t) < length r.code → AreIn program r b types locals globals called results (operations_code (starts_of types) os p l d t)
+    operations_in types locals NoOperations ty kind p l d t left numbered room all inside some few short = tt
+    operations_in types locals (ThenCompute o a os) ty kind p l d t left (numbered, rest) room all inside some few short =
         let inner = expression_code (starts_of types) a p (value_slot (starts_of types) a (suc t)) (suc t) in
         let operand = code_unless (operand_of (starts_of types) a) inner in
         let next = next_slot os d t in
@@ -631,15 +632,15 @@ module _ (program : PlainProgram) (r : Routine) (b : Numbering) (types : Types) 
         let back = operations_code (starts_of types) os (p + length front) (operands.Slot next) d t in
         let long = length-append front back in
         let long_front = length-append operand operator in
-        let free : suc t + words_of_kind (kind_at a) ≤ r.slots = omega (arith, few, some, operand_positive (type_of a), words_positive ty, given_needs a numbered) in
-        let next_room = next_in os kinds.Int d t room (omega (arith, free)) in
+        let free : suc t + words_of_kind (kind_at program r b types locals globals called results a) ≤ r.slots = omega (arith, few, some, operand_positive (type_of a), words_positive ty, given_needs program r b types locals globals called results a numbered) in
+        let next_room = next_in program r b types locals globals called results os kinds.Int d t room (omega (arith, free)) in
         let next_few : next < r.slots = omega (arith, next_room) in
-        append front back
-        (append operand operator
-        (unless_in (operand_of (starts_of types) a) inner p (omega (arith, short, long, long_front)) (λ less. expression_in a p (value_slot (starts_of types) a (suc t)) (suc t) numbered (slot_fits a (suc t) numbered free) (omega (arith, few, some)) less))
-        (operator_in o l m (p + length operand) next next_few inside (value_in a (suc t) numbered free) (omega (arith, short, long, long_front))))
-        (operations_in os ty kinds.Int (p + length front) (operands.Slot next) d t (words_of ty) rest room (next_left_in os ty d t (words_of ty) rest (omega (arith, few))) next_few (words_positive ty) (omega (arith, few)) (omega (arith, short, long)))
-    operations_in (ThenTest o a os) ty kind p l d t left (numbered, rest) room all inside some few short =
+        append program r b types locals globals called results front back
+        (append program r b types locals globals called results operand operator
+        (unless_in program r b types locals globals called results (operand_of (starts_of types) a) inner p (omega (arith, short, long, long_front)) (λ less. expression_in types locals a p (value_slot (starts_of types) a (suc t)) (suc t) numbered (slot_fits program r b types locals globals called results a (suc t) numbered free) (omega (arith, few, some)) less))
+        (operator_in program r b types locals globals called results o l m (p + length operand) next next_few inside (value_in program r b types locals globals called results a (suc t) numbered free) (omega (arith, short, long, long_front))))
+        (operations_in types locals os ty kinds.Int (p + length front) (operands.Slot next) d t (words_of ty) rest room (next_left_in program r b types locals globals called results os ty d t (words_of ty) rest (omega (arith, few))) next_few (words_positive ty) (omega (arith, few)) (omega (arith, short, long)))
+    operations_in types locals (ThenTest o a os) ty kind p l d t left (numbered, rest) room all inside some few short =
         let operand = expression_code (starts_of types) a (p + 1) t t in
         let next = next_slot os d t in
         let front = test_code o operand p next t in
@@ -647,100 +648,101 @@ module _ (program : PlainProgram) (r : Routine) (b : Numbering) (types : Types) 
         let long = length-append front back in
         let long_front = length-append operand (truth_code t next) in
         let free : t < r.slots = omega (arith, few, some) in
-        let next_room = next_in os kinds.Int d t room (omega (arith, free)) in
+        let next_room = next_in program r b types locals globals called results os kinds.Int d t room (omega (arith, free)) in
         let next_few : next < r.slots = omega (arith, next_room) in
-        append front back
-        (test_in o operand p next t next_few free (omega (arith, short, long)) (expression_in a (p + 1) t t numbered (omega (arith, few, free, given_needs a numbered)) (omega (arith, few)) (omega (arith, short, long, long_front))))
-        (operations_in os ty kinds.Int (p + length front) (operands.Slot next) d t (words_of ty) rest room (next_left_in os ty d t (words_of ty) rest (omega (arith, few))) next_few (words_positive ty) (omega (arith, few)) (omega (arith, short, long)))
-    operations_in (ThenPointer o a os) ty kind p l d t left (wide, numbered, rest) room all inside some few short =
+        append program r b types locals globals called results front back
+        (test_in program r b types locals globals called results o operand p next t next_few free (omega (arith, short, long)) (expression_in types locals a (p + 1) t t numbered (omega (arith, few, free, given_needs program r b types locals globals called results a numbered)) (omega (arith, few)) (omega (arith, short, long, long_front))))
+        (operations_in types locals os ty kinds.Int (p + length front) (operands.Slot next) d t (words_of ty) rest room (next_left_in program r b types locals globals called results os ty d t (words_of ty) rest (omega (arith, few))) next_few (words_positive ty) (omega (arith, few)) (omega (arith, short, long)))
+    operations_in types locals (ThenPointer o a os) ty kind p l d t left (wide, numbered, rest) room all inside some few short =
         let next = next_slot os d t in
         let m = value_operand (starts_of types) a (behind_left o t) in
         let operand = code_unless (operand_of (starts_of types) a) (expression_code (starts_of types) a p (value_slot (starts_of types) a (behind_left o t)) (behind_left o t)) in
         let front = pointer_code o l m operand next in
         let back = operations_code (starts_of types) os (p + length front) (operands.Slot next) d t in
         let long = length-append front back in
-        let next_room = next_in os (operator_kind o) d t room (omega (arith, few, wide, operator_few o)) in
+        let next_room = next_in program r b types locals globals called results os (operator_kind o) d t room (omega (arith, few, wide, operator_few program r b types locals globals called results o)) in
         let next_few : next < r.slots = omega (arith, next_room, kind_positive (operator_kind o)) in
-        append front back
-        (right_in o a ty p l next t left numbered wide next_room all inside (omega (arith, few)) (omega (arith, short, long)) (λ slot fits less. expression_in a p slot (behind_left o t) numbered fits (omega (arith, few, wide)) less))
-        (operations_in os ty (operator_kind o) (p + length front) (operands.Slot next) d t (words_of ty) rest room (next_left_in os ty d t (words_of ty) rest (omega (arith, few))) next_few (words_positive ty) (omega (arith, few)) (omega (arith, short, long)))
-    operations_in (ThenPointerPeek n o a os) ty kind p l d t left (wide, numbered, rest) room all inside some few short =
+        append program r b types locals globals called results front back
+        (right_in program r b types locals globals called results o a ty p l next t left numbered wide next_room all inside (omega (arith, few)) (omega (arith, short, long)) (λ slot fits less. expression_in types locals a p slot (behind_left o t) numbered fits (omega (arith, few, wide)) less))
+        (operations_in types locals os ty (operator_kind o) (p + length front) (operands.Slot next) d t (words_of ty) rest room (next_left_in program r b types locals globals called results os ty d t (words_of ty) rest (omega (arith, few))) next_few (words_positive ty) (omega (arith, few)) (omega (arith, short, long)))
+    operations_in types locals (ThenPointerPeek n o a os) ty kind p l d t left (wide, numbered, rest) room all inside some few short =
         let next = next_slot os d t in
         let m = value_operand (starts_of types) a (behind_left o t) in
         let operand = code_unless (operand_of (starts_of types) a) (expression_code (starts_of types) a p (value_slot (starts_of types) a (behind_left o t)) (behind_left o t)) in
         let front = pointer_code o l m operand next in
         let back = operations_code (starts_of types) os (p + length front) (operands.Slot next) d t in
         let long = length-append front back in
-        let next_room = next_in os (operator_kind o) d t room (omega (arith, few, wide, operator_few o)) in
+        let next_room = next_in program r b types locals globals called results os (operator_kind o) d t room (omega (arith, few, wide, operator_few program r b types locals globals called results o)) in
         let next_few : next < r.slots = omega (arith, next_room, kind_positive (operator_kind o)) in
-        append front back
-        (right_in o a ty p l next t left numbered wide next_room all inside (omega (arith, few)) (omega (arith, short, long)) (λ slot fits less. expression_in a p slot (behind_left o t) numbered fits (omega (arith, few, wide)) less))
-        (operations_in os ty (operator_kind o) (p + length front) (operands.Slot next) d t (words_of ty) rest room (next_left_in os ty d t (words_of ty) rest (omega (arith, few))) next_few (words_positive ty) (omega (arith, few)) (omega (arith, short, long)))
+        append program r b types locals globals called results front back
+        (right_in program r b types locals globals called results o a ty p l next t left numbered wide next_room all inside (omega (arith, few)) (omega (arith, short, long)) (λ slot fits less. expression_in types locals a p slot (behind_left o t) numbered fits (omega (arith, few, wide)) less))
+        (operations_in types locals os ty (operator_kind o) (p + length front) (operands.Slot next) d t (words_of ty) rest room (next_left_in program r b types locals globals called results os ty d t (words_of ty) rest (omega (arith, few))) next_few (words_positive ty) (omega (arith, few)) (omega (arith, short, long)))
 
-  assignment_in : (l : Lvalue) (c : Converted) (p t : ℕ) → FitsStored b types l (passed_kind c) → FitsConverted b types c → t + converted_words c ≤ r.slots → t + converted_need c ≤ r.slots → p + length (assignment_code (starts_of types) l c p t) < length r.code → AreIn (assignment_code (starts_of types) l c p t)
-  assignment_in (Local w n) c p t (within, own) numbered free few short = initial_in c p (slot_of (starts_of types) n) t numbered (omega (arith, locals n within, own)) free few short
+module _ (program : PlainProgram) (r : Routine) (b : Numbering) (types : Types) (locals : (n : ℕ) → n < b.locals → slot_of (starts_of types) n + words_in types.locals n ≤ r.slots) (globals : b.globals ≡ length program.globals) (called : (n : ℕ) (s : Signature) → slice_get b.functions n ≡ Some s → IsKnown program n s) (results : r.results ≡ results_of b.result) where
+  assignment_in : (l : Lvalue) (c : Converted) (p t : ℕ) → FitsStored b types l (passed_kind c) → FitsConverted b types c → t + converted_words c ≤ r.slots → t + converted_need c ≤ r.slots → p + length (assignment_code (starts_of types) l c p t) < length r.code → AreIn program r b types locals globals called results (assignment_code (starts_of types) l c p t)
+  assignment_in (Local w n) c p t (within, own) numbered free few short = initial_in program r b globals called results types locals c p (slot_of (starts_of types) n) t numbered (omega (arith, locals n within, own)) free few short
   assignment_in (Global n) c p t (within, single) numbered free few short =
       let front = converted_operand_code (starts_of types) c p t in
       let store = instructions.StoreGlobal n (converted_operand (starts_of types) c t) ∷ [] in
-      append front store (converted_operand_in c p t numbered free few (omega (arith, short, length-append front store))) ((omega (arith, within, globals), converted_value_in c t numbered free), tt)
+      append program r b types locals globals called results front store (converted_operand_in program r b globals called results types locals c p t numbered free few (omega (arith, short, length-append front store))) ((omega (arith, within, globals), converted_value_in program r b types locals globals called results c t numbered free), tt)
 
-  discarded_in : (a : Expression) (p t : ℕ) → Fits b types a → t + expression_need a + spare_slots ≤ r.slots → p + length (discarded_code (starts_of types) a p t) < length r.code → AreIn (discarded_code (starts_of types) a p t)
+  discarded_in : (a : Expression) (p t : ℕ) → Fits b types a → t + expression_need a + spare_slots ≤ r.slots → p + length (discarded_code (starts_of types) a p t) < length r.code → AreIn program r b types locals globals called results (discarded_code (starts_of types) a p t)
   discarded_in (Call callees.Putchar cs ty) p t (s, signature, many, passed, result, numbered) few short =
       let front = printed_code (starts_of types) cs p t in
       let back = instructions.WriteByte (printed_operand (starts_of types) cs (operands.Slot t) t) ∷ [] in
-      append front back (printed_in cs p t t 0 numbered (omega (arith, few)) (omega arith) (omega (arith, few)) (omega (arith, short, length-append front back)))
-      (printed_value_in cs (operands.Slot t) t numbered (omega (arith, few)) (omega (arith, few)), tt)
+      append program r b types locals globals called results front back (printed_in program r b globals called results types locals cs p t t 0 numbered (omega (arith, few)) (omega arith) (omega (arith, few)) (omega (arith, short, length-append front back)))
+      (printed_value_in program r b types locals globals called results cs (operands.Slot t) t numbered (omega (arith, few)) (omega (arith, few)), tt)
   discarded_in (Assign l c ty) p t (within, numbered) few short = assignment_in l c p t within numbered (omega (arith, few)) (omega (arith, few)) short
   discarded_in (Store x c ty) p t (place, single, numbered) few short =
-      stored_in x c p t numbered (omega (arith, few)) short
-      (λ less. addressed_in x p t t place (omega (arith, few)) (omega (arith, few)) less (λ shorter. place_in x place_words p t place (omega arith) (omega (arith, few)) shorter))
-      (λ q less. converted_operand_in c q (t + 1) numbered (omega (arith, few)) (omega (arith, few)) less)
+      stored_in program r b types locals globals called results x c p t numbered (omega (arith, few)) short
+      (λ less. addressed_in program r b types locals globals called results x p t t place (omega (arith, few)) (omega (arith, few)) less (λ shorter. place_in program r b globals called results types locals x place_words p t place (omega arith) (omega (arith, few)) shorter))
+      (λ q less. converted_operand_in program r b globals called results types locals c q (t + 1) numbered (omega (arith, few)) (omega (arith, few)) less)
   discarded_in a p t numbered few short =
-      unless_in (operand_of (starts_of types) a) (expression_code (starts_of types) a p t t) p short (λ less. expression_in a p t t numbered (omega (arith, few, kind_few (kind_at a))) (omega (arith, few)) less)
+      unless_in program r b types locals globals called results (operand_of (starts_of types) a) (expression_code (starts_of types) a p t t) p short (λ less. expression_in program r b globals called results types locals a p t t numbered (omega (arith, few, kind_few (kind_at program r b types locals globals called results a))) (omega (arith, few)) less)
 
   -- ---- statements
 
   -- two operands that are compared, by the code of the second
   pair_in : (a c : Expression) (p t : ℕ) → Fits b types a → t + expression_need a + spare_slots ≤ r.slots → p + length (pair_code (starts_of types) a c p t) < length r.code
-      → (p + length (first_code (starts_of types) a c p t) + length (second_code (starts_of types) c (p + length (first_code (starts_of types) a c p t)) t) < length r.code → AreIn (second_code (starts_of types) c (p + length (first_code (starts_of types) a c p t)) t)) → AreIn (pair_code (starts_of types) a c p t)
+      → (p + length (first_code (starts_of types) a c p t) + length (second_code (starts_of types) c (p + length (first_code (starts_of types) a c p t)) t) < length r.code → AreIn program r b types locals globals called results (second_code (starts_of types) c (p + length (first_code (starts_of types) a c p t)) t)) → AreIn program r b types locals globals called results (pair_code (starts_of types) a c p t)
   pair_in a c p t numbered few short second =
       let slot = slot_with (starts_of types) (operand_of (starts_of types) c) a t in
       let front = first_code (starts_of types) a c p t in
       let back = second_code (starts_of types) c (p + length front) t in
       let long = length-append front back in
-      append front back
-      (unless_in (left_with (operand_of (starts_of types) c) (operand_of (starts_of types) a)) (expression_code (starts_of types) a p slot t) p (omega (arith, short, long))
-      (λ less. expression_in a p slot t numbered (slot_with_in (operand_of (starts_of types) c) a t numbered (omega (arith, few, kind_few (kind_at a)))) (omega (arith, few)) less))
+      append program r b types locals globals called results front back
+      (unless_in program r b types locals globals called results (left_with (operand_of (starts_of types) c) (operand_of (starts_of types) a)) (expression_code (starts_of types) a p slot t) p (omega (arith, short, long))
+      (λ less. expression_in program r b globals called results types locals a p slot t numbered (slot_with_in program r b types locals globals called results (operand_of (starts_of types) c) a t numbered (omega (arith, few, kind_few (kind_at program r b types locals globals called results a)))) (omega (arith, few)) less))
       (second (omega (arith, short, long)))
 
-  condition_in : (a : Expression) (p t : ℕ) → Fits b types a → t + expression_need a + spare_slots ≤ r.slots → p + length (condition_code (starts_of types) a p t) < length r.code → AreIn (condition_code (starts_of types) a p t)
+  condition_in : (a : Expression) (p t : ℕ) → Fits b types a → t + expression_need a + spare_slots ≤ r.slots → p + length (condition_code (starts_of types) a p t) < length r.code → AreIn program r b types locals globals called results (condition_code (starts_of types) a p t)
   condition_in (Unary unary.Not a) p t numbered few short = pair_in a (Number 0) p t numbered (omega (arith, few)) short (λ less. tt)
   condition_in (Binary a (ThenCompute o c NoOperations) ty) p t (first, (second, none)) few short = by (failing_comparison o) short
     where
       by : (f : Option Comparison) → p + length (pair_code (starts_of types) (compared_or f a c (Binary a (ThenCompute o c NoOperations) ty)).left (compared_or f a c (Binary a (ThenCompute o c NoOperations) ty)).right p t) < length r.code
-          → AreIn (pair_code (starts_of types) (compared_or f a c (Binary a (ThenCompute o c NoOperations) ty)).left (compared_or f a c (Binary a (ThenCompute o c NoOperations) ty)).right p t)
+          → AreIn program r b types locals globals called results (pair_code (starts_of types) (compared_or f a c (Binary a (ThenCompute o c NoOperations) ty)).left (compared_or f a c (Binary a (ThenCompute o c NoOperations) ty)).right p t)
       by (Some failing) short =
           let next = p + length (first_code (starts_of types) a c p t) in
           let some = operand_positive (type_of a) in
-          let free : suc t + words_of_kind (kind_at c) ≤ r.slots = omega (arith, few, some, operand_positive (type_of c), words_positive ty, kind_few (kind_at c)) in
+          let free : suc t + words_of_kind (kind_at program r b types locals globals called results c) ≤ r.slots = omega (arith, few, some, operand_positive (type_of c), words_positive ty, kind_few (kind_at program r b types locals globals called results c)) in
           pair_in a c p t first (omega (arith, few)) short
-          (λ less. unless_in (operand_of (starts_of types) c) (expression_code (starts_of types) c next (value_slot (starts_of types) c (suc t)) (suc t)) next less
-          (λ fits. expression_in c next (value_slot (starts_of types) c (suc t)) (suc t) second (slot_fits c (suc t) second free) (omega (arith, few, some)) fits))
+          (λ less. unless_in program r b types locals globals called results (operand_of (starts_of types) c) (expression_code (starts_of types) c next (value_slot (starts_of types) c (suc t)) (suc t)) next less
+          (λ fits. expression_in program r b globals called results types locals c next (value_slot (starts_of types) c (suc t)) (suc t) second (slot_fits program r b types locals globals called results c (suc t) second free) (omega (arith, few, some)) fits))
       by None short = pair_in (Binary a (ThenCompute o c NoOperations) ty) (Number 0) p t (first, (second, none)) few short (λ less. tt)
   condition_in a p t numbered few short = pair_in a (Number 0) p t numbered few short (λ less. tt)
 
   compared_in : (a : Expression) (t : ℕ) → Fits b types a → t + expression_need a + spare_slots ≤ r.slots → IsOperand r (condition_of (starts_of types) a t).left × IsOperand r (condition_of (starts_of types) a t).right
-  compared_in (Unary unary.Not a) t numbered few = (value_in a t numbered (omega (arith, few, kind_few (kind_at a))), tt)
+  compared_in (Unary unary.Not a) t numbered few = (value_in program r b types locals globals called results a t numbered (omega (arith, few, kind_few (kind_at program r b types locals globals called results a))), tt)
   compared_in (Binary a (ThenCompute o c NoOperations) ty) t (first, (second, none)) few = by (failing_comparison o)
     where
       by : (f : Option Comparison) → IsOperand r (first_operand (starts_of types) (compared_or f a c (Binary a (ThenCompute o c NoOperations) ty)).left (compared_or f a c (Binary a (ThenCompute o c NoOperations) ty)).right t) × IsOperand r (value_operand (starts_of types) (compared_or f a c (Binary a (ThenCompute o c NoOperations) ty)).right (suc t))
       by (Some failing) =
-          let free : suc t + words_of_kind (kind_at c) ≤ r.slots = omega (arith, few, operand_positive (type_of a), operand_positive (type_of c), words_positive ty, kind_few (kind_at c)) in
-          (left_with_in (operand_of (starts_of types) c) a t first (omega (arith, few, kind_few (kind_at a))), value_in c (suc t) second free)
-      by None = (value_in (Binary a (ThenCompute o c NoOperations) ty) t (first, (second, none)) (omega (arith, few)), tt)
-  compared_in a t numbered few = (value_in a t numbered (omega (arith, few, kind_few (kind_at a))), tt)
+          let free : suc t + words_of_kind (kind_at program r b types locals globals called results c) ≤ r.slots = omega (arith, few, operand_positive (type_of a), operand_positive (type_of c), words_positive ty, kind_few (kind_at program r b types locals globals called results c)) in
+          (left_with_in program r b types locals globals called results (operand_of (starts_of types) c) a t first (omega (arith, few, kind_few (kind_at program r b types locals globals called results a))), value_in program r b types locals globals called results c (suc t) second free)
+      by None = (value_in program r b types locals globals called results (Binary a (ThenCompute o c NoOperations) ty) t (first, (second, none)) (omega (arith, few)), tt)
+  compared_in a t numbered few = (value_in program r b types locals globals called results a t numbered (omega (arith, few, kind_few (kind_at program r b types locals globals called results a))), tt)
 
-  return_in : (v : Option Converted) (p t : ℕ) → FitsReturn b types b.result v → t + initial_need v + spare_slots ≤ r.slots → p + length (return_code (starts_of types) v p t) < length r.code → AreIn (return_code (starts_of types) v p t)
+  return_in : (v : Option Converted) (p t : ℕ) → FitsReturn b types b.result v → t + initial_need v + spare_slots ≤ r.slots → p + length (return_code (starts_of types) v p t) < length r.code → AreIn program r b types locals globals called results (return_code (starts_of types) v p t)
   return_in None p t numbered few short = (omega (arith, few, results, results_few b.result), tt)
   return_in (Some (Convert from to a)) p t numbered few short =
       let c = Convert from to a in
@@ -754,37 +756,37 @@ module _ (program : PlainProgram) (r : Routine) (b : Numbering) (types : Types) 
       let long_front = length-append front conversion in
       let (words, kind, is) = value_of b.result numbered in
       let there : s + words_of_kind to ≤ r.slots = returned_in (are_as_wide from to) kind is refl in
-      append (front ++ conversion) back
-      (append front conversion (unless_slot_in known inner p (omega (arith, short, long, long_front)) (λ less. expression_in a p t t is (omega (arith, few, kind_few (kind_at a))) (omega (arith, few)) less))
-      (conversion_in to (operands.Slot s) (p + length front) (omega (arith, there, kind_positive to)) (omega (arith, short, long, long_front)))) (omega (arith, there, results, words), tt)
+      append program r b types locals globals called results (front ++ conversion) back
+      (append program r b types locals globals called results front conversion (unless_slot_in program r b types locals globals called results known inner p (omega (arith, short, long, long_front)) (λ less. expression_in program r b globals called results types locals a p t t is (omega (arith, few, kind_few (kind_at program r b types locals globals called results a))) (omega (arith, few)) less))
+      (conversion_in program r b types locals globals called results to (operands.Slot s) (p + length front) (omega (arith, there, kind_positive to)) (omega (arith, short, long, long_front)))) (omega (arith, there, results, words), tt)
     where
-      value_of : (result : Option Ty) → FitsReturn b types result (Some (Convert from to a)) → (results_of result ≡ words_of_kind to) × (from ≡ kind_at a) × Fits b types a
+      value_of : (result : Option Ty) → FitsReturn b types result (Some (Convert from to a)) → (results_of result ≡ words_of_kind to) × (from ≡ kind_at program r b types locals globals called results a) × Fits b types a
       value_of None numbered = absurd numbered
       value_of (Some ty) (same, (kind, wide, numbered)) = (sym (type_words ty) ∙ ap words_of_kind (sym same), kind, numbered)
 
-      slot_there : (known : Option Operand) → HasOperand (operand_or known t) (words_of_kind to) → slot_or known t + words_of_kind to ≤ r.slots
+      slot_there : (known : Option Operand) → HasOperand program r b types locals globals called results (operand_or known t) (words_of_kind to) → slot_or known t + words_of_kind to ≤ r.slots
       slot_there (Some (operands.Slot n)) inside = inside
       slot_there (Some (operands.Word w)) inside = omega (arith, few, kind_few to)
       slot_there None inside = inside
 
-      wide_room : from ≡ kind_at a → Fits b types a → (words_of_kind from ≡ words_of_kind to) → (known : Option Operand) → operand_of (starts_of types) a ≡ known → slot_or known t + words_of_kind to ≤ r.slots
+      wide_room : from ≡ kind_at program r b types locals globals called results a → Fits b types a → (words_of_kind from ≡ words_of_kind to) → (known : Option Operand) → operand_of (starts_of types) a ≡ known → slot_or known t + words_of_kind to ≤ r.slots
       wide_room kind is wide (Some o) there =
           slot_there (Some o)
-          (subst (HasOperand o) (ap words_of_kind (sym kind) ∙ wide)
-          (subst (λ (x : Option Operand). HasOperand (operand_or x (value_slot (starts_of types) a t)) (words_of_kind (kind_at a))) there (value_room a t is (omega (arith, few, kind_few (kind_at a))))))
+          (subst (HasOperand program r b types locals globals called results o) (ap words_of_kind (sym kind) ∙ wide)
+          (subst (λ (x : Option Operand). HasOperand program r b types locals globals called results (operand_or x (value_slot (starts_of types) a t)) (words_of_kind (kind_at program r b types locals globals called results a))) there (value_room program r b types locals globals called results a t is (omega (arith, few, kind_few (kind_at program r b types locals globals called results a))))))
       wide_room kind is wide None there = omega (arith, few, kind_few to)
 
-      returned_in : (same : Bool) → from ≡ kind_at a → Fits b types a → are_as_wide from to ≡ same → slot_or (if same then operand_of (starts_of types) a else None) t + words_of_kind to ≤ r.slots
+      returned_in : (same : Bool) → from ≡ kind_at program r b types locals globals called results a → Fits b types a → are_as_wide from to ≡ same → slot_or (if same then operand_of (starts_of types) a else None) t + words_of_kind to ≤ r.slots
       returned_in true kind is wide = wide_room kind is (eqb-true (words_of_kind from) (words_of_kind to) wide) (operand_of (starts_of types) a) refl
       returned_in false kind is wide = omega (arith, few, kind_few to)
 
-  declaration_in : (n : ℕ) (v : Option Converted) (p t : ℕ) → n < b.locals → FitsInitial b types n v → t + initial_need v + spare_slots ≤ r.slots → p + length (declaration_code (starts_of types) n v p t) < length r.code → AreIn (declaration_code (starts_of types) n v p t)
+  declaration_in : (n : ℕ) (v : Option Converted) (p t : ℕ) → n < b.locals → FitsInitial b types n v → t + initial_need v + spare_slots ≤ r.slots → p + length (declaration_code (starts_of types) n v p t) < length r.code → AreIn program r b types locals globals called results (declaration_code (starts_of types) n v p t)
   declaration_in n None p t within numbered few short = tt
   declaration_in n (Some c) p t within (own, numbered) few short =
-      initial_in c p (slot_of (starts_of types) n) t numbered (omega (arith, locals n within, own)) (omega (arith, few, converted_few c)) (omega (arith, few)) short
+      initial_in program r b globals called results types locals c p (slot_of (starts_of types) n) t numbered (omega (arith, locals n within, own)) (omega (arith, few, converted_few c)) (omega (arith, few)) short
 
   mutual
-    statement_in : (s : Statement) (in_loop : Bool) (p : ℕ) (exits : Exits) (t : ℕ) → FitsStatement b types in_loop s → (in_loop ≡ true → exits.head + 2 < length r.code) → t + statement_need s + spare_slots ≤ r.slots → p + length (statement_code (starts_of types) s p exits t) < length r.code → AreIn (statement_code (starts_of types) s p exits t)
+    statement_in : (s : Statement) (in_loop : Bool) (p : ℕ) (exits : Exits) (t : ℕ) → FitsStatement b types in_loop s → (in_loop ≡ true → exits.head + 2 < length r.code) → t + statement_need s + spare_slots ≤ r.slots → p + length (statement_code (starts_of types) s p exits t) < length r.code → AreIn program r b types locals globals called results (statement_code (starts_of types) s p exits t)
     statement_in (Block n js) in_loop p exits t numbered around few short = items_in js in_loop p exits t numbered around few short
     statement_in Empty in_loop p exits t numbered around few short = tt
     statement_in (Evaluate a) in_loop p exits t numbered around few short = discarded_in a p t numbered few short
@@ -799,8 +801,8 @@ module _ (program : PlainProgram) (r : Routine) (b : Numbering) (types : Types) 
         let long = length-append (condition ++ jump_first) jump_second in
         let long_front = length-append condition jump_first in
         let (left, right) = compared_in a t numbered_a (omega (arith, few)) in
-        append (condition ++ jump_first) jump_second
-        (append condition jump_first (condition_in a p t numbered_a (omega (arith, few)) (omega (arith, short, long, long_front)))
+        append program r b types locals globals called results (condition ++ jump_first) jump_second
+        (append program r b types locals globals called results condition jump_first (condition_in a p t numbered_a (omega (arith, few)) (omega (arith, short, long, long_front)))
         ((left, right, omega (arith, short, long, long_front)), statement_in s in_loop (m + 1) exits t numbered_s around (omega (arith, few)) (omega (arith, short, long, long_front))))
         (omega (arith, short, long, long_front), statement_in u in_loop (q + 1) exits t numbered_u around (omega (arith, few)) (omega (arith, short, long, long_front)))
     statement_in (While w a s) in_loop p exits t (numbered_a, numbered_s) around few short =
@@ -815,8 +817,8 @@ module _ (program : PlainProgram) (r : Routine) (b : Numbering) (types : Types) 
           omega (arith, short, long, long_front),
           (
             omega (arith, short, long, long_front),
-            append (condition ++ test) again
-                (append condition test (condition_in a (p + 2) t numbered_a (omega (arith, few)) (omega (arith, short, long, long_front)))
+            append program r b types locals globals called results (condition ++ test) again
+                (append program r b types locals globals called results condition test (condition_in a (p + 2) t numbered_a (omega (arith, few)) (omega (arith, short, long, long_front)))
                 ((left, right, omega (arith, short, long, long_front)), statement_in s true (m + 1) (inside_loop p t exits) t numbered_s (λ inside. omega (arith, short, long, long_front)) (omega (arith, few)) (omega (arith, short, long, long_front))))
                 (omega (arith, short, long, long_front), tt),
           ),
@@ -826,19 +828,19 @@ module _ (program : PlainProgram) (r : Routine) (b : Numbering) (types : Types) 
     statement_in Continue in_loop p exits t numbered around few short = (omega (arith, around numbered), tt)
     statement_in s in_loop p exits t numbered around few short = absurd numbered
 
-    items_in : (js : Items) (in_loop : Bool) (p : ℕ) (exits : Exits) (t : ℕ) → FitItems b types in_loop js → (in_loop ≡ true → exits.head + 2 < length r.code) → t + items_need js + spare_slots ≤ r.slots → p + length (items_code (starts_of types) js p exits t) < length r.code → AreIn (items_code (starts_of types) js p exits t)
+    items_in : (js : Items) (in_loop : Bool) (p : ℕ) (exits : Exits) (t : ℕ) → FitItems b types in_loop js → (in_loop ≡ true → exits.head + 2 < length r.code) → t + items_need js + spare_slots ≤ r.slots → p + length (items_code (starts_of types) js p exits t) < length r.code → AreIn program r b types locals globals called results (items_code (starts_of types) js p exits t)
     items_in NoItems in_loop p exits t numbered around few short = tt
     items_in (MoreItems (Execute s) js) in_loop p exits t (numbered, rest) around few short =
         let front = statement_code (starts_of types) s p exits t in
         let back = items_code (starts_of types) js (p + length front) exits t in
         let long = length-append front back in
-        append front back (statement_in s in_loop p exits t numbered around (omega (arith, few)) (omega (arith, short, long)))
+        append program r b types locals globals called results front back (statement_in s in_loop p exits t numbered around (omega (arith, few)) (omega (arith, short, long)))
         (items_in js in_loop (p + length front) exits t rest around (omega (arith, few)) (omega (arith, short, long)))
     items_in (MoreItems (Declare n ty v) js) in_loop p exits t (within, numbered, rest) around few short =
         let front = declaration_code (starts_of types) n v p t in
         let back = items_code (starts_of types) js (p + length front) exits t in
         let long = length-append front back in
-        append front back (declaration_in n v p t within numbered (omega (arith, few)) (omega (arith, short, long)))
+        append program r b types locals globals called results front back (declaration_in n v p t within numbered (omega (arith, few)) (omega (arith, short, long)))
         (items_in js in_loop (p + length front) exits t rest around (omega (arith, few)) (omega (arith, short, long)))
     items_in js in_loop p exits t numbered around few short = absurd numbered
 

@@ -185,160 +185,161 @@ module _ (starts : Starts) where
   load_words words (Local w n) d = move_words words d (operands.Slot (slot_of starts n)) tt
   load_words words (Global n) d = (tt, tt)
 
-  mutual
-    expression_words : (a : Expression) (p d t : ℕ) → IsOfWords a → HaveWords (expression_code starts a p d t)
-    expression_words (Number n) p d t word = (word, tt)
-    expression_words NullPointer p d t words = (omega arith, tt)
-    expression_words (Copy l ty) p d t words = load_words (words_of ty) l d
-    expression_words (Move w n ty) p d t words = load_words (words_of ty) (Local w n) d
-    expression_words (Peek w n ty) p d t words = load_words (words_of ty) (Local w n) d
-    expression_words (Call callees.Putchar cs ty) p d t words =
-        let byte = printed_word cs (operands.Slot t) t words tt in
-        append (printed_code starts cs p t) _ (printed_words cs p t words) (byte, ((byte, omega arith), tt))
-    expression_words (Call callees.Getchar cs ty) p d t words = append (arguments_code starts cs p t) _ (arguments_words cs p t words) (tt, tt)
-    expression_words (Call (callees.Function n) cs ty) p d t words = append (arguments_code starts cs p t) _ (arguments_words cs p t words) (tt, tt)
-    expression_words (Unary o a) p d t words =
-        let inner = expression_code starts a p (value_slot starts a t) t in
-        append (code_unless (operand_of starts a) inner) _ (unless_words (operand_of starts a) inner (expression_words a p (value_slot starts a t) t words)) (known_word a (value_slot starts a t) words, tt)
-    expression_words (Binary a os ty) p d t (first, rest) =
-        let inner = expression_code starts a p (left_slot starts a os d t) t in
-        let front = code_unless (left_of starts a os) inner in
-        let l = operand_or (left_of starts a os) (left_slot starts a os d t) in
-        append front (operations_code starts os (p + length front) l d t) (unless_words (left_of starts a os) inner (expression_words a p (left_slot starts a os d t) t first))
-        (operations_words os (p + length front) l d t (left_word a os (left_slot starts a os d t) first) rest)
-    expression_words (Assign (Local w n) c ty) p d t words =
-        let o = operands.Slot (slot_of starts n) in
-        append (initial_code starts c p (slot_of starts n) t) (copy_code (passed_words c) o d) (initial_words c p (slot_of starts n) t words) (copy_words (is_in o d) (passed_words c) o d tt)
-    expression_words (Assign (Global n) c ty) p d t words =
-        let o = converted_operand starts c t in
-        let front = converted_operand_code starts c p t in
-        let word = converted_word c t words in
-        append (front ++ instructions.StoreGlobal n o ∷ []) (copy_code (passed_words c) o d) (append front _ (converted_operand_words c p t words) (word, tt)) (copy_words (is_in o d) (passed_words c) o d word)
-    expression_words (Load x) p d t words = append (place_code starts x p t) _ (place_words x p t words) ((place_word x t words, offset_word x), tt)
-    expression_words (AddressOfCell x ty) p d t words = address_of_words x p d t words
-    expression_words (Store x c ty) p d t (first, second) =
-        let address = store_address_code starts x p t in
-        let value = converted_operand_code starts c (p + length address) (t + 1) in
-        let o = converted_operand starts c (t + 1) in
-        let word = converted_word c (t + 1) second in
-        append (store_code starts x c p t) (copy_code (passed_words c) o d)
-        (append address _ (address_of_words x p t t first) (append value _ (converted_operand_words c (p + length address) (t + 1) second) ((tt, omega arith, word), tt)))
-        (copy_words (is_in o d) (passed_words c) o d word)
-    expression_words (New OnHeap i ty) p d t words = made_words i HEAP p d t (omega arith) words
-    expression_words (New AsUnique i ty) p d t words = absurd words
-    expression_words (New (ByHandle h) i ty) p d t words = absurd words
-    expression_words a p d t words = absurd words
+mutual
+  expression_words : (starts : Starts) → (a : Expression) (p d t : ℕ) → IsOfWords a → HaveWords (expression_code starts a p d t)
+  expression_words starts (Number n) p d t word = (word, tt)
+  expression_words starts NullPointer p d t words = (omega arith, tt)
+  expression_words starts (Copy l ty) p d t words = load_words starts (words_of ty) l d
+  expression_words starts (Move w n ty) p d t words = load_words starts (words_of ty) (Local w n) d
+  expression_words starts (Peek w n ty) p d t words = load_words starts (words_of ty) (Local w n) d
+  expression_words starts (Call callees.Putchar cs ty) p d t words =
+      let byte = printed_word starts cs (operands.Slot t) t words tt in
+      append (printed_code starts cs p t) _ (printed_words starts cs p t words) (byte, ((byte, omega arith), tt))
+  expression_words starts (Call callees.Getchar cs ty) p d t words = append (arguments_code starts cs p t) _ (arguments_words starts cs p t words) (tt, tt)
+  expression_words starts (Call (callees.Function n) cs ty) p d t words = append (arguments_code starts cs p t) _ (arguments_words starts cs p t words) (tt, tt)
+  expression_words starts (Unary o a) p d t words =
+      let inner = expression_code starts a p (value_slot starts a t) t in
+      append (code_unless (operand_of starts a) inner) _ (unless_words (operand_of starts a) inner (expression_words starts a p (value_slot starts a t) t words)) (known_word starts a (value_slot starts a t) words, tt)
+  expression_words starts (Binary a os ty) p d t (first, rest) =
+      let inner = expression_code starts a p (left_slot starts a os d t) t in
+      let front = code_unless (left_of starts a os) inner in
+      let l = operand_or (left_of starts a os) (left_slot starts a os d t) in
+      append front (operations_code starts os (p + length front) l d t) (unless_words (left_of starts a os) inner (expression_words starts a p (left_slot starts a os d t) t first))
+      (operations_words starts os (p + length front) l d t (left_word starts a os (left_slot starts a os d t) first) rest)
+  expression_words starts (Assign (Local w n) c ty) p d t words =
+      let o = operands.Slot (slot_of starts n) in
+      append (initial_code starts c p (slot_of starts n) t) (copy_code (passed_words c) o d) (initial_words starts c p (slot_of starts n) t words) (copy_words (is_in o d) (passed_words c) o d tt)
+  expression_words starts (Assign (Global n) c ty) p d t words =
+      let o = converted_operand starts c t in
+      let front = converted_operand_code starts c p t in
+      let word = converted_word starts c t words in
+      append (front ++ instructions.StoreGlobal n o ∷ []) (copy_code (passed_words c) o d) (append front _ (converted_operand_words starts c p t words) (word, tt)) (copy_words (is_in o d) (passed_words c) o d word)
+  expression_words starts (Load x) p d t words = append (place_code starts x p t) _ (place_words starts x p t words) ((place_word starts x t words, offset_word starts x), tt)
+  expression_words starts (AddressOfCell x ty) p d t words = address_of_words starts x p d t words
+  expression_words starts (Store x c ty) p d t (first, second) =
+      let address = store_address_code starts x p t in
+      let value = converted_operand_code starts c (p + length address) (t + 1) in
+      let o = converted_operand starts c (t + 1) in
+      let word = converted_word starts c (t + 1) second in
+      append (store_code starts x c p t) (copy_code (passed_words c) o d)
+      (append address _ (address_of_words starts x p t t first) (append value _ (converted_operand_words starts c (p + length address) (t + 1) second) ((tt, omega arith, word), tt)))
+      (copy_words (is_in o d) (passed_words c) o d word)
+  expression_words starts (New OnHeap i ty) p d t words = made_words starts i HEAP p d t (omega arith) words
+  expression_words starts (New AsUnique i ty) p d t words = absurd words
+  expression_words starts (New (ByHandle h) i ty) p d t words = absurd words
+  expression_words starts a p d t words = absurd words
 
-    made_words : (i : Initial) (handle p d t : ℕ) → IsWord handle → IsOfWordsObject i → HaveWords (made_code starts i handle p d t)
-    made_words (Plain kind a) handle p d t word words =
-        append (expression_code starts a p t t) (object_code handle 1 d t) (expression_words a p t t words) (object_words handle 1 d t word (omega arith))
-    made_words (Fields cs) handle p d t word (few, words) =
-        append (arguments_code starts cs p t) (object_code handle (argument_count cs) d t) (arguments_words cs p t words) (object_words handle (argument_count cs) d t word few)
-    made_words i handle p d t word words = absurd words
+  made_words : (starts : Starts) → (i : Initial) (handle p d t : ℕ) → IsWord handle → IsOfWordsObject i → HaveWords (made_code starts i handle p d t)
+  made_words starts (Plain kind a) handle p d t word words =
+      append (expression_code starts a p t t) (object_code handle 1 d t) (expression_words starts a p t t words) (object_words handle 1 d t word (omega arith))
+  made_words starts (Fields cs) handle p d t word (few, words) =
+      append (arguments_code starts cs p t) (object_code handle (argument_count cs) d t) (arguments_words starts cs p t words) (object_words handle (argument_count cs) d t word few)
+  made_words starts i handle p d t word words = absurd words
 
-    place_words : (x : Dereference) (p t : ℕ) → IsOfWordsCell x → HaveWords (place_code starts x p t)
-    place_words (Target k a ty) p t words =
-        let slot = value_slot starts a t in
-        converted_by_words (operand_of starts a) (expression_code starts a p slot t) kinds.NonNull (value_operand starts a t) p (expression_words a p slot t words) (known_word a slot words)
-    place_words (Member k a s f ty) p t words =
-        let slot = value_slot starts a t in
-        converted_by_words (operand_of starts a) (expression_code starts a p slot t) kinds.NonNull (value_operand starts a t) p (expression_words a p slot t words) (known_word a slot words)
-    place_words x p t words = absurd words
+  place_words : (starts : Starts) → (x : Dereference) (p t : ℕ) → IsOfWordsCell x → HaveWords (place_code starts x p t)
+  place_words starts (Target k a ty) p t words =
+      let slot = value_slot starts a t in
+      converted_by_words (operand_of starts a) (expression_code starts a p slot t) kinds.NonNull (value_operand starts a t) p (expression_words starts a p slot t words) (known_word starts a slot words)
+  place_words starts (Member k a s f ty) p t words =
+      let slot = value_slot starts a t in
+      converted_by_words (operand_of starts a) (expression_code starts a p slot t) kinds.NonNull (value_operand starts a t) p (expression_words starts a p slot t words) (known_word starts a slot words)
+  place_words starts x p t words = absurd words
 
-    -- its address comes to a slot
-    address_of_words : (x : Dereference) (p d t : ℕ) → IsOfWordsCell x → HaveWords (addressed_by (place_code starts x p t) (place_operand starts x t) (place_offset starts x) d)
-    address_of_words (Target k a ty) p d t words =
-        let slot = value_slot starts a t in
-        let o = value_operand starts a t in
-        append (place_code starts (Target k a ty) p t) _
-        (converted_by_words (operand_of starts a) (expression_code starts a p slot t) kinds.NonNull o p (expression_words a p slot t words) (known_word a slot words))
-        (address_words o 0 d (known_word a slot words) (omega arith))
-    address_of_words (Member k a s f ty) p d t words =
-        let slot = value_slot starts a t in
-        let o = value_operand starts a t in
-        let x = Member k a s f ty in
-        append (place_code starts x p t) _
-        (converted_by_words (operand_of starts a) (expression_code starts a p slot t) kinds.NonNull o p (expression_words a p slot t words) (known_word a slot words))
-        (address_words o (place_offset starts x) d (known_word a slot words) (offset_word x))
-    address_of_words x p d t words = absurd words
+  -- its address comes to a slot
+  address_of_words : (starts : Starts) → (x : Dereference) (p d t : ℕ) → IsOfWordsCell x → HaveWords (addressed_by (place_code starts x p t) (place_operand starts x t) (place_offset starts x) d)
+  address_of_words starts (Target k a ty) p d t words =
+      let slot = value_slot starts a t in
+      let o = value_operand starts a t in
+      append (place_code starts (Target k a ty) p t) _
+      (converted_by_words (operand_of starts a) (expression_code starts a p slot t) kinds.NonNull o p (expression_words starts a p slot t words) (known_word starts a slot words))
+      (address_words o 0 d (known_word starts a slot words) (omega arith))
+  address_of_words starts (Member k a s f ty) p d t words =
+      let slot = value_slot starts a t in
+      let o = value_operand starts a t in
+      let x = Member k a s f ty in
+      append (place_code starts x p t) _
+      (converted_by_words (operand_of starts a) (expression_code starts a p slot t) kinds.NonNull o p (expression_words starts a p slot t words) (known_word starts a slot words))
+      (address_words o (place_offset starts x) d (known_word starts a slot words) (offset_word starts x))
+  address_of_words starts x p d t words = absurd words
 
-    initial_words : (c : Converted) (p d t : ℕ) → IsOfWordsConverted c → HaveWords (initial_code starts c p d t)
-    initial_words (Convert from to a) p d t words =
-        let slot = source_slot starts (Convert from to a) t in
-        initial_by_words (converts_there from to) (source_of starts (Convert from to a)) (expression_code starts a p d t) (expression_code starts a p slot t) to (converted_operand starts (Convert from to a) t) p d
-        (expression_words a p d t words) (expression_words a p slot t words) (converted_word (Convert from to a) t words)
+  initial_words : (starts : Starts) → (c : Converted) (p d t : ℕ) → IsOfWordsConverted c → HaveWords (initial_code starts c p d t)
+  initial_words starts (Convert from to a) p d t words =
+      let slot = source_slot starts (Convert from to a) t in
+      initial_by_words (converts_there from to) (source_of starts (Convert from to a)) (expression_code starts a p d t) (expression_code starts a p slot t) to (converted_operand starts (Convert from to a) t) p d
+      (expression_words starts a p d t words) (expression_words starts a p slot t words) (converted_word starts (Convert from to a) t words)
 
-    converted_words : (c : Converted) (p t : ℕ) → IsOfWordsConverted c → HaveWords (converted_code starts c p t)
-    converted_words (Convert from to a) p t words =
-        let q = p + length (expression_code starts a p t t) in
-        append (expression_code starts a p t t) (conversion_code to (operands.Slot t) q) (expression_words a p t t words) (conversion_words to (operands.Slot t) q tt)
+  converted_words : (starts : Starts) → (c : Converted) (p t : ℕ) → IsOfWordsConverted c → HaveWords (converted_code starts c p t)
+  converted_words starts (Convert from to a) p t words =
+      let q = p + length (expression_code starts a p t t) in
+      append (expression_code starts a p t t) (conversion_code to (operands.Slot t) q) (expression_words starts a p t t words) (conversion_words to (operands.Slot t) q tt)
 
-    converted_operand_words : (c : Converted) (p t : ℕ) → IsOfWordsConverted c → HaveWords (converted_operand_code starts c p t)
-    converted_operand_words (Convert from to a) p t words =
-        let slot = source_slot starts (Convert from to a) t in
-        converted_by_words (source_of starts (Convert from to a)) (expression_code starts a p slot t) to (converted_operand starts (Convert from to a) t) p (expression_words a p slot t words) (converted_word (Convert from to a) t words)
+  converted_operand_words : (starts : Starts) → (c : Converted) (p t : ℕ) → IsOfWordsConverted c → HaveWords (converted_operand_code starts c p t)
+  converted_operand_words starts (Convert from to a) p t words =
+      let slot = source_slot starts (Convert from to a) t in
+      converted_by_words (source_of starts (Convert from to a)) (expression_code starts a p slot t) to (converted_operand starts (Convert from to a) t) p (expression_words starts a p slot t words) (converted_word starts (Convert from to a) t words)
 
-    printed_words : (cs : Arguments) (p t : ℕ) → AreOfWordsArguments cs → HaveWords (printed_code starts cs p t)
-    printed_words NoArguments p t words = tt
-    printed_words (MoreArguments c cs) p t (first, rest) =
-        let q = p + length (converted_operand_code starts c p t) in
-        append (converted_operand_code starts c p t) (printed_code starts cs q t) (converted_operand_words c p t first) (printed_words cs q t rest)
+  printed_words : (starts : Starts) → (cs : Arguments) (p t : ℕ) → AreOfWordsArguments cs → HaveWords (printed_code starts cs p t)
+  printed_words starts NoArguments p t words = tt
+  printed_words starts (MoreArguments c cs) p t (first, rest) =
+      let q = p + length (converted_operand_code starts c p t) in
+      append (converted_operand_code starts c p t) (printed_code starts cs q t) (converted_operand_words starts c p t first) (printed_words starts cs q t rest)
 
-    arguments_words : (cs : Arguments) (p t : ℕ) → AreOfWordsArguments cs → HaveWords (arguments_code starts cs p t)
-    arguments_words NoArguments p t words = tt
-    arguments_words (MoreArguments c cs) p t (first, rest) =
-        let q = p + length (converted_code starts c p t) in
-        append (converted_code starts c p t) (arguments_code starts cs q (t + passed_words c)) (converted_words c p t first) (arguments_words cs q (t + passed_words c) rest)
+  arguments_words : (starts : Starts) → (cs : Arguments) (p t : ℕ) → AreOfWordsArguments cs → HaveWords (arguments_code starts cs p t)
+  arguments_words starts NoArguments p t words = tt
+  arguments_words starts (MoreArguments c cs) p t (first, rest) =
+      let q = p + length (converted_code starts c p t) in
+      append (converted_code starts c p t) (arguments_code starts cs q (t + passed_words c)) (converted_words starts c p t first) (arguments_words starts cs q (t + passed_words c) rest)
 
-    operations_words : (os : Operations) (p : ℕ) (l : Operand) (d t : ℕ) → IsOfWord l → AreOfWordsOperations os → HaveWords (operations_code starts os p l d t)
-    operations_words NoOperations p l d t left words = tt
-    operations_words (ThenCompute o a os) p l d t left (first, rest) =
-        let inner = expression_code starts a p (value_slot starts a (suc t)) (suc t) in
-        let operand = code_unless (operand_of starts a) inner in
-        let next = next_slot os d t in
-        let operator = operator_code o l (value_operand starts a (suc t)) (p + length operand) next in
-        let q = p + length (operand ++ operator) in
-        append (operand ++ operator) (operations_code starts os q (operands.Slot next) d t)
-        (append operand operator (unless_words (operand_of starts a) inner (expression_words a p (value_slot starts a (suc t)) (suc t) first))
-        (operator_words o l (value_operand starts a (suc t)) (p + length operand) next left (known_word a (value_slot starts a (suc t)) first)))
-        (operations_words os q (operands.Slot next) d t tt rest)
-    operations_words (ThenTest o a os) p l d t left (first, rest) =
-        let operand = expression_code starts a (p + 1) t t in
-        let next = next_slot os d t in
-        let q = p + length (test_code o operand p next t) in
-        append (test_code o operand p next t) (operations_code starts os q (operands.Slot next) d t) (test_words o operand p next t (expression_words a (p + 1) t t first))
-        (operations_words os q (operands.Slot next) d t tt rest)
-    operations_words (ThenPointer o a os) p l d t left (first, rest) =
-        let slot = value_slot starts a (behind_left o t) in
-        let inner = expression_code starts a p slot (behind_left o t) in
-        let operand = code_unless (operand_of starts a) inner in
-        let next = next_slot os d t in
-        let front = pointer_code o l (value_operand starts a (behind_left o t)) operand next in
-        append front (operations_code starts os (p + length front) (operands.Slot next) d t)
-        (append operand _ (unless_words (operand_of starts a) inner (expression_words a p slot (behind_left o t) first)) (pointer_words o l (value_operand starts a (behind_left o t)) next left (known_word a slot first)))
-        (operations_words os (p + length front) (operands.Slot next) d t tt rest)
-    operations_words (ThenPointerPeek n o a os) p l d t left (first, rest) =
-        let slot = value_slot starts a (behind_left o t) in
-        let inner = expression_code starts a p slot (behind_left o t) in
-        let operand = code_unless (operand_of starts a) inner in
-        let next = next_slot os d t in
-        let front = pointer_code o l (value_operand starts a (behind_left o t)) operand next in
-        append front (operations_code starts os (p + length front) (operands.Slot next) d t)
-        (append operand _ (unless_words (operand_of starts a) inner (expression_words a p slot (behind_left o t) first)) (pointer_words o l (value_operand starts a (behind_left o t)) next left (known_word a slot first)))
-        (operations_words os (p + length front) (operands.Slot next) d t tt rest)
+  operations_words : (starts : Starts) → (os : Operations) (p : ℕ) (l : Operand) (d t : ℕ) → IsOfWord l → AreOfWordsOperations os → HaveWords (operations_code starts os p l d t)
+  operations_words starts NoOperations p l d t left words = tt
+  operations_words starts (ThenCompute o a os) p l d t left (first, rest) =
+      let inner = expression_code starts a p (value_slot starts a (suc t)) (suc t) in
+      let operand = code_unless (operand_of starts a) inner in
+      let next = next_slot os d t in
+      let operator = operator_code o l (value_operand starts a (suc t)) (p + length operand) next in
+      let q = p + length (operand ++ operator) in
+      append (operand ++ operator) (operations_code starts os q (operands.Slot next) d t)
+      (append operand operator (unless_words (operand_of starts a) inner (expression_words starts a p (value_slot starts a (suc t)) (suc t) first))
+      (operator_words o l (value_operand starts a (suc t)) (p + length operand) next left (known_word starts a (value_slot starts a (suc t)) first)))
+      (operations_words starts os q (operands.Slot next) d t tt rest)
+  operations_words starts (ThenTest o a os) p l d t left (first, rest) =
+      let operand = expression_code starts a (p + 1) t t in
+      let next = next_slot os d t in
+      let q = p + length (test_code o operand p next t) in
+      append (test_code o operand p next t) (operations_code starts os q (operands.Slot next) d t) (test_words o operand p next t (expression_words starts a (p + 1) t t first))
+      (operations_words starts os q (operands.Slot next) d t tt rest)
+  operations_words starts (ThenPointer o a os) p l d t left (first, rest) =
+      let slot = value_slot starts a (behind_left o t) in
+      let inner = expression_code starts a p slot (behind_left o t) in
+      let operand = code_unless (operand_of starts a) inner in
+      let next = next_slot os d t in
+      let front = pointer_code o l (value_operand starts a (behind_left o t)) operand next in
+      append front (operations_code starts os (p + length front) (operands.Slot next) d t)
+      (append operand _ (unless_words (operand_of starts a) inner (expression_words starts a p slot (behind_left o t) first)) (pointer_words o l (value_operand starts a (behind_left o t)) next left (known_word starts a slot first)))
+      (operations_words starts os (p + length front) (operands.Slot next) d t tt rest)
+  operations_words starts (ThenPointerPeek n o a os) p l d t left (first, rest) =
+      let slot = value_slot starts a (behind_left o t) in
+      let inner = expression_code starts a p slot (behind_left o t) in
+      let operand = code_unless (operand_of starts a) inner in
+      let next = next_slot os d t in
+      let front = pointer_code o l (value_operand starts a (behind_left o t)) operand next in
+      append front (operations_code starts os (p + length front) (operands.Slot next) d t)
+      (append operand _ (unless_words (operand_of starts a) inner (expression_words starts a p slot (behind_left o t) first)) (pointer_words o l (value_operand starts a (behind_left o t)) next left (known_word starts a slot first)))
+      (operations_words starts os (p + length front) (operands.Slot next) d t tt rest)
 
+module _ (starts : Starts) where
   assignment_words : (l : Lvalue) (c : Converted) (p t : ℕ) → IsOfWordsConverted c → HaveWords (assignment_code starts l c p t)
-  assignment_words (Local w n) c p t words = initial_words c p (slot_of starts n) t words
-  assignment_words (Global n) c p t words = append (converted_operand_code starts c p t) _ (converted_operand_words c p t words) (converted_word c t words, tt)
+  assignment_words (Local w n) c p t words = initial_words starts c p (slot_of starts n) t words
+  assignment_words (Global n) c p t words = append (converted_operand_code starts c p t) _ (converted_operand_words starts c p t words) (converted_word starts c t words, tt)
 
   discarded_words : (a : Expression) (p t : ℕ) → IsOfWords a → HaveWords (discarded_code starts a p t)
-  discarded_words (Call callees.Putchar cs ty) p t words = append (printed_code starts cs p t) _ (printed_words cs p t words) (printed_word cs (operands.Slot t) t words tt, tt)
+  discarded_words (Call callees.Putchar cs ty) p t words = append (printed_code starts cs p t) _ (printed_words starts cs p t words) (printed_word starts cs (operands.Slot t) t words tt, tt)
   discarded_words (Assign l c ty) p t words = assignment_words l c p t words
   discarded_words (Store x c ty) p t (first, second) =
       let address = store_address_code starts x p t in
       let value = converted_operand_code starts c (p + length address) (t + 1) in
-      append address _ (address_of_words x p t t first) (append value _ (converted_operand_words c (p + length address) (t + 1) second) ((tt, omega arith, converted_word c (t + 1) second), tt))
-  discarded_words a p t words = unless_words (operand_of starts a) (expression_code starts a p t t) (expression_words a p t t words)
+      append address _ (address_of_words starts x p t t first) (append value _ (converted_operand_words starts c (p + length address) (t + 1) second) ((tt, omega arith, converted_word starts c (t + 1) second), tt))
+  discarded_words a p t words = unless_words (operand_of starts a) (expression_code starts a p t t) (expression_words starts a p t t words)
 
   -- ---- statements
 
@@ -357,8 +358,8 @@ module _ (starts : Starts) where
       let slot = slot_with starts (operand_of starts b) a t in
       let front = first_code starts a b p t in
       let q = p + length front in
-      append front (second_code starts b q t) (unless_words (left_with (operand_of starts b) (operand_of starts a)) (expression_code starts a p slot t) (expression_words a p slot t first))
-      (unless_words (operand_of starts b) (expression_code starts b q (value_slot starts b (suc t)) (suc t)) (expression_words b q (value_slot starts b (suc t)) (suc t) second))
+      append front (second_code starts b q t) (unless_words (left_with (operand_of starts b) (operand_of starts a)) (expression_code starts a p slot t) (expression_words starts a p slot t first))
+      (unless_words (operand_of starts b) (expression_code starts b q (value_slot starts b (suc t)) (suc t)) (expression_words starts b q (value_slot starts b (suc t)) (suc t) second))
 
   condition_words : (a : Expression) (p t : ℕ) → IsOfWords a → HaveWords (condition_code starts a p t)
   condition_words a p t words =
@@ -370,7 +371,7 @@ module _ (starts : Starts) where
       let (first, second) = compared_words a words in
       let left = (compared_of a).left in
       let right = (compared_of a).right in
-      (left_with_word (operand_of starts right) left (slot_with starts (operand_of starts right) left t) first, known_word right (value_slot starts right (suc t)) second)
+      (left_with_word starts (operand_of starts right) left (slot_with starts (operand_of starts right) left t) first, known_word starts right (value_slot starts right (suc t)) second)
 
   return_words : (v : Option Converted) (p t : ℕ) → IsOfWordsInitial v → HaveWords (return_code starts v p t)
   return_words None p t words = (tt, tt)
@@ -381,11 +382,11 @@ module _ (starts : Starts) where
       let s = slot_or known t in
       let conversion = conversion_code to (operands.Slot s) (p + length front) in
       append (front ++ conversion) _
-      (append front conversion (unless_slot_words known inner (expression_words a p t t words)) (conversion_words to (operands.Slot s) (p + length front) tt)) (tt, tt)
+      (append front conversion (unless_slot_words known inner (expression_words starts a p t t words)) (conversion_words to (operands.Slot s) (p + length front) tt)) (tt, tt)
 
   declaration_words : (n : ℕ) (v : Option Converted) (p t : ℕ) → IsOfWordsInitial v → HaveWords (declaration_code starts n v p t)
   declaration_words n None p t words = tt
-  declaration_words n (Some c) p t words = initial_words c p (slot_of starts n) t words
+  declaration_words n (Some c) p t words = initial_words starts c p (slot_of starts n) t words
 
   mutual
     statement_words : (s : Statement) (p : ℕ) (exits : Exits) (t : ℕ) → IsOfWordsStatement s → HaveWords (statement_code starts s p exits t)

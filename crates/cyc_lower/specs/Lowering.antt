@@ -421,143 +421,144 @@ module _ (starts : Starts) where
   load_code words (Local p n) d = move_of words d (operands.Slot (slot_of starts n)) ∷ []
   load_code words (Global n) d = instructions.LoadGlobal d n ∷ []
 
-  -- The code of an expression that begins at place p and brings its value to slot d, with temporaries from slot t on.
-  abbrev mutual
-    pub expression_code : Expression → (p d t : ℕ) → List Instruction
-    expression_code (Number n) p d t = instructions.Move d (operands.Word n) ∷ []
-    expression_code NullPointer p d t = instructions.Move d (operands.Word 0) ∷ []
-    expression_code (Copy l ty) p d t = load_code (words_of ty) l d
-    expression_code (Move w n ty) p d t = load_code (words_of ty) (Local w n) d
-    expression_code (Peek w n ty) p d t = load_code (words_of ty) (Local w n) d
-    expression_code (Call callees.Putchar cs ty) p d t =
-        printed_code cs p t
-        ++ instructions.WriteByte (printed_operand cs (operands.Slot t) t)
-        ∷ low_byte (printed_operand cs (operands.Slot t) t) d
-        ∷ []
-    expression_code (Call callees.Getchar cs ty) p d t = arguments_code cs p t ++ instructions.ReadByte d ∷ []
-    expression_code (Call (callees.Function n) cs ty) p d t =
-        arguments_code cs p t ++ instructions.Call n t (all_passed cs) d ∷ []
-    expression_code (Unary o a) p d t =
-        code_unless (operand_of a) (expression_code a p (value_slot a t) t)
-        ++ instructions.Unary (unary_operator o) d (value_operand a t)
-        ∷ []
-    expression_code (Binary a os ty) p d t =
-        code_unless (left_of a os) (expression_code a p (left_slot a os d t) t)
-        ++ operations_code os (p + length (code_unless (left_of a os) (expression_code a p (left_slot a os d t) t)))
-        (operand_or (left_of a os) (left_slot a os d t)) d t
-    expression_code (Assign (Local w n) c ty) p d t =
-        initial_code c p (slot_of starts n) t ++ copy_code (passed_words c) (operands.Slot (slot_of starts n)) d
-    expression_code (Assign (Global n) c ty) p d t =
-        (converted_operand_code c p t ++ instructions.StoreGlobal n (converted_operand c t) ∷ []) ++ copy_code (passed_words c) (converted_operand c t) d
-    expression_code (Load x) p d t = place_code x p t ++ instructions.Load d (place_operand x t) (place_offset x) ∷ []
-    expression_code (AddressOfCell x ty) p d t = addressed_by (place_code x p t) (place_operand x t) (place_offset x) d
-    expression_code (Store x c ty) p d t =
-        stored_by (addressed_by (place_code x p t) (place_operand x t) (place_offset x) t)
-        (converted_operand_code c (p + length (addressed_by (place_code x p t) (place_operand x t) (place_offset x) t)) (t + 1)) t (converted_operand c (t + 1))
-        ++ copy_code (passed_words c) (converted_operand c (t + 1)) d
-    expression_code (New OnHeap i ty) p d t = made_code i HEAP p d t
-    expression_code a p d t = instructions.Move d (operands.Word 0) ∷ []
+-- The code of an expression that begins at place p and brings its value to slot d, with temporaries from slot t on.
+abbrev mutual
+  pub expression_code : (starts : Starts) → Expression → (p d t : ℕ) → List Instruction
+  expression_code starts (Number n) p d t = instructions.Move d (operands.Word n) ∷ []
+  expression_code starts NullPointer p d t = instructions.Move d (operands.Word 0) ∷ []
+  expression_code starts (Copy l ty) p d t = load_code starts (words_of ty) l d
+  expression_code starts (Move w n ty) p d t = load_code starts (words_of ty) (Local w n) d
+  expression_code starts (Peek w n ty) p d t = load_code starts (words_of ty) (Local w n) d
+  expression_code starts (Call callees.Putchar cs ty) p d t =
+      printed_code starts cs p t
+      ++ instructions.WriteByte (printed_operand starts cs (operands.Slot t) t)
+      ∷ low_byte (printed_operand starts cs (operands.Slot t) t) d
+      ∷ []
+  expression_code starts (Call callees.Getchar cs ty) p d t = arguments_code starts cs p t ++ instructions.ReadByte d ∷ []
+  expression_code starts (Call (callees.Function n) cs ty) p d t =
+      arguments_code starts cs p t ++ instructions.Call n t (all_passed cs) d ∷ []
+  expression_code starts (Unary o a) p d t =
+      code_unless (operand_of starts a) (expression_code starts a p (value_slot starts a t) t)
+      ++ instructions.Unary (unary_operator o) d (value_operand starts a t)
+      ∷ []
+  expression_code starts (Binary a os ty) p d t =
+      code_unless (left_of starts a os) (expression_code starts a p (left_slot starts a os d t) t)
+      ++ operations_code starts os (p + length (code_unless (left_of starts a os) (expression_code starts a p (left_slot starts a os d t) t)))
+      (operand_or (left_of starts a os) (left_slot starts a os d t)) d t
+  expression_code starts (Assign (Local w n) c ty) p d t =
+      initial_code starts c p (slot_of starts n) t ++ copy_code (passed_words c) (operands.Slot (slot_of starts n)) d
+  expression_code starts (Assign (Global n) c ty) p d t =
+      (converted_operand_code starts c p t ++ instructions.StoreGlobal n (converted_operand starts c t) ∷ []) ++ copy_code (passed_words c) (converted_operand starts c t) d
+  expression_code starts (Load x) p d t = place_code starts x p t ++ instructions.Load d (place_operand starts x t) (place_offset starts x) ∷ []
+  expression_code starts (AddressOfCell x ty) p d t = addressed_by (place_code starts x p t) (place_operand starts x t) (place_offset starts x) d
+  expression_code starts (Store x c ty) p d t =
+      stored_by (addressed_by (place_code starts x p t) (place_operand starts x t) (place_offset starts x) t)
+      (converted_operand_code starts c (p + length (addressed_by (place_code starts x p t) (place_operand starts x t) (place_offset starts x) t)) (t + 1)) t (converted_operand starts c (t + 1))
+      ++ copy_code (passed_words c) (converted_operand starts c (t + 1)) d
+  expression_code starts (New OnHeap i ty) p d t = made_code starts i HEAP p d t
+  expression_code starts a p d t = instructions.Move d (operands.Word 0) ∷ []
 
-    -- a place that a pointer leads to, which is tested
-    pub place_code : Dereference → (p t : ℕ) → List Instruction
-    place_code (Target k a ty) p t = converted_by (operand_of a) (expression_code a p (value_slot a t) t) kinds.NonNull (value_operand a t) p
-    place_code (Member k a s f ty) p t = converted_by (operand_of a) (expression_code a p (value_slot a t) t) kinds.NonNull (value_operand a t) p
-    place_code (Element a i ty) p t = instructions.Move t (operands.Word 0) ∷ []
+  -- a place that a pointer leads to, which is tested
+  pub place_code : (starts : Starts) → Dereference → (p t : ℕ) → List Instruction
+  place_code starts (Target k a ty) p t = converted_by (operand_of starts a) (expression_code starts a p (value_slot starts a t) t) kinds.NonNull (value_operand starts a t) p
+  place_code starts (Member k a s f ty) p t = converted_by (operand_of starts a) (expression_code starts a p (value_slot starts a t) t) kinds.NonNull (value_operand starts a t) p
+  place_code starts (Element a i ty) p t = instructions.Move t (operands.Word 0) ∷ []
 
-    -- A new object in the region of this handle. Each of its cells has one word yet.
-    pub made_code : Initial → (handle p d t : ℕ) → List Instruction
-    made_code (Plain kind a) handle p d t = expression_code a p t t ++ object_code handle 1 d t
-    made_code (Fields cs) handle p d t = arguments_code cs p t ++ object_code handle (argument_count cs) d t
-    made_code i handle p d t = instructions.Move d (operands.Word 0) ∷ []
+  -- A new object in the region of this handle. Each of its cells has one word yet.
+  pub made_code : (starts : Starts) → Initial → (handle p d t : ℕ) → List Instruction
+  made_code starts (Plain kind a) handle p d t = expression_code starts a p t t ++ object_code handle 1 d t
+  made_code starts (Fields cs) handle p d t = arguments_code starts cs p t ++ object_code handle (argument_count cs) d t
+  made_code starts i handle p d t = instructions.Move d (operands.Word 0) ∷ []
 
-    -- each argument comes into the slots behind those of the one before
-    pub arguments_code : Arguments → (p t : ℕ) → List Instruction
-    arguments_code NoArguments p t = []
-    arguments_code (MoreArguments c cs) p t = converted_code c p t ++ arguments_code cs (p + length (converted_code c p t)) (t + passed_words c)
+  -- each argument comes into the slots behind those of the one before
+  pub arguments_code : (starts : Starts) → Arguments → (p t : ℕ) → List Instruction
+  arguments_code starts NoArguments p t = []
+  arguments_code starts (MoreArguments c cs) p t = converted_code starts c p t ++ arguments_code starts cs (p + length (converted_code starts c p t)) (t + passed_words c)
 
-    -- the value comes to slot t and is converted there
-    pub converted_code : Converted → (p t : ℕ) → List Instruction
-    converted_code (Convert from to a) p t =
-        expression_code a p t t ++ conversion_code to (operands.Slot t) (p + length (expression_code a p t t))
+  -- the value comes to slot t and is converted there
+  pub converted_code : (starts : Starts) → Converted → (p t : ℕ) → List Instruction
+  converted_code starts (Convert from to a) p t =
+      expression_code starts a p t t ++ conversion_code to (operands.Slot t) (p + length (expression_code starts a p t t))
 
-    -- the value is converted where it is
-    pub converted_operand_code : Converted → (p t : ℕ) → List Instruction
-    converted_operand_code (Convert from to a) p t =
-        converted_by (source_of (Convert from to a)) (expression_code a p (source_slot (Convert from to a) t) t) to (converted_operand (Convert from to a) t) p
+  -- the value is converted where it is
+  pub converted_operand_code : (starts : Starts) → Converted → (p t : ℕ) → List Instruction
+  converted_operand_code starts (Convert from to a) p t =
+      converted_by (source_of starts (Convert from to a)) (expression_code starts a p (source_slot starts (Convert from to a) t) t) to (converted_operand starts (Convert from to a) t) p
 
-    -- the arguments of `putchar`, of which there is one
-    pub printed_code : Arguments → (p t : ℕ) → List Instruction
-    printed_code NoArguments p t = []
-    printed_code (MoreArguments c cs) p t =
-        converted_operand_code c p t ++ printed_code cs (p + length (converted_operand_code c p t)) t
+  -- the arguments of `putchar`, of which there is one
+  pub printed_code : (starts : Starts) → Arguments → (p t : ℕ) → List Instruction
+  printed_code starts NoArguments p t = []
+  printed_code starts (MoreArguments c cs) p t =
+      converted_operand_code starts c p t ++ printed_code starts cs (p + length (converted_operand_code starts c p t)) t
 
-    -- Slot d gets the value. It is the last that happens, and nothing can be raised behind it.
-    pub initial_code : Converted → (p d t : ℕ) → List Instruction
-    initial_code (Convert from to a) p d t =
-        if converts_there from to
-        then expression_code a p d t
-        else moved_by (source_of (Convert from to a)) (expression_code a p (source_slot (Convert from to a) t) t) to (converted_operand (Convert from to a) t) p d
+  -- Slot d gets the value. It is the last that happens, and nothing can be raised behind it.
+  pub initial_code : (starts : Starts) → Converted → (p d t : ℕ) → List Instruction
+  initial_code starts (Convert from to a) p d t =
+      if converts_there from to
+      then expression_code starts a p d t
+      else moved_by (source_of starts (Convert from to a)) (expression_code starts a p (source_slot starts (Convert from to a) t) t) to (converted_operand starts (Convert from to a) t) p d
 
-    -- The left operand is l. It is t where an operator is a test, or where the right operand has code.
-    pub operations_code : Operations → (p : ℕ) → (l : Operand) → (d t : ℕ) → List Instruction
-    operations_code NoOperations p l d t = []
-    operations_code (ThenCompute o b os) p l d t =
-        compute_code o l (value_operand b (suc t)) (code_unless (operand_of b) (expression_code b p (value_slot b (suc t)) (suc t))) p (next_slot os d t)
-        ++ operations_code os
-        (p + length (compute_code o l (value_operand b (suc t)) (code_unless (operand_of b) (expression_code b p (value_slot b (suc t)) (suc t))) p (next_slot os d t)))
-        (operands.Slot (next_slot os d t)) d t
-    operations_code (ThenTest o b os) p l d t =
-        test_code o (expression_code b (p + 1) t t) p (next_slot os d t) t
-        ++ operations_code os (p + length (test_code o (expression_code b (p + 1) t t) p (next_slot os d t) t)) (operands.Slot (next_slot os d t)) d t
-    operations_code (ThenPointer o b os) p l d t =
-        pointer_code o l (value_operand b (behind_left o t)) (code_unless (operand_of b) (expression_code b p (value_slot b (behind_left o t)) (behind_left o t))) (next_slot os d t)
-        ++ operations_code os
-        (p + length (pointer_code o l (value_operand b (behind_left o t)) (code_unless (operand_of b) (expression_code b p (value_slot b (behind_left o t)) (behind_left o t))) (next_slot os d t)))
-        (operands.Slot (next_slot os d t)) d t
-    operations_code (ThenPointerPeek n o b os) p l d t =
-        pointer_code o l (value_operand b (behind_left o t)) (code_unless (operand_of b) (expression_code b p (value_slot b (behind_left o t)) (behind_left o t))) (next_slot os d t)
-        ++ operations_code os
-        (p + length (pointer_code o l (value_operand b (behind_left o t)) (code_unless (operand_of b) (expression_code b p (value_slot b (behind_left o t)) (behind_left o t))) (next_slot os d t)))
-        (operands.Slot (next_slot os d t)) d t
+  -- The left operand is l. It is t where an operator is a test, or where the right operand has code.
+  pub operations_code : (starts : Starts) → Operations → (p : ℕ) → (l : Operand) → (d t : ℕ) → List Instruction
+  operations_code starts NoOperations p l d t = []
+  operations_code starts (ThenCompute o b os) p l d t =
+      compute_code o l (value_operand starts b (suc t)) (code_unless (operand_of starts b) (expression_code starts b p (value_slot starts b (suc t)) (suc t))) p (next_slot os d t)
+      ++ operations_code starts os
+      (p + length (compute_code o l (value_operand starts b (suc t)) (code_unless (operand_of starts b) (expression_code starts b p (value_slot starts b (suc t)) (suc t))) p (next_slot os d t)))
+      (operands.Slot (next_slot os d t)) d t
+  operations_code starts (ThenTest o b os) p l d t =
+      test_code o (expression_code starts b (p + 1) t t) p (next_slot os d t) t
+      ++ operations_code starts os (p + length (test_code o (expression_code starts b (p + 1) t t) p (next_slot os d t) t)) (operands.Slot (next_slot os d t)) d t
+  operations_code starts (ThenPointer o b os) p l d t =
+      pointer_code o l (value_operand starts b (behind_left o t)) (code_unless (operand_of starts b) (expression_code starts b p (value_slot starts b (behind_left o t)) (behind_left o t))) (next_slot os d t)
+      ++ operations_code starts os
+      (p + length (pointer_code o l (value_operand starts b (behind_left o t)) (code_unless (operand_of starts b) (expression_code starts b p (value_slot starts b (behind_left o t)) (behind_left o t))) (next_slot os d t)))
+      (operands.Slot (next_slot os d t)) d t
+  operations_code starts (ThenPointerPeek n o b os) p l d t =
+      pointer_code o l (value_operand starts b (behind_left o t)) (code_unless (operand_of starts b) (expression_code starts b p (value_slot starts b (behind_left o t)) (behind_left o t))) (next_slot os d t)
+      ++ operations_code starts os
+      (p + length (pointer_code o l (value_operand starts b (behind_left o t)) (code_unless (operand_of starts b) (expression_code starts b p (value_slot starts b (behind_left o t)) (behind_left o t))) (next_slot os d t)))
+      (operands.Slot (next_slot os d t)) d t
 
+module _ (starts : Starts) where
   -- an assignment, and the operand where its value stands then
   abbrev pub assignment_code : Lvalue → Converted → (p t : ℕ) → List Instruction
-  assignment_code (Local w n) c p t = initial_code c p (slot_of starts n) t
-  assignment_code (Global n) c p t = converted_operand_code c p t ++ instructions.StoreGlobal n (converted_operand c t) ∷ []
+  assignment_code (Local w n) c p t = initial_code starts c p (slot_of starts n) t
+  assignment_code (Global n) c p t = converted_operand_code starts c p t ++ instructions.StoreGlobal n (converted_operand starts c t) ∷ []
 
   abbrev pub assigned_operand : Lvalue → Converted → (t : ℕ) → Operand
   assigned_operand (Local w n) c t = operands.Slot (slot_of starts n)
-  assigned_operand (Global n) c t = converted_operand c t
+  assigned_operand (Global n) c t = converted_operand starts c t
 
   -- The address of a place comes to slot t, and waits there for the right side.
   abbrev pub store_address_code : Dereference → (p t : ℕ) → List Instruction
-  store_address_code x p t = addressed_by (place_code x p t) (place_operand x t) (place_offset x) t
+  store_address_code x p t = addressed_by (place_code starts x p t) (place_operand starts x t) (place_offset starts x) t
 
   -- a value is stored in a cell
   abbrev pub store_code : Dereference → Converted → (p t : ℕ) → List Instruction
   store_code x c p t =
-      stored_by (store_address_code x p t) (converted_operand_code c (p + length (store_address_code x p t)) (t + 1)) t (converted_operand c (t + 1))
+      stored_by (store_address_code x p t) (converted_operand_code starts c (p + length (store_address_code x p t)) (t + 1)) t (converted_operand starts c (t + 1))
 
   -- the code of an expression whose value nobody wants
   abbrev pub discarded_code : Expression → (p t : ℕ) → List Instruction
   discarded_code (Call callees.Putchar cs ty) p t =
-      printed_code cs p t ++ instructions.WriteByte (printed_operand cs (operands.Slot t) t) ∷ []
+      printed_code starts cs p t ++ instructions.WriteByte (printed_operand starts cs (operands.Slot t) t) ∷ []
   discarded_code (Assign l c ty) p t = assignment_code l c p t
   discarded_code (Store x c ty) p t = store_code x c p t
-  discarded_code a p t = code_unless (operand_of a) (expression_code a p t t)
+  discarded_code a p t = code_unless (operand_of starts a) (expression_code starts a p t t)
 
   -- ---- statements
 
   -- Two operands that are compared, the left one first. It is taken without code only where the right one is too.
   abbrev pub first_operand : (a b : Expression) → (t : ℕ) → Operand
-  first_operand a b t = operand_or (left_with (operand_of b) (operand_of a)) (slot_with (operand_of b) a t)
+  first_operand a b t = operand_or (left_with (operand_of starts b) (operand_of starts a)) (slot_with starts (operand_of starts b) a t)
 
   abbrev pub first_code : (a b : Expression) → (p t : ℕ) → List Instruction
   first_code a b p t =
-      code_unless (left_with (operand_of b) (operand_of a)) (expression_code a p (slot_with (operand_of b) a t) t)
+      code_unless (left_with (operand_of starts b) (operand_of starts a)) (expression_code starts a p (slot_with starts (operand_of starts b) a t) t)
 
   abbrev pub second_code : Expression → (p t : ℕ) → List Instruction
-  second_code b p t = code_unless (operand_of b) (expression_code b p (value_slot b (suc t)) (suc t))
+  second_code b p t = code_unless (operand_of starts b) (expression_code starts b p (value_slot starts b (suc t)) (suc t))
 
   abbrev pub pair_code : (a b : Expression) → (p t : ℕ) → List Instruction
   pair_code a b p t = first_code a b p t ++ second_code b (p + length (first_code a b p t)) t
@@ -570,22 +571,22 @@ module _ (starts : Starts) where
   condition_of a t = record {
     failing = (compared_of a).failing;
     left = first_operand (compared_of a).left (compared_of a).right t;
-    right = value_operand (compared_of a).right (suc t);
+    right = value_operand starts (compared_of a).right (suc t);
   }
 
   -- a value is returned from a slot: that of a local, or t
   abbrev pub return_code : Option Converted → (p t : ℕ) → List Instruction
   return_code None p t = instructions.Return t ∷ []
   return_code (Some (Convert from to a)) p t =
-      code_unless_slot (source_of (Convert from to a)) (expression_code a p t t)
-      ++ conversion_code to (operands.Slot (slot_or (source_of (Convert from to a)) t)) (p + length (code_unless_slot (source_of (Convert from to a)) (expression_code a p t t)))
-      ++ instructions.Return (slot_or (source_of (Convert from to a)) t)
+      code_unless_slot (source_of starts (Convert from to a)) (expression_code starts a p t t)
+      ++ conversion_code to (operands.Slot (slot_or (source_of starts (Convert from to a)) t)) (p + length (code_unless_slot (source_of starts (Convert from to a)) (expression_code starts a p t t)))
+      ++ instructions.Return (slot_or (source_of starts (Convert from to a)) t)
       ∷ []
 
   -- a local with an initial value gets it
   abbrev pub declaration_code : (number : ℕ) → Option Converted → (p t : ℕ) → List Instruction
   declaration_code n None p t = []
-  declaration_code n (Some c) p t = initial_code c p (slot_of starts n) t
+  declaration_code n (Some c) p t = initial_code starts c p (slot_of starts n) t
 
   -- The code of a statement that begins at place p, with its ways out and the first slot for temporaries.
   abbrev mutual
