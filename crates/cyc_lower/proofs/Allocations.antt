@@ -46,7 +46,7 @@ use Rattle.cyc_objects.proofs.Making.{open-home, allocated, refusal-allocate, op
 use Rattle.cyc_lower.specs.Lowering.{lower_program}
 use Rattle.cyc_lower.proofs.Widths.{kind_positive, Outside}
 use Rattle.cyc_lower.proofs.Stands.{StoresAt, ObjectAt}
-use Rattle.cyc_lower.proofs.Relation.{IsWord, IsIn, IsObject, words_held, height, Holds, HoldsFrom, held, callers, homes, silent, DataIn, SharedAt, in_temporary, into_slot, LandsStack, ValueStack, Matches, code_of, bounds_at, types_at, base_of, top}
+use Rattle.cyc_lower.proofs.Relation.{types_on, starts_on, IsWord, IsIn, IsObject, words_held, height, Holds, HoldsFrom, held, callers, homes, silent, DataIn, SharedAt, in_temporary, into_slot, LandsStack, ValueStack, Matches, code_of, bounds_at, types_at, base_of, top}
 use Rattle.cyc_lower.proofs.Data.{Is-same, height-least, one_word, Holds-same, Holds-rest, Holds-grows, HoldsFrom-grows, in_order, words-reverse, data_above, data_grows, variables_grow, contents_made}
 use Rattle.cyc_lower.proofs.Accesses.{IsWell, is_fitting}
 use Rattle.cyc_lower.proofs.CellWrites.{SameVariables, data_beside, cell_is_there, saves_there, shared_saved, data_saved}
@@ -200,6 +200,7 @@ module _ (source : Program) (pages calls : ℕ) where
       variables = variables_grow shared.tables grown grows (e.home ∷ homes k) shared.variables;
       few_pages = within_pages;
       fits = shared.fits;
+      counters = shared.counters;
     }
       where
         within_pages : demand after.store ≤ pages
@@ -248,7 +249,7 @@ module _ (source : Program) (pages calls : ℕ) where
   pub heap_object : (focus : Focus) (k₀ k : List Entry) (e : Environment) (w : World) (c : Configuration) (vs : List Kinded) (d q : ℕ) → step source (Running focus k₀ e w) ≡ makes_of (InRegion heap_number) vs k e w
       → IsWell (makes_of (InRegion heap_number) vs k e w) → SharedAt source pages calls k₀ e w c → (shared : SharedAt source pages calls k e w c) → DataIn source shared.tables c.active.slots k e w c
       → Holds shared.tables c.active.slots (base_of source c.active.function) (held k) → HoldsFrom shared.tables c.active.slots (top source c.active.function k) vs
-      → ObjectAt (code_of source c.active.function) (bounds_at source c.active.function) (types_at source c.active.function) HEAP (length vs) (words_held vs) (top source c.active.function k) d c.active.next q
+      → ObjectAt (code_of source c.active.function) (bounds_at source c.active.function) (types_on source c.active.function k) HEAP (length vs) (words_held vs) (top source c.active.function k) d c.active.next q
       → LandsStack source c.active.function e.locals kinds.NonNull d q c.frames k → IsMatched source pages calls (Running focus k₀ e w) (plain.Running c)
   heap_object focus k₀ k e w c vs d q does well shared₀ shared facts holds values (m, single, some, few, ask, stores, move, end) lands =
       let t = top source c.active.function k in
@@ -320,8 +321,8 @@ module _ (source : Program) (pages calls : ℕ) where
       let words : words_of_kind v.kind ≡ words_held (v ∷ []) = omega arith in
       heap_object (Given v) (Needs (MakePlain (InRegion region) kind) ∷ k) k e w c (v ∷ []) d q (does ∙ at_heap) (subst IsWell (does ∙ at_heap) well) shared shared facts holds
       (subst (IsIn shared.tables v c.active.slots) there is, tt)
-      (subst (λ n. ObjectAt (code_of source g) (bounds_at source g) (types_at source g) HEAP 1 n t d c.active.next q) words
-      (subst (λ h. ObjectAt (code_of source g) (bounds_at source g) (types_at source g) h 1 (words_of_kind v.kind) t d c.active.next q) handle_is (m, single, some, few, ask, stores, move, end)))
+      (subst (λ n. ObjectAt (code_of source g) (bounds_at source g) (types_on source g k) HEAP 1 n t d c.active.next q) words
+      (subst (λ h. ObjectAt (code_of source g) (bounds_at source g) (types_on source g k) h 1 (words_of_kind v.kind) t d c.active.next q) handle_is (m, single, some, few, ask, stores, move, end)))
       lands
   plain_made (Unique live) kind v o k e w c well shared facts is holds (handle, d, q, owned, there, at, lands) = absurd owned
 
@@ -342,10 +343,10 @@ module _ (source : Program) (pages calls : ℕ) where
       let count : length earlier + suc 0 ≡ length values = omega (arith, length-reverse (v ∷ earlier)) in
       heap_object (Given v) (Needs (MakeFields (InRegion region) earlier NoArguments) ∷ k) k e w c values d q at_heap (subst IsWell at_heap well) shared shared facts (Holds-rest shared.tables c.active.slots base (v ∷ earlier) (held k) held_all)
       (in_order shared.tables c.active.slots base (v ∷ earlier) (held k) held_all)
-      (subst (λ n. ObjectAt (code_of source g) (bounds_at source g) (types_at source g) HEAP n (words_held values) t d c.active.next q) count
-      (subst (λ n. ObjectAt (code_of source g) (bounds_at source g) (types_at source g) HEAP (length earlier + suc 0) n t d c.active.next q) words
-      (subst (λ h. ObjectAt (code_of source g) (bounds_at source g) (types_at source g) h (length earlier + suc 0) all t d c.active.next q) handle_is
-      (subst (λ x. ObjectAt (code_of source g) (bounds_at source g) (types_at source g) handle (length earlier + suc 0) all t d x q) (sym none) (m, single, some, few, ask, stores, move, end)))))
+      (subst (λ n. ObjectAt (code_of source g) (bounds_at source g) (types_on source g k) HEAP n (words_held values) t d c.active.next q) count
+      (subst (λ n. ObjectAt (code_of source g) (bounds_at source g) (types_on source g k) HEAP (length earlier + suc 0) n t d c.active.next q) words
+      (subst (λ h. ObjectAt (code_of source g) (bounds_at source g) (types_on source g k) h (length earlier + suc 0) all t d c.active.next q) handle_is
+      (subst (λ x. ObjectAt (code_of source g) (bounds_at source g) (types_on source g k) handle (length earlier + suc 0) all t d x q) (sym none) (m, single, some, few, ask, stores, move, end)))))
       lands
   fields_made owner earlier (MoreArguments (Convert from to a) cs) v o k e w c well shared facts is holds (handle, d, p, q, all, owned, there, (r, (s, at_a, at_to), at_cs), (m, single, some, few, ask, stores, move, end), long, lands) =
       let g = c.active.function in
@@ -404,7 +405,7 @@ module _ (source : Program) (pages calls : ℕ) where
       let points : Points tables object (length done) place = cell_next tables object (slots address) done rest u.kind there in
       let single_cell : words_of_kind cell.cell.kind ≡ 1 = ap words_of_kind same ∙ one in
       let is_word : IsWord tables cell.cell.kind u.value word = subst (λ i. IsWord tables i u.value word) (sym same) (one_word tables u.kind u.value slots slot one is_u) in
-      let (store, more) = subst (λ n. StoresAt (code_of source g) (bounds_at source g) (types_at source g) n address (4 * words_of_kinds done) slot c.active.next m) (let e : words_held us + words_of_kind u.kind ≡ suc (words_held us) = omega (arith, one) in e) at in
+      let (store, more) = subst (λ n. StoresAt (code_of source g) (bounds_at source g) (types_on source g k) n address (4 * words_of_kinds done) slot c.active.next m) (let e : words_held us + words_of_kind u.kind ≡ suc (words_held us) = omega (arith, one) in e) at in
       let after : Configuration = advanced (with_memory c place word) in
       let later = shared_saved source pages calls k e w c shared object (length done) place word cell u.value found points single_cell is_word (words.0 slot) in
       let longer : length (done ++ u.kind ∷ []) ≡ suc (length done) = omega (arith, length-append done (u.kind ∷ [])) in
@@ -428,7 +429,7 @@ module _ (source : Program) (pages calls : ℕ) where
           subst (IsObject tables object (slots address)) (sym (append_assoc done (u.kind ∷ []) rest)) there,
           ones,
           subst (λ n. HoldsFrom tables slots n us) (let e : slot + words_of_kind u.kind ≡ suc slot = omega (arith, one) in e) held_in,
-          subst (λ n. StoresAt (code_of source g) (bounds_at source g) (types_at source g) (words_held us) address n (suc slot) (c.active.next + 1) m) (sym wider) more,
+          subst (λ n. StoresAt (code_of source g) (bounds_at source g) (types_on source g k) (words_held us) address n (suc slot) (c.active.next + 1) m) (sym wider) more,
           move,
           end,
           holds,

@@ -49,6 +49,7 @@ module _ (b : Numbering) where
     pub Fits : (types : Types) → Expression → Type 0
     Fits types (Number n) = Unit {0}
     Fits types NullPointer = Unit {0}
+    Fits types (Counter l) = l < length types.counters
     Fits types (Copy l t) = FitsPlace b types l (kind_of t)
     Fits types (Move p n t) = FitsPlace b types (Local p n) (kind_of t)
     Fits types (Peek p n t) = FitsPlace b types (Local p n) (kind_of t)
@@ -291,6 +292,7 @@ module _ (b : Numbering) (types : Types) where
     functions : c.functions ≡ b.functions
     structs : c.structs ≡ types.structs
     variables : c.variables ≡ types.locals
+    counters : c.counters ≡ length types.counters
     result : c.result ≡ b.result
 
   room_in : (c : Context) (n : ℕ) (t : Ty) (kind : Kind) → Suits c → slice_get c.variables n ≡ Some t → kind ≡ kind_of t → HasRoom types n kind
@@ -345,6 +347,7 @@ module _ (b : Numbering) where
     fits types (Copy (Local p n) t) c v suits few (there, stays, is) = (subst (IsGiven (kind_of t)) (sym is) refl, (few, room_in b types c n t (kind_of t) suits there.1 refl))
     fits types (Move p n t) c v suits few (there, moved, is) = (subst (IsGiven (kind_of t)) (sym is) refl, (few, room_in b types c n t (kind_of t) suits there.1 refl))
     fits types (Peek p n t) c v suits few well = absurd well
+    fits types (Counter l) c v suits numbered (few, is) = (subst (IsGiven kinds.Int) (sym is) refl, omega (arith, few, suits.counters))
     fits types (Copy (Global n) t) c v suits few (there, stays, is) = (subst (IsGiven (kind_of t)) (sym is) refl, few)
     fits types (Call f cs u) c v suits (s, signature, many, numbered) (s', m, callee, long, regions, passed, live, outliving, u_is, v_is) =
         let agree = same_signature b types f c s' s suits callee signature in
@@ -464,19 +467,19 @@ module _ (b : Numbering) (types : Types) where
       (room_in b types c n t (passed_kind d) suits there kind, fitting)
 
   suits_behind : (s : Statement) (c : Context) → Suits b types c → Suits b types (behind c s)
-  suits_behind s c suits = record { functions = suits.functions; structs = suits.structs; variables = suits.variables; result = suits.result }
+  suits_behind s c suits = record { functions = suits.functions; structs = suits.structs; variables = suits.variables; counters = suits.counters; result = suits.result }
 
   mutual
     fits_statement : (s : Statement) (l : Bool) (c : Context) → Suits b types c → IsLowerableStatement b l s → WellTypedStatement c s → FitsStatement b types l s
     fits_statement (Block r js) l c suits numbered (next, well) =
-        fit_items js l (in_block c) (record { functions = suits.functions; structs = suits.structs; variables = suits.variables; result = suits.result }) numbered well
+        fit_items js l (in_block c) (record { functions = suits.functions; structs = suits.structs; variables = suits.variables; counters = suits.counters; result = suits.result }) numbered well
     fits_statement Empty l c suits numbered well = tt
     fits_statement (Evaluate a) l c suits numbered (t, well) = (fits b types a c t suits numbered well).1
     fits_statement (If a s t) l c suits (numbered_a, numbered_s, numbered_t) (well_a, well_s, well_t) =
         (fits_condition a c suits numbered_a well_a, fits_statement s l c suits numbered_s well_s, fits_statement t l (behind c s) (suits_behind s c suits) numbered_t well_t)
     fits_statement (While p a s) l c suits (numbered_a, numbered_s) (well_a, well_s) = (
       fits_condition a c suits numbered_a well_a,
-      fits_statement s true (in_body c) (record { functions = suits.functions; structs = suits.structs; variables = suits.variables; result = suits.result }) numbered_s well_s,
+      fits_statement s true (in_body c) (record { functions = suits.functions; structs = suits.structs; variables = suits.variables; counters = suits.counters; result = suits.result }) numbered_s well_s,
     )
     fits_statement (Return v) l c suits numbered well = fits_return b.result v c suits numbered (subst (λ (r : Option Ty). IsReturned c r v) suits.result well)
     fits_statement Break l c suits numbered well = numbered
@@ -490,19 +493,19 @@ module _ (b : Numbering) (types : Types) where
     fit_items (MoreItems (Declare n t v) js) l c suits (few, one, all) ((next, there, live), well, rest) = (
       few,
       fits_initial v n t c suits there one well,
-      fit_items js l (with_local true t c) (record { functions = suits.functions; structs = suits.structs; variables = suits.variables; result = suits.result }) all rest,
+      fit_items js l (with_local true t c) (record { functions = suits.functions; structs = suits.structs; variables = suits.variables; counters = suits.counters; result = suits.result }) all rest,
     )
     fit_items js l c suits numbered well = absurd numbered
 
-  pub body_fits : (js : Items) (c : Context) → c.functions ≡ b.functions → c.structs ≡ types.structs → c.variables ≡ types.locals → c.result ≡ b.result → AreLowerableItems b false js → WellTypedItems c js → FitItems b types false js
-  body_fits js c functions structs variables result numbered well = fit_items js false c (record { functions = functions; structs = structs; variables = variables; result = result }) numbered well
+  pub body_fits : (js : Items) (c : Context) → c.functions ≡ b.functions → c.structs ≡ types.structs → c.variables ≡ types.locals → c.counters ≡ length types.counters → c.result ≡ b.result → AreLowerableItems b false js → WellTypedItems c js → FitItems b types false js
+  body_fits js c functions structs variables counters result numbered well = fit_items js false c (record { functions = functions; structs = structs; variables = variables; counters = counters; result = result }) numbered well
 
 -- ---- programs
 
 functions_fit : (p : Program) (hs : List Function) → AreLowerableFunctions (length p.globals) (signatures_of p.functions) hs → AreWellTypedFunctions p hs → AreFitting p.structs (length p.globals) (signatures_of p.functions) hs
 functions_fit p [] numbered well = tt
 functions_fit p (h ∷ hs) (one, all) (well, rest) =
-    (body_fits (numbering_of (length p.globals) (signatures_of p.functions) h) (types_of p.structs h) h.body (body_context p h) refl refl refl refl one well.body, functions_fit p hs all rest)
+    (body_fits (numbering_of (length p.globals) (signatures_of p.functions) h) (types_of p.structs h) h.body (body_context p h) refl refl refl refl refl one well.body, functions_fit p hs all rest)
 
 pub is_fitting_program : (p : Program) → IsLowerableProgram p → IsWellTypedProgram p → IsFitting p
 is_fitting_program p numbered well = record {

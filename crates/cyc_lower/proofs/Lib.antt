@@ -24,6 +24,7 @@ pub mod Evaluations
 pub mod Accesses
 pub mod Branching
 pub mod Conditions
+pub mod Counters
 pub mod Calls
 pub mod StatementSteps
 pub mod Keeping

@@ -1,5 +1,5 @@
 -- Where in a function's code the code of a construct stands, with all places between its parts left open.
-use Rattle.std.proofs.Common.{◌≡◌, ℕ, suc, ◌+◌, ◌<◌, Bool, true, false, List, Option, None, Some, zero, ◌≤◌, max}
+use Rattle.std.proofs.Common.{◌≡◌, ℕ, suc, ◌+◌, ◌<◌, Bool, true, false, List, Option, None, Some, zero, ◌≤◌, max, slice_get}
 use Rattle.std.specs.Prelude.{◌==◌}
 use Rattle.cyc_types.specs.declared.typed.Kind.{Kind}
 use Rattle.cyc_types.specs.declared.typed.Kind.TheVariants as kinds
@@ -8,7 +8,7 @@ use Rattle.cyc_types.specs.declared.typed.Operator.{Operator}
 use Rattle.cyc_types.specs.declared.typed.Operator.TheVariants as operators
 use Rattle.cyc_types.specs.declared.typed.PointerOperator.{PointerOperator}
 use Rattle.cyc_types.specs.declared.typed.PointerOperator.TheVariants as pointers
-use Rattle.cyc_types.specs.TypedTrees.{type_of_place, Load, Dereference, Target, Lvalue, Local, Global, Expression, Number, NullPointer, Copy, Call, Unary, Binary, Assign, Converted, Convert, Arguments, NoArguments, MoreArguments, Operations, NoOperations, ThenCompute, ThenTest, ThenPointer, Statement, Block, Empty, Evaluate, If, While, Return, Break, Continue, Items, NoItems, MoreItems, Execute, Declare, Move, Peek, ThenPointerPeek, New, OnHeap, Initial, Plain, Fields, AddressOfCell, Store, Member}
+use Rattle.cyc_types.specs.TypedTrees.{Counter, type_of_place, Load, Dereference, Target, Lvalue, Local, Global, Expression, Number, NullPointer, Copy, Call, Unary, Binary, Assign, Converted, Convert, Arguments, NoArguments, MoreArguments, Operations, NoOperations, ThenCompute, ThenTest, ThenPointer, Statement, Block, Empty, Evaluate, If, While, Return, Break, Continue, Items, NoItems, MoreItems, Execute, Declare, Move, Peek, ThenPointerPeek, New, OnHeap, Initial, Plain, Fields, AddressOfCell, Store, Member}
 use Rattle.cyc_types.specs.Types.{words_of}
 use Rattle.cyc_types.specs.Numbered.{Numbering, argument_count}
 use Rattle.cyc_plain.specs.declared.instruction.UnaryOperator.TheVariants as plain_unary
@@ -122,6 +122,8 @@ module _ (code : List Instruction) (bounds : Numbering) where
     pub ExpressionAt : (types : Types) → Expression → (d t p q : ℕ) → Type 0
     ExpressionAt types (Number n) d t p q = At code p (instructions.Move d (operands.Word n)) × (p + 1 ≡ q)
     ExpressionAt types NullPointer d t p q = At code p (instructions.Move d (operands.Word 0)) × (p + 1 ≡ q)
+    ExpressionAt types (Counter l) d t p q =
+        (slot : ℕ) × (slice_get types.counters l ≡ Some slot) × At code p (instructions.Move d (operands.Slot slot)) × (p + 1 ≡ q)
     ExpressionAt types (Copy l ty) d t p q = LoadAt code bounds types (words_of ty) l d p q
     ExpressionAt types (Move w n ty) d t p q = LoadAt code bounds types (words_of ty) (Local w n) d p q
     ExpressionAt types (Peek w n ty) d t p q = LoadAt code bounds types (words_of ty) (Local w n) d p q

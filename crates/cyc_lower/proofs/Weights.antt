@@ -9,6 +9,7 @@ abbrev mutual
   pub expression_weight : Expression → ℕ
   expression_weight (Number n) = 1
   expression_weight NullPointer = 1
+  expression_weight (typed.Counter l) = 1
   expression_weight (Copy l t) = 1
   expression_weight (Move p n t) = 1
   expression_weight (Peek p n t) = 1

@@ -13,7 +13,7 @@ use Rattle.cyc_types.specs.declared.typed.PointerOperator.TheVariants as pointer
 use Rattle.cyc_types.specs.declared.typed.LogicalOperator.{LogicalOperator}
 use Rattle.cyc_types.specs.declared.typed.LogicalOperator.TheVariants as logical
 use Rattle.cyc_types.specs.Types.{Ty, words_of, ValueType, Void, Null, Value}
-use Rattle.cyc_types.specs.TypedTrees.{Load, New, OnHeap, AsUnique, ByHandle, Initial, Plain, Fields, Array, Dereference, Target, type_of_place, Lvalue, Local, Global, Expression, Number, NullPointer, Copy, Call, Unary, Binary, Assign, Converted, Convert, Arguments, NoArguments, MoreArguments, Operations, NoOperations, ThenCompute, ThenTest, ThenPointer, type_of, Statement, Block, Empty, Evaluate, If, While, Return, Break, Continue, Items, NoItems, MoreItems, Execute, Declare, GlobalVariable, Signature, StructType, Function, Program, Move, Peek, ThenPointerPeek, AddressOfCell, Store, Member}
+use Rattle.cyc_types.specs.TypedTrees.{Counter, Load, New, OnHeap, AsUnique, ByHandle, Initial, Plain, Fields, Array, Dereference, Target, type_of_place, Lvalue, Local, Global, Expression, Number, NullPointer, Copy, Call, Unary, Binary, Assign, Converted, Convert, Arguments, NoArguments, MoreArguments, Operations, NoOperations, ThenCompute, ThenTest, ThenPointer, type_of, Statement, Block, Empty, Evaluate, If, While, Return, Break, Continue, Items, NoItems, MoreItems, Execute, Declare, GlobalVariable, Signature, StructType, Function, Program, Move, Peek, ThenPointerPeek, AddressOfCell, Store, Member}
 use Rattle.cyc_types.specs.typing.WellTyped.{signature_of}
 use Rattle.cyc_types.specs.Numbered.{Numbering, argument_count, signatures_of, numbering_of}
 use Rattle.cyc_plain.specs.declared.instruction.Comparison.{Comparison}
@@ -25,7 +25,7 @@ use Rattle.cyc_plain.specs.declared.instruction.Instruction.TheVariants as instr
 use Rattle.cyc_plain.specs.Program.{Routine, Program as PlainProgram, no_routine, routine_at}
 use Rattle.cyc_plain.specs.declared.limits.TheConstants.{MOST_GLOBALS}
 use Rattle.cyc_plain.specs.WellFormed.{IsOperand, IsInRange, IsRoutine, IsWellFormed, leaves}
-use Rattle.std.specs.Prelude.{◌==◌, max, if◌then◌else◌}
+use Rattle.std.specs.Prelude.{unwrap_or, ◌==◌, max, if◌then◌else◌}
 use Rattle.std.proofs.lemmas.Bool.{eqb-true}
 use Rattle.cyc_meaning.specs.Operators.{null_exception, division_by_zero}
 use Rattle.cyc_store.specs.declared.range.TheConstants.{HEAP}
@@ -33,8 +33,9 @@ use Rattle.cyc_meaning.specs.Values.{kind_of, words_of_kind}
 use Rattle.cyc_meaning.specs.FrameCount.{result_words, operand_words, converted_words, argument_words, expression_need, dereference_need, converted_need, arguments_need, operations_need, initial_need, statement_need, items_need, words_of_all, initial_value_need, place_words}
 use Rattle.cyc_lower.specs.declared.statements.Exits.{Exits}
 use Rattle.cyc_meaning.specs.Pointers.{result_kind as operator_kind}
+use Rattle.cyc_objects.proofs.NumberLemmas.{slice_get-there}
 use Rattle.cyc_lower.specs.Slots.{starts_of, slot_of, Types}
-use Rattle.cyc_lower.specs.Lowering.{types_of, spare_slots, are_as_wide, converts_there, passed_words, all_passed, source_of, source_slot, moved_by, move_of, unary_operator, binary_operator, operand_of, operand_or, code_unless, slot_or, code_unless_slot, left_with, left_of, value_slot, next_slot, slot_with, left_slot, value_operand, converted_operand, printed_operand, check_code, conversion_code, divisor_code, checked_code, operator_code, truth_code, load_code, low_byte, test_code, is_in, copy_code, expression_code, arguments_code, converted_code, converted_operand_code, printed_code, initial_code, assignment_code, operations_code, discarded_code, failing_comparison, compared_or, first_operand, first_code, second_code, pair_code, condition_code, condition_of, failing_jump, break_target, continue_target, return_code, declaration_code, statement_code, items_code, first_temporary, results_of, lower_function, lower_global, lower_program, pointer_operator, left_kind, behind_left, pointer_code, outside_loops, inside_loop, index_code, pointer_instructions, stores_code, object_code, made_code, place_operand, place_offset, place_code, address_code, addressed_by, store_address_code, store_code}
+use Rattle.cyc_lower.specs.Lowering.{counter_operand, types_of, spare_slots, are_as_wide, converts_there, passed_words, all_passed, source_of, source_slot, moved_by, move_of, unary_operator, binary_operator, operand_of, operand_or, code_unless, slot_or, code_unless_slot, left_with, left_of, value_slot, next_slot, slot_with, left_slot, value_operand, converted_operand, printed_operand, check_code, conversion_code, divisor_code, checked_code, operator_code, truth_code, load_code, low_byte, test_code, is_in, copy_code, expression_code, arguments_code, converted_code, converted_operand_code, printed_code, initial_code, assignment_code, operations_code, discarded_code, failing_comparison, compared_or, first_operand, first_code, second_code, pair_code, condition_code, condition_of, failing_jump, break_target, continue_target, return_code, declaration_code, statement_code, items_code, first_temporary, results_of, lower_function, lower_global, lower_program, pointer_operator, left_kind, behind_left, pointer_code, outside_loops, inside_loop, index_code, pointer_instructions, stores_code, object_code, made_code, place_operand, place_offset, place_code, address_code, addressed_by, store_address_code, store_code}
 use Rattle.cyc_lower.proofs.Widths.{kind_positive, kind_few, type_words, kind_of_result, result_kind, given, passed_kind, words_in, chain_kind, made_kind}
 use Rattle.cyc_lower.proofs.Fitting.{FitsPlace, FitsStored, FitsCell, Fits, FitsConverted, FitArguments, FitOperations, FitsReturn, FitsInitial, FitsStatement, FitItems, AreFitting, IsFitting, FitsObject}
 use Rattle.cyc_lower.proofs.Values.{as_wide}
@@ -99,7 +100,7 @@ record IsKnown (program : PlainProgram) (n : ℕ) (s : Signature) : Type 0 where
   pub parameters : (routine_at program n).parameters ≡ words_of_all s.parameters
   pub results : (routine_at program n).results ≡ results_of s.result
 
-module _ (program : PlainProgram) (r : Routine) (b : Numbering) (types : Types) (locals : (n : ℕ) → n < b.locals → slot_of (starts_of types) n + words_in types.locals n ≤ r.slots) (globals : b.globals ≡ length program.globals) (called : (n : ℕ) (s : Signature) → slice_get b.functions n ≡ Some s → IsKnown program n s) (results : r.results ≡ results_of b.result) where
+module _ (program : PlainProgram) (r : Routine) (b : Numbering) (types : Types) (locals : (n : ℕ) → n < b.locals → slot_of (starts_of types) n + words_in types.locals n ≤ r.slots) (levels : (l slot : ℕ) → slice_get types.counters l ≡ Some slot → slot < r.slots) (globals : b.globals ≡ length program.globals) (called : (n : ℕ) (s : Signature) → slice_get b.functions n ≡ Some s → IsKnown program n s) (results : r.results ≡ results_of b.result) where
   abbrev AreIn : List Instruction → Type 0
   AreIn code = AllByRecursion (IsInRange program r) code
 
@@ -159,6 +160,7 @@ module _ (program : PlainProgram) (r : Routine) (b : Numbering) (types : Types) 
   given_needs : (a : Expression) → Fits b types a → words_of_kind (kind_at a) ≤ max 1 (expression_need a)
   given_needs (Number n) numbered = omega arith
   given_needs NullPointer numbered = omega arith
+  given_needs (Counter l) numbered = omega arith
   given_needs (Copy l t) numbered = omega (arith, type_words t)
   given_needs (Move p n t) numbered = omega (arith, type_words t)
   given_needs (Peek p n t) numbered = omega (arith, type_words t)
@@ -192,6 +194,11 @@ module _ (program : PlainProgram) (r : Routine) (b : Numbering) (types : Types) 
   value_room (Move w n ty) t (within, room) few = omega (arith, locals n within, room)
   value_room (Peek w n ty) t (within, room) few = omega (arith, locals n within, room)
   value_room (Assign (Local w n) (Convert from to a) ty) t ((within, room), numbered) few = omega (arith, locals n within, room)
+  value_room (Counter l) t numbered few = by (slice_get types.counters l) refl
+    where
+      by : (s : Option ℕ) → slice_get types.counters l ≡ s → HasOperand (operand_or (counter_operand s) t) 1
+      by (Some n) there = omega (arith, levels l n there)
+      by None none = few
   value_room a t numbered few = few
 
   value_in : (a : Expression) (t : ℕ) → Fits b types a → t + words_of_kind (kind_at a) ≤ r.slots → IsOperand r (value_operand (starts_of types) a t)
@@ -452,29 +459,32 @@ module _ (program : PlainProgram) (r : Routine) (b : Numbering) (types : Types) 
 
 module _ (program : PlainProgram) (r : Routine) (b : Numbering) (globals : b.globals ≡ length program.globals) (called : (n : ℕ) (s : Signature) → slice_get b.functions n ≡ Some s → IsKnown program n s) (results : r.results ≡ results_of b.result) where
   mutual
-    expression_in : (types : Types) (locals : (n : ℕ) → n < b.locals → slot_of (starts_of types) n + words_in types.locals n ≤ r.slots) → (a : Expression) (p d t : ℕ) → Fits b types a → d + words_of_kind (kind_at program r b types locals globals called results a) ≤ r.slots → t + expression_need a ≤ r.slots → p + length (expression_code (starts_of types) a p d t) < length r.code → AreIn program r b types locals globals called results (expression_code (starts_of types) a p d t)
-    expression_in types locals (Number n) p d t numbered room few short = ((omega (arith, room), tt), tt)
-    expression_in types locals NullPointer p d t numbered room few short = ((omega (arith, room), tt), tt)
-    expression_in types locals (Copy l ty) p d t numbered room few short = load_in program r b types locals globals called results l ty d numbered room
-    expression_in types locals (Move w n ty) p d t numbered room few short = load_in program r b types locals globals called results (Local w n) ty d numbered room
-    expression_in types locals (Peek w n ty) p d t numbered room few short = load_in program r b types locals globals called results (Local w n) ty d numbered room
-    expression_in types locals (Call callees.Putchar cs ty) p d t (s, signature, many, passed, result, numbered) room few short =
+    expression_in : (types : Types) (locals : (n : ℕ) → n < b.locals → slot_of (starts_of types) n + words_in types.locals n ≤ r.slots) (levels : (l slot : ℕ) → slice_get types.counters l ≡ Some slot → slot < r.slots) → (a : Expression) (p d t : ℕ) → Fits b types a → d + words_of_kind (kind_at program r b types locals levels globals called results a) ≤ r.slots → t + expression_need a ≤ r.slots → p + length (expression_code (starts_of types) a p d t) < length r.code → AreIn program r b types locals levels globals called results (expression_code (starts_of types) a p d t)
+    expression_in types locals levels (Number n) p d t numbered room few short = ((omega (arith, room), tt), tt)
+    expression_in types locals levels NullPointer p d t numbered room few short = ((omega (arith, room), tt), tt)
+    expression_in types locals levels (Counter l) p d t numbered room few short =
+        let (slot, there) = slice_get-there types.counters l numbered in
+        ((omega (arith, room), subst (λ (s : Option ℕ). unwrap_or s 0 < r.slots) (sym there) (levels l slot there)), tt)
+    expression_in types locals levels (Copy l ty) p d t numbered room few short = load_in program r b types locals levels globals called results l ty d numbered room
+    expression_in types locals levels (Move w n ty) p d t numbered room few short = load_in program r b types locals levels globals called results (Local w n) ty d numbered room
+    expression_in types locals levels (Peek w n ty) p d t numbered room few short = load_in program r b types locals levels globals called results (Local w n) ty d numbered room
+    expression_in types locals levels (Call callees.Putchar cs ty) p d t (s, signature, many, passed, result, numbered) room few short =
         let o = printed_operand (starts_of types) cs (operands.Slot t) t in
         let front = printed_code (starts_of types) cs p t in
         let back = instructions.WriteByte o ∷ low_byte o d ∷ [] in
         let gives : 1 ≤ result_words ty = omega (arith, result, ap (λ (x : Signature). results_of x.result) signature) in
-        let inside = printed_value_in program r b types locals globals called results cs (operands.Slot t) t numbered (omega (arith, few, gives)) (omega (arith, few)) in
-        append program r b types locals globals called results front back (printed_in types locals cs p t t 0 numbered (omega (arith, few)) (omega arith) (omega (arith, few)) (omega (arith, short, length-append front back)))
+        let inside = printed_value_in program r b types locals levels globals called results cs (operands.Slot t) t numbered (omega (arith, few, gives)) (omega (arith, few)) in
+        append program r b types locals levels globals called results front back (printed_in types locals levels cs p t t 0 numbered (omega (arith, few)) (omega arith) (omega (arith, few)) (omega (arith, short, length-append front back)))
         (inside, ((omega (arith, room), inside, tt), tt))
-    expression_in types locals (Call callees.Getchar cs ty) p d t (s, signature, many, passed, result, numbered) room few short =
+    expression_in types locals levels (Call callees.Getchar cs ty) p d t (s, signature, many, passed, result, numbered) room few short =
         let front = arguments_code (starts_of types) cs p t in
         let back = instructions.ReadByte d ∷ [] in
-        append program r b types locals globals called results front back (arguments_in types locals cs p t t 0 numbered (omega arith) (omega (arith, few)) (omega (arith, few)) (omega (arith, short, length-append front back))) (omega (arith, room), tt)
-    expression_in types locals (Call (callees.Function g) cs ty) p d t (s, signature, many, passed, result, numbered) room few short =
+        append program r b types locals levels globals called results front back (arguments_in types locals levels cs p t t 0 numbered (omega arith) (omega (arith, few)) (omega (arith, few)) (omega (arith, short, length-append front back))) (omega (arith, room), tt)
+    expression_in types locals levels (Call (callees.Function g) cs ty) p d t (s, signature, many, passed, result, numbered) room few short =
         let front = arguments_code (starts_of types) cs p t in
         let back = instructions.Call g t (all_passed cs) d ∷ [] in
         let f = called g s signature in
-        append program r b types locals globals called results front back (arguments_in types locals cs p t t 0 numbered (omega arith) (omega (arith, few)) (omega (arith, few)) (omega (arith, short, length-append front back))) (
+        append program r b types locals levels globals called results front back (arguments_in types locals levels cs p t t 0 numbered (omega arith) (omega (arith, few)) (omega (arith, few)) (omega (arith, short, length-append front back))) (
           record {
             function_in_range = f.there;
             takes = passed ∙ sym f.parameters;
@@ -483,146 +493,146 @@ module _ (program : PlainProgram) (r : Routine) (b : Numbering) (globals : b.glo
           },
           tt,
         )
-    expression_in types locals (Unary o a) p d t numbered room few short =
+    expression_in types locals levels (Unary o a) p d t numbered room few short =
         let inner = expression_code (starts_of types) a p (value_slot (starts_of types) a t) t in
         let front = code_unless (operand_of (starts_of types) a) inner in
         let back = instructions.Unary (unary_operator o) d (value_operand (starts_of types) a t) ∷ [] in
-        let free : t + words_of_kind (kind_at program r b types locals globals called results a) ≤ r.slots = omega (arith, few, given_needs program r b types locals globals called results a numbered) in
-        append program r b types locals globals called results front back
-        (unless_in program r b types locals globals called results (operand_of (starts_of types) a) inner p (omega (arith, short, length-append front back)) (λ less. expression_in types locals a p (value_slot (starts_of types) a t) t numbered (slot_fits program r b types locals globals called results a t numbered free) (omega (arith, few)) less))
-        ((omega (arith, room), value_in program r b types locals globals called results a t numbered free), tt)
-    expression_in types locals (Binary a os ty) p d t (numbered, rest) room few short =
+        let free : t + words_of_kind (kind_at program r b types locals levels globals called results a) ≤ r.slots = omega (arith, few, given_needs program r b types locals levels globals called results a numbered) in
+        append program r b types locals levels globals called results front back
+        (unless_in program r b types locals levels globals called results (operand_of (starts_of types) a) inner p (omega (arith, short, length-append front back)) (λ less. expression_in types locals levels a p (value_slot (starts_of types) a t) t numbered (slot_fits program r b types locals levels globals called results a t numbered free) (omega (arith, few)) less))
+        ((omega (arith, room), value_in program r b types locals levels globals called results a t numbered free), tt)
+    expression_in types locals levels (Binary a os ty) p d t (numbered, rest) room few short =
         let inner = expression_code (starts_of types) a p (left_slot (starts_of types) a os d t) t in
         let front = code_unless (left_of (starts_of types) a os) inner in
         let back = operations_code (starts_of types) os (p + length front) (operand_or (left_of (starts_of types) a os) (left_slot (starts_of types) a os d t)) d t in
         let some = operand_positive (type_of a) in
-        let free = has_room program r b types locals globals called results os ty t (operand_words (type_of a)) rest some (omega (arith, few)) in
-        let first = left_room program r b types locals globals called results os a t numbered (omega (arith, few)) free in
-        append program r b types locals globals called results front back
-        (unless_in program r b types locals globals called results (left_of (starts_of types) a os) inner p (omega (arith, short, length-append front back)) (λ less. expression_in types locals a p (left_slot (starts_of types) a os d t) t numbered (left_slot_in program r b types locals globals called results a os ty d t numbered room first) (omega (arith, few)) less))
-        (operations_in types locals os ty (kind_at program r b types locals globals called results a) (p + length front) (operand_or (left_of (starts_of types) a os) (left_slot (starts_of types) a os d t)) d t (operand_words (type_of a)) rest room (first_left_in program r b types locals globals called results a os ty d t (operand_words (type_of a)) rest (omega (arith, few))) (left_in program r b types locals globals called results a os ty d t numbered room first) some (omega (arith, few)) (omega (arith, short, length-append front back)))
-    expression_in types locals (Assign (Local w n) c ty) p d t ((within, own), numbered) room few short =
+        let free = has_room program r b types locals levels globals called results os ty t (operand_words (type_of a)) rest some (omega (arith, few)) in
+        let first = left_room program r b types locals levels globals called results os a t numbered (omega (arith, few)) free in
+        append program r b types locals levels globals called results front back
+        (unless_in program r b types locals levels globals called results (left_of (starts_of types) a os) inner p (omega (arith, short, length-append front back)) (λ less. expression_in types locals levels a p (left_slot (starts_of types) a os d t) t numbered (left_slot_in program r b types locals levels globals called results a os ty d t numbered room first) (omega (arith, few)) less))
+        (operations_in types locals levels os ty (kind_at program r b types locals levels globals called results a) (p + length front) (operand_or (left_of (starts_of types) a os) (left_slot (starts_of types) a os d t)) d t (operand_words (type_of a)) rest room (first_left_in program r b types locals levels globals called results a os ty d t (operand_words (type_of a)) rest (omega (arith, few))) (left_in program r b types locals levels globals called results a os ty d t numbered room first) some (omega (arith, few)) (omega (arith, short, length-append front back)))
+    expression_in types locals levels (Assign (Local w n) c ty) p d t ((within, own), numbered) room few short =
         let o = operands.Slot (slot_of (starts_of types) n) in
         let front = initial_code (starts_of types) c p (slot_of (starts_of types) n) t in
         let back = copy_code (passed_words c) o d in
         let there : slot_of (starts_of types) n + words_of_kind (passed_kind c) ≤ r.slots = omega (arith, locals n within, own) in
-        append program r b types locals globals called results front back (initial_in types locals c p (slot_of (starts_of types) n) t numbered there (omega (arith, few)) (omega (arith, few)) (omega (arith, short, length-append front back)))
-        (copy_in program r b types locals globals called results (is_in o d) c o d there (omega (arith, room, ap words_of_kind (assigned_kind program r b types locals globals called results (Local w n) c ty))))
-    expression_in types locals (Assign (Global n) c ty) p d t ((within, single), numbered) room few short =
+        append program r b types locals levels globals called results front back (initial_in types locals levels c p (slot_of (starts_of types) n) t numbered there (omega (arith, few)) (omega (arith, few)) (omega (arith, short, length-append front back)))
+        (copy_in program r b types locals levels globals called results (is_in o d) c o d there (omega (arith, room, ap words_of_kind (assigned_kind program r b types locals levels globals called results (Local w n) c ty))))
+    expression_in types locals levels (Assign (Global n) c ty) p d t ((within, single), numbered) room few short =
         let o = converted_operand (starts_of types) c t in
         let front = converted_operand_code (starts_of types) c p t in
         let store = instructions.StoreGlobal n o ∷ [] in
         let back = copy_code (passed_words c) o d in
-        append program r b types locals globals called results (front ++ store) back
-        (append program r b types locals globals called results front store (converted_operand_in types locals c p t numbered (omega (arith, few)) (omega (arith, few)) (omega (arith, short, length-append (front ++ store) back, length-append front store))) ((omega (arith, within, globals), converted_value_in program r b types locals globals called results c t numbered (omega (arith, few))), tt))
-        (copy_in program r b types locals globals called results (is_in o d) c o d (converted_room program r b types locals globals called results c t numbered (omega (arith, few))) (omega (arith, room, ap words_of_kind (assigned_kind program r b types locals globals called results (Global n) c ty))))
-    expression_in types locals (Load x) p d t numbered room few short =
+        append program r b types locals levels globals called results (front ++ store) back
+        (append program r b types locals levels globals called results front store (converted_operand_in types locals levels c p t numbered (omega (arith, few)) (omega (arith, few)) (omega (arith, short, length-append (front ++ store) back, length-append front store))) ((omega (arith, within, globals), converted_value_in program r b types locals levels globals called results c t numbered (omega (arith, few))), tt))
+        (copy_in program r b types locals levels globals called results (is_in o d) c o d (converted_room program r b types locals levels globals called results c t numbered (omega (arith, few))) (omega (arith, room, ap words_of_kind (assigned_kind program r b types locals levels globals called results (Global n) c ty))))
+    expression_in types locals levels (Load x) p d t numbered room few short =
         let own = words_of (type_of_place x) in
         let some = words_positive (type_of_place x) in
         let load = instructions.Load d (place_operand (starts_of types) x t) (place_offset (starts_of types) x) ∷ [] in
-        append program r b types locals globals called results (place_code (starts_of types) x p t) load
-        (place_in types locals x own p t numbered some few (omega (arith, short, length-append (place_code (starts_of types) x p t) load)))
-        ((omega (arith, room, kind_positive (kind_of (type_of_place x))), place_operand_in program r b types locals globals called results x own t numbered some few), tt)
-    expression_in types locals (AddressOfCell x ty) p d t numbered room few short =
-        addressed_in program r b types locals globals called results x p d t numbered (omega (arith, room)) (omega (arith, few)) short (λ less. place_in types locals x place_words p t numbered (omega arith) (omega (arith, few)) less)
-    expression_in types locals (Store x c ty) p d t (place, single, numbered) room few short =
+        append program r b types locals levels globals called results (place_code (starts_of types) x p t) load
+        (place_in types locals levels x own p t numbered some few (omega (arith, short, length-append (place_code (starts_of types) x p t) load)))
+        ((omega (arith, room, kind_positive (kind_of (type_of_place x))), place_operand_in program r b types locals levels globals called results x own t numbered some few), tt)
+    expression_in types locals levels (AddressOfCell x ty) p d t numbered room few short =
+        addressed_in program r b types locals levels globals called results x p d t numbered (omega (arith, room)) (omega (arith, few)) short (λ less. place_in types locals levels x place_words p t numbered (omega arith) (omega (arith, few)) less)
+    expression_in types locals levels (Store x c ty) p d t (place, single, numbered) room few short =
         let o = converted_operand (starts_of types) c (t + 1) in
         let front = store_code (starts_of types) x c p t in
         let back = copy_code (passed_words c) o d in
-        append program r b types locals globals called results front back
-        (stored_in program r b types locals globals called results x c p t numbered (omega (arith, few)) (omega (arith, short, length-append front back))
-        (λ less. addressed_in program r b types locals globals called results x p t t place (omega (arith, few)) (omega (arith, few)) less (λ shorter. place_in types locals x place_words p t place (omega arith) (omega (arith, few)) shorter))
-        (λ q less. converted_operand_in types locals c q (t + 1) numbered (omega (arith, few)) (omega (arith, few)) less))
-        (copy_in program r b types locals globals called results (is_in o d) c o d (converted_room program r b types locals globals called results c (t + 1) numbered (omega (arith, few))) (omega (arith, room, ap words_of_kind (stored_kind program r b types locals globals called results x c ty))))
-    expression_in types locals (New OnHeap i ty) p d t numbered room few short = made_in types locals i HEAP ty p d t numbered (omega (arith, room, kind_positive (made_kind i))) (omega (arith, few)) short
-    expression_in types locals (New AsUnique i ty) p d t numbered room few short = absurd numbered
-    expression_in types locals (New (ByHandle h) i ty) p d t numbered room few short = absurd numbered
-    expression_in types locals a p d t numbered room few short = absurd numbered
+        append program r b types locals levels globals called results front back
+        (stored_in program r b types locals levels globals called results x c p t numbered (omega (arith, few)) (omega (arith, short, length-append front back))
+        (λ less. addressed_in program r b types locals levels globals called results x p t t place (omega (arith, few)) (omega (arith, few)) less (λ shorter. place_in types locals levels x place_words p t place (omega arith) (omega (arith, few)) shorter))
+        (λ q less. converted_operand_in types locals levels c q (t + 1) numbered (omega (arith, few)) (omega (arith, few)) less))
+        (copy_in program r b types locals levels globals called results (is_in o d) c o d (converted_room program r b types locals levels globals called results c (t + 1) numbered (omega (arith, few))) (omega (arith, room, ap words_of_kind (stored_kind program r b types locals levels globals called results x c ty))))
+    expression_in types locals levels (New OnHeap i ty) p d t numbered room few short = made_in types locals levels i HEAP ty p d t numbered (omega (arith, room, kind_positive (made_kind i))) (omega (arith, few)) short
+    expression_in types locals levels (New AsUnique i ty) p d t numbered room few short = absurd numbered
+    expression_in types locals levels (New (ByHandle h) i ty) p d t numbered room few short = absurd numbered
+    expression_in types locals levels a p d t numbered room few short = absurd numbered
 
-    made_in : (types : Types) (locals : (n : ℕ) → n < b.locals → slot_of (starts_of types) n + words_in types.locals n ≤ r.slots) → (i : Initial) (handle : ℕ) (ty : Ty) (p d t : ℕ) → FitsObject b types i → d < r.slots → t + initial_value_need i 0 (words_of ty) ≤ r.slots → p + length (made_code (starts_of types) i handle p d t) < length r.code → AreIn program r b types locals globals called results (made_code (starts_of types) i handle p d t)
-    made_in types locals (Plain kind a) handle ty p d t (single, kind_is, numbered) room few short =
+    made_in : (types : Types) (locals : (n : ℕ) → n < b.locals → slot_of (starts_of types) n + words_in types.locals n ≤ r.slots) (levels : (l slot : ℕ) → slice_get types.counters l ≡ Some slot → slot < r.slots) → (i : Initial) (handle : ℕ) (ty : Ty) (p d t : ℕ) → FitsObject b types i → d < r.slots → t + initial_value_need i 0 (words_of ty) ≤ r.slots → p + length (made_code (starts_of types) i handle p d t) < length r.code → AreIn program r b types locals levels globals called results (made_code (starts_of types) i handle p d t)
+    made_in types locals levels (Plain kind a) handle ty p d t (single, kind_is, numbered) room few short =
         let front = expression_code (starts_of types) a p t t in
         let back = object_code handle 1 d t in
-        append program r b types locals globals called results front back
-        (expression_in types locals a p t t numbered (omega (arith, few, single, ap words_of_kind kind_is, words_positive ty)) (omega (arith, few)) (omega (arith, short, length-append front back)))
-        (object_in program r b types locals globals called results handle 1 d t room (omega (arith, few, single, words_positive ty)))
-    made_in types locals (Fields cs) handle ty p d t (single, some, many, numbered) room few short =
+        append program r b types locals levels globals called results front back
+        (expression_in types locals levels a p t t numbered (omega (arith, few, single, ap words_of_kind kind_is, words_positive ty)) (omega (arith, few)) (omega (arith, short, length-append front back)))
+        (object_in program r b types locals levels globals called results handle 1 d t room (omega (arith, few, single, words_positive ty)))
+    made_in types locals levels (Fields cs) handle ty p d t (single, some, many, numbered) room few short =
         let front = arguments_code (starts_of types) cs p t in
         let back = object_code handle (argument_count cs) d t in
-        append program r b types locals globals called results front back
-        (arguments_in types locals cs p t t 0 numbered (omega arith) (omega (arith, few)) (omega (arith, few)) (omega (arith, short, length-append front back)))
-        (object_in program r b types locals globals called results handle (argument_count cs) d t room (omega (arith, few, single, arguments_words cs, words_positive ty)))
-    made_in types locals i handle ty p d t numbered room few short = absurd numbered
+        append program r b types locals levels globals called results front back
+        (arguments_in types locals levels cs p t t 0 numbered (omega arith) (omega (arith, few)) (omega (arith, few)) (omega (arith, short, length-append front back)))
+        (object_in program r b types locals levels globals called results handle (argument_count cs) d t room (omega (arith, few, single, arguments_words cs, words_positive ty)))
+    made_in types locals levels i handle ty p d t numbered room few short = absurd numbered
 
     -- a place of what has so many words
-    place_in : (types : Types) (locals : (n : ℕ) → n < b.locals → slot_of (starts_of types) n + words_in types.locals n ≤ r.slots) → (x : Dereference) (own p t : ℕ) → FitsCell b types x → 1 ≤ own → t + dereference_need x own ≤ r.slots → p + length (place_code (starts_of types) x p t) < length r.code → AreIn program r b types locals globals called results (place_code (starts_of types) x p t)
-    place_in types locals (Target k a ty) own p t (thin, single, numbered) some few short =
+    place_in : (types : Types) (locals : (n : ℕ) → n < b.locals → slot_of (starts_of types) n + words_in types.locals n ≤ r.slots) (levels : (l slot : ℕ) → slice_get types.counters l ≡ Some slot → slot < r.slots) → (x : Dereference) (own p t : ℕ) → FitsCell b types x → 1 ≤ own → t + dereference_need x own ≤ r.slots → p + length (place_code (starts_of types) x p t) < length r.code → AreIn program r b types locals levels globals called results (place_code (starts_of types) x p t)
+    place_in types locals levels (Target k a ty) own p t (thin, single, numbered) some few short =
         let slot = value_slot (starts_of types) a t in
         let o = value_operand (starts_of types) a t in
         let inner = expression_code (starts_of types) a p slot t in
         let front = code_unless (operand_of (starts_of types) a) inner in
         let check = check_code null_exception o (p + length front) in
         let long = length-append front check in
-        let free : t + words_of_kind (kind_at program r b types locals globals called results a) ≤ r.slots = omega (arith, few, given_needs program r b types locals globals called results a numbered, some) in
-        append program r b types locals globals called results front check (unless_in program r b types locals globals called results (operand_of (starts_of types) a) inner p (omega (arith, short, long)) (λ less. expression_in types locals a p slot t numbered (slot_fits program r b types locals globals called results a t numbered free) (omega (arith, few)) less))
-        (check_in program r b types locals globals called results null_exception o (p + length front) (value_in program r b types locals globals called results a t numbered free) (omega (arith, short, long)))
-    place_in types locals (Member k a s f ty) own p t (thin, single, there, numbered) some few short =
+        let free : t + words_of_kind (kind_at program r b types locals levels globals called results a) ≤ r.slots = omega (arith, few, given_needs program r b types locals levels globals called results a numbered, some) in
+        append program r b types locals levels globals called results front check (unless_in program r b types locals levels globals called results (operand_of (starts_of types) a) inner p (omega (arith, short, long)) (λ less. expression_in types locals levels a p slot t numbered (slot_fits program r b types locals levels globals called results a t numbered free) (omega (arith, few)) less))
+        (check_in program r b types locals levels globals called results null_exception o (p + length front) (value_in program r b types locals levels globals called results a t numbered free) (omega (arith, short, long)))
+    place_in types locals levels (Member k a s f ty) own p t (thin, single, there, numbered) some few short =
         let slot = value_slot (starts_of types) a t in
         let o = value_operand (starts_of types) a t in
         let inner = expression_code (starts_of types) a p slot t in
         let front = code_unless (operand_of (starts_of types) a) inner in
         let check = check_code null_exception o (p + length front) in
         let long = length-append front check in
-        let free : t + words_of_kind (kind_at program r b types locals globals called results a) ≤ r.slots = omega (arith, few, given_needs program r b types locals globals called results a numbered, some) in
-        append program r b types locals globals called results front check (unless_in program r b types locals globals called results (operand_of (starts_of types) a) inner p (omega (arith, short, long)) (λ less. expression_in types locals a p slot t numbered (slot_fits program r b types locals globals called results a t numbered free) (omega (arith, few)) less))
-        (check_in program r b types locals globals called results null_exception o (p + length front) (value_in program r b types locals globals called results a t numbered free) (omega (arith, short, long)))
-    place_in types locals x own p t numbered some few short = absurd numbered
+        let free : t + words_of_kind (kind_at program r b types locals levels globals called results a) ≤ r.slots = omega (arith, few, given_needs program r b types locals levels globals called results a numbered, some) in
+        append program r b types locals levels globals called results front check (unless_in program r b types locals levels globals called results (operand_of (starts_of types) a) inner p (omega (arith, short, long)) (λ less. expression_in types locals levels a p slot t numbered (slot_fits program r b types locals levels globals called results a t numbered free) (omega (arith, few)) less))
+        (check_in program r b types locals levels globals called results null_exception o (p + length front) (value_in program r b types locals levels globals called results a t numbered free) (omega (arith, short, long)))
+    place_in types locals levels x own p t numbered some few short = absurd numbered
 
-    initial_in : (types : Types) (locals : (n : ℕ) → n < b.locals → slot_of (starts_of types) n + words_in types.locals n ≤ r.slots) → (c : Converted) (p d t : ℕ) → FitsConverted b types c → d + words_of_kind (passed_kind c) ≤ r.slots → t + converted_words c ≤ r.slots → t + converted_need c ≤ r.slots → p + length (initial_code (starts_of types) c p d t) < length r.code → AreIn program r b types locals globals called results (initial_code (starts_of types) c p d t)
-    initial_in types locals (Convert from to a) p d t (kind, wide, numbered) room free few short =
-        initial_by program r b types locals globals called results (converts_there from to) from to a p d t kind wide numbered room free refl (λ slot fits less. expression_in types locals a p slot t numbered fits few less) short
+    initial_in : (types : Types) (locals : (n : ℕ) → n < b.locals → slot_of (starts_of types) n + words_in types.locals n ≤ r.slots) (levels : (l slot : ℕ) → slice_get types.counters l ≡ Some slot → slot < r.slots) → (c : Converted) (p d t : ℕ) → FitsConverted b types c → d + words_of_kind (passed_kind c) ≤ r.slots → t + converted_words c ≤ r.slots → t + converted_need c ≤ r.slots → p + length (initial_code (starts_of types) c p d t) < length r.code → AreIn program r b types locals levels globals called results (initial_code (starts_of types) c p d t)
+    initial_in types locals levels (Convert from to a) p d t (kind, wide, numbered) room free few short =
+        initial_by program r b types locals levels globals called results (converts_there from to) from to a p d t kind wide numbered room free refl (λ slot fits less. expression_in types locals levels a p slot t numbered fits few less) short
 
-    converted_in : (types : Types) (locals : (n : ℕ) → n < b.locals → slot_of (starts_of types) n + words_in types.locals n ≤ r.slots) → (c : Converted) (p t : ℕ) → FitsConverted b types c → t + converted_words c ≤ r.slots → t + converted_need c ≤ r.slots → p + length (converted_code (starts_of types) c p t) < length r.code → AreIn program r b types locals globals called results (converted_code (starts_of types) c p t)
-    converted_in types locals (Convert from to a) p t (kind, wide, numbered) room few short =
+    converted_in : (types : Types) (locals : (n : ℕ) → n < b.locals → slot_of (starts_of types) n + words_in types.locals n ≤ r.slots) (levels : (l slot : ℕ) → slice_get types.counters l ≡ Some slot → slot < r.slots) → (c : Converted) (p t : ℕ) → FitsConverted b types c → t + converted_words c ≤ r.slots → t + converted_need c ≤ r.slots → p + length (converted_code (starts_of types) c p t) < length r.code → AreIn program r b types locals levels globals called results (converted_code (starts_of types) c p t)
+    converted_in types locals levels (Convert from to a) p t (kind, wide, numbered) room few short =
         let front = expression_code (starts_of types) a p t t in
         let back = conversion_code to (operands.Slot t) (p + length front) in
-        append program r b types locals globals called results front back (expression_in types locals a p t t numbered (omega (arith, room, ap words_of_kind kind)) few (omega (arith, short, length-append front back)))
-        (conversion_in program r b types locals globals called results to (operands.Slot t) (p + length front) (omega (arith, room, kind_positive to)) (omega (arith, short, length-append front back)))
+        append program r b types locals levels globals called results front back (expression_in types locals levels a p t t numbered (omega (arith, room, ap words_of_kind kind)) few (omega (arith, short, length-append front back)))
+        (conversion_in program r b types locals levels globals called results to (operands.Slot t) (p + length front) (omega (arith, room, kind_positive to)) (omega (arith, short, length-append front back)))
 
-    converted_operand_in : (types : Types) (locals : (n : ℕ) → n < b.locals → slot_of (starts_of types) n + words_in types.locals n ≤ r.slots) → (c : Converted) (p t : ℕ) → FitsConverted b types c → t + converted_words c ≤ r.slots → t + converted_need c ≤ r.slots → p + length (converted_operand_code (starts_of types) c p t) < length r.code → AreIn program r b types locals globals called results (converted_operand_code (starts_of types) c p t)
-    converted_operand_in types locals (Convert from to a) p t (kind, wide, numbered) room few short =
+    converted_operand_in : (types : Types) (locals : (n : ℕ) → n < b.locals → slot_of (starts_of types) n + words_in types.locals n ≤ r.slots) (levels : (l slot : ℕ) → slice_get types.counters l ≡ Some slot → slot < r.slots) → (c : Converted) (p t : ℕ) → FitsConverted b types c → t + converted_words c ≤ r.slots → t + converted_need c ≤ r.slots → p + length (converted_operand_code (starts_of types) c p t) < length r.code → AreIn program r b types locals levels globals called results (converted_operand_code (starts_of types) c p t)
+    converted_operand_in types locals levels (Convert from to a) p t (kind, wide, numbered) room few short =
         let known = source_of (starts_of types) (Convert from to a) in
         let slot = source_slot (starts_of types) (Convert from to a) t in
         let o = converted_operand (starts_of types) (Convert from to a) t in
         let inner = expression_code (starts_of types) a p slot t in
         let front = code_unless known inner in
         let back = conversion_code to o (p + length front) in
-        append program r b types locals globals called results front back
-        (unless_in program r b types locals globals called results known inner p (omega (arith, short, length-append front back)) (λ less. expression_in types locals a p slot t numbered (source_fits program r b types locals globals called results from to a t (kind, wide, numbered) room) few less))
-        (conversion_in program r b types locals globals called results to o (p + length front) (converted_value_in program r b types locals globals called results (Convert from to a) t (kind, wide, numbered) room) (omega (arith, short, length-append front back)))
+        append program r b types locals levels globals called results front back
+        (unless_in program r b types locals levels globals called results known inner p (omega (arith, short, length-append front back)) (λ less. expression_in types locals levels a p slot t numbered (source_fits program r b types locals levels globals called results from to a t (kind, wide, numbered) room) few less))
+        (conversion_in program r b types locals levels globals called results to o (p + length front) (converted_value_in program r b types locals levels globals called results (Convert from to a) t (kind, wide, numbered) room) (omega (arith, short, length-append front back)))
 
     -- the arguments of `putchar`, which all are evaluated with the same temporaries
-    printed_in : (types : Types) (locals : (n : ℕ) → n < b.locals → slot_of (starts_of types) n + words_in types.locals n ≤ r.slots) → (cs : Arguments) (p t first before : ℕ) → FitArguments b types cs → t + argument_words cs ≤ r.slots → t ≤ first + before → first + arguments_need cs before ≤ r.slots → p + length (printed_code (starts_of types) cs p t) < length r.code → AreIn program r b types locals globals called results (printed_code (starts_of types) cs p t)
-    printed_in types locals NoArguments p t first before numbered room place few short = tt
-    printed_in types locals (MoreArguments c cs) p t first before (numbered, rest) room place few short =
+    printed_in : (types : Types) (locals : (n : ℕ) → n < b.locals → slot_of (starts_of types) n + words_in types.locals n ≤ r.slots) (levels : (l slot : ℕ) → slice_get types.counters l ≡ Some slot → slot < r.slots) → (cs : Arguments) (p t first before : ℕ) → FitArguments b types cs → t + argument_words cs ≤ r.slots → t ≤ first + before → first + arguments_need cs before ≤ r.slots → p + length (printed_code (starts_of types) cs p t) < length r.code → AreIn program r b types locals levels globals called results (printed_code (starts_of types) cs p t)
+    printed_in types locals levels NoArguments p t first before numbered room place few short = tt
+    printed_in types locals levels (MoreArguments c cs) p t first before (numbered, rest) room place few short =
         let front = converted_operand_code (starts_of types) c p t in
         let back = printed_code (starts_of types) cs (p + length front) t in
-        append program r b types locals globals called results front back (converted_operand_in types locals c p t numbered (omega (arith, room)) (omega (arith, few, place)) (omega (arith, short, length-append front back)))
-        (printed_in types locals cs (p + length front) t first (before + converted_words c) rest (omega (arith, room)) (omega (arith, place)) (omega (arith, few)) (omega (arith, short, length-append front back)))
+        append program r b types locals levels globals called results front back (converted_operand_in types locals levels c p t numbered (omega (arith, room)) (omega (arith, few, place)) (omega (arith, short, length-append front back)))
+        (printed_in types locals levels cs (p + length front) t first (before + converted_words c) rest (omega (arith, room)) (omega (arith, place)) (omega (arith, few)) (omega (arith, short, length-append front back)))
 
     -- the arguments begin at `first`, and those before have so many words
-    arguments_in : (types : Types) (locals : (n : ℕ) → n < b.locals → slot_of (starts_of types) n + words_in types.locals n ≤ r.slots) → (cs : Arguments) (p t first before : ℕ) → FitArguments b types cs → t ≤ first + before → first + (before + argument_words cs) ≤ r.slots → first + arguments_need cs before ≤ r.slots → p + length (arguments_code (starts_of types) cs p t) < length r.code → AreIn program r b types locals globals called results (arguments_code (starts_of types) cs p t)
-    arguments_in types locals NoArguments p t first before numbered place few needs short = tt
-    arguments_in types locals (MoreArguments c cs) p t first before (numbered, rest) place few needs short =
+    arguments_in : (types : Types) (locals : (n : ℕ) → n < b.locals → slot_of (starts_of types) n + words_in types.locals n ≤ r.slots) (levels : (l slot : ℕ) → slice_get types.counters l ≡ Some slot → slot < r.slots) → (cs : Arguments) (p t first before : ℕ) → FitArguments b types cs → t ≤ first + before → first + (before + argument_words cs) ≤ r.slots → first + arguments_need cs before ≤ r.slots → p + length (arguments_code (starts_of types) cs p t) < length r.code → AreIn program r b types locals levels globals called results (arguments_code (starts_of types) cs p t)
+    arguments_in types locals levels NoArguments p t first before numbered place few needs short = tt
+    arguments_in types locals levels (MoreArguments c cs) p t first before (numbered, rest) place few needs short =
         let front = converted_code (starts_of types) c p t in
         let back = arguments_code (starts_of types) cs (p + length front) (t + passed_words c) in
-        append program r b types locals globals called results front back
-        (converted_in types locals c p t numbered (omega (arith, few, place)) (omega (arith, needs, place)) (omega (arith, short, length-append front back)))
-        (arguments_in types locals cs (p + length front) (t + passed_words c) first (before + converted_words c) rest (omega (arith, place, passed_is c, converted_least c)) (omega (arith, few)) (omega (arith, needs)) (omega (arith, short, length-append front back)))
+        append program r b types locals levels globals called results front back
+        (converted_in types locals levels c p t numbered (omega (arith, few, place)) (omega (arith, needs, place)) (omega (arith, short, length-append front back)))
+        (arguments_in types locals levels cs (p + length front) (t + passed_words c) first (before + converted_words c) rest (omega (arith, place, passed_is c, converted_least c)) (omega (arith, few)) (omega (arith, needs)) (omega (arith, short, length-append front back)))
 
-    operations_in : (types : Types) (locals : (n : ℕ) → n < b.locals → slot_of (starts_of types) n + words_in types.locals n ≤ r.slots) → (os : Operations) (ty : Ty) (kind : Kind) (p : ℕ) (l : Operand) (d t left : ℕ) → FitOperations b types left ty os → d + words_of_kind (chain_kind kind os) ≤ r.slots → LeftIn program r b types locals globals called results os l → IsOperand r l → 1 ≤ left → t + operations_need os ty left ≤ r.slots → p + length (operations_code (starts_of types) os p l d t) < length r.code → AreIn program r b types locals globals called results (operations_code (starts_of types) os p l d t)
-    operations_in types locals NoOperations ty kind p l d t left numbered room all inside some few short = tt
-    operations_in types locals (ThenCompute o a os) ty kind p l d t left (numbered, rest) room all inside some few short =
+    operations_in : (types : Types) (locals : (n : ℕ) → n < b.locals → slot_of (starts_of types) n + words_in types.locals n ≤ r.slots) (levels : (l slot : ℕ) → slice_get types.counters l ≡ Some slot → slot < r.slots) → (os : Operations) (ty : Ty) (kind : Kind) (p : ℕ) (l : Operand) (d t left : ℕ) → FitOperations b types left ty os → d + words_of_kind (chain_kind kind os) ≤ r.slots → LeftIn program r b types locals levels globals called results os l → IsOperand r l → 1 ≤ left → t + operations_need os ty left ≤ r.slots → p + length (operations_code (starts_of types) os p l d t) < length r.code → AreIn program r b types locals levels globals called results (operations_code (starts_of types) os p l d t)
+    operations_in types locals levels NoOperations ty kind p l d t left numbered room all inside some few short = tt
+    operations_in types locals levels (ThenCompute o a os) ty kind p l d t left (numbered, rest) room all inside some few short =
         let inner = expression_code (starts_of types) a p (value_slot (starts_of types) a (suc t)) (suc t) in
         let operand = code_unless (operand_of (starts_of types) a) inner in
         let next = next_slot os d t in
@@ -632,15 +642,15 @@ module _ (program : PlainProgram) (r : Routine) (b : Numbering) (globals : b.glo
         let back = operations_code (starts_of types) os (p + length front) (operands.Slot next) d t in
         let long = length-append front back in
         let long_front = length-append operand operator in
-        let free : suc t + words_of_kind (kind_at program r b types locals globals called results a) ≤ r.slots = omega (arith, few, some, operand_positive (type_of a), words_positive ty, given_needs program r b types locals globals called results a numbered) in
-        let next_room = next_in program r b types locals globals called results os kinds.Int d t room (omega (arith, free)) in
+        let free : suc t + words_of_kind (kind_at program r b types locals levels globals called results a) ≤ r.slots = omega (arith, few, some, operand_positive (type_of a), words_positive ty, given_needs program r b types locals levels globals called results a numbered) in
+        let next_room = next_in program r b types locals levels globals called results os kinds.Int d t room (omega (arith, free)) in
         let next_few : next < r.slots = omega (arith, next_room) in
-        append program r b types locals globals called results front back
-        (append program r b types locals globals called results operand operator
-        (unless_in program r b types locals globals called results (operand_of (starts_of types) a) inner p (omega (arith, short, long, long_front)) (λ less. expression_in types locals a p (value_slot (starts_of types) a (suc t)) (suc t) numbered (slot_fits program r b types locals globals called results a (suc t) numbered free) (omega (arith, few, some)) less))
-        (operator_in program r b types locals globals called results o l m (p + length operand) next next_few inside (value_in program r b types locals globals called results a (suc t) numbered free) (omega (arith, short, long, long_front))))
-        (operations_in types locals os ty kinds.Int (p + length front) (operands.Slot next) d t (words_of ty) rest room (next_left_in program r b types locals globals called results os ty d t (words_of ty) rest (omega (arith, few))) next_few (words_positive ty) (omega (arith, few)) (omega (arith, short, long)))
-    operations_in types locals (ThenTest o a os) ty kind p l d t left (numbered, rest) room all inside some few short =
+        append program r b types locals levels globals called results front back
+        (append program r b types locals levels globals called results operand operator
+        (unless_in program r b types locals levels globals called results (operand_of (starts_of types) a) inner p (omega (arith, short, long, long_front)) (λ less. expression_in types locals levels a p (value_slot (starts_of types) a (suc t)) (suc t) numbered (slot_fits program r b types locals levels globals called results a (suc t) numbered free) (omega (arith, few, some)) less))
+        (operator_in program r b types locals levels globals called results o l m (p + length operand) next next_few inside (value_in program r b types locals levels globals called results a (suc t) numbered free) (omega (arith, short, long, long_front))))
+        (operations_in types locals levels os ty kinds.Int (p + length front) (operands.Slot next) d t (words_of ty) rest room (next_left_in program r b types locals levels globals called results os ty d t (words_of ty) rest (omega (arith, few))) next_few (words_positive ty) (omega (arith, few)) (omega (arith, short, long)))
+    operations_in types locals levels (ThenTest o a os) ty kind p l d t left (numbered, rest) room all inside some few short =
         let operand = expression_code (starts_of types) a (p + 1) t t in
         let next = next_slot os d t in
         let front = test_code o operand p next t in
@@ -648,101 +658,101 @@ module _ (program : PlainProgram) (r : Routine) (b : Numbering) (globals : b.glo
         let long = length-append front back in
         let long_front = length-append operand (truth_code t next) in
         let free : t < r.slots = omega (arith, few, some) in
-        let next_room = next_in program r b types locals globals called results os kinds.Int d t room (omega (arith, free)) in
+        let next_room = next_in program r b types locals levels globals called results os kinds.Int d t room (omega (arith, free)) in
         let next_few : next < r.slots = omega (arith, next_room) in
-        append program r b types locals globals called results front back
-        (test_in program r b types locals globals called results o operand p next t next_few free (omega (arith, short, long)) (expression_in types locals a (p + 1) t t numbered (omega (arith, few, free, given_needs program r b types locals globals called results a numbered)) (omega (arith, few)) (omega (arith, short, long, long_front))))
-        (operations_in types locals os ty kinds.Int (p + length front) (operands.Slot next) d t (words_of ty) rest room (next_left_in program r b types locals globals called results os ty d t (words_of ty) rest (omega (arith, few))) next_few (words_positive ty) (omega (arith, few)) (omega (arith, short, long)))
-    operations_in types locals (ThenPointer o a os) ty kind p l d t left (wide, numbered, rest) room all inside some few short =
+        append program r b types locals levels globals called results front back
+        (test_in program r b types locals levels globals called results o operand p next t next_few free (omega (arith, short, long)) (expression_in types locals levels a (p + 1) t t numbered (omega (arith, few, free, given_needs program r b types locals levels globals called results a numbered)) (omega (arith, few)) (omega (arith, short, long, long_front))))
+        (operations_in types locals levels os ty kinds.Int (p + length front) (operands.Slot next) d t (words_of ty) rest room (next_left_in program r b types locals levels globals called results os ty d t (words_of ty) rest (omega (arith, few))) next_few (words_positive ty) (omega (arith, few)) (omega (arith, short, long)))
+    operations_in types locals levels (ThenPointer o a os) ty kind p l d t left (wide, numbered, rest) room all inside some few short =
         let next = next_slot os d t in
         let m = value_operand (starts_of types) a (behind_left o t) in
         let operand = code_unless (operand_of (starts_of types) a) (expression_code (starts_of types) a p (value_slot (starts_of types) a (behind_left o t)) (behind_left o t)) in
         let front = pointer_code o l m operand next in
         let back = operations_code (starts_of types) os (p + length front) (operands.Slot next) d t in
         let long = length-append front back in
-        let next_room = next_in program r b types locals globals called results os (operator_kind o) d t room (omega (arith, few, wide, operator_few program r b types locals globals called results o)) in
+        let next_room = next_in program r b types locals levels globals called results os (operator_kind o) d t room (omega (arith, few, wide, operator_few program r b types locals levels globals called results o)) in
         let next_few : next < r.slots = omega (arith, next_room, kind_positive (operator_kind o)) in
-        append program r b types locals globals called results front back
-        (right_in program r b types locals globals called results o a ty p l next t left numbered wide next_room all inside (omega (arith, few)) (omega (arith, short, long)) (λ slot fits less. expression_in types locals a p slot (behind_left o t) numbered fits (omega (arith, few, wide)) less))
-        (operations_in types locals os ty (operator_kind o) (p + length front) (operands.Slot next) d t (words_of ty) rest room (next_left_in program r b types locals globals called results os ty d t (words_of ty) rest (omega (arith, few))) next_few (words_positive ty) (omega (arith, few)) (omega (arith, short, long)))
-    operations_in types locals (ThenPointerPeek n o a os) ty kind p l d t left (wide, numbered, rest) room all inside some few short =
+        append program r b types locals levels globals called results front back
+        (right_in program r b types locals levels globals called results o a ty p l next t left numbered wide next_room all inside (omega (arith, few)) (omega (arith, short, long)) (λ slot fits less. expression_in types locals levels a p slot (behind_left o t) numbered fits (omega (arith, few, wide)) less))
+        (operations_in types locals levels os ty (operator_kind o) (p + length front) (operands.Slot next) d t (words_of ty) rest room (next_left_in program r b types locals levels globals called results os ty d t (words_of ty) rest (omega (arith, few))) next_few (words_positive ty) (omega (arith, few)) (omega (arith, short, long)))
+    operations_in types locals levels (ThenPointerPeek n o a os) ty kind p l d t left (wide, numbered, rest) room all inside some few short =
         let next = next_slot os d t in
         let m = value_operand (starts_of types) a (behind_left o t) in
         let operand = code_unless (operand_of (starts_of types) a) (expression_code (starts_of types) a p (value_slot (starts_of types) a (behind_left o t)) (behind_left o t)) in
         let front = pointer_code o l m operand next in
         let back = operations_code (starts_of types) os (p + length front) (operands.Slot next) d t in
         let long = length-append front back in
-        let next_room = next_in program r b types locals globals called results os (operator_kind o) d t room (omega (arith, few, wide, operator_few program r b types locals globals called results o)) in
+        let next_room = next_in program r b types locals levels globals called results os (operator_kind o) d t room (omega (arith, few, wide, operator_few program r b types locals levels globals called results o)) in
         let next_few : next < r.slots = omega (arith, next_room, kind_positive (operator_kind o)) in
-        append program r b types locals globals called results front back
-        (right_in program r b types locals globals called results o a ty p l next t left numbered wide next_room all inside (omega (arith, few)) (omega (arith, short, long)) (λ slot fits less. expression_in types locals a p slot (behind_left o t) numbered fits (omega (arith, few, wide)) less))
-        (operations_in types locals os ty (operator_kind o) (p + length front) (operands.Slot next) d t (words_of ty) rest room (next_left_in program r b types locals globals called results os ty d t (words_of ty) rest (omega (arith, few))) next_few (words_positive ty) (omega (arith, few)) (omega (arith, short, long)))
+        append program r b types locals levels globals called results front back
+        (right_in program r b types locals levels globals called results o a ty p l next t left numbered wide next_room all inside (omega (arith, few)) (omega (arith, short, long)) (λ slot fits less. expression_in types locals levels a p slot (behind_left o t) numbered fits (omega (arith, few, wide)) less))
+        (operations_in types locals levels os ty (operator_kind o) (p + length front) (operands.Slot next) d t (words_of ty) rest room (next_left_in program r b types locals levels globals called results os ty d t (words_of ty) rest (omega (arith, few))) next_few (words_positive ty) (omega (arith, few)) (omega (arith, short, long)))
 
-module _ (program : PlainProgram) (r : Routine) (b : Numbering) (types : Types) (locals : (n : ℕ) → n < b.locals → slot_of (starts_of types) n + words_in types.locals n ≤ r.slots) (globals : b.globals ≡ length program.globals) (called : (n : ℕ) (s : Signature) → slice_get b.functions n ≡ Some s → IsKnown program n s) (results : r.results ≡ results_of b.result) where
-  assignment_in : (l : Lvalue) (c : Converted) (p t : ℕ) → FitsStored b types l (passed_kind c) → FitsConverted b types c → t + converted_words c ≤ r.slots → t + converted_need c ≤ r.slots → p + length (assignment_code (starts_of types) l c p t) < length r.code → AreIn program r b types locals globals called results (assignment_code (starts_of types) l c p t)
-  assignment_in (Local w n) c p t (within, own) numbered free few short = initial_in program r b globals called results types locals c p (slot_of (starts_of types) n) t numbered (omega (arith, locals n within, own)) free few short
+module _ (program : PlainProgram) (r : Routine) (b : Numbering) (types : Types) (locals : (n : ℕ) → n < b.locals → slot_of (starts_of types) n + words_in types.locals n ≤ r.slots) (levels : (l slot : ℕ) → slice_get types.counters l ≡ Some slot → slot < r.slots) (globals : b.globals ≡ length program.globals) (called : (n : ℕ) (s : Signature) → slice_get b.functions n ≡ Some s → IsKnown program n s) (results : r.results ≡ results_of b.result) where
+  assignment_in : (l : Lvalue) (c : Converted) (p t : ℕ) → FitsStored b types l (passed_kind c) → FitsConverted b types c → t + converted_words c ≤ r.slots → t + converted_need c ≤ r.slots → p + length (assignment_code (starts_of types) l c p t) < length r.code → AreIn program r b types locals levels globals called results (assignment_code (starts_of types) l c p t)
+  assignment_in (Local w n) c p t (within, own) numbered free few short = initial_in program r b globals called results types locals levels c p (slot_of (starts_of types) n) t numbered (omega (arith, locals n within, own)) free few short
   assignment_in (Global n) c p t (within, single) numbered free few short =
       let front = converted_operand_code (starts_of types) c p t in
       let store = instructions.StoreGlobal n (converted_operand (starts_of types) c t) ∷ [] in
-      append program r b types locals globals called results front store (converted_operand_in program r b globals called results types locals c p t numbered free few (omega (arith, short, length-append front store))) ((omega (arith, within, globals), converted_value_in program r b types locals globals called results c t numbered free), tt)
+      append program r b types locals levels globals called results front store (converted_operand_in program r b globals called results types locals levels c p t numbered free few (omega (arith, short, length-append front store))) ((omega (arith, within, globals), converted_value_in program r b types locals levels globals called results c t numbered free), tt)
 
-  discarded_in : (a : Expression) (p t : ℕ) → Fits b types a → t + expression_need a + spare_slots ≤ r.slots → p + length (discarded_code (starts_of types) a p t) < length r.code → AreIn program r b types locals globals called results (discarded_code (starts_of types) a p t)
+  discarded_in : (a : Expression) (p t : ℕ) → Fits b types a → t + expression_need a + spare_slots ≤ r.slots → p + length (discarded_code (starts_of types) a p t) < length r.code → AreIn program r b types locals levels globals called results (discarded_code (starts_of types) a p t)
   discarded_in (Call callees.Putchar cs ty) p t (s, signature, many, passed, result, numbered) few short =
       let front = printed_code (starts_of types) cs p t in
       let back = instructions.WriteByte (printed_operand (starts_of types) cs (operands.Slot t) t) ∷ [] in
-      append program r b types locals globals called results front back (printed_in program r b globals called results types locals cs p t t 0 numbered (omega (arith, few)) (omega arith) (omega (arith, few)) (omega (arith, short, length-append front back)))
-      (printed_value_in program r b types locals globals called results cs (operands.Slot t) t numbered (omega (arith, few)) (omega (arith, few)), tt)
+      append program r b types locals levels globals called results front back (printed_in program r b globals called results types locals levels cs p t t 0 numbered (omega (arith, few)) (omega arith) (omega (arith, few)) (omega (arith, short, length-append front back)))
+      (printed_value_in program r b types locals levels globals called results cs (operands.Slot t) t numbered (omega (arith, few)) (omega (arith, few)), tt)
   discarded_in (Assign l c ty) p t (within, numbered) few short = assignment_in l c p t within numbered (omega (arith, few)) (omega (arith, few)) short
   discarded_in (Store x c ty) p t (place, single, numbered) few short =
-      stored_in program r b types locals globals called results x c p t numbered (omega (arith, few)) short
-      (λ less. addressed_in program r b types locals globals called results x p t t place (omega (arith, few)) (omega (arith, few)) less (λ shorter. place_in program r b globals called results types locals x place_words p t place (omega arith) (omega (arith, few)) shorter))
-      (λ q less. converted_operand_in program r b globals called results types locals c q (t + 1) numbered (omega (arith, few)) (omega (arith, few)) less)
+      stored_in program r b types locals levels globals called results x c p t numbered (omega (arith, few)) short
+      (λ less. addressed_in program r b types locals levels globals called results x p t t place (omega (arith, few)) (omega (arith, few)) less (λ shorter. place_in program r b globals called results types locals levels x place_words p t place (omega arith) (omega (arith, few)) shorter))
+      (λ q less. converted_operand_in program r b globals called results types locals levels c q (t + 1) numbered (omega (arith, few)) (omega (arith, few)) less)
   discarded_in a p t numbered few short =
-      unless_in program r b types locals globals called results (operand_of (starts_of types) a) (expression_code (starts_of types) a p t t) p short (λ less. expression_in program r b globals called results types locals a p t t numbered (omega (arith, few, kind_few (kind_at program r b types locals globals called results a))) (omega (arith, few)) less)
+      unless_in program r b types locals levels globals called results (operand_of (starts_of types) a) (expression_code (starts_of types) a p t t) p short (λ less. expression_in program r b globals called results types locals levels a p t t numbered (omega (arith, few, kind_few (kind_at program r b types locals levels globals called results a))) (omega (arith, few)) less)
 
   -- ---- statements
 
   -- two operands that are compared, by the code of the second
   pair_in : (a c : Expression) (p t : ℕ) → Fits b types a → t + expression_need a + spare_slots ≤ r.slots → p + length (pair_code (starts_of types) a c p t) < length r.code
-      → (p + length (first_code (starts_of types) a c p t) + length (second_code (starts_of types) c (p + length (first_code (starts_of types) a c p t)) t) < length r.code → AreIn program r b types locals globals called results (second_code (starts_of types) c (p + length (first_code (starts_of types) a c p t)) t)) → AreIn program r b types locals globals called results (pair_code (starts_of types) a c p t)
+      → (p + length (first_code (starts_of types) a c p t) + length (second_code (starts_of types) c (p + length (first_code (starts_of types) a c p t)) t) < length r.code → AreIn program r b types locals levels globals called results (second_code (starts_of types) c (p + length (first_code (starts_of types) a c p t)) t)) → AreIn program r b types locals levels globals called results (pair_code (starts_of types) a c p t)
   pair_in a c p t numbered few short second =
       let slot = slot_with (starts_of types) (operand_of (starts_of types) c) a t in
       let front = first_code (starts_of types) a c p t in
       let back = second_code (starts_of types) c (p + length front) t in
       let long = length-append front back in
-      append program r b types locals globals called results front back
-      (unless_in program r b types locals globals called results (left_with (operand_of (starts_of types) c) (operand_of (starts_of types) a)) (expression_code (starts_of types) a p slot t) p (omega (arith, short, long))
-      (λ less. expression_in program r b globals called results types locals a p slot t numbered (slot_with_in program r b types locals globals called results (operand_of (starts_of types) c) a t numbered (omega (arith, few, kind_few (kind_at program r b types locals globals called results a)))) (omega (arith, few)) less))
+      append program r b types locals levels globals called results front back
+      (unless_in program r b types locals levels globals called results (left_with (operand_of (starts_of types) c) (operand_of (starts_of types) a)) (expression_code (starts_of types) a p slot t) p (omega (arith, short, long))
+      (λ less. expression_in program r b globals called results types locals levels a p slot t numbered (slot_with_in program r b types locals levels globals called results (operand_of (starts_of types) c) a t numbered (omega (arith, few, kind_few (kind_at program r b types locals levels globals called results a)))) (omega (arith, few)) less))
       (second (omega (arith, short, long)))
 
-  condition_in : (a : Expression) (p t : ℕ) → Fits b types a → t + expression_need a + spare_slots ≤ r.slots → p + length (condition_code (starts_of types) a p t) < length r.code → AreIn program r b types locals globals called results (condition_code (starts_of types) a p t)
+  condition_in : (a : Expression) (p t : ℕ) → Fits b types a → t + expression_need a + spare_slots ≤ r.slots → p + length (condition_code (starts_of types) a p t) < length r.code → AreIn program r b types locals levels globals called results (condition_code (starts_of types) a p t)
   condition_in (Unary unary.Not a) p t numbered few short = pair_in a (Number 0) p t numbered (omega (arith, few)) short (λ less. tt)
   condition_in (Binary a (ThenCompute o c NoOperations) ty) p t (first, (second, none)) few short = by (failing_comparison o) short
     where
       by : (f : Option Comparison) → p + length (pair_code (starts_of types) (compared_or f a c (Binary a (ThenCompute o c NoOperations) ty)).left (compared_or f a c (Binary a (ThenCompute o c NoOperations) ty)).right p t) < length r.code
-          → AreIn program r b types locals globals called results (pair_code (starts_of types) (compared_or f a c (Binary a (ThenCompute o c NoOperations) ty)).left (compared_or f a c (Binary a (ThenCompute o c NoOperations) ty)).right p t)
+          → AreIn program r b types locals levels globals called results (pair_code (starts_of types) (compared_or f a c (Binary a (ThenCompute o c NoOperations) ty)).left (compared_or f a c (Binary a (ThenCompute o c NoOperations) ty)).right p t)
       by (Some failing) short =
           let next = p + length (first_code (starts_of types) a c p t) in
           let some = operand_positive (type_of a) in
-          let free : suc t + words_of_kind (kind_at program r b types locals globals called results c) ≤ r.slots = omega (arith, few, some, operand_positive (type_of c), words_positive ty, kind_few (kind_at program r b types locals globals called results c)) in
+          let free : suc t + words_of_kind (kind_at program r b types locals levels globals called results c) ≤ r.slots = omega (arith, few, some, operand_positive (type_of c), words_positive ty, kind_few (kind_at program r b types locals levels globals called results c)) in
           pair_in a c p t first (omega (arith, few)) short
-          (λ less. unless_in program r b types locals globals called results (operand_of (starts_of types) c) (expression_code (starts_of types) c next (value_slot (starts_of types) c (suc t)) (suc t)) next less
-          (λ fits. expression_in program r b globals called results types locals c next (value_slot (starts_of types) c (suc t)) (suc t) second (slot_fits program r b types locals globals called results c (suc t) second free) (omega (arith, few, some)) fits))
+          (λ less. unless_in program r b types locals levels globals called results (operand_of (starts_of types) c) (expression_code (starts_of types) c next (value_slot (starts_of types) c (suc t)) (suc t)) next less
+          (λ fits. expression_in program r b globals called results types locals levels c next (value_slot (starts_of types) c (suc t)) (suc t) second (slot_fits program r b types locals levels globals called results c (suc t) second free) (omega (arith, few, some)) fits))
       by None short = pair_in (Binary a (ThenCompute o c NoOperations) ty) (Number 0) p t (first, (second, none)) few short (λ less. tt)
   condition_in a p t numbered few short = pair_in a (Number 0) p t numbered few short (λ less. tt)
 
   compared_in : (a : Expression) (t : ℕ) → Fits b types a → t + expression_need a + spare_slots ≤ r.slots → IsOperand r (condition_of (starts_of types) a t).left × IsOperand r (condition_of (starts_of types) a t).right
-  compared_in (Unary unary.Not a) t numbered few = (value_in program r b types locals globals called results a t numbered (omega (arith, few, kind_few (kind_at program r b types locals globals called results a))), tt)
+  compared_in (Unary unary.Not a) t numbered few = (value_in program r b types locals levels globals called results a t numbered (omega (arith, few, kind_few (kind_at program r b types locals levels globals called results a))), tt)
   compared_in (Binary a (ThenCompute o c NoOperations) ty) t (first, (second, none)) few = by (failing_comparison o)
     where
       by : (f : Option Comparison) → IsOperand r (first_operand (starts_of types) (compared_or f a c (Binary a (ThenCompute o c NoOperations) ty)).left (compared_or f a c (Binary a (ThenCompute o c NoOperations) ty)).right t) × IsOperand r (value_operand (starts_of types) (compared_or f a c (Binary a (ThenCompute o c NoOperations) ty)).right (suc t))
       by (Some failing) =
-          let free : suc t + words_of_kind (kind_at program r b types locals globals called results c) ≤ r.slots = omega (arith, few, operand_positive (type_of a), operand_positive (type_of c), words_positive ty, kind_few (kind_at program r b types locals globals called results c)) in
-          (left_with_in program r b types locals globals called results (operand_of (starts_of types) c) a t first (omega (arith, few, kind_few (kind_at program r b types locals globals called results a))), value_in program r b types locals globals called results c (suc t) second free)
-      by None = (value_in program r b types locals globals called results (Binary a (ThenCompute o c NoOperations) ty) t (first, (second, none)) (omega (arith, few)), tt)
-  compared_in a t numbered few = (value_in program r b types locals globals called results a t numbered (omega (arith, few, kind_few (kind_at program r b types locals globals called results a))), tt)
+          let free : suc t + words_of_kind (kind_at program r b types locals levels globals called results c) ≤ r.slots = omega (arith, few, operand_positive (type_of a), operand_positive (type_of c), words_positive ty, kind_few (kind_at program r b types locals levels globals called results c)) in
+          (left_with_in program r b types locals levels globals called results (operand_of (starts_of types) c) a t first (omega (arith, few, kind_few (kind_at program r b types locals levels globals called results a))), value_in program r b types locals levels globals called results c (suc t) second free)
+      by None = (value_in program r b types locals levels globals called results (Binary a (ThenCompute o c NoOperations) ty) t (first, (second, none)) (omega (arith, few)), tt)
+  compared_in a t numbered few = (value_in program r b types locals levels globals called results a t numbered (omega (arith, few, kind_few (kind_at program r b types locals levels globals called results a))), tt)
 
-  return_in : (v : Option Converted) (p t : ℕ) → FitsReturn b types b.result v → t + initial_need v + spare_slots ≤ r.slots → p + length (return_code (starts_of types) v p t) < length r.code → AreIn program r b types locals globals called results (return_code (starts_of types) v p t)
+  return_in : (v : Option Converted) (p t : ℕ) → FitsReturn b types b.result v → t + initial_need v + spare_slots ≤ r.slots → p + length (return_code (starts_of types) v p t) < length r.code → AreIn program r b types locals levels globals called results (return_code (starts_of types) v p t)
   return_in None p t numbered few short = (omega (arith, few, results, results_few b.result), tt)
   return_in (Some (Convert from to a)) p t numbered few short =
       let c = Convert from to a in
@@ -756,37 +766,37 @@ module _ (program : PlainProgram) (r : Routine) (b : Numbering) (types : Types) 
       let long_front = length-append front conversion in
       let (words, kind, is) = value_of b.result numbered in
       let there : s + words_of_kind to ≤ r.slots = returned_in (are_as_wide from to) kind is refl in
-      append program r b types locals globals called results (front ++ conversion) back
-      (append program r b types locals globals called results front conversion (unless_slot_in program r b types locals globals called results known inner p (omega (arith, short, long, long_front)) (λ less. expression_in program r b globals called results types locals a p t t is (omega (arith, few, kind_few (kind_at program r b types locals globals called results a))) (omega (arith, few)) less))
-      (conversion_in program r b types locals globals called results to (operands.Slot s) (p + length front) (omega (arith, there, kind_positive to)) (omega (arith, short, long, long_front)))) (omega (arith, there, results, words), tt)
+      append program r b types locals levels globals called results (front ++ conversion) back
+      (append program r b types locals levels globals called results front conversion (unless_slot_in program r b types locals levels globals called results known inner p (omega (arith, short, long, long_front)) (λ less. expression_in program r b globals called results types locals levels a p t t is (omega (arith, few, kind_few (kind_at program r b types locals levels globals called results a))) (omega (arith, few)) less))
+      (conversion_in program r b types locals levels globals called results to (operands.Slot s) (p + length front) (omega (arith, there, kind_positive to)) (omega (arith, short, long, long_front)))) (omega (arith, there, results, words), tt)
     where
-      value_of : (result : Option Ty) → FitsReturn b types result (Some (Convert from to a)) → (results_of result ≡ words_of_kind to) × (from ≡ kind_at program r b types locals globals called results a) × Fits b types a
+      value_of : (result : Option Ty) → FitsReturn b types result (Some (Convert from to a)) → (results_of result ≡ words_of_kind to) × (from ≡ kind_at program r b types locals levels globals called results a) × Fits b types a
       value_of None numbered = absurd numbered
       value_of (Some ty) (same, (kind, wide, numbered)) = (sym (type_words ty) ∙ ap words_of_kind (sym same), kind, numbered)
 
-      slot_there : (known : Option Operand) → HasOperand program r b types locals globals called results (operand_or known t) (words_of_kind to) → slot_or known t + words_of_kind to ≤ r.slots
+      slot_there : (known : Option Operand) → HasOperand program r b types locals levels globals called results (operand_or known t) (words_of_kind to) → slot_or known t + words_of_kind to ≤ r.slots
       slot_there (Some (operands.Slot n)) inside = inside
       slot_there (Some (operands.Word w)) inside = omega (arith, few, kind_few to)
       slot_there None inside = inside
 
-      wide_room : from ≡ kind_at program r b types locals globals called results a → Fits b types a → (words_of_kind from ≡ words_of_kind to) → (known : Option Operand) → operand_of (starts_of types) a ≡ known → slot_or known t + words_of_kind to ≤ r.slots
+      wide_room : from ≡ kind_at program r b types locals levels globals called results a → Fits b types a → (words_of_kind from ≡ words_of_kind to) → (known : Option Operand) → operand_of (starts_of types) a ≡ known → slot_or known t + words_of_kind to ≤ r.slots
       wide_room kind is wide (Some o) there =
           slot_there (Some o)
-          (subst (HasOperand program r b types locals globals called results o) (ap words_of_kind (sym kind) ∙ wide)
-          (subst (λ (x : Option Operand). HasOperand program r b types locals globals called results (operand_or x (value_slot (starts_of types) a t)) (words_of_kind (kind_at program r b types locals globals called results a))) there (value_room program r b types locals globals called results a t is (omega (arith, few, kind_few (kind_at program r b types locals globals called results a))))))
+          (subst (HasOperand program r b types locals levels globals called results o) (ap words_of_kind (sym kind) ∙ wide)
+          (subst (λ (x : Option Operand). HasOperand program r b types locals levels globals called results (operand_or x (value_slot (starts_of types) a t)) (words_of_kind (kind_at program r b types locals levels globals called results a))) there (value_room program r b types locals levels globals called results a t is (omega (arith, few, kind_few (kind_at program r b types locals levels globals called results a))))))
       wide_room kind is wide None there = omega (arith, few, kind_few to)
 
-      returned_in : (same : Bool) → from ≡ kind_at program r b types locals globals called results a → Fits b types a → are_as_wide from to ≡ same → slot_or (if same then operand_of (starts_of types) a else None) t + words_of_kind to ≤ r.slots
+      returned_in : (same : Bool) → from ≡ kind_at program r b types locals levels globals called results a → Fits b types a → are_as_wide from to ≡ same → slot_or (if same then operand_of (starts_of types) a else None) t + words_of_kind to ≤ r.slots
       returned_in true kind is wide = wide_room kind is (eqb-true (words_of_kind from) (words_of_kind to) wide) (operand_of (starts_of types) a) refl
       returned_in false kind is wide = omega (arith, few, kind_few to)
 
-  declaration_in : (n : ℕ) (v : Option Converted) (p t : ℕ) → n < b.locals → FitsInitial b types n v → t + initial_need v + spare_slots ≤ r.slots → p + length (declaration_code (starts_of types) n v p t) < length r.code → AreIn program r b types locals globals called results (declaration_code (starts_of types) n v p t)
+  declaration_in : (n : ℕ) (v : Option Converted) (p t : ℕ) → n < b.locals → FitsInitial b types n v → t + initial_need v + spare_slots ≤ r.slots → p + length (declaration_code (starts_of types) n v p t) < length r.code → AreIn program r b types locals levels globals called results (declaration_code (starts_of types) n v p t)
   declaration_in n None p t within numbered few short = tt
   declaration_in n (Some c) p t within (own, numbered) few short =
-      initial_in program r b globals called results types locals c p (slot_of (starts_of types) n) t numbered (omega (arith, locals n within, own)) (omega (arith, few, converted_few c)) (omega (arith, few)) short
+      initial_in program r b globals called results types locals levels c p (slot_of (starts_of types) n) t numbered (omega (arith, locals n within, own)) (omega (arith, few, converted_few c)) (omega (arith, few)) short
 
   mutual
-    statement_in : (s : Statement) (in_loop : Bool) (p : ℕ) (exits : Exits) (t : ℕ) → FitsStatement b types in_loop s → (in_loop ≡ true → exits.head + 2 < length r.code) → t + statement_need s + spare_slots ≤ r.slots → p + length (statement_code (starts_of types) s p exits t) < length r.code → AreIn program r b types locals globals called results (statement_code (starts_of types) s p exits t)
+    statement_in : (s : Statement) (in_loop : Bool) (p : ℕ) (exits : Exits) (t : ℕ) → FitsStatement b types in_loop s → (in_loop ≡ true → exits.head + 2 < length r.code) → t + statement_need s + spare_slots ≤ r.slots → p + length (statement_code (starts_of types) s p exits t) < length r.code → AreIn program r b types locals levels globals called results (statement_code (starts_of types) s p exits t)
     statement_in (Block n js) in_loop p exits t numbered around few short = items_in js in_loop p exits t numbered around few short
     statement_in Empty in_loop p exits t numbered around few short = tt
     statement_in (Evaluate a) in_loop p exits t numbered around few short = discarded_in a p t numbered few short
@@ -801,8 +811,8 @@ module _ (program : PlainProgram) (r : Routine) (b : Numbering) (types : Types) 
         let long = length-append (condition ++ jump_first) jump_second in
         let long_front = length-append condition jump_first in
         let (left, right) = compared_in a t numbered_a (omega (arith, few)) in
-        append program r b types locals globals called results (condition ++ jump_first) jump_second
-        (append program r b types locals globals called results condition jump_first (condition_in a p t numbered_a (omega (arith, few)) (omega (arith, short, long, long_front)))
+        append program r b types locals levels globals called results (condition ++ jump_first) jump_second
+        (append program r b types locals levels globals called results condition jump_first (condition_in a p t numbered_a (omega (arith, few)) (omega (arith, short, long, long_front)))
         ((left, right, omega (arith, short, long, long_front)), statement_in s in_loop (m + 1) exits t numbered_s around (omega (arith, few)) (omega (arith, short, long, long_front))))
         (omega (arith, short, long, long_front), statement_in u in_loop (q + 1) exits t numbered_u around (omega (arith, few)) (omega (arith, short, long, long_front)))
     statement_in (While w a s) in_loop p exits t (numbered_a, numbered_s) around few short =
@@ -817,8 +827,8 @@ module _ (program : PlainProgram) (r : Routine) (b : Numbering) (types : Types) 
           omega (arith, short, long, long_front),
           (
             omega (arith, short, long, long_front),
-            append program r b types locals globals called results (condition ++ test) again
-                (append program r b types locals globals called results condition test (condition_in a (p + 2) t numbered_a (omega (arith, few)) (omega (arith, short, long, long_front)))
+            append program r b types locals levels globals called results (condition ++ test) again
+                (append program r b types locals levels globals called results condition test (condition_in a (p + 2) t numbered_a (omega (arith, few)) (omega (arith, short, long, long_front)))
                 ((left, right, omega (arith, short, long, long_front)), statement_in s true (m + 1) (inside_loop p t exits) t numbered_s (λ inside. omega (arith, short, long, long_front)) (omega (arith, few)) (omega (arith, short, long, long_front))))
                 (omega (arith, short, long, long_front), tt),
           ),
@@ -828,19 +838,19 @@ module _ (program : PlainProgram) (r : Routine) (b : Numbering) (types : Types) 
     statement_in Continue in_loop p exits t numbered around few short = (omega (arith, around numbered), tt)
     statement_in s in_loop p exits t numbered around few short = absurd numbered
 
-    items_in : (js : Items) (in_loop : Bool) (p : ℕ) (exits : Exits) (t : ℕ) → FitItems b types in_loop js → (in_loop ≡ true → exits.head + 2 < length r.code) → t + items_need js + spare_slots ≤ r.slots → p + length (items_code (starts_of types) js p exits t) < length r.code → AreIn program r b types locals globals called results (items_code (starts_of types) js p exits t)
+    items_in : (js : Items) (in_loop : Bool) (p : ℕ) (exits : Exits) (t : ℕ) → FitItems b types in_loop js → (in_loop ≡ true → exits.head + 2 < length r.code) → t + items_need js + spare_slots ≤ r.slots → p + length (items_code (starts_of types) js p exits t) < length r.code → AreIn program r b types locals levels globals called results (items_code (starts_of types) js p exits t)
     items_in NoItems in_loop p exits t numbered around few short = tt
     items_in (MoreItems (Execute s) js) in_loop p exits t (numbered, rest) around few short =
         let front = statement_code (starts_of types) s p exits t in
         let back = items_code (starts_of types) js (p + length front) exits t in
         let long = length-append front back in
-        append program r b types locals globals called results front back (statement_in s in_loop p exits t numbered around (omega (arith, few)) (omega (arith, short, long)))
+        append program r b types locals levels globals called results front back (statement_in s in_loop p exits t numbered around (omega (arith, few)) (omega (arith, short, long)))
         (items_in js in_loop (p + length front) exits t rest around (omega (arith, few)) (omega (arith, short, long)))
     items_in (MoreItems (Declare n ty v) js) in_loop p exits t (within, numbered, rest) around few short =
         let front = declaration_code (starts_of types) n v p t in
         let back = items_code (starts_of types) js (p + length front) exits t in
         let long = length-append front back in
-        append program r b types locals globals called results front back (declaration_in n v p t within numbered (omega (arith, few)) (omega (arith, short, long)))
+        append program r b types locals levels globals called results front back (declaration_in n v p t within numbered (omega (arith, few)) (omega (arith, short, long)))
         (items_in js in_loop (p + length front) exits t rest around (omega (arith, few)) (omega (arith, short, long)))
     items_in js in_loop p exits t numbered around few short = absurd numbered
 
@@ -883,7 +893,7 @@ module _ (source : Program) (is_fitting : IsFitting source) where
         frame = omega (arith, slots-few h);
         instructions = all_of (IsInRange (lower_program source) r) (body ++ end)
             (all_append (IsInRange (lower_program source) r) body end
-            (items_in (lower_program source) r b types (λ n within. omega (arith, slot-room types n (omega (arith, within, slot_types-many h)))) (globals_counted source.globals) known_functions refl
+            (items_in (lower_program source) r b types (λ n within. omega (arith, slot-room types n (omega (arith, within, slot_types-many h)))) (λ l slot there. absurd (none-some slot there)) (globals_counted source.globals) known_functions refl
             h.body false 0 (outside_loops d) d numbered_body (λ inside. absurd (let f : false ≡ true = inside in cc)) (omega arith) (omega (arith, long)))
             (omega (arith, results_few h.result), tt));
         last = subst (λ (o : Option Instruction). IsSomeAnd o (λ i. leaves i ≡ true)) (sym (last_of body (instructions.Return d))) refl;

@@ -157,6 +157,7 @@ module _ (source : Program) (pages calls : ℕ) (well_typed : AreWellTypedGlobal
         variables = (refl, tt);
         few_pages = omega (arith, new_demand pages store new, some_page);
         fits = omega (arith, some_call);
+        counters = tt;
       }) (
         length w.objects,
         omega arith,

@@ -4,7 +4,7 @@
 --
 -- A value has as many slots as its kind has words, one behind the other. A global has one word yet, the first of its value. There is
 -- code for the int language and more; a form that is not built has a constant in its place, which nothing runs.
-use Rattle.std.specs.Prelude.{ℕ, zero, suc, ◌+◌, max, ◌==◌, Bool, false, if◌then◌else◌, List, [], ◌∷◌, ◌++◌, length, map, Option, None, Some}
+use Rattle.std.specs.Prelude.{ℕ, zero, suc, ◌+◌, max, ◌==◌, Bool, false, if◌then◌else◌, List, [], ◌∷◌, ◌++◌, length, map, Option, None, Some, slice_get}
 use Rattle.cyc_words.specs.declared.span.Span.{Span}
 use Rattle.cyc_syntax.specs.Symbols.{Place}
 use Rattle.cyc_types.specs.declared.typed.Kind.{Kind}
@@ -20,7 +20,7 @@ use Rattle.cyc_types.specs.declared.typed.LogicalOperator.{LogicalOperator}
 use Rattle.cyc_types.specs.declared.typed.LogicalOperator.TheVariants as logical
 use Rattle.cyc_types.specs.Types.{Ty, words_of}
 use Rattle.cyc_types.specs.Numbered.{argument_count}
-use Rattle.cyc_types.specs.TypedTrees.{Load, New, OnHeap, Initial, Plain, Fields, Dereference, Target, Lvalue, Local, Global, Expression, Number, NullPointer, Copy, Call, Unary, Binary, Assign, Converted, Convert, Arguments, NoArguments, MoreArguments, Operations, NoOperations, ThenCompute, ThenTest, ThenPointer, ThenPointerPeek, Statement, Block, Empty, Evaluate, If, While, Return, Break, Continue, Items, NoItems, MoreItems, Execute, Declare, Constant, Word, Null, GlobalVariable, StructType, Function, Program, Move, Peek, AddressOfCell, Store, Member, Element}
+use Rattle.cyc_types.specs.TypedTrees.{Counter, Load, New, OnHeap, Initial, Plain, Fields, Dereference, Target, Lvalue, Local, Global, Expression, Number, NullPointer, Copy, Call, Unary, Binary, Assign, Converted, Convert, Arguments, NoArguments, MoreArguments, Operations, NoOperations, ThenCompute, ThenTest, ThenPointer, ThenPointerPeek, Statement, Block, Empty, Evaluate, If, While, Return, Break, Continue, Items, NoItems, MoreItems, Execute, Declare, Constant, Word, Null, GlobalVariable, StructType, Function, Program, Move, Peek, AddressOfCell, Store, Member, Element}
 use Rattle.cyc_plain.specs.declared.instruction.UnaryOperator.{UnaryOperator as PlainUnary}
 use Rattle.cyc_plain.specs.declared.instruction.UnaryOperator.TheVariants as plain_unary
 use Rattle.cyc_plain.specs.declared.instruction.BinaryOperator.{BinaryOperator as PlainBinary}
@@ -37,7 +37,7 @@ use Rattle.cyc_store.specs.declared.range.TheConstants.{HEAP}
 use Rattle.cyc_meaning.specs.Values.{words_of_kind}
 use Rattle.cyc_meaning.specs.Operators.{null_exception, division_by_zero}
 use Rattle.cyc_meaning.specs.FrameCount.{frame_count, items_need, words_of_all}
-use Rattle.cyc_lower.specs.Slots.{Types, Starts, starts_of, slot_of, field_of}
+use Rattle.cyc_lower.specs.Slots.{Types, Starts, starts_of, slot_of, counter_of, field_of}
 use Rattle.cyc_lower.specs.declared.operands.Condition.{Condition}
 use Rattle.cyc_lower.specs.declared.statements.Exits.{Exits}
 
@@ -49,7 +49,7 @@ slot_types h = h.parameters ++ h.locals
 
 -- those by which its code is made, in a program with these structs
 abbrev pub types_of : List StructType → Function → Types
-types_of structs h = record { locals = slot_types h; structs = structs }
+types_of structs h = record { locals = slot_types h; structs = structs; counters = [] }
 
 -- the first slot behind the locals of a function
 abbrev pub first_temporary : Function → ℕ
@@ -353,17 +353,23 @@ outside_loops t = record { head = 0; loop_record = t; first_record = t }
 abbrev pub inside_loop : (head t : ℕ) → Exits → Exits
 inside_loop head t exits = record { head = head; loop_record = t; first_record = exits.first_record }
 
+-- a counter that has a slot is in it
+abbrev pub counter_operand : Option ℕ → Option Operand
+counter_operand (Some slot) = Some (operands.Slot slot)
+counter_operand None = None
+
 -- Locals that have these first slots, in a program with these structs.
 module _ (starts : Starts) where
   -- ---- where values stand
 
-  -- what an expression is without code: a number, null, or a local
+  -- what an expression is without code: a number, null, a local, or a counter
   abbrev pub operand_of : Expression → Option Operand
   operand_of (Number n) = Some (operands.Word n)
   operand_of NullPointer = Some (operands.Word 0)
   operand_of (Copy (Local p n) t) = Some (operands.Slot (slot_of starts n))
   operand_of (Move p n t) = Some (operands.Slot (slot_of starts n))
   operand_of (Peek p n t) = Some (operands.Slot (slot_of starts n))
+  operand_of (Counter l) = counter_operand (slice_get starts.counters l)
   operand_of a = None
 
   abbrev pub left_of : Expression → Operations → Option Operand
@@ -426,6 +432,7 @@ abbrev mutual
   pub expression_code : (starts : Starts) → Expression → (p d t : ℕ) → List Instruction
   expression_code starts (Number n) p d t = instructions.Move d (operands.Word n) ∷ []
   expression_code starts NullPointer p d t = instructions.Move d (operands.Word 0) ∷ []
+  expression_code starts (Counter l) p d t = instructions.Move d (operands.Slot (counter_of starts l)) ∷ []
   expression_code starts (Copy l ty) p d t = load_code starts (words_of ty) l d
   expression_code starts (Move w n ty) p d t = load_code starts (words_of ty) (Local w n) d
   expression_code starts (Peek w n ty) p d t = load_code starts (words_of ty) (Local w n) d

@@ -12,7 +12,7 @@ ghost use Rattle.cyc_lower.specs.Emission.{Appends, Gives, HasRoom, HasRoomFor, 
 
 use crate::emitter::Emitter;
 use crate::frame_count::{words_of, words_of_kind};
-use crate::locals::{Starts, field_of, slot_of};
+use crate::locals::{Starts, counter_of, field_of, slot_of};
 use crate::operands::{
     Condition, are_as_wide, converts_there, index_of, is_in, operand_of, slot_behind,
     takes_operand, value_slot,
@@ -284,10 +284,15 @@ impl Emitter {
                 };
                 self.load(starts, words_of(of_type), place, slot)
             }
+            Expr::Counter { level, .. } => self.emit(Instruction::Move {
+                destination: slot,
+                source: Operand::Slot {
+                    number: counter_of(starts, *level),
+                },
+            }),
             // `NULL` is 0, and the others are not built yet.
             Expr::NullPointer
             | Expr::HeapRegion
-            | Expr::Counter { .. }
             | Expr::AddressOf { .. }
             | Expr::NumberOfElements { .. }
             | Expr::FreeUnique { .. }

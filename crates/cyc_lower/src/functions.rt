@@ -56,6 +56,7 @@ fn lower_function(
     let starts = Starts {
         locals: &locals,
         structs,
+        counters: &[],
     };
     let mut emitter = Emitter::new(alloc);
     let exits = Exits {

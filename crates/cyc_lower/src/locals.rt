@@ -4,7 +4,7 @@ ghost use Rattle.cyc_types.specs.Types.{words_of};
 ghost use Rattle.cyc_types.specs.TypeView.{view_ty};
 ghost use Rattle.cyc_types.specs.TypedTreeView.{view_function};
 ghost use Rattle.cyc_meaning.specs.FrameCount.{words_of_all, frame_count};
-ghost use Rattle.cyc_lower.specs.Slots.{starts_from, bytes_from, field_of, slot_of};
+ghost use Rattle.cyc_lower.specs.Slots.{starts_from, bytes_from, field_of, slot_of, counter_of};
 ghost use Rattle.cyc_lower.specs.Lowering.{slot_types, first_temporary};
 ghost use Rattle.cyc_lower.specs.Emission.{most_frame_count, view_starts};
 
@@ -13,11 +13,13 @@ use cyc_types::Ty;
 use cyc_types::typed::{Function, StructType};
 use std::alloc::{AllocError, Global};
 
-/// What tells where things begin: the first slots of a function's locals, and the structs of its program, for their fields.
+/// What tells where things begin: the first slots of a function's locals, the structs of its program, for their fields, and the
+/// slots of the counters of the arrays around, the outermost first.
 #[derive(Clone, Copy)]
 pub(crate) struct Starts<'a> {
     pub(crate) locals: &'a [usize],
     pub(crate) structs: &'a [StructType],
+    pub(crate) counters: &'a [usize],
 }
 
 /// The first slot of the local of this number.
@@ -25,6 +27,16 @@ pub(crate) fn slot_of(starts: &Starts, number: usize) -> usize
     ensures { result ≡ slot_of (view_starts starts.now) number }
 {
     match starts.locals.get(number) {
+        Some(slot) => *slot,
+        None => 0,
+    }
+}
+
+/// The slot of the counter of this level.
+pub(crate) fn counter_of(starts: &Starts, level: usize) -> usize
+    ensures { result ≡ counter_of (view_starts starts.now) level }
+{
+    match starts.counters.get(level) {
         Some(slot) => *slot,
         None => 0,
     }

@@ -37,7 +37,7 @@ returns c =
     let slots : c.in_ok-locals.free + c.items_need.result + 3 ≡ first_temporary h + items_need h.body + 3 = omega (arith, c.in_ok-locals.ensures.1, c.items_need.ensures, body) in
     let code : c.emit.new.self.code.items ≡ function_code (map view_struct c.args.structs.now) h =
     function_made (map view_struct c.args.structs.now) h _ c.in_ok-locals.free (items_of c.deref-2.result.now) c.new-emitter.result.code.items c.lower_items.new.self.code.items c.emit.new.self.code.items
-    (ap (λ (l : List ℕ). record { locals = l; structs = map view_struct c.args.structs.now }) (c.deref.ensures.value ∙ c.in_ok-locals.ensures.0)) c.in_ok-locals.ensures.1 (ap (λ (js : List Item). items_of js) c.deref-2.ensures.value) c.new-emitter.ensures c.in_ok-lower_items.ensures c.in_ok-emit.ensures in
+    (ap (λ (l : List ℕ). record { locals = l; structs = map view_struct c.args.structs.now; counters = [] }) (c.deref.ensures.value ∙ c.in_ok-locals.ensures.0)) c.in_ok-locals.ensures.1 (ap (λ (js : List Item). items_of js) c.deref-2.ensures.value) c.new-emitter.ensures c.in_ok-lower_items.ensures c.in_ok-emit.ensures in
     λ i. record {
       name = span_of_place h.place;
       parameters = parameters i;
