@@ -12,8 +12,11 @@ use Rattle.cyc_types.specs.declared.typed.Operator.TheVariants as operators
 use Rattle.cyc_types.specs.declared.typed.PointerOperator.{PointerOperator}
 use Rattle.cyc_types.specs.declared.typed.PointerOperator.TheVariants as pointers
 use Rattle.cyc_types.specs.Types.{Ty, words_of}
-use Rattle.cyc_types.specs.TypedTrees.{Counter, Load, New, OnHeap, AsUnique, ByHandle, Initial, Plain, Fields, Dereference, Target, Lvalue, Local, Global, Expression, Number, NullPointer, Copy, Call, Unary, Binary, Assign, Converted, Convert, Arguments, NoArguments, MoreArguments, Operations, NoOperations, ThenCompute, ThenTest, ThenPointer, Statement, Block, Empty, Evaluate, If, While, Return, Break, Continue, Items, NoItems, MoreItems, Execute, Declare, Signature, StructType, Function, Program, Move, Peek, ThenPointerPeek, type_of, AddressOfCell, Store, Member, type_of_place}
+use Rattle.cyc_types.specs.TypedTrees.{Array, Counter, Load, New, OnHeap, AsUnique, ByHandle, Initial, Plain, Fields, Dereference, Target, Lvalue, Local, Global, Expression, Number, NullPointer, Copy, Call, Unary, Binary, Assign, Converted, Convert, Arguments, NoArguments, MoreArguments, Operations, NoOperations, ThenCompute, ThenTest, ThenPointer, Statement, Block, Empty, Evaluate, If, While, Return, Break, Continue, Items, NoItems, MoreItems, Execute, Declare, Signature, StructType, Function, Program, Move, Peek, ThenPointerPeek, type_of, AddressOfCell, Store, Member, type_of_place}
 use Rattle.cyc_types.specs.Numbered.{Numbering, argument_count, numbering_of, signatures_of}
+use Rattle.cyc_plain.specs.declared.instruction.UnaryOperator.TheVariants as plain_unary
+use Rattle.cyc_plain.specs.declared.instruction.BinaryOperator.TheVariants as plain_binary
+use Rattle.cyc_plain.specs.declared.instruction.Request.TheVariants as requests
 use Rattle.cyc_plain.specs.declared.instruction.Comparison.{Comparison}
 use Rattle.cyc_plain.specs.declared.instruction.Operand.{Operand}
 use Rattle.cyc_plain.specs.declared.instruction.Operand.TheVariants as operands
@@ -26,10 +29,10 @@ use Rattle.cyc_store.specs.declared.range.TheConstants.{MOST_BLOCK_WORDS, HEAP}
 use Rattle.cyc_meaning.specs.Values.{kind_of, words_of_kind}
 use Rattle.cyc_meaning.specs.FrameCount.{words_of_all, operand_words}
 use Rattle.cyc_objects.proofs.NumberLemmas.{slice_get-there}
-use Rattle.cyc_lower.specs.Slots.{Types, starts_of, slot_of}
-use Rattle.cyc_lower.specs.Lowering.{types_of, are_as_wide, converts_there, passed_words, source_of, source_slot, moved_by, move_of, operand_of, operand_or, code_unless, slot_or, code_unless_slot, left_with, left_of, value_slot, next_slot, slot_with, left_slot, value_operand, converted_operand, printed_operand, jump_if_nonzero, check_code, conversion_code, divisor_code, checked_code, operator_code, truth_code, load_code, low_byte, test_code, is_in, copy_code, expression_code, arguments_code, converted_code, converted_operand_code, printed_code, initial_code, assignment_code, assigned_operand, operations_code, discarded_code, failing_comparison, compared_or, compared_of, first_operand, first_code, second_code, pair_code, condition_code, condition_of, failing_jump, break_target, continue_target, return_code, declaration_code, statement_code, items_code, function_code, first_temporary, results_of, lower_function, lower_program, behind_left, pointer_code, outside_loops, inside_loop, pointer_operator, index_code, pointer_instructions, stores_code, object_code, made_code, place_operand, place_offset, place_code, address_code}
+use Rattle.cyc_lower.specs.Slots.{counted, Types, starts_of, slot_of}
+use Rattle.cyc_lower.specs.Lowering.{begun_code, filled_code, ended_code, elements_code, array_code, types_of, are_as_wide, converts_there, passed_words, source_of, source_slot, moved_by, move_of, operand_of, operand_or, code_unless, slot_or, code_unless_slot, left_with, left_of, value_slot, next_slot, slot_with, left_slot, value_operand, converted_operand, printed_operand, jump_if_nonzero, check_code, conversion_code, divisor_code, checked_code, operator_code, truth_code, load_code, low_byte, test_code, is_in, copy_code, expression_code, arguments_code, converted_code, converted_operand_code, printed_code, initial_code, assignment_code, assigned_operand, operations_code, discarded_code, failing_comparison, compared_or, compared_of, first_operand, first_code, second_code, pair_code, condition_code, condition_of, failing_jump, break_target, continue_target, return_code, declaration_code, statement_code, items_code, function_code, first_temporary, results_of, lower_function, lower_program, behind_left, pointer_code, outside_loops, inside_loop, pointer_operator, index_code, pointer_instructions, stores_code, object_code, made_code, place_operand, place_offset, place_code, address_code}
 use Rattle.cyc_lower.specs.declared.statements.Exits.{Exits}
-use Rattle.cyc_lower.proofs.Stands.{OperandBy, CheckAt, ConversionBy, ConversionAt, DivisorAt, CheckedAt, OperatorAt, LoadAt, CopyBy, ExpressionAt, InitialAt, InitialBy, ConvertedAt, ConvertedOperandAt, PrintedAt, ArgumentsAt, OperationsAt, PairAt, ConditionAt, AssignmentAt, DiscardedAt, ReturnedAt, ReturnAt, DeclarationAt, StatementAt, ItemsAt, FirstTwoAt, IndexAt, PointerAt, StoresAt, ObjectAt, MadeAt, AddressAt, PlaceAt}
+use Rattle.cyc_lower.proofs.Stands.{BegunAt, FilledAt, OperandBy, CheckAt, ConversionBy, ConversionAt, DivisorAt, CheckedAt, OperatorAt, LoadAt, CopyBy, ExpressionAt, InitialAt, InitialBy, ConvertedAt, ConvertedOperandAt, PrintedAt, ArgumentsAt, OperationsAt, PairAt, ConditionAt, AssignmentAt, DiscardedAt, ReturnedAt, ReturnAt, DeclarationAt, StatementAt, ItemsAt, FirstTwoAt, IndexAt, PointerAt, StoresAt, ObjectAt, MadeAt, AddressAt, PlaceAt}
 use Rattle.cyc_lower.proofs.Widths.{kind_of_result, given, passed_kind, type_words}
 use Rattle.cyc_lower.proofs.Fitting.{FitsPlace, FitsStored, FitsCell, FitsObject, Fits, FitsConverted, FitArguments, FitOperations, FitsReturn, FitsInitial, FitsStatement, FitItems, AreFitting, IsFitting}
 use Rattle.cyc_lower.proofs.Values.{as_wide}
@@ -157,6 +160,22 @@ module _ (code : List Instruction) (b : Numbering) (types : Types) where
       let m = p + 1 + length stores in
       let (here, none) = has_back code (p + 1) stores move rest in
       (m, refl, some, few, ask, stores_stand words (t + words) 0 t (p + 1) m refl (has_front code (p + 1) stores move rest), here, omega (arith, end, length-append stores move))
+
+  begun_stands : (handle t p q : ℕ) → p + 7 ≡ q → HasAt code p (begun_code handle p t) → BegunAt code b types handle t p q
+  begun_stands handle t p q end (branch, (uncaught, (count, (index, (none, (size, (ask, rest))))))) =
+      let second : p + 1 + 1 ≡ p + 2 = omega arith in (
+        branch,
+        uncaught,
+        subst (λ n. At code n (instructions.Move (t + 1) (operands.Slot t))) second count,
+        subst (λ n. At code (n + 1) (instructions.Move (t + 2) (operands.Word 0))) second index,
+        subst (λ n. At code (n + 1 + 1) (instructions.Unary plain_unary.Not (t + 3) (operands.Slot t))) second none,
+        subst (λ n. At code (n + 1 + 1 + 1) (instructions.Binary plain_binary.Add (t + 3) (operands.Slot (t + 3)) (operands.Slot t))) second size,
+        subst (λ n. At code (n + 1 + 1 + 1 + 1) (instructions.Ask (requests.Allocate t (operands.Word handle) (operands.Slot (t + 3))))) second ask,
+        end,
+      )
+
+  filled_stands : (t head p q : ℕ) → p + 5 ≡ q → HasAt code p (filled_code head t) → FilledAt code b types t head p q
+  filled_stands t head p q end (scaled, (address, (store, (next, (again, rest))))) = (scaled, address, store, next, again, end)
 
   copy_by : (is : Bool) (words : ℕ) (o : Operand) (d p q : ℕ) → p + length (if is then [] else move_of words d o ∷ []) ≡ q → HasAt code p (if is then [] else move_of words d o ∷ []) → CopyBy code is words o d p q
   copy_by true words o d p q end has = omega (arith, end)
@@ -348,7 +367,39 @@ module _ (code : List Instruction) (b : Numbering) where
           arguments_stand types cs t p m numbered refl (has_front code p front back has),
           subst (λ n. ObjectAt code b types handle (argument_count cs) n t d m q) single (object_stands code b types handle (argument_count cs) d t m q some few (cut p q front back end) (has_back code p front back has)),
         )
-    made_stands types i handle d t p q numbered end has = absurd numbered
+    made_stands types (Array w level n kind a) handle d t p q (level_is, single, kind_is, fits_n, fits_a) end has =
+        let count = expression_code (starts_of types) n p t t in
+        let m = p + length count in
+        let h = m + 7 in
+        let begun = begun_code handle m t in
+        let element = expression_code (starts_of (counted types (t + 2))) a (h + 1) (t + 3) (t + 3) in
+        let filled = filled_code h t in
+        let ended = ended_code d t in
+        let both = element ++ filled in
+        let elements = elements_code element h d t in
+        let has_rest = has_back code p count (begun ++ elements) has in
+        let (branch, has_behind) = has_back code m begun elements has_rest in
+        let has_both = has_front code (h + 1) both ended has_behind in
+        let s = h + 1 + length both in
+        let (first_index, has_copy) = has_back code (h + 1) both ended has_behind in
+        let r = h + 1 + length element in (
+          m,
+          h,
+          r,
+          s,
+          expression_stands types n t t p m fits_n refl (has_front code p count (begun ++ elements) has),
+          begun_stands code b types handle t m h refl (has_front code m begun elements has_rest),
+          level_is,
+          single,
+          (
+            branch,
+            expression_stands (counted types (t + 2)) a (t + 3) (t + 3) (h + 1) r (fits_a (t + 2)) refl (has_front code (h + 1) element filled has_both),
+            filled_stands code b types t h r s (omega (arith, length-append element filled)) (has_back code (h + 1) element filled has_both),
+            first_index,
+            copy_by code b types (is_in (operands.Slot t) d) 3 (operands.Slot t) d (s + 1) q
+                (omega (arith, cut m q begun elements (cut p q count (begun ++ elements) end), length-append both ended)) has_copy,
+          ),
+        )
 
     initial_stands : (types : Types) → (c : Converted) (d t p q : ℕ) → FitsConverted b types c → p + length (initial_code (starts_of types) c p d t) ≡ q → HasAt code p (initial_code (starts_of types) c p d t) → InitialAt code b types c d t p q
     initial_stands types (Convert from to a) d t p q (kind, wide, numbered) end has =

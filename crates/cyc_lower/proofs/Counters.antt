@@ -11,7 +11,7 @@ use Rattle.cyc_lower.proofs.Relation.{height, Holds, held, counters_of, arrays_i
 use Rattle.cyc_lower.proofs.Data.{Holds-rest}
 
 -- what is found in a list with one more
-found_last : (xs : List ℕ) (y n z : ℕ) → slice_get (xs ++ y ∷ []) n ≡ Some z → (slice_get xs n ≡ Some z) ⊎ ((n ≡ length xs) × (z ≡ y))
+pub found_last : (xs : List ℕ) (y n z : ℕ) → slice_get (xs ++ y ∷ []) n ≡ Some z → (slice_get xs n ≡ Some z) ⊎ ((n ≡ length xs) × (z ≡ y))
 found_last [] y zero z found = inr (refl, sym (same_Some y z found))
 found_last [] y (suc n) z found = absurd (none-some z found)
 found_last (x ∷ xs) y zero z found = inl found

@@ -269,7 +269,7 @@ module _ (starts : Starts) where
     made_some : (i : Initial) (handle p d t : ℕ) → 0 < length (made_code starts i handle p d t)
     made_some (Plain kind a) handle p d t = behind (expression_code starts a p t t) (object_code handle 1 d t) (omega arith)
     made_some (Fields cs) handle p d t = behind (arguments_code starts cs p t) (object_code handle (argument_count cs) d t) (omega arith)
-    made_some (Array w level n kind a) handle p d t = omega arith
+    made_some (Array w level n kind a) handle p d t = behind (expression_code starts n p t t) _ (omega arith)
 
     initial_some : (c : Converted) (p d t : ℕ) → 0 < length (initial_code starts c p d t)
     initial_some (Convert from to a) p d t =

@@ -26,7 +26,7 @@ use Rattle.cyc_plain.proofs.SlotLaws.{put-same}
 use Rattle.cyc_meaning.specs.Values.{Int, Null, Thin, Operand as Kinded, kind_of, words_of_kind}
 use Rattle.cyc_store.specs.declared.range.TheConstants.{HEAP}
 use Rattle.cyc_meaning.specs.SourceMachine.{status_in}
-use Rattle.cyc_meaning.specs.State.{status_of, InRegion, World, heap_number, Environment, ConvertTo, Operate, Chain, Apply, Store, Pass, MakePlain, MakeFields, Choose, Test, Follow, LoadFrom, Entry, Needs, NeedsPlace, Discard, Focus, Evaluating, Locating, Given, Running, FollowMember, TakeAddress, StoreTo}
+use Rattle.cyc_meaning.specs.State.{status_of, InRegion, World, heap_number, Environment, ConvertTo, Operate, Chain, Apply, Store, Pass, MakePlain, MakeFields, MakeArray, Choose, Test, Follow, LoadFrom, Entry, Needs, NeedsPlace, Discard, Focus, Evaluating, Locating, Given, Running, FollowMember, TakeAddress, StoreTo}
 use Rattle.cyc_lower.proofs.Counters.{CountersHold, counters_hold}
 use Rattle.cyc_meaning.specs.Step.{counts, target_of, target_by, object_of, assigned, passes, step, loaded_from}
 use Rattle.cyc_lower.specs.Slots.{slot_of, field_in}
@@ -430,7 +430,11 @@ module _ (source : Program) (pages calls : ℕ) where
             (in_temporary (omega arith) (r, at_to, (HEAP, d, p, q, words_of_kind to + all_passed cs, (refl, refl), refl, at_cs, (m, omega (arith, single), some, few, ask, stores, move, there), omega arith, lands))),
       )
       (omega arith)
-  comes (typed.New typed.OnHeap (typed.Array p level n kind a) t) k e w c d q known at lands = absurd at
+  comes (typed.New typed.OnHeap (typed.Array p level n kind a) t) k e w c d q (well, shared, facts, holds) (m, h, r, s, at_n, begun, level_is, single, at_a) lands =
+      let g = c.active.function in
+      silently source pages calls (Running (Evaluating (typed.New typed.OnHeap (typed.Array p level n kind a) t)) k e w) (Running (Evaluating n) (Needs (MakeArray (InRegion heap_number) level kind a) ∷ k) e w) (plain.Running c) refl
+      (shared, facts, into_slot (top source g k) m at_n holds (in_temporary (omega arith) (HEAP, d, h, r, s, q, (refl, refl), refl, begun, level_is, single, at_a, lands)))
+      (omega arith)
   comes (typed.New typed.AsUnique i t) k e w c d q known at lands = absurd at
   comes (typed.New (typed.ByHandle h) i t) k e w c d q known at lands = absurd at
   comes a k e w c d q known at lands = absurd at

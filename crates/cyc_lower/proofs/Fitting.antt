@@ -1,6 +1,6 @@
 -- What lowering asks of a tree: each number that it has names something that is there, and each value has room where it comes to. The tree
 -- of a well typed program whose numbers are in range has it.
-use Rattle.std.proofs.Common.{◌≡◌, ◌⊎◌, ℕ, ◌≤◌, ◌<◌, Bool, true, false, List, [], ◌∷◌, length, map, Option, None, Some, slice_get, refl, sym, ap, subst, ◌∙◌, arith, inl, inr}
+use Rattle.std.proofs.Common.{◌≡◌, ◌⊎◌, ℕ, ◌≤◌, ◌<◌, Bool, true, false, List, [], ◌∷◌, length, map, Option, None, Some, slice_get, refl, sym, ap, subst, ◌∙◌, arith, inl, inr, suc, length-append}
 use Rattle.std.specs.Prelude.{option_map, if◌then◌else◌, not, ◌&&◌}
 use Rattle.std.proofs.lemmas.Option.{same_Some}
 use Rattle.cyc_syntax.specs.declared.tree.PointerKind.{PointerKind}
@@ -19,14 +19,14 @@ use Rattle.cyc_types.specs.TypedTrees.{Load, New, OnHeap, AsUnique, ByHandle, In
 use Rattle.cyc_types.specs.typing.Scopes.{signature_of_ints}
 use Rattle.cyc_types.specs.typing.Tests as tests
 use Rattle.cyc_types.specs.typing.Expressions.{instantiated}
-use Rattle.cyc_types.specs.typing.WellTyped.{Context, PointerOperation, adds, subtracts, equals, differs, thin_null, thin_there, fat_null, fat_there, null_is, null_is_not, IsCallee, Converts, IsPeek, WellTyped, IsCell, IsConverted, ArePassed, IsChain, IsCondition, IsReturned, IsInitial, WellTypedStatement, WellTypedItems, behind, in_block, in_body, with_local, body_context, AreWellTypedFunctions, AreWellTypedGlobals, IsWellTypedProgram, IsLeft}
+use Rattle.cyc_types.specs.typing.WellTyped.{with_counter, Context, PointerOperation, adds, subtracts, equals, differs, thin_null, thin_there, fat_null, fat_there, null_is, null_is_not, IsCallee, Converts, IsPeek, WellTyped, IsCell, IsConverted, ArePassed, IsChain, IsCondition, IsReturned, IsInitial, WellTypedStatement, WellTypedItems, behind, in_block, in_body, with_local, body_context, AreWellTypedFunctions, AreWellTypedGlobals, IsWellTypedProgram, IsLeft}
 use Rattle.cyc_types.specs.Numbered.{Numbering, signatures_of, IsSignature, argument_count, numbering_of}
 use Rattle.cyc_meaning.specs.Pointers.{result_kind as operator_kind}
 use Rattle.cyc_lower.specs.Lowerable.{IsLowerable, IsLowerableConverted, AreLowerableArguments, AreLowerableOperations, IsLowerableReturn, IsLowerableInitial, IsLowerableStatement, AreLowerableItems, AreLowerableFunctions, IsLowerableProgram, is_comparison, are_sums, stands_alone, IsLowerableCell}
 use Rattle.cyc_store.specs.declared.range.TheConstants.{MOST_BLOCK_WORDS}
 use Rattle.cyc_meaning.specs.Values.{kind_of, is_thin, words_of_kind}
 use Rattle.cyc_meaning.specs.FrameCount.{result_words, words_of_all, operand_words}
-use Rattle.cyc_lower.specs.Slots.{Types}
+use Rattle.cyc_lower.specs.Slots.{Types, counted}
 use Rattle.cyc_lower.specs.Lowering.{types_of, are_as_wide, passed_words, all_passed, results_of, left_kind}
 use Rattle.cyc_lower.proofs.Widths.{kind_of_result, result_kind, called_kind, given, passed_kind, type_words, HasRoom, chain_kind, HasField}
 use Rattle.cyc_lower.proofs.Slots.{words-there, words_positive}
@@ -74,7 +74,8 @@ module _ (b : Numbering) where
     pub FitsObject : (types : Types) → Initial → Type 0
     FitsObject types (Plain kind a) = (words_of_kind kind ≡ 1) × (kind ≡ given b.functions a) × Fits types a
     FitsObject types (Fields cs) = (argument_count cs ≡ all_passed cs) × (1 ≤ argument_count cs) × (argument_count cs ≤ MOST_BLOCK_WORDS) × FitArguments types cs
-    FitsObject types i = ⊥
+    FitsObject types (Array w level n kind a) =
+        (level ≡ length types.counters) × (words_of_kind kind ≡ 1) × (kind ≡ given b.functions a) × Fits types n × ((slot : ℕ) → Fits (counted types slot) a)
 
     pub FitsConverted : (types : Types) → Converted → Type 0
     FitsConverted types (Convert from to a) = (from ≡ given b.functions a) × (are_as_wide from to ≡ true) × Fits types a
@@ -321,6 +322,9 @@ module _ (b : Numbering) (types : Types) where
   pointer_given : (mark : PointerKind) (u : Ty) (r : Region) (t : Ty) (v : ValueType) → mark ≡ marks.NonNull → t ≡ type_forms.Pointer mark u r → v ≡ Value t → IsGiven kinds.NonNull v
   pointer_given mark u r t v mark_is t_is is = subst (IsGiven kinds.NonNull) (sym is) (sym (ap kind_of (t_is ∙ ap (λ m. type_forms.Pointer m u r) mark_is)))
 
+  array_given : (mark : PointerKind) (u : Ty) (r : Region) (t : Ty) (v : ValueType) → mark ≡ marks.Fat → t ≡ type_forms.Pointer mark u r → v ≡ Value t → IsGiven kinds.Fat v
+  array_given mark u r t v mark_is t_is is = subst (IsGiven kinds.Fat) (sym is) (sym (ap kind_of (t_is ∙ ap (λ m. type_forms.Pointer m u r) mark_is)))
+
   stored_given : (x : Dereference) (d : Converted) (u : ValueType) (t : Ty) (v : ValueType) → passed_kind d ≡ kind_of t → v ≡ (if tests.is_moved t then Void else Value t) → IsGiven (given b.functions (Store x d u)) v
   stored_given x (Convert from to a) u t v kind is = assigned_given (Global 0) (Convert from to a) u t v kind is
 
@@ -340,6 +344,16 @@ module _ (b : Numbering) (types : Types) where
   looked_fits a c v suits few well_fits (inr peek) = absurd peek
 
 module _ (b : Numbering) where
+  -- the elements of an array have one counter more
+  suits_inside : (types : Types) (c : Context) (slot : ℕ) → Suits b types c → Suits b (counted types slot) (with_counter c)
+  suits_inside types c slot suits = record {
+    functions = suits.functions;
+    structs = suits.structs;
+    variables = suits.variables;
+    counters = ap suc suits.counters ∙ sym (length-append types.counters (slot ∷ []) ∙ omega arith);
+    result = suits.result;
+  }
+
   mutual
     fits : (types : Types) → (a : Expression) (c : Context) (v : ValueType) → Suits b types c → IsLowerable b a → WellTyped c a v → IsGiven (given b.functions a) v × Fits b types a
     fits types (Number n) c v suits numbered is = (subst (IsGiven kinds.Int) (sym is) refl, tt)
@@ -393,7 +407,9 @@ module _ (b : Numbering) where
         (pointer_given b types mark u r t v mark_is t_is is, (single, kind_is ∙ sym (kinds_same u) ∙ sym given_is, fitting))
     fits types (New OnHeap (Fields cs) t) c v suits (single, some, few, numbered) (mark, u, r, place, (n, rs, s, there, many, passed, u_is, mark_is), t_is, is) =
         (pointer_given b types mark u r t v mark_is t_is is, (single, some, few, (fit_arguments types cs c (map (substituted_ty rs) s.fields) suits numbered passed).1))
-    fits types (New OnHeap (Array p level n kind a) t) c v suits numbered well = absurd numbered
+    fits types (New OnHeap (Array p level n kind a) t) c v suits (single, count, numbered) (mark, u, r, place, (level_is, length, well, unlocked, kind_is, mark_is), t_is, is) =
+        let inside = λ (slot : ℕ). fits (counted types slot) a (with_counter c) (Value u) (suits_inside types c slot suits) numbered well in
+        (array_given b types mark u r t v mark_is t_is is, (level_is ∙ suits.counters, single, kind_is ∙ sym (kinds_same u) ∙ sym (inside 0).0, (fits types n c (Value type_forms.Int) suits count length).1, λ slot. (inside slot).1))
     fits types (New AsUnique i t) c v suits numbered well = absurd numbered
     fits types (New (ByHandle h) i t) c v suits numbered well = absurd numbered
     fits types a c v suits numbered well = absurd numbered

@@ -27,7 +27,7 @@ use Rattle.cyc_words.proofs.Matching.{by_none, way_before}
 use Rattle.cyc_plain.proofs.Steps.{step_performs, place_known}
 use Rattle.cyc_plain.specs.Straight.{At}
 use Rattle.cyc_words.specs.Demand.{demand_of}
-use Rattle.cyc_meaning.specs.State.{World, Environment, ConvertTo, Operate, Chain, Apply, ApplyPointer, Follow, LoadFrom, Decide, Store, Pass, MakePlain, MakeFields, Initialise, Choose, Test, Return, Entry, Needs, NeedsPlace, Discard, Rest, Join, Loop, CloseRegion, Caller, Main, counted, calls_in, Focus, Evaluating, Locating, Given, Executing, Proceeding, Calling, Entering, Binding, Writing, Breaking, Continuing, Returning, Throwing, State, Running, Ended, Dead, Wrong, output_of, input_of, status_of, GivenPlace, FollowMember, TakeAddress, StoreTo, StoreCell}
+use Rattle.cyc_meaning.specs.State.{World, Environment, ConvertTo, Operate, Chain, Apply, ApplyPointer, Follow, LoadFrom, Decide, Store, Pass, MakePlain, MakeFields, MakeArray, FillElement, Initialise, Choose, Test, Return, Entry, Needs, NeedsPlace, Discard, Rest, Join, Loop, CloseRegion, Caller, Main, counted, calls_in, Focus, Evaluating, Locating, Given, Executing, Proceeding, Calling, Entering, Binding, Writing, Beginning, Repeating, Breaking, Continuing, Returning, Throwing, State, Running, Ended, Dead, Wrong, output_of, input_of, status_of, GivenPlace, FollowMember, TakeAddress, StoreTo, StoreCell}
 use Rattle.cyc_meaning.specs.Step.{step}
 use Rattle.cyc_meaning.specs.Run.{is_within, limited_step}
 use Rattle.cyc_objects.specs.Tables.{Tables}
@@ -99,6 +99,10 @@ module _ (source : Program) where
         by_lands lands (λ stack. value_depth g locals kinds.NonNull (operands.Slot d) q frames k stack) (λ stack. ahead_depth g locals kinds.NonNull d q frames k stack)
     value_depth g locals kind o p frames (Needs (MakeFields owner before cs) ∷ k) (handle, d, m, q, all, owned, is, at_cs, at, long, lands) =
         by_lands lands (λ stack. value_depth g locals kinds.NonNull (operands.Slot d) q frames k stack) (λ stack. ahead_depth g locals kinds.NonNull d q frames k stack)
+    value_depth g locals kind o p frames (Needs (MakeArray owner level wanted a) ∷ k) (handle, d, h, r, s, q, owned, is, begun, level_is, single, at, lands) =
+        by_lands lands (λ stack. value_depth g locals kinds.Fat (operands.Slot d) q frames k stack) (λ stack. ahead_depth g locals kinds.Fat d q frames k stack)
+    value_depth g locals kind o p frames (Needs (FillElement object count index level wanted a) ∷ k) (d, h, s, q, is, inside, few, level_is, single, at, lands) =
+        by_lands lands (λ stack. value_depth g locals kinds.Fat (operands.Slot d) q frames k stack) (λ stack. ahead_depth g locals kinds.Fat d q frames k stack)
     value_depth g locals kind o p frames (Needs (Initialise n wanted items) ∷ k) (exits, q, at, below, items_at, stack) = statement_depth g exits q frames k stack
     value_depth g locals kind o p frames (Needs (Choose s t) ∷ k) (exits, r, q, at, at_s, jump, at_t, stack) = statement_depth g exits q frames k stack
     value_depth g locals kind o p frames (Needs (Test a s) ∷ k) (exits, outer, q, at, r, jump, body, back, stack) = statement_depth g outer q frames k stack
@@ -186,6 +190,10 @@ module _ (source : Program) where
         by_lands lands (λ stack. value_plain g locals kinds.NonNull (operands.Slot d) q frames k stack) (λ stack. ahead_plain g locals kinds.NonNull d q frames k stack)
     value_plain g locals kind o p frames (Needs (MakeFields owner before cs) ∷ k) (handle, d, m, q, all, owned, is, at_cs, at, long, lands) =
         by_lands lands (λ stack. value_plain g locals kinds.NonNull (operands.Slot d) q frames k stack) (λ stack. ahead_plain g locals kinds.NonNull d q frames k stack)
+    value_plain g locals kind o p frames (Needs (MakeArray owner level wanted a) ∷ k) (handle, d, h, r, s, q, owned, is, begun, level_is, single, at, lands) =
+        by_lands lands (λ stack. value_plain g locals kinds.Fat (operands.Slot d) q frames k stack) (λ stack. ahead_plain g locals kinds.Fat d q frames k stack)
+    value_plain g locals kind o p frames (Needs (FillElement object count index level wanted a) ∷ k) (d, h, s, q, is, inside, few, level_is, single, at, lands) =
+        by_lands lands (λ stack. value_plain g locals kinds.Fat (operands.Slot d) q frames k stack) (λ stack. ahead_plain g locals kinds.Fat d q frames k stack)
     value_plain g locals kind o p frames (Needs (Initialise n wanted items) ∷ k) (exits, q, at, below, items_at, stack) = statement_plain g exits q frames k stack
     value_plain g locals kind o p frames (Needs (Choose s t) ∷ k) (exits, r, q, at, at_s, jump, at_t, stack) = statement_plain g exits q frames k stack
     value_plain g locals kind o p frames (Needs (Test a s) ∷ k) (exits, outer, q, at, r, jump, body, back, stack) = statement_plain g outer q frames k stack
@@ -281,6 +289,8 @@ module _ (source : Program) where
   depth_going t (Calling callees.Getchar before) k locals g p slots frames (d, q, at, holds, lands) = lands_depth g locals kinds.Int d q frames k lands
   depth_going t (Calling (callees.Function n) before) k locals g p slots frames (d, q, at, holds, lands) = lands_depth g locals (called_at source g (callees.Function n)) d q frames k lands
   depth_going t (Writing writes (Some pointer)) k locals g p slots frames (object, done, values, address, slot, d, m, q, are, is, there, single, held, at, move, end, holds, lands) = lands_depth g locals kinds.NonNull d q frames k lands
+  depth_going t (Beginning owner count level wanted a) k locals g p slots frames (handle, d, h, r, s, q, owned, ask, next, few, many, zero, size, level_is, single, at, holds, lands) = lands_depth g locals kinds.Fat d q frames k lands
+  depth_going t (Repeating object count index level wanted a) k locals g p slots frames (d, r, s, q, is, inside, few, level_is, single, at, holds, lands) = lands_depth g locals kinds.Fat d q frames k lands
   depth_going t (Entering h arguments) k locals g p slots frames (m, at, stack, holds, few) = statement_depth g (outside_loops (base_of source g)) m frames k stack
   depth_going t (Binding n types arguments body) k locals g p slots frames (m, first, at, stack, holds, few, count) = statement_depth g (outside_loops (base_of source g)) m frames k stack
   depth_going t Breaking k locals g p slots frames (exits, q, at, stack) = statement_depth g exits q frames k stack

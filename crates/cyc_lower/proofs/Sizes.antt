@@ -18,6 +18,7 @@ use Rattle.cyc_types.specs.Numbered.{argument_count}
 use Rattle.cyc_types.proofs.WeightLemmas.{some_token}
 use Rattle.cyc_types.specs.Weight.{expression_weight, dereference_weight, initial_weight, converted_weight, arguments_weight, more_arguments_weight, operations_weight, else_weight, statement_weight, items_weight, function_weight}
 use Rattle.cyc_plain.specs.declared.instruction.Comparison.{Comparison}
+use Rattle.cyc_plain.specs.declared.instruction.Comparison.TheVariants as comparisons
 use Rattle.cyc_plain.specs.declared.instruction.Operand.{Operand}
 use Rattle.cyc_plain.specs.declared.instruction.Operand.TheVariants as operands
 use Rattle.cyc_plain.specs.declared.instruction.Request.TheVariants as requests
@@ -25,11 +26,11 @@ use Rattle.cyc_plain.specs.declared.instruction.Instruction.{Instruction}
 use Rattle.cyc_plain.specs.declared.instruction.Instruction.TheVariants as instructions
 use Rattle.cyc_plain.specs.Program.{instruction_size, size}
 use Rattle.cyc_lower.specs.declared.statements.Exits.{Exits}
-use Rattle.cyc_lower.specs.Slots.{starts_of, slot_of, Starts}
+use Rattle.cyc_lower.specs.Slots.{with_counter, starts_of, slot_of, Starts}
 use Rattle.cyc_store.specs.declared.range.TheConstants.{HEAP}
 use Rattle.cyc_meaning.specs.Values.{kind_of, words_of_kind}
 use Rattle.cyc_lower.proofs.Widths.{kind_few, type_words}
-use Rattle.cyc_lower.specs.Lowering.{types_of, converts_there, passed_words, all_passed, source_of, source_slot, converted_by, moved_by, move_of, unary_operator, binary_operator, operand_of, operand_or, code_unless, slot_or, code_unless_slot, left_of, value_slot, next_slot, left_slot, value_operand, converted_operand, printed_operand, conversion_code, divisor_code, checked_code, operator_code, truth_code, load_code, low_byte, test_code, is_in, copy_code, expression_code, arguments_code, converted_code, converted_operand_code, printed_code, initial_code, assignment_code, operations_code, discarded_code, failing_comparison, compared_or, left_with, slot_with, first_code, second_code, pair_code, condition_code, condition_of, failing_jump, break_target, continue_target, return_code, declaration_code, statement_code, items_code, first_temporary, jump_if_zero, jump_if_nonzero, lower_function, behind_left, pointer_code, outside_loops, inside_loop, pointer_operator, index_of, first_two, pointer_instructions, stores_code, object_code, made_code, place_operand, place_offset, place_code, address_code, store_address_code, store_code}
+use Rattle.cyc_lower.specs.Lowering.{begun_code, filled_code, ended_code, elements_code, types_of, converts_there, passed_words, all_passed, source_of, source_slot, converted_by, moved_by, move_of, unary_operator, binary_operator, operand_of, operand_or, code_unless, slot_or, code_unless_slot, left_of, value_slot, next_slot, left_slot, value_operand, converted_operand, printed_operand, conversion_code, divisor_code, checked_code, operator_code, truth_code, load_code, low_byte, test_code, is_in, copy_code, expression_code, arguments_code, converted_code, converted_operand_code, printed_code, initial_code, assignment_code, operations_code, discarded_code, failing_comparison, compared_or, left_with, slot_with, first_code, second_code, pair_code, condition_code, condition_of, failing_jump, break_target, continue_target, return_code, declaration_code, statement_code, items_code, first_temporary, jump_if_zero, jump_if_nonzero, lower_function, behind_left, pointer_code, outside_loops, inside_loop, pointer_operator, index_of, first_two, pointer_instructions, stores_code, object_code, made_code, place_operand, place_offset, place_code, address_code, store_address_code, store_code}
 use Rattle.cyc_lower.specs.Lowered.{size_per_weight}
 
 abbrev code_size : List Instruction → ℕ
@@ -98,6 +99,14 @@ copied_address_size (operands.Word n) d = omega arith
 copied_address_size (operands.Slot n) d = by (n == d)
   where
     by : (is : Bool) → code_size (if is then [] else instructions.Move d (operands.Slot n) ∷ []) ≤ 6
+    by true = omega arith
+    by false = omega arith
+
+-- a fat pointer
+copied_pointer_size : (t d : ℕ) → code_size (copy_code 3 (operands.Slot t) d) ≤ 20
+copied_pointer_size t d = by (t == d)
+  where
+    by : (is : Bool) → code_size (if is then [] else instructions.MoveWords d t 3 ∷ []) ≤ 20
     by true = omega arith
     by false = omega arith
 
@@ -236,7 +245,25 @@ mutual
       omega (arith, both (expression_code starts a p t t) (object_code handle 1 d t), expression_size starts a p t t, object_size handle 1 d t)
   made_size starts (Fields cs) handle p d t =
       omega (arith, both (arguments_code starts cs p t) (object_code handle (argument_count cs) d t), fields_size starts cs p t, more_weight cs, object_size handle (argument_count cs) d t)
-  made_size starts (Array w level n kind a) handle p d t = omega arith
+  made_size starts (Array w level n kind a) handle p d t =
+      let first = expression_code starts n p t t in
+      let m = p + length first in
+      let inner = expression_code (with_counter starts (t + 2)) a (m + 7 + 1) (t + 3) (t + 3) in
+      let filled = filled_code (m + 7) t in
+      let elements = elements_code inner (m + 7) d t in
+      let jump = instructions.Branch comparisons.Equal (operands.Slot (t + 2)) (operands.Slot (t + 1)) (m + 7 + 1 + length (inner ++ filled)) in
+      omega (
+        arith,
+        both first (begun_code handle m t ++ elements),
+        both (begun_code handle m t) elements,
+        cons jump ((inner ++ filled) ++ ended_code d t),
+        both (inner ++ filled) (ended_code d t),
+        both inner filled,
+        cons (instructions.Move (t + 2) (operands.Word 0)) (copy_code 3 (operands.Slot t) d),
+        copied_pointer_size t d,
+        expression_size starts n p t t,
+        expression_size (with_counter starts (t + 2)) a (m + 7 + 1) (t + 3) (t + 3),
+      )
 
   place_size : (starts : Starts) → (x : Dereference) (p t : ℕ) → code_size (place_code starts x p t) + 18 ≤ size_per_weight * dereference_weight x
   place_size starts (Target k a ty) p t =

@@ -1,5 +1,5 @@
 -- The lowered program is well formed: all that its instructions name is there, and its frames have room.
-use Rattle.std.proofs.Common.{◌≡◌, ℕ, zero, suc, ◌+◌, ◌-◌, ◌≤◌, ◌<◌, Bool, true, false, List, [], ◌∷◌, ◌++◌, length, map, Option, None, Some, slice_get, slice_index_or, All, IsSomeAnd, refl, sym, ap, subst, ◌∙◌, arith, length-append}
+use Rattle.std.proofs.Common.{◌≡◌, ℕ, zero, suc, ◌+◌, ◌-◌, ◌≤◌, ◌<◌, Bool, true, false, List, [], ◌∷◌, ◌++◌, length, map, Option, None, Some, slice_get, slice_index_or, All, IsSomeAnd, refl, sym, ap, subst, ◌∙◌, arith, length-append, inl, inr}
 use Rattle.std.specs.List.{AllByRecursion}
 use Rattle.std.proofs.lemmas.Option.{same_Some, none-some}
 use Rattle.cyc_types.specs.declared.typed.Kind.{Kind}
@@ -34,8 +34,9 @@ use Rattle.cyc_meaning.specs.FrameCount.{result_words, operand_words, converted_
 use Rattle.cyc_lower.specs.declared.statements.Exits.{Exits}
 use Rattle.cyc_meaning.specs.Pointers.{result_kind as operator_kind}
 use Rattle.cyc_objects.proofs.NumberLemmas.{slice_get-there}
-use Rattle.cyc_lower.specs.Slots.{starts_of, slot_of, Types}
-use Rattle.cyc_lower.specs.Lowering.{counter_operand, types_of, spare_slots, are_as_wide, converts_there, passed_words, all_passed, source_of, source_slot, moved_by, move_of, unary_operator, binary_operator, operand_of, operand_or, code_unless, slot_or, code_unless_slot, left_with, left_of, value_slot, next_slot, slot_with, left_slot, value_operand, converted_operand, printed_operand, check_code, conversion_code, divisor_code, checked_code, operator_code, truth_code, load_code, low_byte, test_code, is_in, copy_code, expression_code, arguments_code, converted_code, converted_operand_code, printed_code, initial_code, assignment_code, operations_code, discarded_code, failing_comparison, compared_or, first_operand, first_code, second_code, pair_code, condition_code, condition_of, failing_jump, break_target, continue_target, return_code, declaration_code, statement_code, items_code, first_temporary, results_of, lower_function, lower_global, lower_program, pointer_operator, left_kind, behind_left, pointer_code, outside_loops, inside_loop, index_code, pointer_instructions, stores_code, object_code, made_code, place_operand, place_offset, place_code, address_code, addressed_by, store_address_code, store_code}
+use Rattle.cyc_lower.proofs.Counters.{found_last}
+use Rattle.cyc_lower.specs.Slots.{counted, starts_of, slot_of, Types}
+use Rattle.cyc_lower.specs.Lowering.{begun_code, filled_code, ended_code, elements_code, counter_operand, types_of, spare_slots, are_as_wide, converts_there, passed_words, all_passed, source_of, source_slot, moved_by, move_of, unary_operator, binary_operator, operand_of, operand_or, code_unless, slot_or, code_unless_slot, left_with, left_of, value_slot, next_slot, slot_with, left_slot, value_operand, converted_operand, printed_operand, check_code, conversion_code, divisor_code, checked_code, operator_code, truth_code, load_code, low_byte, test_code, is_in, copy_code, expression_code, arguments_code, converted_code, converted_operand_code, printed_code, initial_code, assignment_code, operations_code, discarded_code, failing_comparison, compared_or, first_operand, first_code, second_code, pair_code, condition_code, condition_of, failing_jump, break_target, continue_target, return_code, declaration_code, statement_code, items_code, first_temporary, results_of, lower_function, lower_global, lower_program, pointer_operator, left_kind, behind_left, pointer_code, outside_loops, inside_loop, index_code, pointer_instructions, stores_code, object_code, made_code, place_operand, place_offset, place_code, address_code, addressed_by, store_address_code, store_code}
 use Rattle.cyc_lower.proofs.Widths.{kind_positive, kind_few, type_words, kind_of_result, result_kind, given, passed_kind, words_in, chain_kind, made_kind}
 use Rattle.cyc_lower.proofs.Fitting.{FitsPlace, FitsStored, FitsCell, Fits, FitsConverted, FitArguments, FitOperations, FitsReturn, FitsInitial, FitsStatement, FitItems, AreFitting, IsFitting, FitsObject}
 use Rattle.cyc_lower.proofs.Values.{as_wide}
@@ -91,6 +92,14 @@ results_few (Some t) = omega (arith, type_words t, kind_few (kind_of t))
 result_least : (t : Option Ty) → (results_of t ≤ words_of_kind (kind_of_result t)) × (words_of_kind (kind_of_result t) ≤ max 1 (results_of t))
 result_least None = (omega arith, omega arith)
 result_least (Some t) = (omega (arith, type_words t), omega (arith, type_words t))
+
+-- with one counter more, all counters are in slots of the function
+levels_inside : (r : Routine) (types : Types) → ((l slot : ℕ) → slice_get types.counters l ≡ Some slot → slot < r.slots) → (slot : ℕ) → slot < r.slots
+    → (l other : ℕ) → slice_get (counted types slot).counters l ≡ Some other → other < r.slots
+levels_inside r types levels slot inside l other found = elim (found_last types.counters slot l other found) [
+  | inl before ↦ levels l other before
+  | inr (last, is) ↦ omega (arith, is, inside)
+]
 
 -- ---- instructions
 
@@ -176,7 +185,7 @@ module _ (program : PlainProgram) (r : Routine) (b : Numbering) (types : Types) 
   given_needs (Load x) numbered = absurd numbered
   given_needs (New OnHeap (Plain kind a) t) numbered = omega arith
   given_needs (New OnHeap (Fields cs) t) numbered = omega arith
-  given_needs (New OnHeap (Array p level n kind a) t) numbered = absurd numbered
+  given_needs (New OnHeap (Array p level n kind a) t) numbered = omega arith
   given_needs (New AsUnique i t) numbered = absurd numbered
   given_needs (New (ByHandle h) i t) numbered = absurd numbered
   given_needs (AddressOfCell x t) numbered = omega arith
@@ -341,6 +350,14 @@ module _ (program : PlainProgram) (r : Routine) (b : Numbering) (types : Types) 
   copy_in : (is : Bool) (c : Converted) (o : Operand) (d : ℕ) → HasOperand o (words_of_kind (passed_kind c)) → d + words_of_kind (passed_kind c) ≤ r.slots → AreIn (if is then [] else move_of (passed_words c) d o ∷ [])
   copy_in true c o d inside few = tt
   copy_in false c o d inside few = (subst (λ words. IsInRange program r (move_of words d o)) (sym (passed_is c)) (move_in (passed_kind c) d o few inside), tt)
+
+  -- a fat pointer comes to another slot
+  pointer_copied : (d t : ℕ) → d + 3 ≤ r.slots → t + 3 ≤ r.slots → AreIn (copy_code 3 (operands.Slot t) d)
+  pointer_copied d t few inside = by (t == d)
+    where
+      by : (is : Bool) → AreIn (if is then [] else instructions.MoveWords d t 3 ∷ [])
+      by true = tt
+      by false = (record { some = omega arith; few = omega arith; destination_in_range = few; source_in_range = inside }, tt)
 
   index_in : (o : PlainBinary) (l m : Operand) (d : ℕ) → d + 3 ≤ r.slots → HasOperand l 3 → IsOperand r m → AreIn (index_code o l m d)
   index_in o (operands.Word n) m d few left right = ((omega (arith, few), tt, right), tt)
@@ -544,25 +561,64 @@ module _ (program : PlainProgram) (r : Routine) (b : Numbering) (globals : b.glo
         (λ less. addressed_in program r b types locals levels globals called results x p t t place (omega (arith, few)) (omega (arith, few)) less (λ shorter. place_in types locals levels x place_words p t place (omega arith) (omega (arith, few)) shorter))
         (λ q less. converted_operand_in types locals levels c q (t + 1) numbered (omega (arith, few)) (omega (arith, few)) less))
         (copy_in program r b types locals levels globals called results (is_in o d) c o d (converted_room program r b types locals levels globals called results c (t + 1) numbered (omega (arith, few))) (omega (arith, room, ap words_of_kind (stored_kind program r b types locals levels globals called results x c ty))))
-    expression_in types locals levels (New OnHeap i ty) p d t numbered room few short = made_in types locals levels i HEAP ty p d t numbered (omega (arith, room, kind_positive (made_kind i))) (omega (arith, few)) short
+    expression_in types locals levels (New OnHeap i ty) p d t numbered room few short = made_in types locals levels i HEAP ty p d t numbered room (omega (arith, few)) short
     expression_in types locals levels (New AsUnique i ty) p d t numbered room few short = absurd numbered
     expression_in types locals levels (New (ByHandle h) i ty) p d t numbered room few short = absurd numbered
     expression_in types locals levels a p d t numbered room few short = absurd numbered
 
-    made_in : (types : Types) (locals : (n : ℕ) → n < b.locals → slot_of (starts_of types) n + words_in types.locals n ≤ r.slots) (levels : (l slot : ℕ) → slice_get types.counters l ≡ Some slot → slot < r.slots) → (i : Initial) (handle : ℕ) (ty : Ty) (p d t : ℕ) → FitsObject b types i → d < r.slots → t + initial_value_need i 0 (words_of ty) ≤ r.slots → p + length (made_code (starts_of types) i handle p d t) < length r.code → AreIn program r b types locals levels globals called results (made_code (starts_of types) i handle p d t)
+    made_in : (types : Types) (locals : (n : ℕ) → n < b.locals → slot_of (starts_of types) n + words_in types.locals n ≤ r.slots) (levels : (l slot : ℕ) → slice_get types.counters l ≡ Some slot → slot < r.slots) → (i : Initial) (handle : ℕ) (ty : Ty) (p d t : ℕ) → FitsObject b types i → d + words_of_kind (made_kind i) ≤ r.slots → t + initial_value_need i 0 (words_of ty) ≤ r.slots → p + length (made_code (starts_of types) i handle p d t) < length r.code → AreIn program r b types locals levels globals called results (made_code (starts_of types) i handle p d t)
     made_in types locals levels (Plain kind a) handle ty p d t (single, kind_is, numbered) room few short =
         let front = expression_code (starts_of types) a p t t in
         let back = object_code handle 1 d t in
         append program r b types locals levels globals called results front back
         (expression_in types locals levels a p t t numbered (omega (arith, few, single, ap words_of_kind kind_is, words_positive ty)) (omega (arith, few)) (omega (arith, short, length-append front back)))
-        (object_in program r b types locals levels globals called results handle 1 d t room (omega (arith, few, single, words_positive ty)))
+        (object_in program r b types locals levels globals called results handle 1 d t (omega (arith, room)) (omega (arith, few, single, words_positive ty)))
     made_in types locals levels (Fields cs) handle ty p d t (single, some, many, numbered) room few short =
         let front = arguments_code (starts_of types) cs p t in
         let back = object_code handle (argument_count cs) d t in
         append program r b types locals levels globals called results front back
         (arguments_in types locals levels cs p t t 0 numbered (omega arith) (omega (arith, few)) (omega (arith, few)) (omega (arith, short, length-append front back)))
-        (object_in program r b types locals levels globals called results handle (argument_count cs) d t room (omega (arith, few, single, arguments_words cs, words_positive ty)))
-    made_in types locals levels i handle ty p d t numbered room few short = absurd numbered
+        (object_in program r b types locals levels globals called results handle (argument_count cs) d t (omega (arith, room)) (omega (arith, few, single, arguments_words cs, words_positive ty)))
+    made_in types locals levels (Array w level n kind a) handle ty p d t (level_is, single, kind_is, fits_n, fits_a) room few short =
+        let first = expression_code (starts_of types) n p t t in
+        let m = p + length first in
+        let h = m + 7 in
+        let begun = begun_code handle m t in
+        let inner = expression_code (starts_of (counted types (t + 2))) a (h + 1) (t + 3) (t + 3) in
+        let filled = filled_code h t in
+        let ended = ended_code d t in
+        let elements = elements_code inner h d t in
+        let long = length-append first (begun ++ elements) in
+        let long_elements = length-append (inner ++ filled) ended in
+        let long_both = length-append inner filled in
+        append program r b types locals levels globals called results first (begun ++ elements)
+        (expression_in types locals levels n p t t fits_n (omega (arith, few, kind_few (kind_at program r b types locals levels globals called results n))) (omega (arith, few)) (omega (arith, short, long)))
+        (append program r b types locals levels globals called results begun elements
+        (
+          (omega (arith, few), tt, omega (arith, short, long)),
+          (
+            tt,
+            (
+              (omega (arith, few), omega (arith, few)),
+              ((omega (arith, few), tt), ((omega (arith, few), omega (arith, few)), ((omega (arith, few), omega (arith, few), omega (arith, few)), (record { answer_in_range = omega (arith, few); first_in_range = tt; second_in_range = omega (arith, few) }, tt)))),
+            ),
+          ),
+        )
+        (
+          (omega (arith, few), omega (arith, few), omega (arith, short, long, long_elements, long_both)),
+          append program r b types locals levels globals called results (inner ++ filled) ended
+              (append program r b types locals levels globals called results inner filled
+              (expression_in (counted types (t + 2)) locals (levels_inside r types levels (t + 2) (omega (arith, few))) a (h + 1) (t + 3) (t + 3) (fits_a (t + 2)) (omega (arith, few, single, ap words_of_kind kind_is)) (omega (arith, few))
+              (omega (arith, short, long, long_elements, long_both)))
+              (
+                (omega (arith, few), omega (arith, few), tt),
+                (
+                  (omega (arith, few), omega (arith, few), omega (arith, few)),
+                  ((omega (arith, few), omega (arith, few)), ((omega (arith, few), omega (arith, few), tt), (omega (arith, short, long, long_elements, long_both), tt))),
+                ),
+              ))
+              ((omega (arith, few), tt), pointer_copied program r b types locals levels globals called results d t room (omega (arith, few))),
+        ))
 
     -- a place of what has so many words
     place_in : (types : Types) (locals : (n : ℕ) → n < b.locals → slot_of (starts_of types) n + words_in types.locals n ≤ r.slots) (levels : (l slot : ℕ) → slice_get types.counters l ≡ Some slot → slot < r.slots) → (x : Dereference) (own p t : ℕ) → FitsCell b types x → 1 ≤ own → t + dereference_need x own ≤ r.slots → p + length (place_code (starts_of types) x p t) < length r.code → AreIn program r b types locals levels globals called results (place_code (starts_of types) x p t)

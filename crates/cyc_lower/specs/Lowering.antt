@@ -20,7 +20,7 @@ use Rattle.cyc_types.specs.declared.typed.LogicalOperator.{LogicalOperator}
 use Rattle.cyc_types.specs.declared.typed.LogicalOperator.TheVariants as logical
 use Rattle.cyc_types.specs.Types.{Ty, words_of}
 use Rattle.cyc_types.specs.Numbered.{argument_count}
-use Rattle.cyc_types.specs.TypedTrees.{Counter, Load, New, OnHeap, Initial, Plain, Fields, Dereference, Target, Lvalue, Local, Global, Expression, Number, NullPointer, Copy, Call, Unary, Binary, Assign, Converted, Convert, Arguments, NoArguments, MoreArguments, Operations, NoOperations, ThenCompute, ThenTest, ThenPointer, ThenPointerPeek, Statement, Block, Empty, Evaluate, If, While, Return, Break, Continue, Items, NoItems, MoreItems, Execute, Declare, Constant, Word, Null, GlobalVariable, StructType, Function, Program, Move, Peek, AddressOfCell, Store, Member, Element}
+use Rattle.cyc_types.specs.TypedTrees.{Array, Counter, Load, New, OnHeap, Initial, Plain, Fields, Dereference, Target, Lvalue, Local, Global, Expression, Number, NullPointer, Copy, Call, Unary, Binary, Assign, Converted, Convert, Arguments, NoArguments, MoreArguments, Operations, NoOperations, ThenCompute, ThenTest, ThenPointer, ThenPointerPeek, Statement, Block, Empty, Evaluate, If, While, Return, Break, Continue, Items, NoItems, MoreItems, Execute, Declare, Constant, Word, Null, GlobalVariable, StructType, Function, Program, Move, Peek, AddressOfCell, Store, Member, Element}
 use Rattle.cyc_plain.specs.declared.instruction.UnaryOperator.{UnaryOperator as PlainUnary}
 use Rattle.cyc_plain.specs.declared.instruction.UnaryOperator.TheVariants as plain_unary
 use Rattle.cyc_plain.specs.declared.instruction.BinaryOperator.{BinaryOperator as PlainBinary}
@@ -35,9 +35,9 @@ use Rattle.cyc_plain.specs.declared.instruction.Instruction.TheVariants as instr
 use Rattle.cyc_plain.specs.Program.{Routine, Program as PlainProgram}
 use Rattle.cyc_store.specs.declared.range.TheConstants.{HEAP}
 use Rattle.cyc_meaning.specs.Values.{words_of_kind}
-use Rattle.cyc_meaning.specs.Operators.{null_exception, division_by_zero}
+use Rattle.cyc_meaning.specs.Operators.{null_exception, array_size, division_by_zero}
 use Rattle.cyc_meaning.specs.FrameCount.{frame_count, items_need, words_of_all}
-use Rattle.cyc_lower.specs.Slots.{Types, Starts, starts_of, slot_of, counter_of, field_of}
+use Rattle.cyc_lower.specs.Slots.{Types, Starts, starts_of, slot_of, with_counter, counter_of, field_of}
 use Rattle.cyc_lower.specs.declared.operands.Condition.{Condition}
 use Rattle.cyc_lower.specs.declared.statements.Exits.{Exits}
 
@@ -291,6 +291,50 @@ object_code handle words d t =
     ++ instructions.Move d (operands.Slot (t + words))
     ∷ []
 
+-- ---- arrays
+
+-- the most elements that an array may have, each of one word
+abbrev pub most_elements : ℕ
+most_elements = 1000
+
+-- A new array, whose length is in slot t: the length is tested, and comes to the slot behind it, and 0 to the next one, for the index.
+-- A block is asked for of as many words, or of one where there are none, and its address comes to slot t.
+abbrev pub begun_code : (handle p t : ℕ) → List Instruction
+begun_code handle p t =
+    instructions.Branch comparisons.LessUnsigned (operands.Slot t) (operands.Word (most_elements + 1)) (p + 2)
+    ∷ instructions.Uncaught array_size (operands.Word 0)
+    ∷ instructions.Move (t + 1) (operands.Slot t)
+    ∷ instructions.Move (t + 2) (operands.Word 0)
+    ∷ instructions.Unary plain_unary.Not (t + 3) (operands.Slot t)
+    ∷ instructions.Binary plain_binary.Add (t + 3) (operands.Slot (t + 3)) (operands.Slot t)
+    ∷ instructions.Ask (requests.Allocate t (operands.Word handle) (operands.Slot (t + 3)))
+    ∷ []
+
+-- the element in slot t + 3 comes to its cell, and the index to the next one
+abbrev pub filled_code : (head t : ℕ) → List Instruction
+filled_code head t =
+    instructions.Binary plain_binary.ShiftLeft (t + 4) (operands.Slot (t + 2)) (operands.Word 2)
+    ∷ instructions.Binary plain_binary.Add (t + 4) (operands.Slot t) (operands.Slot (t + 4))
+    ∷ instructions.Store (operands.Slot (t + 4)) 0 (operands.Slot (t + 3))
+    ∷ instructions.Binary plain_binary.Add (t + 2) (operands.Slot (t + 2)) (operands.Word 1)
+    ∷ instructions.Jump head
+    ∷ []
+
+-- behind the last element the index is 0
+abbrev pub ended_code : (d t : ℕ) → List Instruction
+ended_code d t = instructions.Move (t + 2) (operands.Word 0) ∷ copy_code 3 (operands.Slot t) d
+
+-- the elements of an array, of which the code of each one stands behind the head
+abbrev pub elements_code : (element : List Instruction) → (head d t : ℕ) → List Instruction
+elements_code element head d t =
+    instructions.Branch comparisons.Equal (operands.Slot (t + 2)) (operands.Slot (t + 1)) (head + 1 + length (element ++ filled_code head t))
+    ∷ ((element ++ filled_code head t) ++ ended_code d t)
+
+-- the code of the length stands at place p, and that of an element is made for its place
+abbrev pub array_code : (count : List Instruction) → (element : ℕ → List Instruction) → (handle p d t : ℕ) → List Instruction
+array_code count element handle p d t =
+    count ++ (begun_code handle (p + length count) t ++ elements_code (element (p + length count + 7 + 1)) (p + length count + 7) d t)
+
 -- ---- conditions, branches and loops
 
 -- A condition compares two expressions, and this comparison of them holds where it fails.
@@ -471,11 +515,12 @@ abbrev mutual
   place_code starts (Member k a s f ty) p t = converted_by (operand_of starts a) (expression_code starts a p (value_slot starts a t) t) kinds.NonNull (value_operand starts a t) p
   place_code starts (Element a i ty) p t = instructions.Move t (operands.Word 0) ∷ []
 
-  -- A new object in the region of this handle. Each of its cells has one word yet.
+  -- A new object in the region of this handle. Each of its cells has one word yet. The elements of an array have a counter.
   pub made_code : (starts : Starts) → Initial → (handle p d t : ℕ) → List Instruction
   made_code starts (Plain kind a) handle p d t = expression_code starts a p t t ++ object_code handle 1 d t
   made_code starts (Fields cs) handle p d t = arguments_code starts cs p t ++ object_code handle (argument_count cs) d t
-  made_code starts i handle p d t = instructions.Move d (operands.Word 0) ∷ []
+  made_code starts (Array w level n kind a) handle p d t =
+      array_code (expression_code starts n p t t) (λ q. expression_code (with_counter starts (t + 2)) a q (t + 3) (t + 3)) handle p d t
 
   -- each argument comes into the slots behind those of the one before
   pub arguments_code : (starts : Starts) → Arguments → (p t : ℕ) → List Instruction

@@ -4,7 +4,7 @@ use Rattle.std.specs.Prelude.{◌≤◌, List, [], ◌∷◌, Option, None, Some
 use Rattle.cyc_words.specs.Word.{IsWord}
 use Rattle.cyc_types.specs.Numbered.{argument_count}
 use Rattle.cyc_store.specs.declared.range.TheConstants.{MOST_BLOCK_WORDS}
-use Rattle.cyc_types.specs.TypedTrees.{Counter, Load, New, OnHeap, Initial, Plain, Fields, Dereference, Target, Expression, Number, NullPointer, Copy, Call, Unary, Binary, Assign, Converted, Convert, Arguments, NoArguments, MoreArguments, Operations, NoOperations, ThenCompute, ThenTest, ThenPointer, Statement, Block, Empty, Evaluate, If, While, Return, Break, Continue, Items, NoItems, MoreItems, Execute, Declare, Constant, Word, Null, GlobalVariable, Function, Program, Move, Peek, ThenPointerPeek, AddressOfCell, Store, Member}
+use Rattle.cyc_types.specs.TypedTrees.{Array, Counter, Load, New, OnHeap, Initial, Plain, Fields, Dereference, Target, Expression, Number, NullPointer, Copy, Call, Unary, Binary, Assign, Converted, Convert, Arguments, NoArguments, MoreArguments, Operations, NoOperations, ThenCompute, ThenTest, ThenPointer, Statement, Block, Empty, Evaluate, If, While, Return, Break, Continue, Items, NoItems, MoreItems, Execute, Declare, Constant, Word, Null, GlobalVariable, Function, Program, Move, Peek, ThenPointerPeek, AddressOfCell, Store, Member}
 
 abbrev mutual
   pub IsOfWords : Expression → Type 0
@@ -33,7 +33,7 @@ abbrev mutual
   pub IsOfWordsObject : Initial → Type 0
   IsOfWordsObject (Plain kind a) = IsOfWords a
   IsOfWordsObject (Fields cs) = (argument_count cs ≤ MOST_BLOCK_WORDS) × AreOfWordsArguments cs
-  IsOfWordsObject i = ⊥
+  IsOfWordsObject (Array w level n kind a) = IsOfWords n × IsOfWords a
 
   pub IsOfWordsConverted : Converted → Type 0
   IsOfWordsConverted (Convert from to a) = IsOfWords a
