@@ -115,11 +115,15 @@ region_there Missing region object vs k e w well = absurd (well refl)
 demand_is : {t : Tables} {w : World} {s : StoreState} → objects.Related t w s → demand s ≡ pages_of w
 demand_is {t} {w} {s} related = ap (λ l. demand_of l s.classes) (sym (counted-same related.regions)) ∙ ap (demand_of (counted w.regions)) related.classes
 
+-- what is more than all pages is not within them
+pub past_pages : (pages n : ℕ) (b : Bool) → nat_lt pages n ≡ true → (nat_le n pages && b) ≡ false
+past_pages pages n b over = ap (λ x. x && b) (false_from_ne_true (nat_le n pages) (λ h. absurd (omega (arith, leb-true n pages h, ltb-true pages n over))))
+
 module _ (source : Program) (pages calls : ℕ) where
   -- ---- by a call of the store
 
   -- one instruction calls the store, which serves it
-  by_asking : (focus : Focus) (k : List Entry) (e : Environment) (w : World) (c : Configuration) (next : State) (request : Request)
+  pub by_asking : (focus : Focus) (k : List Entry) (e : Environment) (w : World) (c : Configuration) (next : State) (request : Request)
       → step source (Running focus k e w) ≡ next → SharedAt source pages calls k e w c
       → At (code_of source c.active.function) c.active.next (instructions.Ask request)
       → refusal c.store (plain_step.call_in c.active.slots request) ≡ None
@@ -137,7 +141,7 @@ module _ (source : Program) (pages calls : ℕ) where
       )
 
   -- there is no room: both runs are full
-  by_full : (focus : Focus) (k : List Entry) (e : Environment) (w : World) (c : Configuration) (next : State) (request : Request)
+  pub by_full : (focus : Focus) (k : List Entry) (e : Environment) (w : World) (c : Configuration) (next : State) (request : Request)
       → step source (Running focus k e w) ≡ next → is_within pages calls next ≡ false → SharedAt source pages calls k e w c
       → At (code_of source c.active.function) c.active.next (instructions.Ask request)
       → refusal c.store (plain_step.call_in c.active.slots request) ≡ Some services.Full
@@ -266,7 +270,7 @@ module _ (source : Program) (pages calls : ℕ) where
       elim (cases_Bool (nat_lt c.store.pages (pages_of (made_in w heap_number r cells)))) [
         | inl over ↦
             by_full focus k₀ e w c next request is_next
-            (past_pages (pages_of (made_in w heap_number r cells)) _ (subst (λ p. nat_lt p (pages_of (made_in w heap_number r cells)) ≡ true) shared.same_pages over))
+            (past_pages pages (pages_of (made_in w heap_number r cells)) _ (subst (λ p. nat_lt p (pages_of (made_in w heap_number r cells)) ≡ true) shared.same_pages over))
             shared₀ here (refuses ∙ ap full_at over)
         | inr room ↦
             let free = refuses ∙ ap full_at room in
@@ -300,9 +304,6 @@ module _ (source : Program) (pages calls : ℕ) where
               shared_within source pages calls k e (made_in w heap_number r cells) (served_to choice c (t + words_held vs) (Allocate HEAP (block_size cells))) made,
             ))
       ]
-    where
-      past_pages : (n : ℕ) (b : Bool) → nat_lt pages n ≡ true → (nat_le n pages && b) ≡ false
-      past_pages n b over = ap (λ x. x && b) (false_from_ne_true (nat_le n pages) (λ h. absurd (omega (arith, leb-true n pages h, ltb-true pages n over))))
 
   -- ---- what waits for the values of an object
 

@@ -393,6 +393,7 @@ module _ (code : List Instruction) (b : Numbering) where
           single,
           (
             branch,
+            omega arith,
             expression_stands (counted types (t + 2)) a (t + 3) (t + 3) (h + 1) r (fits_a (t + 2)) refl (has_front code (h + 1) element filled has_both),
             filled_stands code b types t h r s (omega (arith, length-append element filled)) (has_back code (h + 1) element filled has_both),
             first_index,

@@ -16,6 +16,7 @@ pub mod Data
 pub mod Sharing
 pub mod CellWrites
 pub mod Allocations
+pub mod Arrays
 pub mod PlaceWords
 pub mod PlaceSteps
 pub mod Values
@@ -28,6 +29,7 @@ pub mod Counters
 pub mod Calls
 pub mod StatementSteps
 pub mod Keeping
+pub mod Levels
 pub mod Whole
 -- the rest of the promise: it is well formed, of words, and small
 pub mod WellFormed

@@ -47,13 +47,13 @@ module _ (source : Program) where
   by_lands (in_temporary least stack) first second = first stack
   by_lands (in_local below stack) first second = second stack
 
-  by_hands : {code : List Instruction} {words : ℕ} {o : Operand} {p : ℕ} {dropped stays : Type 0} {comes : (d q : ℕ) → Type 0} {X : Type 0} → HandsOn source code words o p dropped stays comes
+  pub by_hands : {code : List Instruction} {words : ℕ} {o : Operand} {p : ℕ} {dropped stays : Type 0} {comes : (d q : ℕ) → Type 0} {X : Type 0} → HandsOn source code words o p dropped stays comes
       → (dropped → X) → (stays → X) → ((d q : ℕ) → comes d q → X) → X
   by_hands (drops stack) first second third = first stack
   by_hands (leaves stack) first second third = second stack
   by_hands (copies d q at stack) first second third = third d q stack
 
-  by_prints : {code : List Instruction} {o : Operand} {p : ℕ} {dropped : Type 0} {comes : (d : ℕ) → Type 0} {X : Type 0} → Prints source code o p dropped comes
+  pub by_prints : {code : List Instruction} {o : Operand} {p : ℕ} {dropped : Type 0} {comes : (d : ℕ) → Type 0} {X : Type 0} → Prints source code o p dropped comes
       → (dropped → X) → ((d : ℕ) → comes d → X) → X
   by_prints (prints_only stack) first second = first stack
   by_prints (gives_byte d at stack) first second = second d stack

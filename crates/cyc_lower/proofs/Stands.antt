@@ -132,7 +132,7 @@ module _ (code : List Instruction) (bounds : Numbering) (types : Types) where
   -- the elements of an array: from the head h on, to r, where one is evaluated, and to s, where all are written
   abbrev pub ElementsBy : (evaluated : Type 0) → (t d h r s q : ℕ) → Type 0
   ElementsBy evaluated t d h r s q =
-      At code h (instructions.Branch comparisons.Equal (operands.Slot (t + 2)) (operands.Slot (t + 1)) s) × evaluated × FilledAt t h r s
+      At code h (instructions.Branch comparisons.Equal (operands.Slot (t + 2)) (operands.Slot (t + 1)) s) × (h < s) × evaluated × FilledAt t h r s
       × At code s (instructions.Move (t + 2) (operands.Word 0)) × CopyAt code 3 (operands.Slot t) d (s + 1) q
 
   -- An object of so many cells is made, each of one word, of the words that stand in the slots from t on. Its address comes to slot d.

@@ -42,7 +42,7 @@ use Rattle.cyc_meaning.specs.Operators.{Result, Gives, Raises, Misfits, has_no_r
 use Rattle.cyc_meaning.specs.Pointers.{takes_kind, followed, result_kind as operator_kind}
 use Rattle.cyc_meaning.specs.Places.{arrives, member_of}
 use Rattle.cyc_meaning.specs.Conversion.{conversion}
-use Rattle.cyc_meaning.specs.State.{Region, World, Environment, with_local, made, variable, written, region_at, Awaiting, ConvertTo, Operate, Chain, Apply, ApplyPointer, Follow, Decide, Store, Pass, MakePlain, MakeFields, Initialise, Choose, Test, Return, Entry, Needs, Discard, Rest, Join, Loop, Focus, Evaluating, Given, GivenPlace, Executing, Proceeding, Calling, Returning, Throwing, State, Running, cell_at, FollowMember, StoreCell}
+use Rattle.cyc_meaning.specs.State.{Region, World, Environment, with_local, made, variable, written, region_at, Awaiting, ConvertTo, Operate, Chain, Apply, ApplyPointer, Follow, Decide, Store, Pass, MakePlain, MakeFields, MakeArray, FillElement, Initialise, Choose, Test, Return, Entry, Needs, Discard, Rest, Join, Loop, Focus, Evaluating, Given, GivenPlace, Executing, Proceeding, Calling, Returning, Throwing, State, Running, cell_at, FollowMember, StoreCell}
 use Rattle.cyc_meaning.specs.Step.{leads_to, wrong, object_of, computed, stored_at, declared, passes, tested, awaits_right, chosen, looped, step}
 use Rattle.cyc_meaning.specs.State.{status_of}
 use Rattle.cyc_meaning.specs.SourceMachine.{status_in}
@@ -69,6 +69,7 @@ use Rattle.cyc_lower.proofs.Relation.{types_on, starts_on, StatementStack}
 use Rattle.cyc_lower.proofs.Matched.{IsMatched, silently, by_one, by_two, by_three, shared_way, shared_within, lands_depth, value_depth, place_depth, lands_plain, value_plain, place_plain, by_two_known, output_way}
 use Rattle.cyc_lower.proofs.PointerSteps.{applies_pointers, right_follows}
 use Rattle.cyc_lower.proofs.Allocations.{plain_made, fields_made}
+use Rattle.cyc_lower.proofs.Arrays.{array_sized, array_filled}
 use Rattle.cyc_lower.proofs.Evaluations.{IsStep, landed_word, landed_moved, lands_at, passes_related, passes_weight, object_of_same, global_there}
 
 -- an operand of a kind, and an int
@@ -1100,6 +1101,8 @@ module _ (source : Program) (pages calls : ℕ) where
   stands_given v o (Needs (StoreCell peek place) ∷ k) e w c of_words words well stands stack = stores_cell peek place v o k e w c of_words words well stands stack
   stands_given v o (Needs (Pass f before cs) ∷ k) e w c of_words words well stands stack = hands_on f before cs v o k e w c stands stack
   stands_given v o (Needs (MakePlain owner kind) ∷ k) e w c of_words words well (shared, facts, is, holds) stack = plain_made source pages calls owner kind v o k e w c well shared facts is holds stack
+  stands_given v o (Needs (MakeArray owner level wanted element) ∷ k) e w c of_words words well (shared, facts, is, holds) stack = array_sized source pages calls owner level wanted element v o k e w c well shared facts is holds stack
+  stands_given v o (Needs (FillElement object count index level wanted element) ∷ k) e w c of_words words well (shared, facts, is, holds) stack = array_filled source pages calls object count index level wanted element v o k e w c words well shared facts is holds stack
   stands_given v o (Needs (MakeFields owner before cs) ∷ k) e w c of_words words well (shared, facts, is, holds) stack = fields_made source pages calls owner before cs v o k e w c well shared facts is holds stack
   stands_given v o (Needs (Initialise n kind js) ∷ k) e w c of_words words well stands stack = initialises n kind js v o k e w c well stands stack
   stands_given v o (Needs (Choose s t) ∷ k) e w c of_words words well (shared, facts, is, holds) stack =
