@@ -5,7 +5,7 @@ use Rattle.std.proofs.lemmas.Bool.{le-leb, lt-ltb, and_from, eqb-true, eq-eqb, f
 use Rattle.std.proofs.Math.Nat.{le-max_left}
 use Rattle.cyc_words.specs.Ending.{Full}
 use Rattle.cyc_words.specs.Word.{add_of, shl_of}
-use Rattle.cyc_words.specs.Word as words
+use Rattle.cyc_words.specs.Word.{IsWord as IsMachineWord}
 use Rattle.cyc_types.specs.declared.typed.Kind.{Kind}
 use Rattle.cyc_types.specs.declared.typed.Kind.TheVariants as kinds
 use Rattle.cyc_types.specs.TypedTrees.{Expression, Program}
@@ -172,10 +172,10 @@ module _ (source : Program) (pages calls : ℕ) where
           ),
         )
         (known source pages calls c _ branch, (known source pages calls c0 _ count, (known source pages calls c1 _ index, (known source pages calls c2 _ none, (known source pages calls c3 _ size, tt)))))
-        (through now next c c0 _ _ branch (λ choice. ap (λ b. plain_step.branches c b (p + 2)) (ap (λ x. nat_lt x (most_elements + 1)) is ∙ lt-ltb n (most_elements + 1) (omega (arith, few)))) (within c0 shared) (way c shared₀)
-        (through now next c0 c1 _ _ count (λ choice. refl) (within c1 shared) (way c0 shared₀)
-        (through now next c1 c2 _ _ index (λ choice. refl) (within c2 shared) (way c1 shared₀)
-        (through now next c2 c3 _ _ none (λ choice. refl) (within c3 shared) (way c2 shared₀)
+        (through now next c c0 _ (place_in source pages calls c0 ∷ place_in source pages calls c1 ∷ place_in source pages calls c2 ∷ place_in source pages calls c3 ∷ []) branch (λ choice. ap (λ b. plain_step.branches c b (p + 2)) (ap (λ x. nat_lt x (most_elements + 1)) is ∙ lt-ltb n (most_elements + 1) (omega (arith, few)))) (within c0 shared) (way c shared₀)
+        (through now next c0 c1 _ (place_in source pages calls c1 ∷ place_in source pages calls c2 ∷ place_in source pages calls c3 ∷ []) count (λ choice. refl) (within c1 shared) (way c0 shared₀)
+        (through now next c1 c2 _ (place_in source pages calls c2 ∷ place_in source pages calls c3 ∷ []) index (λ choice. refl) (within c2 shared) (way c1 shared₀)
+        (through now next c2 c3 _ (place_in source pages calls c3 ∷ []) none (λ choice. refl) (within c3 shared) (way c2 shared₀)
         (through now next c3 c4 _ [] size (λ choice. refl) (within c4 shared) (way c3 shared₀)
         matches)))))
       where
@@ -365,7 +365,7 @@ module _ (source : Program) (pages calls : ℕ) where
       → c.active.next < s → At (code_of source c.active.function) s (instructions.Move (top source c.active.function k + 2) (operands.Word 0)) → is_in (operands.Slot (top source c.active.function k)) d ≡ there
       → CopyBy (code_of source c.active.function) there 3 (operands.Slot (top source c.active.function k)) d (s + 1) q → LandsStack source c.active.function e.locals kinds.Fat d q c.frames k
       → IsMatched source pages calls (Running (Repeating object count index level wanted element) k e w) (plain.Running c)
-  ends object count index level wanted element k e w c d s q there does last shared facts (part, long, now) holds branch before zero told copy lands =
+  ends object count index level wanted element k e w c d s q there does last shared facts (part, long, now) holds branch before restart told copy lands =
       by there told copy
     where
       g : ℕ
@@ -404,13 +404,13 @@ module _ (source : Program) (pages calls : ℕ) where
           → IsMatched source pages calls (Running (Repeating object count index level wanted element) k e w) (plain.Running c)
       by true told end =
           let d_is : t ≡ d = eqb-true t d told in
-          by_two source pages calls c0 does shared shared branch jumps zero (λ same. omega (arith, same, before))
+          by_two source pages calls c0 does shared shared branch jumps restart (λ same. omega (arith, same, before))
           (λ choice. landed source pages calls v s1 d k e w c0 q shared (subst (Is shared.tables kinds.Fat (Fat object 0 count 0) s1) d_is pointer)
           (λ m out. elsewhere m (subst (λ n. Outside n 3 m) (sym d_is) out)) facts holds end lands)
       by false told (move, end) =
           by_three source pages calls c0 c1 does shared (shared_within source pages calls k e w c0 shared) (shared_way source pages calls (Repeating object count index level wanted element) k e w c0 shared)
           (shared_within source pages calls k e w c1 shared) (shared_way source pages calls (Repeating object count index level wanted element) k e w c1 shared)
-          branch jumps zero (λ choice. refl) move (λ same. omega (arith, same, before)) (λ same. omega (arith, same, before)) (λ same. omega (arith, same))
+          branch jumps restart (λ choice. refl) move (λ same. omega (arith, same, before)) (λ same. omega (arith, same, before)) (λ same. omega (arith, same))
           (λ choice. landed_moved source pages calls v (operands.Slot t) d k e w c1 q choice shared pointer
           (data_above shared.tables source g w.objects e.locals (callers k) c.active.slots s1 c.globals c.frames t 3 (omega (arith, height-least (base_of source g) (held k))) elsewhere facts)
           (Holds-same shared.tables c.active.slots s1 (base_of source g) (held k) (λ m short. elsewhere m (inl (omega (arith, short)))) holds) end lands)
@@ -418,7 +418,7 @@ module _ (source : Program) (pages calls : ℕ) where
   -- the next one is evaluated, or all are written
   pub repeating : (object count index level : ℕ) (wanted : Kind) (element : Expression) (k : List Entry) (e : Environment) (w : World) (c : Configuration)
       → IsStep source pages calls (Repeating object count index level wanted element) k e w c
-  repeating object count index level wanted element k e w c well (shared, facts, (d, r, s, q, (part, long, now), inside, few, level_is, single, (branch, before, at_element, filled, zero, copy), holds, lands)) =
+  repeating object count index level wanted element k e w c well (shared, facts, (d, r, s, q, (part, long, now), inside, few, level_is, single, (branch, before, at_element, filled, restart, copy), holds, lands)) =
       by (index == count) refl
     where
       g : ℕ
@@ -434,7 +434,7 @@ module _ (source : Program) (pages calls : ℕ) where
       by true told =
           ends object count index level wanted element k e w c d s q (is_in (operands.Slot (top source g k)) d)
           (ap (λ (b : Bool). if b then gives kinds.Fat (Fat object 0 count 0) k e w else Running (Evaluating element) stack inner w) told)
-          (eqb-true index count told) shared facts (part, long, now) holds branch before zero refl copy lands
+          (eqb-true index count told) shared facts (part, long, now) holds branch before restart refl copy lands
       by false told =
           let more : index < count = omega (arith, inside, not_equal) in
           let levels : level ≡ length (counters_of 0 k) = level_is ∙ counters-many (base_of source g) k in
@@ -456,7 +456,7 @@ module _ (source : Program) (pages calls : ℕ) where
           (λ choice. subst (λ b. Matches source pages calls (Running (Evaluating element) stack inner w) (plain_step.branches c b s))
           (sym (ap (λ x. x == c.active.slots (top source g k + 1)) now ∙ ap (λ x. index == x) long ∙ told))
           (counted, facts, into_slot (top source g k + 3) r at_element ((part, long, now), holds)
-          (in_temporary (omega arith) (d, c.active.next, s, q, refl, more, few, level_is, single, (branch, before, at_element, filled, zero, copy), lands))))
+          (in_temporary (omega arith) (d, c.active.next, s, q, refl, more, few, level_is, single, (branch, before, at_element, filled, restart, copy), lands))))
         where
           not_equal : index ≢ count
           not_equal same = let f : false ≡ true = sym told ∙ eq-eqb index count same in cc
@@ -470,7 +470,7 @@ module _ (source : Program) (pages calls : ℕ) where
       → IsIn shared.tables v c.active.slots o → Holds shared.tables c.active.slots (base_of source c.active.function) (held (Needs (FillElement object count index level wanted element) ∷ k))
       → ValueStack source c.active.function e.locals v.kind o c.active.next c.frames (Needs (FillElement object count index level wanted element) ∷ k)
       → IsMatched source pages calls (Running (Given v) (Needs (FillElement object count index level wanted element) ∷ k) e w) (plain.Running c)
-  array_filled object count index level wanted element v o k e w c words well shared₀ facts is ((part, long, now), holds) (d, h, s, q, there, inside, few, level_is, single, (branch, before, at_element, (scale, sum, store, count_up, jump, end), zero, copy), lands) =
+  array_filled object count index level wanted element v o k e w c words well shared₀ facts is ((part, long, now), holds) (d, h, s, q, there, inside, few, level_is, single, (branch, before, at_element, (scale, sum, store, count_up, jump, end), restart, copy), lands) =
       let g = c.active.function in
       let t = top source g k in
       let base = base_of source g in
@@ -486,8 +486,11 @@ module _ (source : Program) (pages calls : ℕ) where
       let next = Running behind k e (written w object index cell v.value) in
       let one : words_of_kind v.kind ≡ 1 = ap words_of_kind (same_kind v.kind wanted fits) ∙ single in
       let cell_one : words_of_kind cell.cell.kind ≡ 1 = ap words_of_kind same ∙ one in
-      let first_points = element-found shared.related index cell part inside found in
-      let points : Points shared.tables object index (slots t + 4 * (index * 1)) = subst (λ n. Points shared.tables object index (slots t + 4 * (index * n))) cell_one first_points in
+      let same_index : 0 + index ≡ index = omega arith in
+      let first_points = element-found shared.related index cell part inside (ap (cell_at w object) same_index ∙ found) in
+      let points : Points shared.tables object index (slots t + 4 * (index * 1))
+      = subst (λ n. Points shared.tables object index (slots t + 4 * (index * n))) cell_one
+      (subst (λ n. Points shared.tables object n (slots t + 4 * (index * words_of_kind cell.cell.kind))) same_index first_points) in
       let short : slots t + 4 * (index * 1) < 4294967296 = pointer-word points in
       let s1 = put slots (t + 4) (shl_of (slots (t + 2)) 2) in
       let s2 = put s1 (t + 4) (add_of (s1 t) (s1 (t + 4))) in
@@ -504,7 +507,7 @@ module _ (source : Program) (pages calls : ℕ) where
       let value : IsWord shared.tables cell.cell.kind v.value word
       = subst (λ i. IsWord shared.tables i v.value word) (sym same)
       (subst (IsWord shared.tables v.kind v.value) (sym word_is) (one_word shared.tables v.kind v.value slots (t + 3) one (subst (IsIn shared.tables v slots) there is))) in
-      let machine : words.IsWord word = subst words.IsWord (sym word_is) (words.0 (t + 3)) in
+      let machine : IsMachineWord word = subst IsMachineWord (sym word_is) (words.0 (t + 3)) in
       let c1 = advanced (with_slots c s1) in
       let c2 = advanced (with_slots c1 s2) in
       let c3 = advanced (with_memory c2 address word) in
@@ -533,7 +536,7 @@ module _ (source : Program) (pages calls : ℕ) where
           few,
           level_is,
           single,
-          (branch, before, at_element, (scale, sum, store, count_up, jump, end), zero, copy),
+          (branch, before, at_element, (scale, sum, store, count_up, jump, end), restart, copy),
           Holds-same shared.tables slots s3 base (held k) (λ m less. up m (inl (omega (arith, less))) ∙ early m (omega (arith, less))) holds,
           lands,
         ),
@@ -551,11 +554,11 @@ module _ (source : Program) (pages calls : ℕ) where
         ),
       )
       (known source pages calls c _ scale, (known source pages calls c1 _ sum, (known source pages calls c2 _ store, (known source pages calls c3 _ count_up, (known source pages calls c4 _ jump, tt)))))
-      (through now_at next c c1 _ _ scale (λ choice. refl) (shared_within source pages calls k e w c1 shared) (shared_way source pages calls focus k₀ e w c shared₀)
-      (through now_at next c1 c2 _ _ sum (λ choice. refl) (shared_within source pages calls k e w c2 shared) (shared_way source pages calls focus k₀ e w c1 shared₀)
-      (through now_at next c2 c3 _ _ store (λ choice. saves_there source pages calls k e w c2 shared object index address word cell v.value found here cell_one value machine)
+      (through now_at next c c1 _ (place_in source pages calls c1 ∷ place_in source pages calls c2 ∷ place_in source pages calls c3 ∷ place_in source pages calls c4 ∷ []) scale (λ choice. refl) (shared_within source pages calls k e w c1 shared) (shared_way source pages calls focus k₀ e w c shared₀)
+      (through now_at next c1 c2 _ (place_in source pages calls c2 ∷ place_in source pages calls c3 ∷ place_in source pages calls c4 ∷ []) sum (λ choice. refl) (shared_within source pages calls k e w c2 shared) (shared_way source pages calls focus k₀ e w c1 shared₀)
+      (through now_at next c2 c3 _ (place_in source pages calls c3 ∷ place_in source pages calls c4 ∷ []) store (λ choice. saves_there source pages calls k e w c2 shared object index address word cell v.value found here cell_one value machine)
       (shared_within source pages calls k e new c3 later) (shared_way source pages calls focus k₀ e w c2 shared₀)
-      (through now_at next c3 c4 _ _ count_up (λ choice. refl) (shared_within source pages calls k e new c4 later) (output_way source pages calls focus k₀ e w c3 shared.same_output)
+      (through now_at next c3 c4 _ (place_in source pages calls c4 ∷ []) count_up (λ choice. refl) (shared_within source pages calls k e new c4 later) (output_way source pages calls focus k₀ e w c3 shared.same_output)
       (through now_at next c4 c5 _ [] jump (λ choice. refl) (shared_within source pages calls k e new c5 later) (output_way source pages calls focus k₀ e w c4 shared.same_output)
       matches)))))
     where
