@@ -297,32 +297,50 @@ object_code handle words d t =
 abbrev pub most_elements : ℕ
 most_elements = 1000
 
--- A new array, whose length is in slot t: the length is tested, and comes to the slot behind it, and 0 to the next one, for the index.
--- A block is asked for of as many words, or of one where there are none, and its address comes to slot t.
-abbrev pub begun_code : (handle p t : ℕ) → List Instruction
-begun_code handle p t =
+-- The length of an array in slot t is tested, and comes to slot x, and 0, as the index, to slot y.
+abbrev pub measured_code : (p x y t : ℕ) → List Instruction
+measured_code p x y t =
     instructions.Branch comparisons.LessUnsigned (operands.Slot t) (operands.Word (most_elements + 1)) (p + 2)
     ∷ instructions.Uncaught array_size (operands.Word 0)
-    ∷ instructions.Move (t + 1) (operands.Slot t)
-    ∷ instructions.Move (t + 2) (operands.Word 0)
-    ∷ instructions.Unary plain_unary.Not (t + 3) (operands.Slot t)
-    ∷ instructions.Binary plain_binary.Add (t + 3) (operands.Slot (t + 3)) (operands.Slot t)
-    ∷ instructions.Ask (requests.Allocate t (operands.Word handle) (operands.Slot (t + 3)))
+    ∷ instructions.Move x (operands.Slot t)
+    ∷ instructions.Move y (operands.Word 0)
     ∷ []
 
--- the element in slot t + 3 comes to its cell, and the index to the next one
-abbrev pub filled_code : (head t : ℕ) → List Instruction
-filled_code head t =
-    instructions.Binary plain_binary.ShiftLeft (t + 4) (operands.Slot (t + 2)) (operands.Word 2)
-    ∷ instructions.Binary plain_binary.Add (t + 4) (operands.Slot t) (operands.Slot (t + 4))
-    ∷ instructions.Store (operands.Slot (t + 4)) 0 (operands.Slot (t + 3))
-    ∷ instructions.Binary plain_binary.Add (t + 2) (operands.Slot (t + 2)) (operands.Word 1)
+-- A block is asked for of as many words as slot t tells, or of one where that is 0: their number comes to slot s, and the address to t.
+abbrev pub asked_code : (handle s t : ℕ) → List Instruction
+asked_code handle s t =
+    instructions.Unary plain_unary.Not s (operands.Slot t)
+    ∷ instructions.Binary plain_binary.Add s (operands.Slot s) (operands.Slot t)
+    ∷ instructions.Ask (requests.Allocate t (operands.Word handle) (operands.Slot s))
+    ∷ []
+
+-- a new array, whose length is in slot t: its address comes there, and its length and the index behind it
+abbrev pub begun_code : (handle p t : ℕ) → List Instruction
+begun_code handle p t = measured_code p (t + 1) (t + 2) t ++ asked_code handle (t + 3) t
+
+-- The element in slot s comes to its cell of the array at the address in slot t, by the index in slot y, which goes to the next one.
+abbrev pub written_code : (head y s z t : ℕ) → List Instruction
+written_code head y s z t =
+    instructions.Binary plain_binary.ShiftLeft z (operands.Slot y) (operands.Word 2)
+    ∷ instructions.Binary plain_binary.Add z (operands.Slot t) (operands.Slot z)
+    ∷ instructions.Store (operands.Slot z) 0 (operands.Slot s)
+    ∷ instructions.Binary plain_binary.Add y (operands.Slot y) (operands.Word 1)
     ∷ instructions.Jump head
     ∷ []
 
--- behind the last element the index is 0
+abbrev pub filled_code : (head t : ℕ) → List Instruction
+filled_code head t = written_code head (t + 2) (t + 3) (t + 4) t
+
+-- behind the last element the index in slot y is 0, and the pointer comes from slot t to slot d
+abbrev pub restarted_code : (d y t : ℕ) → List Instruction
+restarted_code d y t = instructions.Move y (operands.Word 0) ∷ copy_code 3 (operands.Slot t) d
+
 abbrev pub ended_code : (d t : ℕ) → List Instruction
-ended_code d t = instructions.Move (t + 2) (operands.Word 0) ∷ copy_code 3 (operands.Slot t) d
+ended_code d t = restarted_code d (t + 2) t
+
+-- the index in slot y is behind the last element, by the length in slot x
+abbrev pub last_element : (x y : ℕ) → Condition
+last_element x y = record { failing = comparisons.Equal; left = operands.Slot y; right = operands.Slot x }
 
 -- the elements of an array, of which the code of each one stands behind the head
 abbrev pub elements_code : (element : List Instruction) → (head d t : ℕ) → List Instruction

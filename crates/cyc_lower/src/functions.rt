@@ -57,6 +57,7 @@ fn lower_function(
         locals: &locals,
         structs,
         counters: &[],
+        alloc,
     };
     let mut emitter = Emitter::new(alloc);
     let exits = Exits {

@@ -1,5 +1,5 @@
 //! The slots of a function's locals, by their types.
-ghost use Rattle.std.specs.Prelude.{◌≡◌, ◌+◌, ◌≤◌, ◌++◌, map, IfOk};
+ghost use Rattle.std.specs.Prelude.{◌≡◌, ◌+◌, ◌≤◌, ◌++◌, [], ◌∷◌, map, IfOk};
 ghost use Rattle.cyc_types.specs.Types.{words_of};
 ghost use Rattle.cyc_types.specs.TypeView.{view_ty};
 ghost use Rattle.cyc_types.specs.TypedTreeView.{view_function};
@@ -20,6 +20,7 @@ pub(crate) struct Starts<'a> {
     pub(crate) locals: &'a [usize],
     pub(crate) structs: &'a [StructType],
     pub(crate) counters: &'a [usize],
+    pub(crate) alloc: Global,
 }
 
 /// The first slot of the local of this number.
@@ -40,6 +41,16 @@ pub(crate) fn counter_of(starts: &Starts, level: usize) -> usize
         Some(slot) => *slot,
         None => 0,
     }
+}
+
+/// The slots of the counters for the elements of an array, whose own counter has this slot.
+pub(crate) fn with_counter(starts: &Starts, slot: usize) -> Result<Vec<usize>, AllocError>
+    ensures { IfOk result (λ counters. counters.items ≡ starts.now.counters.now ++ slot ∷ []) }
+{
+    let mut counters = Vec::new(starts.alloc);
+    counters.extend_from_slice(starts.counters)?;
+    counters.push(slot)?;
+    Ok(counters)
 }
 
 /// How many bytes the field of this number is behind its struct.
