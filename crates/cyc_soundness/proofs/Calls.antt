@@ -28,16 +28,16 @@ use Rattle.cyc_meaning.specs.Nesting.{ends_of, IsNested}
 use Rattle.cyc_meaning.specs.Step.{called, values_of, prints, reads, step_calling, step_entering, step_binding}
 use Rattle.cyc_soundness.specs.Lives.{Life, RunTy, RunValue, Value, Lives, at, value_at, lives_of, Reading, AsHeap, ByScope}
 use Rattle.cyc_soundness.specs.Lives as lives
-use Rattle.cyc_soundness.specs.Worlds.{Typing, HasType, AreOperands, IsTyped, Grows}
-use Rattle.cyc_soundness.specs.Frames.{InScope, Variable, Names, Instance, Home, lives_in, read, IsScope, AreBelow, IsBound, AreVariables, IsLasting, LiveIn, Within, itself, older, AreSet, Holds, Implies, Exits, HasResult, loop_of, around, AreBreaks, Stand, IsHome, IsContext, KnowsProgram}
+use Rattle.cyc_soundness.specs.Worlds.{Typing, IsKnownLife, HasType, AreOperands, IsTyped, Grows}
+use Rattle.cyc_soundness.specs.Frames.{InScope, Variable, Names, Instance, Home, lives_in, read, IsScope, AreBelow, IsBound, AreVariables, IsLasting, LiveIn, Within, itself, older, AreSet, Holds, Implies, Exits, HasResult, loop_of, around, AreBreaks, AreLent, Stand, IsHome, IsContext, KnowsProgram}
 use Rattle.cyc_soundness.specs.Classes.{IsDeclarable, InItems, InClauses, Source}
 use Rattle.cyc_soundness.specs.Stacks.{regions_at_call, IsInstance, Continues, Catches, IsAccepted, Val, Go, turned, IsCalled, IsBlocked, AreFull, IsBody, IsStack, IsWell}
 use Rattle.cyc_soundness.proofs.TypeLemmas.{is_kind_same, kind_meant}
-use Rattle.cyc_soundness.proofs.FlowLemmas.{implies_self, implies_after, meet_second}
-use Rattle.cyc_soundness.proofs.RuleLemmas.{breaks_clauses, clauses_implied, no_locks}
+use Rattle.cyc_soundness.proofs.FlowLemmas.{implies_self, implies_after, meet_second, each_full_implies}
+use Rattle.cyc_soundness.proofs.RuleLemmas.{breaks_clauses, clauses_implied}
 use Rattle.cyc_soundness.proofs.WorldLemmas.{type_grown, operands_grown, opened_typed}
-use Rattle.cyc_soundness.proofs.StackLemmas.{AreAccepted, stack_grown, below_more}
-use Rattle.cyc_soundness.proofs.RegionLemmas.{live_more, there_lasting, opened_life, opened_lasting, stand_opened, new_home, context_inside, other_same, named_function, known_body}
+use Rattle.cyc_soundness.proofs.StackLemmas.{AreAccepted, stack_grown, below_more, none_among}
+use Rattle.cyc_soundness.proofs.RegionLemmas.{region_known, opened_known, live_more, there_lasting, opened_life, opened_lasting, stand_opened, new_home, context_inside, other_same, named_function, known_body}
 use Rattle.cyc_soundness.proofs.Cells.{running}
 use Rattle.cyc_soundness.proofs.Objects.{operands_reversed}
 use Rattle.cyc_soundness.proofs.Supply.{new_life, declares}
@@ -79,7 +79,7 @@ result_given (Some t) n = tt
 
 new_int : (m : Reading) (n : ℕ) → IsDeclarable m n types.Int
 new_int AsHeap n = tt
-new_int ByScope n = tt
+new_int (ByScope lends) n = tt
 
 -- the region of a block is live in it
 block_region : (c : Context) → IsLive (in_block c) (regions.Variable c.next_region)
@@ -119,6 +119,9 @@ module _ (p : Source) (accepted : AreAccepted p) where
         let (r, there, same) = instance.lasting n is in
         subst (λ l. IsLasting (ends_of k) l) same (there_lasting (ends_of k) bs r live.0 there)
 
+    instance_known : (h : Function) (these : ℕ → Life) (alive : ℕ → Bool) → IsInstance p bs h these alive → (n : ℕ) → IsKnownLife g (these n)
+    instance_known h these alive instance n = let (r, same) = instance.named n in subst (λ l. IsKnownLife g l) same (region_known g bs r variables)
+
     pub call : (callee : Callee) (vs : List Operand) (k : List Entry) (ts : List RunTy) (r : RunValue) (f : flow.State) → LiveIn k bs → Holds g f bs → IsCalled p bs callee (turned ts []) r → AreOperands g ts vs
         → IsStack p g x bs (Val r f) k → IsWell p (step_calling p.program callee vs k e w)
     call callees.Putchar vs k ts r f live holds (types_is, result_is) are stack = printed_on ts vs k f live holds types_is are (subst (λ z. IsStack p g x bs (Val z f) k) result_is stack)
@@ -127,17 +130,17 @@ module _ (p : Source) (accepted : AreAccepted p) where
         let (end, ok) = accepted n h there in
         let arguments : AreOperands g (map (at (lives_of these)) h.parameters) (reverse vs) = subst (λ us. AreOperands g us (reverse vs)) types_is (operands_reversed g ts vs are) in
         let given : RunValue = value_at (lives_of these) (result_type h.result) in
-        let y : Exits = record { loop = None; result = h.result; gives = given } in
+        let y : Exits = record { loop = None; result = h.result; gives = given; locks = [] } in
         let cs : List InScope = Instance these alive ∷ [] in
         subst (λ o. IsWell p (called o (reverse vs) (Caller e ∷ k) w)) (sym there)
         (subst (λ (b : Bool). IsWell p (if b then Running (Entering h (reverse vs)) (Caller e ∷ k) no_locals w else wrong w))
         (sym (eq-eqb (length (reverse vs)) (length h.parameters) (operands_count (lives_of these) g h.parameters (reverse vs) arguments)))
-        (running p g y cs no_locals w typed globals (tt, tt) (tt, tt) (Entering h (reverse vs)) (Caller e ∷ k) ((instance_lasting k h these alive live instance, tt), refl) (
+        (running p g y cs no_locals w typed globals (tt, tt) (instance_known h these alive instance, tt) (Entering h (reverse vs)) (Caller e ∷ k) ((instance_lasting k h these alive live instance, tt), refl) (
           end,
           these,
           alive,
           ok,
-          (refl, refl, refl),
+          (refl, refl, refl, refl),
           refl,
           instance.stand,
           arguments,
@@ -156,7 +159,7 @@ module _ (p : Source) (accepted : AreAccepted p) where
         let full : AreFull g bs = subst (λ z. AreFull g z) (sym these_are) (tt, tt) in
         let named = named_function p.reading p.program h ok.typed in
         let same = other_same p.reading region (ends_of k) (regions_at_call h) bs stand in
-        running p g x cs (inside e w) (opened w) (opened_typed g w.regions (new_region Stack ∷ []) w.objects typed) globals (tt, (tt, bound)) (tt, (tt, variables)) (Binding 0 h.parameters vs h.body) (region_end e w ∷ k)
+        running p g x cs (inside e w) (opened w) (opened_typed g w.regions (new_region Stack ∷ []) w.objects typed) globals (tt, (tt, bound)) (tt, (opened_known g p.reading region (ends_of k), variables)) (Binding 0 h.parameters vs h.body) (region_end e w ∷ k)
         ((tt, ((λ is. opened_lasting p.reading region (ends_of k)), live_more region (ends_of k) bs live.0)), refl) (
           h,
           end,
@@ -164,7 +167,7 @@ module _ (p : Source) (accepted : AreAccepted p) where
           cs,
           itself cs,
           ok,
-          (body.0, body.1, sym (named.result (lives_in bs) (lives_in cs) same) ∙ body.2),
+          (body.0, body.1, body.2, sym (named.result (lives_in bs) (lives_in cs) same) ∙ body.3),
           refl,
           refl,
           count,
@@ -180,10 +183,21 @@ module _ (p : Source) (accepted : AreAccepted p) where
     begin : (h : Function) (number : ℕ) (js : Items) (k : List Entry) (end : flow.State) (vs : List LocalInScope) (cs : List InScope) → LiveIn k bs → Within cs bs → IsAccepted p h end → IsBody x bs h → js ≡ h.body
         → vs ≡ parameters_in_scope h.parameters 0 [] → number + 0 ≡ length h.parameters → IsScope p.reading (lives_in bs) vs bs → AreBelow number bs → AreFull g bs
         → Stand p.reading (body_context p.program h).regions bs → IsHome p.reading 0 bs → IsStack p g x cs (Go end) k → IsWell p (Running Proceeding (Rest js ∷ k) e w)
-    begin h number js k end vs cs live within ok (loop, result, gives) body scope_is count scope below full stand at_home stack =
-        let flows = subst (λ o. Derives (rule_items (record { loop = loop_of o; locks = [] }) h.body (record { now = start_of h; breaks = Unreached })) (record { now = end; breaks = ok.breaks })) (sym loop) ok.flows in
-        let rest : Continues p.reading x (body_context p.program h) h.body (start_of h) end =
-        record { before = Unreached; behind = ok.breaks; typed = ok.typed.body; flows = flows; breaks = subst (λ o. AreBreaks o ok.breaks) (sym loop) tt; kept = ok.kept } in
+    begin h number js k end vs cs live within ok (loop, locks, result, gives) body scope_is count scope below full stand at_home stack =
+        let flows = subst (λ o. Derives (rule_items (record { loop = loop_of o; locks = x.locks }) h.body (record { now = start_of h; breaks = Unreached })) (record { now = end; breaks = ok.breaks })) (sym loop)
+            (subst (λ ns. Derives (rule_items (record { loop = None; locks = ns }) h.body (record { now = start_of h; breaks = Unreached })) (record { now = end; breaks = ok.breaks })) (sym locks) ok.flows) in
+        let rest : Continues p.reading x (body_context p.program h) h.body (start_of h) end = record {
+          before = Unreached;
+          behind = ok.breaks;
+          ending = end;
+          locked = [];
+          typed = ok.typed.body;
+          flows = flows;
+          breaks = subst (λ o. AreBreaks o ok.breaks) (sym loop) tt;
+          kept = ok.kept;
+          among = λ n is. none_among is;
+          ends = each_full_implies (locks_of h.body) end;
+        } in
         let last : number ≤ length h.parameters = omega (arith, count) in
         let stands : IsContext p x bs (body_context p.program h) = record {
           globals = refl;
@@ -198,6 +212,7 @@ module _ (p : Source) (accepted : AreAccepted p) where
           known = known_body p.reading p.program h ok.typed;
           regions = stand;
           home = at_home;
+          lent = subst (λ ns. AreLent ns bs) (sym locks) tt;
         } in
         subst (λ z. IsWell p (Running Proceeding (Rest z ∷ k) e w)) (sym body)
         (running p g x bs e w typed globals bound variables Proceeding (Rest h.body ∷ k) live
@@ -216,7 +231,7 @@ module _ (p : Source) (accepted : AreAccepted p) where
         let l = new_life p.reading bs 0 e.home k live at_home nests.2 in
         subst (λ (b : Bool). IsWell p (if b then declared (region_at w e.home) (Binding (suc number) ts arguments js) number (values.kind_of t) (Some v.value) k e w else wrong w))
         (sym (is_kind_same v.kind (values.kind_of t) (is.0 ∙ kind_meant (lives_in bs) t)))
-        (declares p g x bs e w typed globals bound variables number (values.kind_of t) t (Some v.value) 1 l.life (Binding (suc number) ts arguments js) k nests live below l.number l.lasting
+        (declares p g x bs e w typed globals bound variables number (values.kind_of t) t (Some v.value) 1 l.life (Binding (suc number) ts arguments js) k nests live below l.number l.lasting (l.known g variables)
         (λ grows. ((sym (kind_meant (lives_in bs) t), type_grown g _ grows (read bs t) v.value is.1), tt))
         (λ grows filled. (
           h,
@@ -244,40 +259,62 @@ module _ (p : Source) (accepted : AreAccepted p) where
     scope c k = block_scope p g x bs e w typed globals bound variables c k
 
     begin_clause : (js : Items) (k : List Entry) (c : Context) (start h before : flow.State) (l : Known) → LiveIn k bs → IsContext p x bs c → Holds g start bs → WellTypedItems (in_block c) js
-        → Derives (rule_items (around x) js (record { now = start; breaks = before })) l → AreBreaks x.loop l.breaks → InItems p.reading (suc c.next_region) js → Implies l.now h → IsStack p g x bs (Go h) k
+        → Derives (rule_items (around x) js (record { now = start; breaks = before })) l → AreBreaks x.loop l.breaks → InItems p.reading (suc c.next_region) js → Implies (with_each Full (locks_of js) l.now) h → IsStack p g x bs (Go h) k
         → IsWell p (Running Proceeding (Rest js ∷ region_end e w ∷ k) (inside e w) (opened w))
     begin_clause js k c start h before l live stands holds well flows are kept implies stack =
-        let rest : Continues p.reading x (in_block c) js start l.now = record { before = before; behind = l.breaks; typed = well; flows = flows; breaks = are; kept = kept } in
-        running p g x (scope c k) (inside e w) (opened w) (opened_typed g w.regions (new_region Stack ∷ []) w.objects typed) globals (tt, (tt, bound)) (tt, (tt, variables)) Proceeding (Rest js ∷ region_end e w ∷ k)
+        let rest : Continues p.reading x (in_block c) js start h = record {
+          before = before;
+          behind = l.breaks;
+          ending = l.now;
+          locked = [];
+          typed = well;
+          flows = flows;
+          breaks = are;
+          kept = kept;
+          among = λ n is. none_among is;
+          ends = implies;
+        } in
+        running p g x (scope c k) (inside e w) (opened w) (opened_typed g w.regions (new_region Stack ∷ []) w.objects typed) globals (tt, (tt, bound)) (tt, (opened_known g p.reading (length w.regions) (ends_of k), variables)) Proceeding (Rest js ∷ region_end e w ∷ k)
         (block_live p g x bs e w typed globals bound variables c k live) (
           start,
           (holds.0, (tt, (tt, holds.1))),
           (
             scope c k,
             in_block c,
-            l.now,
+            h,
             itself (scope c k),
             context_inside p x bs c stands (length w.regions) (ends_of k) live.0,
             rest,
-            block_stack p g x bs e w typed globals bound variables c k l.now h live implies stack,
+            block_stack p g x bs e w typed globals bound variables c k h h live (implies_self h) stack,
           ),
         )
 
     caught : (value : ℕ) (v : Option ℕ) (js : Items) (k : List Entry) (c : Context) (start h before : flow.State) (has : Bool) (l : Known) → LiveIn k bs → IsContext p x bs c → Holds g start bs → IsCaught c has v
-        → WellTypedItems (with_caught v (in_block c)) js → Derives (rule_items (around x) js (record { now = statements.with_caught v start; breaks = before })) l → AreBreaks x.loop l.breaks → InItems p.reading (suc c.next_region) js → Implies l.now h
+        → WellTypedItems (with_caught v (in_block c)) js → Derives (rule_items (around x) js (record { now = statements.with_caught v start; breaks = before })) l → AreBreaks x.loop l.breaks → InItems p.reading (suc c.next_region) js → Implies (with_each Full (locks_of js) l.now) h
         → IsStack p g x bs (Go h) k → IsWell p (catches value v js k e w)
     caught value None js k c start h before has l live stands holds is well flows are kept implies stack = begin_clause js k c start h before l live stands holds well flows are kept implies stack
     caught value (Some n) js k c start h before false l live stands holds is well flows are kept implies stack = absurd is
     caught value (Some n) js k c start h before true l live stands holds (number, there) well flows are kept implies stack =
-        let rest : Continues p.reading x (with_local true types.Int (in_block c)) js (with_fullness Full start n) l.now = record { before = before; behind = l.breaks; typed = well; flows = flows; breaks = are; kept = kept } in
-        running p g x (scope c k) (inside e w) (opened w) (opened_typed g w.regions (new_region Stack ∷ []) w.objects typed) globals (tt, (tt, bound)) (tt, (tt, variables))
+        let rest : Continues p.reading x (with_local true types.Int (in_block c)) js (with_fullness Full start n) h = record {
+          before = before;
+          behind = l.breaks;
+          ending = l.now;
+          locked = [];
+          typed = well;
+          flows = flows;
+          breaks = are;
+          kept = kept;
+          among = λ n is. none_among is;
+          ends = implies;
+        } in
+        running p g x (scope c k) (inside e w) (opened w) (opened_typed g w.regions (new_region Stack ∷ []) w.objects typed) globals (tt, (tt, bound)) (tt, (opened_known g p.reading (length w.regions) (ends_of k), variables))
         (Naming n (record { kind = kinds.Int; value = values.Int value }) js) (region_end e w ∷ k) (block_live p g x bs e w typed globals bound variables c k live) (
           in_block c,
           true,
           types.Int,
           scope c k,
           start,
-          l.now,
+          h,
           itself (scope c k),
           context_inside p x bs c stands (length w.regions) (ends_of k) live.0,
           (holds.0, (tt, (tt, holds.1))),
@@ -285,7 +322,7 @@ module _ (p : Source) (accepted : AreAccepted p) where
           number,
           (refl, tt),
           rest,
-          block_stack p g x bs e w typed globals bound variables c k l.now h live implies stack,
+          block_stack p g x bs e w typed globals bound variables c k h h live (implies_self h) stack,
         )
 
     pub catch : (tag value : ℕ) (ds : Clauses) (k : List Entry) (c : Context) (start f h before behind : flow.State) → LiveIn k bs → IsContext p x bs c → Holds g start bs → WellTypedClauses c ds
@@ -294,19 +331,19 @@ module _ (p : Source) (accepted : AreAccepted p) where
     catch tag value NoClauses k c start f h before behind live stands holds well flows are kept stack = running p g x bs e w typed globals bound variables (Throwing tag value) k live (Go h, stack)
     catch tag value (Default r js) k c start f h before behind live stands holds (number, well) (l, d, (u, known)) are kept stack =
         let now : h ≡ meet f (with_each Full (locks_of js) l.now) = ap (λ (z : Known). z.now) known in
-        let plain : h ≡ meet f l.now = now ∙ ap (λ ns. meet f (with_each Full ns l.now)) (no_locks p.reading (suc c.next_region) js kept) in
-        begin_clause js k c start h before l live stands holds well d (subst (λ z. AreBreaks x.loop z) (ap (λ (z : Known). z.breaks) known) are) kept (subst (λ z. Implies l.now z) (sym plain) (meet_second f l.now)) stack
+        let full = with_each Full (locks_of js) l.now in
+        begin_clause js k c start h before l live stands holds well d (subst (λ z. AreBreaks x.loop z) (ap (λ (z : Known). z.breaks) known) are) kept (subst (λ z. Implies full z) (sym now) (meet_second f full)) stack
     catch tag value (Case n v r js ds) k c start f h before behind live stands holds (has, is, bind', number, well, later) (l, d, dlater) are (kjs, kds) stack = go (n == tag)
       where
         sooner : AreBreaks x.loop l.breaks
         sooner = breaks_before x.loop l.breaks behind (breaks_clauses (around x) start ds (or_clause f js l) (record { now = h; breaks = behind }) dlater) are
 
-        met : flow.State
-        met = meet f (with_each Full (locks_of js) l.now)
+        full : flow.State
+        full = with_each Full (locks_of js) l.now
 
-        implies : Implies l.now h
-        implies = implies_after l.now (or_clause f js l).now h
-            (subst (λ ns. Implies l.now (meet f (with_each Full ns l.now))) (sym (no_locks p.reading (suc c.next_region) js kjs)) (meet_second f l.now))
+        implies : Implies full h
+        implies = implies_after full (or_clause f js l).now h
+            (meet_second f full)
             (clauses_implied (around x) start ds (or_clause f js l) (record { now = h; breaks = behind }) dlater)
 
         behind_stands : IsContext p x bs (behind_clause c v js)

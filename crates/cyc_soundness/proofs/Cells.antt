@@ -19,7 +19,7 @@ use Rattle.cyc_soundness.specs.Stacks.{Val, IsStack, IsFocus, IsWell}
 use Rattle.cyc_soundness.proofs.Numbers.{slice_get-set_same, some_same}
 use Rattle.cyc_soundness.proofs.TypeLemmas.{is_kind_same}
 use Rattle.cyc_soundness.proofs.WorldLemmas.{cell_there, live_owner, risen, risen_past, with_filled, written_grows, cell_written, globals_grown, variables_grown}
-use Rattle.cyc_soundness.proofs.StackLemmas.{open_of, globals_among, outlasting_open}
+use Rattle.cyc_soundness.proofs.StackLemmas.{open_of, globals_among, kept_open, object_known, outlasting_open}
 use Rattle.cyc_soundness.specs.Classes.{Source}
 
 -- a typed state, by its parts
@@ -49,14 +49,16 @@ module _ (g : Typing) (w : World) (typed : IsTyped g w.regions w.objects) where
   part_at number x (Struct n ls) offset there at opens filled = absurd (never_struct number x n ls offset there at opens filled)
 
   -- what a pointer leads to is there
-  pub life_of : (k : List Entry) (l m : Life) → AreOpen w.regions (ends_of k) → Outlasts l m → IsLasting (ends_of k) m → IsOpenLife w.regions l
-  life_of k l m opens outlasts lasting = outlasting_open w.regions (ends_of k) l m opens typed.heap (open_of w.regions (globals_among k) opens) outlasts lasting
+  pub life_of : (k : List Entry) (object : ℕ) (y : ObjectType) (m : Life) → slice_get g.objects object ≡ Some y → AreOpen w.regions (ends_of k) → Outlasts y.life m → IsLasting (ends_of k) m → IsOpenLife w.regions y.life
+  life_of k object y m there opens outlasts lasting =
+      outlasting_open w.regions (ends_of k) y.life m opens typed.heap (open_of w.regions (globals_among k) opens)
+      (kept_open g w.regions w.objects y.life typed (object_known g w.regions w.objects object y typed there)) outlasts lasting
 
   -- of an object that a pointer leads to
   pub target_live : (k : List Entry) (t : RunTy) (l : Life) (object offset : ℕ) → AreOpen w.regions (ends_of k) → IsLasting (ends_of k) l → IsTarget g t l object offset → (x : Object) × (object_at w object ≡ Found x)
   target_live k t l object offset opens lasting (x, there, shown, outlasts, part) =
       let (y, m, stands, flag, is) = typed.each object x there in
-      let open' = life_of k x.life l opens outlasts lasting in
+      let open' = life_of k object x l there opens outlasts lasting in
       (y, ap (λ o. found_object w o) stands ∙ ap (λ (b : Bool). if b then Found y else Closed) (live_owner w x.life y.owner is.owner open'))
 
 -- a place that holds a value, and no struct
@@ -115,7 +117,7 @@ module _ (p : Source) (g : Typing) (x : Exits) (bs : List InScope) (e : Environm
       → IsTarget g (at n t) l object offset → is_struct t ≡ false → kind_at (at n t) ≡ kind → IsStack p g x bs (Val (Value (at n t)) f) k
       → IsWell p (loaded kind (cell_at w object offset) k e w)
   reads_target k kind object offset n t l f opens live lasting holds (y, there, shown, outlasts, part) plain same stack =
-      let open' = life_of g w typed k y.life l opens outlasts lasting in
+      let open' = life_of g w typed k object y l there opens outlasts lasting in
       let (cells, filled) = value_part n g object y t offset plain part in
       reads k kind object offset (at n t) y f live holds there cells open' filled same stack
 
@@ -124,7 +126,7 @@ module _ (p : Source) (g : Typing) (x : Exits) (bs : List InScope) (e : Environm
       → IsTarget g t l object offset → IsResult g (Value t) v → ((h : Typing) → Grows g h → IsFocus p h x bs focus k)
       → IsWell p (stored (cell_at w object offset) object offset v focus k e w)
   writes_target v k object offset t l focus opens live lasting (y, there, shown, outlasts, part) is goes =
-      let open' = life_of g w typed k y.life l opens outlasts lasting in
+      let open' = life_of g w typed k object y l there opens outlasts lasting in
       let (cells, (m, flag, enough)) = stored_part g object y t offset v.value is.1 part in
       let few : offset ≤ m = omega (arith, enough) in
       writes v focus k object offset m t y live there cells open' flag few is (λ grows now. goes (with_filled g object (risen offset m)) grows)

@@ -42,7 +42,7 @@ use Rattle.cyc_soundness.proofs.Numbers.{some_same, both}
 use Rattle.cyc_soundness.proofs.TypeLemmas.{place_type, target_typed, is_kind_same, kind_read, kind_meant}
 use Rattle.cyc_soundness.proofs.FlowLemmas.{implies_self, meet_first, meet_second, vacant_implied, holds_implied, reached_with}
 use Rattle.cyc_soundness.proofs.WorldLemmas.{risen, with_filled, result_grown, holds_grown}
-use Rattle.cyc_soundness.proofs.StackLemmas.{stack_grown, pointer_left, bound_of, bound_to, lasting_open, place_local, among_bound, among_variable, among_live, among_level, among_set, set_stored, open_of, globals_among}
+use Rattle.cyc_soundness.proofs.StackLemmas.{stack_grown, pointer_left, bound_of, bound_to, lasting_open, kept_open, object_known, place_local, among_bound, among_variable, among_live, among_level, among_set, set_stored, open_of, globals_among}
 use Rattle.cyc_soundness.proofs.ValueLemmas.{zero_is, converted_by, kind_given}
 use Rattle.cyc_soundness.proofs.RegionLemmas.{agrees_of, there_of, cell_live, global_means, these_by, live_by, instance_is, parameters_mean, result_means}
 use Rattle.cyc_soundness.proofs.Cells.{running, part_at, reads, writes}
@@ -68,7 +68,7 @@ left_typed m well c a v (ThenPointerPeek n o b os) kept is = inr is.0
 -- a local whose address is taken is there as long as the region of its block
 homed : (m : Reading) (these : Lives) (region : ℕ) (l : Life) → HasScopes m → IsHomed m these region l → l ≡ these (regions.Variable region)
 homed AsHeap these region l scopes is = absurd scopes
-homed ByScope these region l scopes is = is
+homed (ByScope lends) these region l scopes is = is
 
 module _ (p : Source) where
   -- what is called takes and gives this, where its region variables stand for what is put in their place
@@ -99,7 +99,8 @@ module _ (p : Source) where
     -- ---- variables
 
     open_local : (k : List Entry) (b : Bound) → AreOpen w.regions (ends_of k) → LiveIn k bs → IsAmong (Variable b) bs → IsOpenLife w.regions b.life
-    open_local k b opens live among = lasting_open w.regions (ends_of k) b.life opens typed.heap (among_live (ends_of k) among live.0)
+    open_local k b opens live among = lasting_open w.regions (ends_of k) b.life opens typed.heap
+        (kept_open g w.regions w.objects b.life typed (object_known g w.regions w.objects b.object (variable_type b.of_type b.life b.is_hidden) typed (among_variable g among variables))) (among_live (ends_of k) among live.0)
 
     -- a global, whose type means the same everywhere
     global_there : (n : ℕ) (u : Ty) (c : Context) → IsContext p x bs c → slice_get c.globals n ≡ Some u
@@ -109,7 +110,7 @@ module _ (p : Source) where
         let (at, full, closed) = globals.globals n u there in
         (there, global_means p.reading c.regions bs u stands.regions closed)
 
-    from_local : (k : List Entry) (c : Context) (n : ℕ) (u : Ty) (t : ValueType) (f h : flow.State) → AreOpen w.regions (ends_of k) → LiveIn k bs → IsContext p x bs c → Holds g f bs
+    pub from_local : (k : List Entry) (c : Context) (n : ℕ) (u : Ty) (t : ValueType) (f h : flow.State) → AreOpen w.regions (ends_of k) → LiveIn k bs → IsContext p x bs c → Holds g f bs
         → (r : ℕ) × HasLocal c.locals n u r → IsSet f n → Implies f h → t ≡ types.Value u → IsStack p g x bs (Val (read_value bs t) h) k
         → IsWell p (loaded_from (values.kind_of u) (e.locals n) k e w)
     from_local k c n u t f h opens live stands holds (r, has) is_set implies same stack =
@@ -511,7 +512,7 @@ module _ (p : Source) where
           with_fullness Full f b.number,
           (
             reached_with Full f b.number reached,
-            set_stored (with_filled g b.object (risen 0 m)) e f b.number b.object bs bound (among_bound e among bound) now (holds_grown g (with_filled g b.object (risen 0 m)) grows f bs (reached, are)).1,
+            set_stored (with_filled g b.object (risen 0 m)) e Full f b.number b.object bs bound (among_bound e among bound) now (holds_grown g (with_filled g b.object (risen 0 m)) grows f bs (reached, are)).1,
           ),
           handed (with_filled g b.object (risen 0 m)) t v (is_moved t) (result_grown g (with_filled g b.object (risen 0 m)) grows (Value (read bs t)) v is),
           stack_grown p g (with_filled g b.object (risen 0 m)) grows x bs (Val (read_value bs (assigned_type t)) (with_fullness Full f b.number)) k stack,

@@ -9,7 +9,7 @@ use Rattle.cyc_syntax.specs.declared.tree.PointerKind.TheVariants as marks
 use Rattle.cyc_syntax.specs.declared.tree.PrefixOperator.TheVariants as prefixes
 use Rattle.cyc_syntax.specs.declared.tree.BinaryOperator.TheVariants as operators
 use Rattle.cyc_syntax.specs.Symbols.{Place}
-use Rattle.cyc_syntax.specs.Trees.{Named, BaseType, Int, Struct, Handle, WrittenType, Expression, Number, Null, HeapRegion, UniqueRegion, Variable, Call, NumberOfElements, Chained, Prefixed, New, RegionNew, Binary, Assign, Plain, Fields, Array, NoExpressions, MoreExpressions, NoPostfixes, ThenIndex, ThenField, NoOperations, ThenOperation, Block, Labelled, Evaluate, Swap, While, Return, Try, Braces, Items, NoItems, MoreItems, Execute, Local, Region, Default, Listed, Declaration, StructType, Global, Function}
+use Rattle.cyc_syntax.specs.Trees.{Named, BaseType, Int, Struct, Handle, Key, WrittenType, Expression, Number, Null, HeapRegion, UniqueRegion, Variable, Call, NumberOfElements, Chained, Prefixed, New, RegionNew, Binary, Assign, Plain, Fields, Array, NoExpressions, MoreExpressions, NoPostfixes, ThenIndex, ThenField, NoOperations, ThenOperation, Block, Labelled, Evaluate, Swap, While, Return, Break, Try, Braces, Items, NoItems, MoreItems, Execute, Local, Region, Alias, DynamicRegion, Default, Listed, Declaration, StructType, Global, Function}
 use Rattle.cyc_types.specs.TypedTrees as typed
 use Rattle.cyc_types.specs.Rules.{Checked}
 use Rattle.cyc_types.specs.typing.Programs.{rule_program, check_of, IsTypedProgram}
@@ -20,9 +20,9 @@ use Rattle.cyc_types.proofs.RuleLaws.{answers_tree}
 use Rattle.cyc_types.proofs.typing.ProgramLemmas.{program_well}
 use Rattle.cyc_meaning.specs.State.{Status, HasEnded, status_of}
 use Rattle.cyc_meaning.specs.Run.{run}
-use Rattle.cyc_soundness.specs.Classes.{IsOfTheHeap, IsOfScopes}
+use Rattle.cyc_soundness.specs.Classes.{IsOfTheHeap, IsOfScopes, FreesNothing}
 use Rattle.cyc_soundness.specs.Sound.{IsSound}
-use Rattle.cyc_soundness.proofs.Whole.{heap_sound, scopes_sound}
+use Rattle.cyc_soundness.proofs.Whole.{heap_sound, lending_sound, scopes_sound}
 
 -- ---- what is said of a text
 
@@ -33,6 +33,9 @@ EndsIn class (Err f) s = ⊥
 
 abbrev Ends : Checked typed.Program → Status → Type 0
 Ends = EndsIn IsOfTheHeap
+
+abbrev EndsWithLoans : Checked typed.Program → Status → Type 0
+EndsWithLoans = EndsIn FreesNothing
 
 abbrev EndsByScope : Checked typed.Program → Status → Type 0
 EndsByScope = EndsIn IsOfScopes
@@ -55,6 +58,10 @@ never_dead texts tree s ends = never_dead_in IsOfTheHeap heap_sound texts tree s
 pub never_dead_by_scope : (texts : List (List ℕ)) (tree : List Declaration) (s : Status) → EndsByScope (check_of texts tree) s
     → (p : typed.Program) × IsTypedProgram texts tree p × IsSound p × (status_of (run p [] 200) ≡ s)
 never_dead_by_scope texts tree s ends = never_dead_in IsOfScopes scopes_sound texts tree s ends
+
+pub never_dead_with_loans : (texts : List (List ℕ)) (tree : List Declaration) (s : Status) → EndsWithLoans (check_of texts tree) s
+    → (p : typed.Program) × IsTypedProgram texts tree p × IsSound p × (status_of (run p [] 200) ≡ s)
+never_dead_with_loans texts tree s ends = never_dead_in FreesNothing lending_sound texts tree s ends
 
 -- ---- trees
 
@@ -229,3 +236,54 @@ left_by_exception : EndsByScope (check_of texts (
     (returned (behind 2)))) (at 11))) (Default (returned (Number (at 12) 9))))) NoItems)
     ∷ [])) (HasEnded (Returned (pos 9)))
 left_by_exception = (refl, (((((tt, ((tt, tt), tt, (tt, tt))), (tt, tt)), tt), tt), tt, tt), refl)
+
+-- ---- texts that lend, and give nothing back
+
+abbrev with_key : Items → Items
+with_key is = MoreItems (DynamicRegion (named 8 5) (named 5 6)) is
+
+abbrev opened : Items → Items
+opened is = MoreItems (Region (named 8 50) (named 9 51) (Some (named 5 52))) is
+
+abbrev block : Items → Items → Items
+block inner is = MoreItems (Execute (Block (Braces (at 53) inner (at 54)))) is
+
+-- a pointer to an int in the region of this name, which may be null
+abbrev may_be_into : ℕ → WrittenType
+may_be_into n = record { place = at 1; base = Int; marks = record { kind = marks.Nullable; region = Some (named n 3) } ∷ [] }
+
+-- int main(){ let NewDynamicRegion{<`r> i} = new_ukey(); int *`r p = NULL; { region<`r> h = open(i); p = rnew(h) 4; } { region<`r> h = open(i); return *p; } }
+opened_twice : EndsWithLoans (check_of texts (
+    main (
+    with_key (
+    MoreItems (Local (may_be_into 8) (named 2 7) (Some (Null (at 8))))
+    (block (opened (assigned (Variable (named 2 9)) (RegionNew (at 10) (Variable (named 9 11)) (Plain (Number (at 12) 4))) NoItems))
+    (block (opened (returned (behind 2))) NoItems))))
+    ∷ [])) (HasEnded (Returned (pos 4)))
+opened_twice = (refl, (((refl, ((tt, less 1), tt, ((refl, ((tt, tt), tt)), ((refl, (tt, tt)), tt)))), tt), tt, tt), refl)
+
+-- int main(){ int @`U p = rnew(unique_region) 5; { let alias <`r> int @`r x = p; *x = *x + 1; } return *p; }
+shared : EndsWithLoans (check_of texts (
+    main (
+    MoreItems (Local (into 6) (named 2 5) (Some (RegionNew (at 6) (UniqueRegion (at 7)) (Plain (Number (at 8) 5)))))
+    (block (MoreItems (Alias (named 8 9) (into 8) (named 3 10) (named 2 11)) (assigned (behind 3) (plus (behind 3) (Number (at 12) 1)) NoItems))
+    (returned (behind 2))))
+    ∷ [])) (HasEnded (Returned (pos 6)))
+shared = (refl, ((((tt, tt), (tt, tt), ((refl, ((tt, (tt, (tt, tt))), tt)), (tt, tt))), tt), tt, tt), refl)
+
+-- int main(){ let NewDynamicRegion{<`r> i} = new_ukey(); while (1) { region<`r> h = open(i); break; } { region<`r> h = open(i); int @`r p = rnew(h) 3; return *p; } }
+left_by_break : EndsWithLoans (check_of texts (
+    main (
+    with_key (
+    MoreItems (Execute (While (at 7) (Number (at 8) 1) (Block (Braces (at 9) (opened (MoreItems (Execute (Break (at 10))) NoItems)) (at 11)))))
+    (block (opened (MoreItems (Local (into 8) (named 2 12) (Some (RegionNew (at 13) (Variable (named 9 14)) (Plain (Number (at 15) 3))))) (returned (behind 2)))) NoItems)))
+    ∷ [])) (HasEnded (Returned (pos 3)))
+left_by_break = (refl, (((refl, ((tt, (refl, (tt, tt))), ((refl, ((tt, (let few : 1 < 4 = omega arith in few)), (tt, tt), (tt, tt))), tt))), tt), tt, tt), refl)
+
+-- int f(region_key_t<`r> i){ region<`r> h = open(i); int *p = NULL; return *p; } int main(){ let NewDynamicRegion{<`r> i} = new_ukey(); try return f(i); catch { default: return 8; } }
+left_by_exception_in_a_call : EndsWithLoans (check_of texts (
+    Function (Some (written Int [])) (named 7 1) (record { list = Listed (record { of_type = written (Key (named 8 2)) []; name = named 5 3 } ∷ []); effect = None; constraints = [] }) (Braces (at 4) (
+    opened (MoreItems (Local (written Int (marks.Nullable ∷ [])) (named 2 5) (Some (Null (at 6)))) (returned (behind 2)))) (at 12))
+    ∷ main (with_key (MoreItems (Execute (Try (at 13) (Return (at 14) (Some (Call (named 7 15) (MoreExpressions (Variable (named 5 16)) NoExpressions)))) (Default (returned (Number (at 17) 8))))) NoItems))
+    ∷ [])) (HasEnded (Returned (pos 8)))
+left_by_exception_in_a_call = (refl, (((refl, ((tt, tt), tt, (tt, tt))), ((refl, (((tt, tt), (tt, tt)), tt)), tt)), tt, tt), refl)

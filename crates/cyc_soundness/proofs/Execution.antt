@@ -1,5 +1,5 @@
 -- STATEMENTS and the items of blocks: each step leads to a typed state.
-use Rattle.std.proofs.Common.{◌≡◌, inl, ℕ, suc, ◌+◌, ◌≤◌, ◌<◌, Bool, true, false, List, [], ◌∷◌, length, Option, Some, None, refl, sym, ap, subst, ◌∙◌, arith}
+use Rattle.std.proofs.Common.{◌≡◌, inl, ℕ, suc, ◌+◌, ◌≤◌, ◌<◌, Bool, true, false, List, [], ◌∷◌, ◌++◌, length, Option, Some, None, refl, sym, ap, subst, ◌∙◌, arith, append-nil, append_assoc}
 use Rattle.cyc_types.specs.declared.typed.Kind.{Kind}
 use Rattle.cyc_types.specs.Types.{Ty, result_type}
 use Rattle.cyc_types.specs.Types as types
@@ -8,35 +8,39 @@ use Rattle.cyc_types.specs.TypedTrees as typed
 use Rattle.cyc_types.specs.Rules.{AllKept, Derives}
 use Rattle.cyc_types.specs.Declarations.{declared_types, declared_regions}
 use Rattle.cyc_types.specs.Outlives.{live_regions}
+use Rattle.cyc_types.specs.declared.region.Region.{Region}
 use Rattle.cyc_types.specs.declared.region.Region.TheVariants as regions
 use Rattle.cyc_types.specs.declared.scope.ScopeKind.TheVariants as scopes
 use Rattle.cyc_types.specs.declared.typed.Kind.TheVariants as kinds
-use Rattle.cyc_types.specs.typing.WellTyped.{Context, IsReturned, IsThrown, in_block, behind, IsLive, with_local, with_opened, WellTypedStatement, WellTypedItems}
+use Rattle.cyc_types.specs.typing.WellTyped.{Context, IsReturned, IsThrown, in_block, behind, IsLive, with_local, with_opened, with_key_opened, WellTypedStatement, WellTypedItems}
+use Rattle.cyc_types.specs.typing.Statements.{with_region_of}
 use Rattle.cyc_types.specs.flow.States as flow
-use Rattle.cyc_types.specs.flow.States.{Unreached, Vacant, Full, meet, with_fullness, with_each}
+use Rattle.cyc_types.specs.flow.States.{Unreached, Vacant, Locked, Full, is_vacant, meet, with_fullness, with_each}
 use Rattle.cyc_types.specs.flow.Expressions.{and_peeked}
-use Rattle.cyc_types.specs.flow.Statements.{peeked_side, side_demanded, Known, caught, rule_statement, rule_items}
+use Rattle.cyc_types.specs.flow.Statements.{peeked_side, side_demanded, Known, locks_of, caught, rule_statement, rule_items}
 use Rattle.cyc_types.specs.flow.Statements as statements
 use Rattle.cyc_meaning.specs.Values as values
-use Rattle.cyc_meaning.specs.State.{Stack, Lexical, new_region, opened_as, CloseLexical, Naming, World, opened, Environment, ConvertTo, Initialise, Choose, Test, ThrowWith, Entry, Needs, Discard, Rest, Handler, Focus, Evaluating, Executing, Proceeding, Breaking, Continuing, Returning, Throwing, State, Running}
+use Rattle.cyc_meaning.specs.State.{Stack, Lexical, new_region, opened_as, CloseLexical, Naming, World, opened, Environment, ConvertTo, Initialise, Choose, Test, ThrowWith, OpenBy, AliasOf, Entry, Needs, Discard, Rest, Handler, Focus, Evaluating, Executing, Proceeding, Breaking, Continuing, Returning, Throwing, State, Running}
 use Rattle.cyc_meaning.specs.State as state
-use Rattle.cyc_meaning.specs.Parts.{target_by, inside, region_end}
+use Rattle.cyc_meaning.specs.Parts.{target_by, loaded_from, inside, region_end}
 use Rattle.cyc_meaning.specs.Exceptions.{throws}
 use Rattle.cyc_meaning.specs.Nesting.{ends_of, IsNested}
 use Rattle.cyc_meaning.specs.Step.{step_executing, returns, continues_with}
 use Rattle.cyc_soundness.specs.Lives.{Life, Value, Reading, AsHeap, ByScope}
 use Rattle.cyc_soundness.specs.Worlds.{IsNumber, Typing, IsTyped}
-use Rattle.cyc_soundness.specs.Frames.{InScope, Names, Home, life_named, lives_in, read, read_value, IsBound, AreVariables, LiveIn, Within, itself, older, Holds, Implies, LoopExit, Exits, loop_of, around, AreBreaks, is_loop, IsContext, KnowsProgram}
+use Rattle.cyc_soundness.specs.Frames.{IsAmong, InScope, Names, Home, life_named, lives_in, read, read_value, IsBound, AreVariables, LiveIn, Within, itself, older, IsSet, Holds, Implies, LoopExit, Exits, loop_of, around, lending, AreBreaks, is_loop, AreLent, IsContext, KnowsProgram}
 use Rattle.cyc_soundness.specs.Classes.{HasScopes, IsDeclarable, InStatement, InItems, InValue, InThrown, Source}
 use Rattle.cyc_soundness.specs.Stacks.{Evaluates, Executes, Continues, Catches, IsLoop, Val, Go, IsReturn, IsStack, IsFocus, IsWell}
 use Rattle.cyc_soundness.specs.Stacks as stacks
 use Rattle.cyc_soundness.proofs.TypeLemmas.{target_typed, kind_read, kind_meant}
-use Rattle.cyc_soundness.proofs.FlowLemmas.{implies_self, implies_after, meet_first, meet_second, at_least_implies, emptied_implied, holds_implied}
-use Rattle.cyc_soundness.proofs.RuleLemmas.{breaks_statement, breaks_items, breaks_clauses, clauses_implied, no_locks}
-use Rattle.cyc_soundness.proofs.StackLemmas.{within_bound, within_variables, within_live, within_holds, below_more}
-use Rattle.cyc_soundness.proofs.RegionLemmas.{contains_more, live_more, same_name, known_behind, opened_life, opened_lasting, agrees_of, context_inside, context_lexical}
+use Rattle.cyc_soundness.proofs.FlowLemmas.{implies_self, implies_after, meet_first, meet_second, at_least_implies, emptied_implied, holds_implied, not_vacant}
+use Rattle.cyc_soundness.proofs.RuleLemmas.{breaks_statement, breaks_items, breaks_clauses, clauses_implied, nothing_locked}
+use Rattle.cyc_soundness.proofs.StackLemmas.{bound_of, within_bound, within_variables, within_live, within_holds, below_more, none_among, lent_among, lent_holds}
+use Rattle.cyc_soundness.proofs.RegionLemmas.{opened_known, contains_more, live_more, same_name, known_behind, opened_life, opened_lasting, agrees_of, context_inside, context_lexical}
 use Rattle.cyc_soundness.proofs.WorldLemmas.{opened_typed}
 use Rattle.cyc_soundness.proofs.Cells.{running}
+use Rattle.cyc_soundness.proofs.Evaluation.{from_local}
+use Rattle.cyc_soundness.proofs.Loans.{among_added, type_known, keys_on}
 use Rattle.cyc_soundness.proofs.Supply.{declares_blank}
 use Rattle.cyc_soundness.proofs.Swapping.{kept_both, swap_on}
 use Rattle.cyc_types.specs.flow.Touched.{touched_statement}
@@ -57,6 +61,7 @@ context_behind p x bs c locals regions stands = record {
   known = known_behind p.reading c.next_region (c.next_region + regions) c.regions c.locals c.result (let le : c.next_region ≤ c.next_region + regions = omega arith in le) stands.known;
   regions = stands.regions;
   home = stands.home;
+  lent = stands.lent;
 }
 
 pub context_after : (p : Source) (x : Exits) (bs : List InScope) (c : Context) (s : Statement) → IsContext p x bs c → IsContext p x bs (behind c s)
@@ -65,11 +70,18 @@ context_after p x bs c s stands = context_behind p x bs c (length (declared_type
 -- the handle of a region that was opened
 handle_of : (m : Reading) (region : ℕ) (ns : List ℕ) → HasScopes m → IsNumber (opened_life m region ns) region
 handle_of AsHeap region ns scopes = absurd scopes
-handle_of ByScope region ns scopes = refl
+handle_of (ByScope lends) region ns scopes = refl
 
 new_handle : (m : Reading) (n r : ℕ) → r ≡ n → IsDeclarable m (suc n) (types.Handle (regions.Variable r))
 new_handle AsHeap n r same = tt
-new_handle ByScope n r same = let e : r < suc n = omega (arith, same) in e
+new_handle (ByScope lends) n r same = let e : r < suc n = omega (arith, same) in e
+
+alias_kind : (r : Region) (t : Ty) → values.kind_of (with_region_of r t) ≡ values.kind_of t
+alias_kind r types.Int = refl
+alias_kind r (types.Pointer k t s) = refl
+alias_kind r (types.Handle s) = refl
+alias_kind r (types.Key s) = refl
+alias_kind r (types.Struct n rs) = refl
 
 -- fewer breaks are known before
 pub breaks_before : (l : Option LoopExit) (a b : flow.State) → Implies a b → AreBreaks l b → AreBreaks l a
@@ -100,16 +112,20 @@ module _ (p : Source) (g : Typing) (x : Exits) (bs : List InScope) (e : Environm
         ([], bs, Val (Value (read bs t)) h, stacks.converts c s t h (agrees_of p x bs c stands) conv from_is to_is (target_typed c a s (inl well)), tt, ([], bs, Go Unreached, stacks.returns t (read bs t) h Unreached (sym result) (ap (λ o. read_value bs (result_type o)) same ∙ stands.gives), tt, stack)),
       )
 
-  break_on : (k : List Entry) (c : Context) (f h before behind' : flow.State) (o : Option LoopExit) → x.loop ≡ o → is_loop o ≡ true → LiveIn k bs → Holds g f bs → behind' ≡ meet before f
+  break_on : (k : List Entry) (c : Context) (f h before behind' : flow.State) (o : Option LoopExit) → x.loop ≡ o → is_loop o ≡ true → LiveIn k bs → AreLent x.locks bs → Holds g f bs → behind' ≡ meet before (with_each Full x.locks f)
       → AreBreaks o behind' → IsStack p g x bs (Go h) k → IsWell p (Running Breaking k e w)
-  break_on k c f h before behind' None same is live holds known are stack = absurd (let z : false ≡ true = is in cc)
-  break_on k c f h before behind' (Some l) same is live holds known are stack =
-      on Breaking k live (l, h, same, holds_implied g f l.breaks bs (implies_after f behind' l.breaks (subst (λ z. Implies f z) (sym known) (meet_second before f)) are) holds, stack)
+  break_on k c f h before behind' None same is live lent holds known are stack = absurd (let z : false ≡ true = is in cc)
+  break_on k c f h before behind' (Some l) same is live lent holds known are stack =
+      let left = with_each Full x.locks f in
+      on Breaking k live (l, h, same,
+          holds_implied g left l.breaks bs (implies_after left behind' l.breaks (subst (λ z. Implies left z) (sym known) (meet_second before left)) are) (lent_holds g e x.locks f bs bound variables lent holds), stack)
 
-  continue_on : (k : List Entry) (f h : flow.State) (o : Option LoopExit) → x.loop ≡ o → is_loop o ≡ true → LiveIn k bs → Holds g f bs
-      → AllKept (statements.continue_demanded (loop_of o) f) → IsStack p g x bs (Go h) k → IsWell p (Running Continuing k e w)
-  continue_on k f h None same is live holds kept stack = absurd (let z : false ≡ true = is in cc)
-  continue_on k f h (Some l) same is live holds kept stack = on Continuing k live (l, h, same, holds_implied g f l.head bs (at_least_implies f l.head kept.0) holds, stack)
+  continue_on : (k : List Entry) (f h : flow.State) (o : Option LoopExit) → x.loop ≡ o → is_loop o ≡ true → LiveIn k bs → AreLent x.locks bs → Holds g f bs
+      → AllKept (statements.continue_demanded (loop_of o) (with_each Full x.locks f)) → IsStack p g x bs (Go h) k → IsWell p (Running Continuing k e w)
+  continue_on k f h None same is live lent holds kept stack = absurd (let z : false ≡ true = is in cc)
+  continue_on k f h (Some l) same is live lent holds kept stack =
+      let left = with_each Full x.locks f in
+      on Continuing k live (l, h, same, holds_implied g left l.head bs (at_least_implies left l.head kept.0) (lent_holds g e x.locks f bs bound variables lent holds), stack)
 
   thrown : (has : Bool) (tag : ℕ) (a : Expression) (k : List Entry) (c : Context) (f h i : flow.State) → LiveIn k bs → IsContext p x bs c → Holds g f bs → IsThrown c has (Some a)
       → Derives (statements.rule_thrown (Some a) f) h → InThrown p.reading (Some a) → IsStack p g x bs (Go i) k → IsWell p (throws tag (Some a) k e w)
@@ -145,22 +161,32 @@ module _ (p : Source) (g : Typing) (x : Exits) (bs : List InScope) (e : Environm
       → Derives (rule_statement (around x) s (record { now = f; breaks = before })) (record { now = h; breaks = behind' }) → AreBreaks x.loop behind' → InStatement p.reading c.next_region s → IsStack p g x bs (Go h) k
       → IsWell p (step_executing s k e w)
   execute (Block r js) k c f h before behind' live stands holds (number, well) (l, d, (u, known)) are kept stack =
-      let now : h ≡ l.now = ap (λ (z : Known). z.now) known ∙ ap (λ ns. with_each Full ns l.now) (no_locks p.reading (suc c.next_region) js kept) in
+      let now : h ≡ with_each Full (locks_of js) l.now = ap (λ (z : Known). z.now) known in
       let breaks : behind' ≡ l.breaks = ap (λ (z : Known). z.breaks) known in
-      let continues : Continues p.reading x (in_block c) js f l.now =
-      record { before = before; behind = l.breaks; typed = well; flows = d; breaks = subst (λ z. AreBreaks x.loop z) breaks are; kept = kept } in
-      running p g x (block_scope c k) (inside e w) (opened w) (opened_typed g w.regions (new_region Stack ∷ []) w.objects typed') globals (tt, (tt, bound)) (tt, (tt, variables)) Proceeding (Rest js ∷ region_end e w ∷ k)
+      let continues : Continues p.reading x (in_block c) js f h = record {
+        before = before;
+        behind = l.breaks;
+        ending = l.now;
+        locked = [];
+        typed = well;
+        flows = d;
+        breaks = subst (λ z. AreBreaks x.loop z) breaks are;
+        kept = kept;
+        among = λ n is. none_among is;
+        ends = subst (λ z. Implies z h) now (implies_self h);
+      } in
+      running p g x (block_scope c k) (inside e w) (opened w) (opened_typed g w.regions (new_region Stack ∷ []) w.objects typed') globals (tt, (tt, bound)) (tt, (opened_known g p.reading (length w.regions) (ends_of k), variables)) Proceeding (Rest js ∷ region_end e w ∷ k)
       (block_live c k live) (
         f,
         (holds.0, (tt, (tt, holds.1))),
         (
           block_scope c k,
           in_block c,
-          l.now,
+          h,
           itself (block_scope c k),
           context_inside p x bs c stands (length w.regions) (ends_of k) live.0,
           continues,
-          block_stack c k l.now h live (subst (λ z. Implies l.now z) (sym now) (implies_self l.now)) stack,
+          block_stack c k h h live (implies_self h) stack,
         ),
       )
   execute Empty k c f h before behind' live stands holds well (u, known) are kept stack =
@@ -227,8 +253,8 @@ module _ (p : Source) (g : Typing) (x : Exits) (bs : List InScope) (e : Environm
   execute (typed.Return (Some (Convert from to a))) k c f h before behind' live stands holds is (f1, d, (u, known)) are kept stack =
       return_on a from to k c f f1 c.result live stands holds stands.result refl is d kept (subst (λ z. IsStack p g x bs (Go z) k) (ap (λ (z : Known). z.now) known) stack)
   execute Break k c f h before behind' live stands holds is (u, known) are kept stack =
-      break_on k c f h before behind' x.loop refl (stands.loop is) live holds (ap (λ (z : Known). z.breaks) known) are stack
-  execute Continue k c f h before behind' live stands holds is (demands, known) are kept stack = continue_on k f h x.loop refl (stands.loop is) live holds demands stack
+      break_on k c f h before behind' x.loop refl (stands.loop is) live stands.lent holds (ap (λ (z : Known). z.breaks) known) are stack
+  execute Continue k c f h before behind' live stands holds is (demands, known) are kept stack = continue_on k f h x.loop refl (stands.loop is) live stands.lent holds demands stack
   execute (Throw tag None) k c f h before behind' live stands holds well (f1, d, (u, known)) are kept stack = on (Throwing tag 0) k live (Go h, stack)
   execute (Throw tag (Some a)) k c f h before behind' live stands holds (has, is, well) (f1, d, (u, known)) are kept stack = thrown has tag a k c f f1 h live stands holds well d kept stack
   execute (Try s cs) k c f h before behind' live stands holds (ws, wcs) (l, ds, dcs) are (ks, kcs) stack =
@@ -256,27 +282,52 @@ module _ (p : Source) (g : Typing) (x : Exits) (bs : List InScope) (e : Environm
 
   -- ---- items
 
-  pub continue_with : (js : Items) (k : List Entry) (cs : List InScope) (c : Context) (f h before behind' : flow.State) → IsNested k e w → LiveIn k bs → Within cs bs → IsContext p x bs c → Holds g f bs
-      → WellTypedItems c js → Derives (rule_items (around x) js (record { now = f; breaks = before })) (record { now = h; breaks = behind' }) → AreBreaks x.loop behind' → InItems p.reading c.next_region js
+  -- what is left of a block behind an item that lends this
+  lent_rest : (lent : ℕ) (js : Items) (c : Context) (f h before behind' ending : flow.State) (locked : List ℕ) → WellTypedItems c js
+      → Derives (rule_items (around (lending x lent)) js (record { now = f; breaks = before })) (record { now = ending; breaks = behind' }) → AreBreaks x.loop behind' → InItems p.reading c.next_region js
+      → ((n : ℕ) → IsAmong n locked → IsAmong n x.locks) → Implies (with_each Full (locked ++ lent ∷ locks_of js) ending) h → Continues p.reading (lending x lent) c js f h
+  lent_rest lent js c f h before behind' ending locked well flows are kept among ends = record {
+    before = before;
+    behind = behind';
+    ending = ending;
+    locked = locked ++ lent ∷ [];
+    typed = well;
+    flows = flows;
+    breaks = are;
+    kept = kept;
+    among = λ n is. among_added locked x.locks lent n among is;
+    ends = subst (λ ns. Implies (with_each Full ns ending) h) (sym (append_assoc locked (lent ∷ []) (locks_of js))) ends;
+  }
+
+  pub continue_with : (js : Items) (k : List Entry) (cs : List InScope) (c : Context) (f h before behind' ending : flow.State) (locked : List ℕ) → IsNested k e w → LiveIn k bs → Within cs bs → IsContext p x bs c → Holds g f bs
+      → WellTypedItems c js → Derives (rule_items (around x) js (record { now = f; breaks = before })) (record { now = ending; breaks = behind' }) → AreBreaks x.loop behind' → InItems p.reading c.next_region js
+      → ((n : ℕ) → IsAmong n locked → IsAmong n x.locks) → Implies (with_each Full (locked ++ locks_of js) ending) h
       → IsStack p g x cs (Go h) k → IsWell p (continues_with js k e w)
-  continue_with NoItems k cs c f h before behind' nests live within stands holds well (u, known) are kept stack =
-      let now : h ≡ f = ap (λ (z : Known). z.now) known in
+  continue_with NoItems k cs c f h before behind' ending locked nests live within stands holds well (u, known) are kept among ends stack =
+      let now : ending ≡ f = ap (λ (z : Known). z.now) known in
+      let implies : Implies (with_each Full locked f) h = subst (λ z. Implies (with_each Full locked z) h) now (subst (λ ns. Implies (with_each Full ns ending) h) (append-nil locked) ends) in
+      let full = lent_holds g e locked f bs bound variables (lent_among locked x.locks bs among stands.lent) holds in
       running p g x cs e w typed' globals (within_bound e cs bs within bound) (within_variables g cs bs within variables) Proceeding k (within_live k cs bs within live)
-      (h, subst (λ z. Holds g z cs) (sym now) (within_holds g f cs bs within holds), stack)
-  continue_with (MoreItems (Execute s) js) k cs c f h before behind' nests live within stands holds (ws, wjs) (l, ds, djs) are (ks, kjs) stack =
-      let sooner : AreBreaks x.loop l.breaks = breaks_before x.loop l.breaks behind' (breaks_items (around x) js l (record { now = h; breaks = behind' }) djs) are in
+      (h, within_holds g h cs bs within (holds_implied g (with_each Full locked f) h bs implies full), stack)
+  continue_with (MoreItems (Execute s) js) k cs c f h before behind' ending locked nests live within stands holds (ws, wjs) (l, ds, djs') are (ks, kjs) among ends stack =
+      let djs = nothing_locked (around x) js l (record { now = ending; breaks = behind' }) djs' in
+      let sooner : AreBreaks x.loop l.breaks = breaks_before x.loop l.breaks behind' (breaks_items (around x) js l (record { now = ending; breaks = behind' }) djs) are in
       let one : Executes p.reading x c s f l.now = record { before = before; behind = l.breaks; typed = ws; flows = ds; breaks = sooner; kept = ks } in
-      let rest : Continues p.reading x (behind c s) js l.now h = record { before = l.breaks; behind = behind'; typed = wjs; flows = djs; breaks = are; kept = kjs } in
+      let rest : Continues p.reading x (behind c s) js l.now h =
+      record { before = l.breaks; behind = behind'; ending = ending; locked = locked; typed = wjs; flows = djs; breaks = are; kept = kjs; among = among; ends = ends } in
       on (Executing s) (Rest js ∷ k) live (c, f, l.now, stands, holds, one, (cs, behind c s, h, within, context_after p x bs c s stands, rest, stack))
-  continue_with (MoreItems (Declare n t None) js) k cs c f h before behind' nests live within stands holds ((number, has, alive), initial, wjs) (l, (f1, (u1, known1), (u2, known2)), djs) are (named, kv, kjs) stack =
+  continue_with (MoreItems (Declare n t None) js) k cs c f h before behind' ending locked nests live within stands holds ((number, has, alive), initial, wjs) (l, (f1, (u1, known1), (u2, known2)), djs') are (named, kv, kjs) among ends stack =
+      let djs = nothing_locked (around x) js l (record { now = ending; breaks = behind' }) djs' in
       let l_is : l ≡ record { now = with_fullness Vacant f n; breaks = before } = known2 ∙ ap (λ z. record { now = z; breaks = before }) known1 in
-      let flows = subst (λ (z : Known). Derives (rule_items (around x) js z) (record { now = h; breaks = behind' })) l_is djs in
+      let flows = subst (λ (z : Known). Derives (rule_items (around x) js z) (record { now = ending; breaks = behind' })) l_is djs in
       declares_blank p g x bs e w typed' globals bound variables n (values.kind_of t) t js cs c f h k nests live within stands holds (named, alive) number (sym (kind_meant (lives_in bs) t))
-      (record { before = before; behind = behind'; typed = wjs; flows = flows; breaks = are; kept = kjs }) stack
-  continue_with (MoreItems (Declare n t (Some (Convert from to a))) js) k cs c f h before behind' nests live within stands holds ((number, has, alive), (s, well, conv, from_is, to_is), wjs) (l, (f2, (f1, d, (u1, known1)), (u2, known2)), djs) are (named, kv, kjs) stack =
+      (record { before = before; behind = behind'; ending = ending; locked = locked; typed = wjs; flows = flows; breaks = are; kept = kjs; among = among; ends = ends }) stack
+  continue_with (MoreItems (Declare n t (Some (Convert from to a))) js) k cs c f h before behind' ending locked nests live within stands holds ((number, has, alive), (s, well, conv, from_is, to_is), wjs) (l, (f2, (f1, d, (u1, known1)), (u2, known2)), djs') are (named, kv, kjs) among ends stack =
+      let djs = nothing_locked (around x) js l (record { now = ending; breaks = behind' }) djs' in
       let l_is : l ≡ record { now = with_fullness Full f1 n; breaks = before } = known2 ∙ ap (λ z. record { now = z; breaks = before }) known1 in
-      let flows = subst (λ (z : Known). Derives (rule_items (around x) js z) (record { now = h; breaks = behind' })) l_is djs in
-      let rest : Continues p.reading x (with_local true t c) js (with_fullness Full f1 n) h = record { before = before; behind = behind'; typed = wjs; flows = flows; breaks = are; kept = kjs } in
+      let flows = subst (λ (z : Known). Derives (rule_items (around x) js z) (record { now = ending; breaks = behind' })) l_is djs in
+      let rest : Continues p.reading x (with_local true t c) js (with_fullness Full f1 n) h =
+      record { before = before; behind = behind'; ending = ending; locked = locked; typed = wjs; flows = flows; breaks = are; kept = kjs; among = among; ends = ends } in
       on (Evaluating a) (Needs (ConvertTo from to (target_by a)) ∷ Needs (Initialise n (values.kind_of t) js) ∷ k) live (
         c,
         s,
@@ -294,17 +345,19 @@ module _ (p : Source) (g : Typing) (x : Exits) (bs : List InScope) (e : Environm
           ([], cs, Go h, stacks.initialises cs c t f1 h within stands (named, alive) number (sym (kind_meant (lives_in bs) t) ∙ kind_read (lives_in bs) t) rest, tt, stack),
         ),
       )
-  continue_with (MoreItems (DeclareRegion r n) js) k cs c f h before behind' nests live within stands holds ((region, less), (number, has, alive), wjs) (l, (u, known), djs) are (scoped, kjs) stack =
-      let flows = subst (λ (z : Known). Derives (rule_items (around x) js z) (record { now = h; breaks = behind' })) known djs in
+  continue_with (MoreItems (DeclareRegion r n) js) k cs c f h before behind' ending locked nests live within stands holds ((region, less), (number, has, alive), wjs) (l, (u, known), djs') are (scoped, kjs) among ends stack =
+      let djs = nothing_locked (around x) js l (record { now = ending; breaks = behind' }) djs' in
+      let flows = subst (λ (z : Known). Derives (rule_items (around x) js z) (record { now = ending; breaks = behind' })) known djs in
       let t : Ty = types.Handle (regions.Variable r) in
       let d : Context = with_opened scopes.Lexical c in
-      let rest : Continues p.reading x (with_local false t d) js (with_fullness Full f n) h = record { before = before; behind = behind'; typed = wjs; flows = flows; breaks = are; kept = kjs } in
+      let rest : Continues p.reading x (with_local false t d) js (with_fullness Full f n) h =
+      record { before = before; behind = behind'; ending = ending; locked = locked; typed = wjs; flows = flows; breaks = are; kept = kjs; among = among; ends = ends } in
       let l : Life = opened_life p.reading (length w.regions) (ends_of k) in
       let inner : List InScope = Names c.next_region l true ∷ bs in
       let here : IsContext p x inner d = context_lexical p x bs c stands (length w.regions) (ends_of k) live.0 alive in
       let stands_for : lives_in inner (regions.Variable r) ≡ l = ap (λ i. life_named inner i) region ∙ same_name c.next_region l (life_named bs c.next_region) in
       let there : IsLive d (regions.Variable c.region) = contains_more (regions.Variable c.next_region) (regions.Variable c.region) (live_regions c.regions.live c.regions.opened) alive in
-      running p g x inner e (opened_as Lexical w) (opened_typed g w.regions (new_region Lexical ∷ []) w.objects typed') globals (tt, bound) (tt, variables)
+      running p g x inner e (opened_as Lexical w) (opened_typed g w.regions (new_region Lexical ∷ []) w.objects typed') globals (tt, bound) (opened_known g p.reading (length w.regions) (ends_of k), variables)
       (Naming n (record { kind = kinds.Handle; value = values.Handle (length w.regions) }) js) (CloseLexical (length w.regions) ∷ k)
       (((λ is. opened_lasting p.reading (length w.regions) (ends_of k)), live_more (length w.regions) (ends_of k) bs live.0), live.1) (
         d,
@@ -322,6 +375,39 @@ module _ (p : Source) (g : Typing) (x : Exits) (bs : List InScope) (e : Environm
         rest,
         (h, implies_self h, within_live k cs bs within live, stack),
       )
-  continue_with (MoreItems (OpenRegion r n place key) js) k cs c f h before behind' nests live within stands holds well flows are kept stack = absurd kept
-  continue_with (MoreItems (DeclareAlias r n t place source) js) k cs c f h before behind' nests live within stands holds well flows are kept stack = absurd kept
-  continue_with (MoreItems (DeclareKey r n) js) k cs c f h before behind' nests live within stands holds well flows are kept stack = absurd kept
+  continue_with (MoreItems (OpenRegion r n place key) js) k cs c f h before behind' ending locked nests live within stands holds (((home, has), there), (number, variable, alive), wjs) (l, (f1, (demands, known1), (u, known2)), djs) are (loans, kjs) among ends stack =
+      let t : Ty = types.Key (regions.Variable r) in
+      let now : l ≡ record { now = with_fullness Full (with_fullness Locked f key) n; breaks = before } = known2 ∙ ap (λ z. record { now = z; breaks = before }) known1 in
+      let (b, bound_among, number_of, of_type) = bound_of p.reading (lives_in bs) c.locals bs key t home stands.scope has in
+      let set : IsSet f key = not_vacant (is_vacant (flow.fullness f key)) demands.0 in
+      let rest = lent_rest key js (with_local false (types.Handle (regions.Variable r)) (with_key_opened r c)) (with_fullness Full (with_fullness Locked f key) n) h before behind' ending locked wjs
+          (subst (λ (z : Known). Derives (rule_items (around (lending x key)) js z) (record { now = ending; breaks = behind' })) now djs) are kjs among ends in
+      from_local p g x bs e w typed' globals bound variables (Needs (OpenBy n key js) ∷ k) c key t (types.Value t) f f nests.0 live stands holds (home, has) set (implies_self f) refl (
+        [],
+        cs,
+        Go h,
+        stacks.opens_by cs c b r f h loans within stands bound_among number_of set (type_known p.reading c key t home loans stands.known has) alive number rest,
+        tt,
+        stack,
+      )
+  continue_with (MoreItems (DeclareAlias r n t place source) js) k cs c f h before behind' ending locked nests live within stands holds ((region, less), (v, ((home, has), there), unique, of_type), (number, variable, alive), wjs) (l, (f1, (demands, known1), (u, known2)), djs) are (loans, kjs) among ends stack =
+      let now : l ≡ record { now = with_fullness Full (with_fullness Locked f source) n; breaks = before } = known2 ∙ ap (λ z. record { now = z; breaks = before }) known1 in
+      let (b, bound_among, number_of, of_bound) = bound_of p.reading (lives_in bs) c.locals bs source v home stands.scope has in
+      let set : IsSet f source = not_vacant (is_vacant (flow.fullness f source)) demands.0 in
+      let rest = lent_rest source js (with_local true t (with_opened scopes.Alias c)) (with_fullness Full (with_fullness Locked f source) n) h before behind' ending locked wjs
+          (subst (λ (z : Known). Derives (rule_items (around (lending x source)) js z) (record { now = ending; breaks = behind' })) now djs) are kjs among ends in
+      subst (λ kind. IsWell p (loaded_from kind (e.locals source) (Needs (AliasOf n source js) ∷ k) e w)) (sym (ap values.kind_of of_type ∙ alias_kind (regions.Variable r) v))
+      (from_local p g x bs e w typed' globals bound variables (Needs (AliasOf n source js) ∷ k) c source v (types.Value v) f f nests.0 live stands holds (home, has) set (implies_self f) refl (
+        [],
+        cs,
+        Go h,
+        stacks.aliases cs c b v t f h loans within stands bound_among number_of set unique (type_known p.reading c source v home loans stands.known has)
+            (of_type ∙ ap (λ i. with_region_of (regions.Variable i) v) region) alive number rest,
+        tt,
+        stack,
+      ))
+  continue_with (MoreItems (DeclareKey r n) js) k cs c f h before behind' ending locked nests live within stands holds ((region, less), (number, variable, alive), wjs) (l, (u, known), djs') are (loans, kjs) among ends stack =
+      let djs = nothing_locked (around x) js l (record { now = ending; breaks = behind' }) djs' in
+      let flows = subst (λ (z : Known). Derives (rule_items (around x) js z) (record { now = ending; breaks = behind' })) known djs in
+      keys_on p g x bs e w typed' globals bound variables n r js k cs c f h live holds loans within stands region alive number
+      (record { before = before; behind = behind'; ending = ending; locked = locked; typed = wjs; flows = flows; breaks = are; kept = kjs; among = among; ends = ends }) stack

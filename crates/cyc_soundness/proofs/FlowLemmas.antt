@@ -2,7 +2,7 @@
 use Rattle.std.proofs.Common.{◌≡◌, ℕ, zero, suc, Bool, true, false, not, List, [], ◌∷◌, refl, sym, subst, ◌∙◌}
 use Rattle.std.specs.Prelude.{◌≢◌, get_or, slice_set, if◌then◌else◌}
 use Rattle.std.proofs.lemmas.List.{get_or-set_other}
-use Rattle.cyc_types.specs.flow.States.{Fullness, Vacant, Locked, Full, State, Unreached, Reached, lower, lower_each, meet, is_as_full, are_as_full, is_at_least, is_reached, fullness, with_fullness, is_vacant, is_locked, emptied}
+use Rattle.cyc_types.specs.flow.States.{Fullness, Vacant, Locked, Full, State, Unreached, Reached, lower, lower_each, meet, is_as_full, are_as_full, is_at_least, is_reached, fullness, with_fullness, with_each, is_vacant, is_locked, emptied}
 use Rattle.cyc_soundness.specs.Worlds.{Typing}
 use Rattle.cyc_soundness.specs.Frames.{InScope, Variable, HoldsIts, IsSet, AreSet, Holds, Implies}
 use Rattle.cyc_soundness.proofs.Numbers.{both_true}
@@ -120,6 +120,24 @@ now_vacant (a ∷ as') (suc n) = now_vacant as' n
 pub vacant_now : (f : State) (n : ℕ) → is_reached f ≡ true → IsSet (with_fullness Vacant f n) n → ⊥
 vacant_now Unreached n reached s = let k : false ≡ true = reached in absurd (cc)
 vacant_now (Reached as') n reached s = let k : true ≡ false = sym (now_vacant as' n) ∙ s in absurd (cc)
+
+-- ---- what is full again
+
+filled_still : (as' : List Fullness) (n m : ℕ) → is_vacant (get_or as' m Vacant) ≡ false → is_vacant (get_or (slice_set as' n Full) m Vacant) ≡ false
+filled_still [] n m s = s
+filled_still (a ∷ as') zero zero s = refl
+filled_still (a ∷ as') zero (suc m) s = s
+filled_still (a ∷ as') (suc n) zero s = s
+filled_still (a ∷ as') (suc n) (suc m) s = filled_still as' n m s
+
+full_implies : (f : State) (n : ℕ) → Implies (with_fullness Full f n) f
+full_implies Unreached n = unreached_implies Unreached
+full_implies (Reached as') n = record { reached = λ h. refl; set = λ m s. filled_still as' n m s }
+
+-- more is known where locals are full again
+pub each_full_implies : (ns : List ℕ) (f : State) → Implies (with_each Full ns f) f
+each_full_implies [] f = implies_self f
+each_full_implies (n ∷ ns) f = implies_after (with_each Full ns (with_fullness Full f n)) (with_fullness Full f n) f (each_full_implies ns (with_fullness Full f n)) (full_implies f n)
 
 -- what a rule asks of a local that is used
 pub not_vacant : (b : Bool) → not b ≡ true → b ≡ false

@@ -12,6 +12,7 @@ mod Objects
 mod Swapping
 mod Places
 mod Evaluation
+mod Loans
 mod Supply
 mod Execution
 mod Calls
@@ -22,5 +23,6 @@ pub mod Whole
 -- texts, and programs that the rules accept and refuse
 mod Examples
 mod LaterRegions
+mod KeyFields
 mod AcceptedPrograms
 mod RefusedPrograms

@@ -26,18 +26,18 @@ use Rattle.cyc_meaning.specs.Operators.{array_size}
 use Rattle.cyc_meaning.specs.Allocation.{writes_from, blanks_of, filled, makes_of, makes_plain, makes_fields, most_words, blanks, begun, makes_array, step_beginning, step_repeating, fills_element, makes}
 use Rattle.cyc_meaning.specs.Nesting.{ends_of, AreOpen}
 use Rattle.cyc_meaning.proofs.ListLemmas.{slice_get-end, slice_get-set_other}
-use Rattle.cyc_soundness.specs.Lives.{Life, OfRegion, OfObject, Never, RunTy, Int, Pointer, Handle, Key, Struct, Value, kind_at}
-use Rattle.cyc_soundness.specs.Worlds.{ObjectType, Typing, Outlasts, alike, IsFilled, IsPart, IsTarget, HasType, IsResult, AreOperands, AreCells, IsOwner, IsObject, IsTyped, IsOpenLife, Grows}
-use Rattle.cyc_soundness.specs.Frames.{IsAmong, first, later, InScope, Level, HasMeaning, IsBound, AreVariables, LiveIn, Holds, Implies, Exits, IsContext, KnowsProgram, lives_in, read, IsThere}
+use Rattle.cyc_soundness.specs.Lives.{Life, OfRegion, OfObject, Never, Kept, RunTy, Int, Pointer, Handle, Key, Struct, Value, kind_at}
+use Rattle.cyc_soundness.specs.Worlds.{IsAmong, IsKnownLife, IsDynamic, ObjectType, Typing, Outlasts, alike, IsFilled, IsPart, IsTarget, HasType, IsResult, AreOperands, AreCells, IsOwner, IsObject, IsTyped, IsOpenLife, Grows}
+use Rattle.cyc_soundness.specs.Frames.{first, later, InScope, Level, HasMeaning, IsBound, AreVariables, LiveIn, Holds, Implies, Exits, IsContext, KnowsProgram, lives_in, read, IsThere}
 use Rattle.cyc_soundness.specs.Classes.{InInitial, InArguments, Source}
 use Rattle.cyc_soundness.specs.Stacks.{Val, turned, AreFields, Repeats, AreNext, IsWhole, IsMaking, IsArray, IsStack, IsFocus, IsWell}
 use Rattle.cyc_soundness.specs.Stacks as stacks
 use Rattle.cyc_soundness.proofs.Numbers.{same_or_other, less_or_same, slice_get-set_same}
 use Rattle.cyc_soundness.proofs.FlowLemmas.{at_least_implies, holds_implied}
 use Rattle.cyc_soundness.proofs.TypeLemmas.{target_typed, is_kind_same, kind_read}
-use Rattle.cyc_soundness.proofs.WorldLemmas.{operands_grown, variables_grown, holds_grown, globals_grown, with_object, object_grows, object_typed, typed_beside, open_region, risen, with_filled}
-use Rattle.cyc_soundness.proofs.StackLemmas.{stack_grown, lasting_open}
-use Rattle.cyc_soundness.proofs.RegionLemmas.{agrees_of, there_lasting, mapped_count, fields_mean}
+use Rattle.cyc_soundness.proofs.WorldLemmas.{life_grown, operands_grown, variables_grown, holds_grown, globals_grown, with_object, object_grows, object_typed, typed_beside, open_region, risen, with_filled}
+use Rattle.cyc_soundness.proofs.StackLemmas.{stack_grown, kept_open, lasting_open}
+use Rattle.cyc_soundness.proofs.RegionLemmas.{lent_more, region_known, agrees_of, there_lasting, mapped_count, fields_mean}
 use Rattle.cyc_soundness.proofs.Cells.{running, part_at, writes}
 
 -- ---- lists of operands
@@ -145,6 +145,7 @@ context_counted p x bs c stands = record {
   known = stands.known;
   regions = stands.regions;
   home = stands.home;
+  lent = lent_more (Level c.counters) bs x.locks stands.lent;
 }
   where
     below : (l n : ℕ) → l < suc n → l ≢ n → l < n
@@ -174,7 +175,8 @@ counter_more e level index (b ∷ bs) (is, are) = (counter_still e level index b
 module _ (p : Source) (g : Typing) (x : Exits) (bs : List InScope) (e : Environment) (w : World) (typed : IsTyped g w.regions w.objects) (globals : KnowsProgram g p) (bound : IsBound e.locals e.counters bs) (variables : AreVariables g bs) where
   -- what a live region stands for is open
   pub open_life : (r : Region') (k : List Entry) → AreOpen w.regions (ends_of k) → LiveIn k bs → IsThere bs r → IsOpenLife w.regions (lives_in bs r)
-  open_life r k opens live alive = lasting_open w.regions (ends_of k) (lives_in bs r) opens typed.heap (there_lasting (ends_of k) bs r live.0 alive)
+  open_life r k opens live alive = lasting_open w.regions (ends_of k) (lives_in bs r) opens typed.heap
+      (kept_open g w.regions w.objects (lives_in bs r) typed (region_known g bs r variables)) (there_lasting (ends_of k) bs r live.0 alive)
 
   -- ---- an object is made
 
@@ -187,34 +189,52 @@ module _ (p : Source) (g : Typing) (x : Exits) (bs : List InScope) (e : Environm
     | inr apart ↦ ap is_open (slice_get-set_other regions n m s apart) ∙ opens
   ]
 
-  -- the world with an object more, whose cells hold nothing yet
-  created_there : (owner : Owner) (cells : List Cell) (l : Life) → IsOwner l owner → IsOpenLife w.regions l
-      → (new : World) × (created w owner cells ≡ Found new) × (new.objects ≡ w.objects ++ record { owner = owner; cells = cells } ∷ []) × (is_open (slice_get new.regions heap_number) ≡ true)
-  created_there (InRegion n) cells (OfRegion region ns) owned opens' =
-      let (r, at, opens) = open_region (slice_get w.regions n) (subst (λ i. is_open (slice_get w.regions i) ≡ true) owned opens') in
+  still_dynamic : (regions : List Region) (n m : ℕ) (r s : Region) → slice_get regions n ≡ Some r → s.sort ≡ r.sort → s.is_open ≡ r.is_open → IsDynamic (slice_get regions m) → IsDynamic (slice_get (set regions n s) m)
+  still_dynamic regions n m r s at sort opens is = elim (same_or_other m n) [
+    | inl one ↦ (let old : IsDynamic (Some r) = subst (λ z. IsDynamic z) at (subst (λ i. IsDynamic (slice_get regions i)) one is) in
+        let there : slice_get (set regions n s) m ≡ Some s = subst (λ i. slice_get (set regions n s) i ≡ Some s) (sym one) (slice_get-set_same regions n r s at) in
+        subst (λ z. IsDynamic z) (sym there) (sort ∙ old.0, opens ∙ old.1))
+    | inr apart ↦ subst (λ z. IsDynamic z) (sym (slice_get-set_other regions n m s apart)) is
+  ]
+
+  -- the heap and dynamic regions are open there
+  abbrev AreStill : List Region → Type 0
+  AreStill regions = (is_open (slice_get regions heap_number) ≡ true) × ((number : ℕ) → IsAmong number g.kept → IsDynamic (slice_get regions number))
+
+  made_there : (n : ℕ) (cells : List Cell) → is_open (slice_get w.regions n) ≡ true
+      → (new : World) × (created_in w n (region_at w n) cells ≡ Found new) × (new.objects ≡ w.objects ++ record { owner = InRegion n; cells = cells } ∷ []) × AreStill new.regions
+  made_there n cells is =
+      let (r, at, opens) = open_region (slice_get w.regions n) is in
       let found : region_at w n ≡ Found r = ap found_region at ∙ ap (λ (b : Bool). if b then Found r else Closed) opens in
       let new = made_in w n r cells in
-      let still : is_open (slice_get new.regions heap_number) ≡ true = still_open w.regions n heap_number r _ at refl typed.heap in
+      let still : AreStill new.regions = (still_open w.regions n heap_number r _ at refl typed.heap, λ m among. still_dynamic w.regions n m r _ at refl refl (typed.kept m among)) in
       (new, ap (λ a. created_in w n a cells) found, refl, still)
-  created_there (Unique true) cells l owned opens = (made_unique w cells, refl, refl, typed.heap)
+
+  -- the world with an object more, whose cells hold nothing yet
+  created_there : (owner : Owner) (cells : List Cell) (l : Life) → IsOwner l owner → IsOpenLife w.regions l
+      → (new : World) × (created w owner cells ≡ Found new) × (new.objects ≡ w.objects ++ record { owner = owner; cells = cells } ∷ []) × AreStill new.regions
+  created_there (InRegion n) cells (OfRegion region ns) owned opens' = made_there n cells (subst (λ i. is_open (slice_get w.regions i) ≡ true) owned opens')
+  created_there (InRegion n) cells (Kept region) owned opens' = made_there n cells (subst (λ i. is_open (slice_get w.regions i) ≡ true) owned opens')
+  created_there (Unique true) cells l owned opens = (made_unique w cells, refl, refl, (typed.heap, typed.kept))
   created_there (Unique false) cells (OfRegion region ns) owned opens = absurd (let z : false ≡ true = owned.1 in cc)
   created_there owner cells (OfObject o) owned opens = absurd opens
   created_there owner cells Never owned opens = absurd opens
+  created_there (Unique false) cells (Kept region) owned opens = absurd owned
 
-  made_on : (owner : Owner) (l : Life) (new : World) (ts : List RunTy) (cells : List Cell) (focus : Focus) (k : List Entry) → LiveIn k bs → IsOwner l owner → ((h : Typing) → AreCells h ts cells 0)
-      → new.objects ≡ w.objects ++ record { owner = owner; cells = cells } ∷ [] → is_open (slice_get new.regions heap_number) ≡ true
+  made_on : (owner : Owner) (l : Life) (new : World) (ts : List RunTy) (cells : List Cell) (focus : Focus) (k : List Entry) → LiveIn k bs → IsOwner l owner → IsKnownLife g l → ((h : Typing) → AreCells h ts cells 0)
+      → new.objects ≡ w.objects ++ record { owner = owner; cells = cells } ∷ [] → AreStill new.regions
       → (Grows g (with_object g (new_type ts l) 0) → slice_get (with_object g (new_type ts l) 0).objects (length w.objects) ≡ Some (new_type ts l) → IsFilled (with_object g (new_type ts l) 0) (length w.objects) 0
       → IsFocus p (with_object g (new_type ts l) 0) x bs focus k)
       → IsWell p (Running focus k e new)
-  made_on owner l new ts cells focus k live owned blanks_are objects_are opens goes =
+  made_on owner l new ts cells focus k live owned known blanks_are objects_are still goes =
       let h = with_object g (new_type ts l) 0 in
       let grows : Grows g h = object_grows g (new_type ts l) 0 in
       let made : Object = record { owner = owner; cells = cells } in
-      let is : IsObject h 0 (new_type ts l) made = record { owner = owned; cells = blanks_are h } in
+      let is : IsObject h 0 (new_type ts l) made = record { owner = owned; known = life_grown g h grows l known; cells = blanks_are h } in
       let beside : IsTyped h w.regions new.objects = subst (λ os. IsTyped h w.regions os) (sym objects_are) (object_typed g w.regions w.objects (new_type ts l) 0 made typed is) in
       let there = subst (λ n. slice_get h.objects n ≡ Some (new_type ts l)) (sym typed.count) (slice_get-end g.objects (new_type ts l)) in
       let flag = subst (λ n. slice_get h.filled n ≡ Some 0) (sym typed.counts) (slice_get-end g.filled 0) in
-      running p h x bs e new (typed_beside h w.regions new.regions new.objects beside opens) (globals_grown g h grows p (λ n ls. refl) globals) bound (variables_grown g h grows bs variables) focus k live
+      running p h x bs e new (typed_beside h w.regions new.regions new.objects beside still.0 still.1) (globals_grown g h grows p (λ n ls. refl) globals) bound (variables_grown g h grows bs variables) focus k live
       (goes grows there (0, flag, (let few : 0 ≤ 0 = omega arith in few)))
 
   pub makes_these : (owner : Owner) (ts : List RunTy) (vs : List Operand) (t : RunTy) (r : Region') (k : List Entry) (f : flow.State) → AreOpen w.regions (ends_of k) → LiveIn k bs → Holds g f bs → IsThere bs r
@@ -226,7 +246,7 @@ module _ (p : Source) (g : Typing) (x : Exits) (bs : List InScope) (e : Environm
       let h = with_object g (new_type ts l) 0 in
       let handed : Operand = record { kind = kinds.NonNull; value = values.Thin (length w.objects) 0 } in
       subst (λ a. IsWell p (filled a (length w.objects) vs k e w)) (sym found)
-      (made_on owner l new ts (blanks_of vs) (Writing (writes_from (length w.objects) 0 vs) (Some handed)) k live owned (λ h. blank_cells g h ts vs are) objects_are opens
+      (made_on owner l new ts (blanks_of vs) (Writing (writes_from (length w.objects) 0 vs) (Some handed)) k live owned (region_known g bs r variables) (λ h. blank_cells g h ts vs are) objects_are opens
       (λ grows there none. (
         t,
         r,
@@ -261,7 +281,7 @@ module _ (p : Source) (g : Typing) (x : Exits) (bs : List InScope) (e : Environm
       let ts = repeated count (read bs t) in
       let h = with_object g (new_type ts l) 0 in
       subst (λ a. IsWell p (begun a (length w.objects) count level kind element k e w)) (sym found)
-      (made_on owner l new ts (blanks count kind) (Repeating (length w.objects) count 0 level kind element) k live owned
+      (made_on owner l new ts (blanks count kind) (Repeating (length w.objects) count 0 level kind element) k live owned (region_known g bs r variables)
       (λ h. blanks_typed h count kind (read bs t) (repeats.kind_is ∙ sym (kind_read (lives_in bs) t))) objects_are opens
       (λ grows there none. (
         c,

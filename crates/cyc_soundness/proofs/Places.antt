@@ -288,7 +288,7 @@ module _ (p : Source) (g : Typing) (x : Exits) (bs : List InScope) (e : Environm
       let found : slice_get y.cells field ≡ Some u = ap (λ us. slice_get us field) cells ∙ mapped (at (lives_among ls)) s.fields field t there ∙ ap (λ z. Some z) (means enough) in
       let within : field < length y.cells = inside y.cells field u found in
       let some : IsFilled g object (suc field) = (m, flag, (let le : suc field ≤ m = omega (arith, within, full) in le)) in
-      let open' = life_of g w typed k y.life l opens outlasts lasting in
+      let open' = life_of g w typed k object y l at' opens outlasts lasting in
       let test : ((offset == 0) && are_kinds (kinds_of z.cells) (map values.kind_of s.fields)) ≡ true = both (offset == 0) (are_kinds (kinds_of z.cells) (map values.kind_of s.fields)) (eq-eqb offset 0 first) alike in
       subst (λ o. IsWell p (arrives (field_of o object offset (map values.kind_of s.fields) field) k e w)) (sym stands)
       (subst (λ (b : Bool). IsWell p (arrives (if b then At object field else Nowhere) k e w)) (sym test)

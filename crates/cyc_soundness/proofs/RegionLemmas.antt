@@ -1,5 +1,5 @@
 -- What region variables stand for: where more of them are named, where a region is opened, and where a function is called.
-use Rattle.std.proofs.Common.{◌≡◌, ◌≢◌, ◌⊎◌, inl, inr, ℕ, zero, suc, ◌≤◌, ◌<◌, Bool, true, false, List, [], ◌∷◌, length, map, Some, slice_get, eqb, refl, sym, ap, subst, ◌∙◌, arith}
+use Rattle.std.proofs.Common.{◌≡◌, ◌≢◌, ◌⊎◌, inl, inr, ℕ, zero, suc, ◌≤◌, ◌<◌, Bool, true, false, List, [], ◌∷◌, ◌++◌, length, map, Some, slice_get, eqb, refl, sym, ap, subst, ◌∙◌, arith}
 use Rattle.std.specs.Prelude.{Option, None, option_map, if◌then◌else◌, ◌==◌, Contains, slice_index_or}
 use Rattle.std.proofs.lemmas.Bool.{eqb-true, eq-eqb, false_from_ne_true}
 use Rattle.cyc_types.specs.declared.region.Region.{Region}
@@ -13,11 +13,11 @@ use Rattle.cyc_types.specs.TypedTrees.{Dereference, Target, Member, Element, Str
 use Rattle.cyc_types.specs.Types.{Ty, ValueType, result_type, substituted_ty}
 use Rattle.cyc_types.specs.Types as types
 use Rattle.cyc_types.specs.typing.Scopes.{with_scope}
-use Rattle.cyc_types.specs.typing.WellTyped.{LocalInScope, Context, IsLive, AreLive, AreOutliving, IsCell, body_context, parameters_in_scope, IsNamed, AreNamed as AreNamedRegions, IsNamedIn, AreNamedIn, IsNamedResult, AreConstraints, IsWellTypedFunction, in_block, with_local, with_opened}
-use Rattle.cyc_soundness.specs.Lives.{Life, OfRegion, OfObject, Never, Lives, at, value_at, heap_life, lives_of, as_heap, Reading, AsHeap, ByScope, AllOf, AllIn, AllInValue, IsKnown, IsOther}
-use Rattle.cyc_soundness.specs.Worlds.{Outlasts, heap as for_ever, encloses, whole, behind, AgreesWith, IsNumber}
-use Rattle.cyc_soundness.specs.Classes.{IsDeclarable, Source}
-use Rattle.cyc_soundness.specs.Frames.{later, InScope, Variable, Level, Names, Instance, Home, life_named, is_live_named, lives_in, read, read_value, home_of, lives_among, IsThereBy, IsThere, IsHomed, IsScope, IsLasting, IsLiveIn, AreLiveIn, Exits, AreNamed, StandBy, Stand, IsHome, AreKnownLocals, AreKnown, IsContext}
+use Rattle.cyc_types.specs.typing.WellTyped.{LocalInScope, Context, IsLive, AreLive, AreOutliving, IsCell, body_context, parameters_in_scope, IsNamed, AreNamed as AreNamedRegions, IsNamedIn, AreNamedIn, IsNamedResult, AreConstraints, IsWellTypedFunction, in_block, with_local, with_region, with_opened, with_key_opened}
+use Rattle.cyc_soundness.specs.Lives.{Life, OfRegion, OfObject, Never, Kept, Lives, at, value_at, heap_life, lives_of, as_heap, Reading, AsHeap, ByScope, AllOf, AllIn, AllInValue, IsKnown, IsOther}
+use Rattle.cyc_soundness.specs.Worlds.{Typing, IsKnownLife, Outlasts, heap as for_ever, stays, encloses, whole, behind, AgreesWith, IsNumber}
+use Rattle.cyc_soundness.specs.Classes.{HasLoans, IsDeclarable, Source}
+use Rattle.cyc_soundness.specs.Frames.{first as newest, later, InScope, Variable, Level, Names, Instance, Home, Lent, life_named, is_live_named, lives_in, read, read_value, home_of, AreVariables, lives_among, IsThereBy, IsThere, IsHomed, IsScope, IsLasting, IsLiveIn, AreLiveIn, Exits, AreNamed, StandBy, Stand, IsHome, AreKnownLocals, AreKnown, lending, AreLent, IsContext}
 use Rattle.cyc_soundness.specs.Stacks.{IsNew, regions_at_call, IsInstance}
 use Rattle.cyc_soundness.proofs.TypeLemmas.{all_in, every_in, read_alike, value_alike, lives_by, instance_by, result_by}
 use Rattle.cyc_soundness.proofs.ValueLemmas.{given_agree}
@@ -41,6 +41,7 @@ lasting_more n ns (OfRegion m ms) (inl heap) = inl heap
 lasting_more n ns (OfRegion m ms) (inr end) = inr (behind n ns end)
 lasting_more n ns (OfObject o) is = is
 lasting_more n ns Never is = is
+lasting_more n ns (Kept region) is = is
 
 one_more : (n : ℕ) (ns : List ℕ) (b : InScope) → IsLiveIn ns b → IsLiveIn (n ∷ ns) b
 one_more n ns (Variable b) is = lasting_more n ns b.life is
@@ -62,8 +63,28 @@ named_lasting ns [] k are live = inl refl
 named_lasting ns (Variable b ∷ bs) k (is, are) live = named_lasting ns bs k are live
 named_lasting ns (Level l ∷ bs) k (is, are) live = named_lasting ns bs k are live
 named_lasting ns (Home region ∷ bs) k (is, are) live = named_lasting ns bs k are live
+named_lasting ns (Lent number object ∷ bs) k (is, are) live = named_lasting ns bs k are live
 named_lasting ns (Instance these lives ∷ bs) k (is, are) live = is k live
 named_lasting ns (Names number l alive ∷ bs) k (is, are) live = named_either (k == number) ns l (life_named bs k) alive (is_live_named bs k) is (λ e. named_lasting ns bs k are e) live
+
+named_both : (g : Typing) (b : Bool) (l m : Life) → IsKnownLife g l → IsKnownLife g m → IsKnownLife g (if b then l else m)
+named_both g true l m one two = one
+named_both g false l m one two = two
+
+pub name_known : (g : Typing) (bs : List InScope) (k : ℕ) → AreVariables g bs → IsKnownLife g (life_named bs k)
+name_known g [] k are = tt
+name_known g (Variable b ∷ bs) k (is, are) = name_known g bs k are
+name_known g (Level l ∷ bs) k (is, are) = name_known g bs k are
+name_known g (Home region ∷ bs) k (is, are) = name_known g bs k are
+name_known g (Lent number object ∷ bs) k (is, are) = name_known g bs k are
+name_known g (Instance these lives ∷ bs) k (is, are) = is k
+name_known g (Names number l alive ∷ bs) k (is, are) = named_both g (k == number) l (life_named bs k) is (name_known g bs k are)
+
+-- what a region stands for is known
+pub region_known : (g : Typing) (bs : List InScope) (r : Region) → AreVariables g bs → IsKnownLife g (lives_in bs r)
+region_known g bs regions.Heap are = tt
+region_known g bs regions.Unique are = tt
+region_known g bs (regions.Variable n) are = name_known g bs n are
 
 -- what a live region stands for has not ended
 pub there_lasting : (ns : List ℕ) (bs : List InScope) (r : Region) → AreLiveIn ns bs → IsThere bs r → IsLasting ns (lives_in bs r)
@@ -76,6 +97,12 @@ lasts_around ns n (OfRegion m ms) (inl heap) = subst (λ l. Outlasts l (OfRegion
 lasts_around ns n (OfRegion m ms) (inr end) = encloses m n ms ns end
 lasts_around ns n (OfObject o) is = absurd is
 lasts_around ns n Never is = absurd is
+lasts_around ns n (Kept region) is = stays region (OfRegion n ns)
+
+-- what is lent is so further inside
+pub lent_more : (b : InScope) (bs : List InScope) (ns : List ℕ) → AreLent ns bs → AreLent ns (b ∷ bs)
+lent_more b bs [] are = tt
+lent_more b bs (n ∷ ns) ((object, among), are) = ((object, later b bs among), lent_more b bs ns are)
 
 -- ---- names
 
@@ -90,7 +117,7 @@ known_other n regions.Heap known = tt
 known_other n regions.Unique known = tt
 known_other n (regions.Variable m) less = λ e. (let k : m ≡ n = e in absurd (omega (arith, less, k)))
 
-known_more : (n m : ℕ) (r : Region) → n ≤ m → IsKnown n r → IsKnown m r
+pub known_more : (n m : ℕ) (r : Region) → n ≤ m → IsKnown n r → IsKnown m r
 known_more n m regions.Heap most known = tt
 known_more n m regions.Unique most known = tt
 known_more n m (regions.Variable k) most less = omega (arith, less, most)
@@ -101,10 +128,10 @@ other_life number l live bs regions.Heap other = refl
 other_life number l live bs regions.Unique other = refl
 other_life number l live bs (regions.Variable n) other = sym (other_name number n l (life_named bs n) other)
 
-other_there : (number : ℕ) (l : Life) (bs : List InScope) (r : Region) → IsOther number r → IsThere bs r → IsThere (Names number l true ∷ bs) r
-other_there number l bs regions.Heap other there = tt
-other_there number l bs regions.Unique other there = tt
-other_there number l bs (regions.Variable n) other there = other_name number n true (is_live_named bs n) other ∙ there
+other_there : (number : ℕ) (l : Life) (alive : Bool) (bs : List InScope) (r : Region) → IsOther number r → IsThere bs r → IsThere (Names number l alive ∷ bs) r
+other_there number l alive bs regions.Heap other there = tt
+other_there number l alive bs regions.Unique other there = tt
+other_there number l alive bs (regions.Variable n) other there = other_name number n alive (is_live_named bs n) other ∙ there
 
 -- ---- a region is opened
 
@@ -131,7 +158,7 @@ module _ (kind : ScopeKind) (number region : ℕ) (ns : List ℕ) (c : RegionCon
       there : (r : Region) → Contains (regions.Variable number ∷ live_regions c.live c.opened) r → IsThere inner r
       there r has = elim (contains_later (regions.Variable number) r (live_regions c.live c.opened) has) [
         | inl new ↦ opened_there number (OfRegion region ns) bs r new
-        | inr old ↦ other_there number (OfRegion region ns) bs r (others r old) (names.there r old)
+        | inr old ↦ other_there number (OfRegion region ns) true bs r (others r old) (names.there r old)
       ]
 
       moved : (a b : Region) → IsOther number a → IsOther number b → Outlasts (lives_in bs a) (lives_in bs b) → Outlasts (lives_in inner a) (lives_in inner b)
@@ -149,6 +176,61 @@ module _ (kind : ScopeKind) (number region : ℕ) (ns : List ℕ) (c : RegionCon
           (lasts_around ns region (lives_in bs a) (there_lasting ns bs a live (names.there a has)))))
       agrees a b (inr (inr (inr old))) =
           let (one, two) = at_opening c.live c.opened a b old in moved a b (others a one) (others b two) (names.agrees a b (inr (inr old)))
+
+-- ---- a name more, where all that is known of stands for the same
+
+module _ (number : ℕ) (l : Life) (alive : Bool) (c : RegionContext) (bs : List InScope) (Q : Region → Type 0) (same : (r : Region) → Q r → lives_in bs r ≡ lives_in (Names number l alive ∷ bs) r)
+    (still : (r : Region) → Q r → IsThere bs r → IsThere (Names number l alive ∷ bs) r)
+    (others : (r : Region) → Contains (live_regions c.live c.opened) r → Q r) (pairs : (a b : Region) → Contains c.written (a, b) → Q a × Q b) where
+  abbrev named_too : List InScope
+  named_too = Names number l alive ∷ bs
+
+  renamed : AreNamed c (λ n. life_named bs n) (λ n. is_live_named bs n) → AreNamed c (λ n. life_named named_too n) (λ n. is_live_named named_too n)
+  renamed names = record { there = λ r has. still r (others r has) (names.there r has); agrees = agrees }
+    where
+      moved : (a b : Region) → Q a → Q b → Outlasts (lives_in bs a) (lives_in bs b) → Outlasts (lives_in named_too a) (lives_in named_too b)
+      moved a b first second is = subst (λ k. Outlasts k (lives_in named_too b)) (same a first) (subst (λ k. Outlasts (lives_in bs a) k) (same b second) is)
+
+      agrees : (a b : Region) → IsGiven c a b → Outlasts (lives_in named_too a) (lives_in named_too b)
+      agrees a b (inl (heap, plain)) = subst (λ z. Outlasts (lives_in named_too z) (lives_in named_too b)) (sym heap) (for_ever (lives_in named_too b))
+      agrees a b (inr (inl written)) = let (one, two) = pairs a b written in moved a b one two (names.agrees a b (inr (inl written)))
+      agrees a b (inr (inr old)) = let (one, two) = at_opening c.live c.opened a b old in moved a b (others a one) (others b two) (names.agrees a b (inr (inr old)))
+
+-- a scope whose region is older than itself
+also_opened : (kind : ScopeKind) (number : ℕ) (c : RegionContext) (these : ℕ → Life) (live : ℕ → Bool) → is_outlived_by_live kind ≡ false → live number ≡ true → AreNamed c these live
+    → AreNamed (with_scope kind (regions.Variable number) c) these live
+also_opened kind number c these live older alive names = record { there = there; agrees = agrees }
+  where
+    there : (r : Region) → Contains (regions.Variable number ∷ live_regions c.live c.opened) r → IsThereBy live r
+    there r has = elim (contains_later (regions.Variable number) r (live_regions c.live c.opened) has) [
+      | inl new ↦ subst (λ z. IsThereBy live z) new alive
+      | inr old ↦ names.there r old
+    ]
+
+    agrees : (a b : Region) → IsGiven (with_scope kind (regions.Variable number) c) a b → Outlasts (lives_of these a) (lives_of these b)
+    agrees a b (inl heap) = names.agrees a b (inl heap)
+    agrees a b (inr (inl written)) = names.agrees a b (inr (inl written))
+    agrees a b (inr (inr (inl (outlived, new, plain, has)))) = absurd (let z : true ≡ false = sym outlived ∙ older in cc)
+    agrees a b (inr (inr (inr old))) = names.agrees a b (inr (inr old))
+
+-- a region that is named again
+again_life : (number : ℕ) (bs : List InScope) (r : Region) → lives_in bs r ≡ lives_in (Names number (life_named bs number) true ∷ bs) r
+again_life number bs regions.Heap = refl
+again_life number bs regions.Unique = refl
+again_life number bs (regions.Variable n) = go (n == number) refl
+  where
+    go : (b : Bool) → (n == number) ≡ b → life_named bs n ≡ (if b then life_named bs number else life_named bs n)
+    go true same = ap (λ i. life_named bs i) (eqb-true n number same)
+    go false other = refl
+
+again_there : (number : ℕ) (l : Life) (bs : List InScope) (r : Region) → IsThere bs r → IsThere (Names number l true ∷ bs) r
+again_there number l bs regions.Heap there = tt
+again_there number l bs regions.Unique there = tt
+again_there number l bs (regions.Variable n) there = go (n == number)
+  where
+    go : (b : Bool) → (if b then true else is_live_named bs n) ≡ true
+    go true = refl
+    go false = there
 
 -- ---- the heap
 
@@ -174,23 +256,23 @@ named_heap number these live are n = go (n == number)
 
 there_by : (m : Reading) (c : RegionContext) (these : ℕ → Life) (live : ℕ → Bool) → StandBy m c these live → (r : Region) → Contains (live_regions c.live c.opened) r → IsThereBy live r
 there_by AsHeap c these live are r has = heap_there these live are r
-there_by ByScope c these live are r has = are.there r has
+there_by (ByScope lends) c these live are r has = are.there r has
 
 pub agrees_by : (m : Reading) (c : RegionContext) (these : ℕ → Life) (live : ℕ → Bool) → StandBy m c these live → AgreesWith c (lives_of these)
 agrees_by AsHeap c these live are = λ a b outlives. subst (λ l. Outlasts l (lives_of these b)) (sym (heap_lives these live are a)) (for_ever (lives_of these b))
-agrees_by ByScope c these live are = given_agree c (lives_of these) are.agrees
+agrees_by (ByScope lends) c these live are = given_agree c (lives_of these) are.agrees
 
 -- ---- what is known of other regions
 
 -- other regions stand for the same; read as the heap, all do
 abbrev pub IsOtherBy : Reading → ℕ → Region → Type 0
 IsOtherBy AsHeap n r = Unit {0}
-IsOtherBy ByScope n r = IsOther n r
+IsOtherBy (ByScope lends) n r = IsOther n r
 
 -- the life of a region that is opened
 abbrev pub opened_life : Reading → (region : ℕ) → (around : List ℕ) → Life
 opened_life AsHeap region ns = heap_life
-opened_life ByScope region ns = OfRegion region ns
+opened_life (ByScope lends) region ns = OfRegion region ns
 
 opened_same : (m : Reading) (number region : ℕ) (ns : List ℕ) (c : RegionContext) (bs : List InScope) → Stand m c bs → (r : Region) → IsOtherBy m number r
     → lives_in bs r ≡ lives_in (Names number (opened_life m region ns) true ∷ bs) r
@@ -198,7 +280,7 @@ opened_same AsHeap number region ns c bs stand r other =
     let before = heap_lives (λ n. life_named bs n) (λ n. is_live_named bs n) stand r in
     let now = heap_lives (λ n. life_named (Names number heap_life true ∷ bs) n) (λ n. is_live_named (Names number heap_life true ∷ bs) n) (named_heap number (λ n. life_named bs n) (λ n. is_live_named bs n) stand) r in
     before ∙ sym now
-opened_same ByScope number region ns c bs stand r other = other_life number (OfRegion region ns) true bs r other
+opened_same (ByScope lends) number region ns c bs stand r other = other_life number (OfRegion region ns) true bs r other
 
 in_value : (P Q : Region → Type 0) → ((r : Region) → P r → Q r) → (v : ValueType) → AllInValue P v → AllInValue Q v
 in_value P Q so types.Void all = tt
@@ -212,7 +294,7 @@ every_value P so (types.Value t) = every_in P so t
 
 others_value : (m : Reading) (n : ℕ) (c : RegionContext) (vs : List LocalInScope) (result : Option Ty) → AreKnown m n c vs result → AllInValue (IsOtherBy m n) (result_type result)
 others_value AsHeap n c vs result known = every_value (λ r. Unit {0}) (λ r. tt) (result_type result)
-others_value ByScope n c vs result known = in_value (IsKnown n) (IsOther n) (known_other n) (result_type result) known.gives
+others_value (ByScope lends) n c vs result known = in_value (IsKnown n) (IsOther n) (known_other n) (result_type result) known.gives
 
 abbrev AreOthers : Reading → ℕ → List LocalInScope → Type 0
 AreOthers m n [] = Unit {0}
@@ -222,17 +304,17 @@ no_others : (n : ℕ) (vs : List LocalInScope) → AreOthers AsHeap n vs
 no_others n [] = tt
 no_others n (v ∷ vs) = ((every_in (λ r. Unit {0}) (λ r. tt) v.of_type, tt), no_others n vs)
 
-known_others : (n : ℕ) (vs : List LocalInScope) → AreKnownLocals n vs → AreOthers ByScope n vs
-known_others n [] known = tt
-known_others n (v ∷ vs) ((of_type, region), known) = ((all_in (IsKnown n) (IsOther n) (known_other n) v.of_type of_type, known_other n (regions.Variable v.region) region), known_others n vs known)
+known_others : (lends : Bool) (n : ℕ) (vs : List LocalInScope) → AreKnownLocals n vs → AreOthers (ByScope lends) n vs
+known_others lends n [] known = tt
+known_others lends n (v ∷ vs) ((of_type, region), known) = ((all_in (IsKnown n) (IsOther n) (known_other n) v.of_type of_type, known_other n (regions.Variable v.region) region), known_others lends n vs known)
 
 others_locals : (m : Reading) (n : ℕ) (c : RegionContext) (vs : List LocalInScope) (result : Option Ty) → AreKnown m n c vs result → AreOthers m n vs
 others_locals AsHeap n c vs result known = no_others n vs
-others_locals ByScope n c vs result known = known_others n vs known.locals
+others_locals (ByScope lends) n c vs result known = known_others lends n vs known.locals
 
 homed_kept : (m : Reading) (j k : Lives) (region : ℕ) (l : Life) → j (regions.Variable region) ≡ k (regions.Variable region) → IsHomed m j region l → IsHomed m k region l
 homed_kept AsHeap j k region l same is = tt
-homed_kept ByScope j k region l same is = is ∙ same
+homed_kept (ByScope lends) j k region l same is = is ∙ same
 
 -- a scope stays where all that it names stands for the same
 pub scope_kept : (m : Reading) (n : ℕ) (j k : Lives) (vs : List LocalInScope) (bs : List InScope) → ((r : Region) → IsOtherBy m n r → j r ≡ k r) → AreOthers m n vs → IsScope m j vs bs → IsScope m k vs bs
@@ -252,7 +334,7 @@ locals_more n m (v ∷ vs) most ((of_type, region), known) =
 
 pub known_behind : (m : Reading) (n k : ℕ) (c : RegionContext) (vs : List LocalInScope) (result : Option Ty) → n ≤ k → AreKnown m n c vs result → AreKnown m k c vs result
 known_behind AsHeap n k c vs result most known = tt
-known_behind ByScope n k c vs result most known = record {
+known_behind (ByScope lends) n k c vs result most known = record {
   live = λ r has. known_more n k r most (known.live r has);
   pairs = λ a b has. (known_more n k a most (known.pairs a b has).0, known_more n k b most (known.pairs a b has).1);
   locals = locals_more n k vs most known.locals;
@@ -262,7 +344,7 @@ known_behind ByScope n k c vs result most known = record {
 known_opened : (m : Reading) (n : ℕ) (kind : ScopeKind) (c : RegionContext) (vs : List LocalInScope) (result : Option Ty) → AreKnown m n c vs result
     → AreKnown m (suc n) (with_scope kind (regions.Variable n) c) vs result
 known_opened AsHeap n kind c vs result known = tt
-known_opened ByScope n kind c vs result known = record {
+known_opened (ByScope lends) n kind c vs result known = record {
   live = live;
   pairs = λ a b has. (known_more n (suc n) a most (known.pairs a b has).0, known_more n (suc n) b most (known.pairs a b has).1);
   locals = locals_more n (suc n) vs most known.locals;
@@ -281,7 +363,7 @@ known_opened ByScope n kind c vs result known = record {
 pub known_local : (m : Reading) (c : Context) (b : Bool) (t : Ty) → AreKnown m c.next_region c.regions c.locals c.result → IsNew m c t
     → AreKnown m c.next_region c.regions (with_local b t c).locals c.result
 known_local AsHeap c b t known new = tt
-known_local ByScope c b t known (declared, live) = record {
+known_local (ByScope lends) c b t known (declared, live) = record {
   live = known.live;
   pairs = known.pairs;
   locals = ((declared, known.live (regions.Variable c.region) live), known.locals);
@@ -294,29 +376,33 @@ pub stand_opened : (m : Reading) (kind : ScopeKind) (number region : ℕ) (ns : 
     → ((r : Region) → Contains (live_regions c.live c.opened) r → IsOtherBy m number r) → ((a b : Region) → Contains c.written (a, b) → IsOtherBy m number a × IsOtherBy m number b)
     → Stand m c bs → Stand m (with_scope kind (regions.Variable number) c) (Names number (opened_life m region ns) true ∷ bs)
 stand_opened AsHeap kind number region ns c bs outlived live others pairs stand = named_heap number (λ n. life_named bs n) (λ n. is_live_named bs n) stand
-stand_opened ByScope kind number region ns c bs outlived live others pairs stand = opened_named kind number region ns c bs outlived live others pairs stand
+stand_opened (ByScope lends) kind number region ns c bs outlived live others pairs stand = opened_named kind number region ns c bs outlived live others pairs stand
 
 known_live : (m : Reading) (n : ℕ) (c : RegionContext) (vs : List LocalInScope) (result : Option Ty) → AreKnown m n c vs result → (r : Region) → Contains (live_regions c.live c.opened) r → IsOtherBy m n r
 known_live AsHeap n c vs result known r has = tt
-known_live ByScope n c vs result known r has = known_other n r (known.live r has)
+known_live (ByScope lends) n c vs result known r has = known_other n r (known.live r has)
 
 known_pairs : (m : Reading) (n : ℕ) (c : RegionContext) (vs : List LocalInScope) (result : Option Ty) → AreKnown m n c vs result → (a b : Region) → Contains c.written (a, b) → IsOtherBy m n a × IsOtherBy m n b
 known_pairs AsHeap n c vs result known a b has = (tt, tt)
-known_pairs ByScope n c vs result known a b has = (known_other n a (known.pairs a b has).0, known_other n b (known.pairs a b has).1)
+known_pairs (ByScope lends) n c vs result known a b has = (known_other n a (known.pairs a b has).0, known_other n b (known.pairs a b has).1)
 
 pub opened_lasting : (m : Reading) (region : ℕ) (ns : List ℕ) → IsLasting (region ∷ ns) (opened_life m region ns)
 opened_lasting AsHeap region ns = inl refl
-opened_lasting ByScope region ns = inr whole
+opened_lasting (ByScope lends) region ns = inr whole
+
+pub opened_known : (g : Typing) (m : Reading) (region : ℕ) (ns : List ℕ) → IsKnownLife g (opened_life m region ns)
+opened_known g AsHeap region ns = tt
+opened_known g (ByScope lends) region ns = tt
 
 pub new_home : (m : Reading) (number region : ℕ) (ns : List ℕ) (bs : List InScope) → IsHome m number (Home region ∷ Names number (opened_life m region ns) true ∷ bs)
 new_home AsHeap number region ns bs = tt
-new_home ByScope number region ns bs =
+new_home (ByScope lends) number region ns bs =
     (subst (λ l. IsNumber l region) (sym (same_name number (OfRegion region ns) (life_named bs number))) refl, same_name number true (is_live_named bs number))
 
 same_home : (m : Reading) (number region : ℕ) (ns : List ℕ) (c : Context) (bs : List InScope) → (AreKnown m c.next_region c.regions c.locals c.result) → number ≡ c.next_region → IsLive c (regions.Variable c.region)
     → IsHome m c.region bs → IsHome m c.region (Names number (opened_life m region ns) true ∷ bs)
 same_home AsHeap number region ns c bs known same live is = tt
-same_home ByScope number region ns c bs known same live (at_home, there) =
+same_home (ByScope lends) number region ns c bs known same live (at_home, there) =
     let less : c.region < c.next_region = known.live (regions.Variable c.region) live in
     let apart : c.region ≢ number = (λ e. (let k : c.region ≡ number = e in absurd (omega (arith, less, k, same)))) in (
       subst (λ l. IsNumber l (home_of bs)) (sym (other_name number c.region (OfRegion region ns) (life_named bs c.region) apart)) at_home,
@@ -365,6 +451,7 @@ module _ (p : Source) (x : Exits) (bs : List InScope) (c : Context) (stands : Is
       known = known_opened p.reading c.next_region scopes.Block c.regions c.locals c.result stands.known;
       regions = stand_here scopes.Block refl;
       home = new_home p.reading c.next_region region ns bs;
+      lent = lent_more (Home region) here x.locks (lent_more (Names c.next_region (opened_life p.reading region ns) true) bs x.locks stands.lent);
     }
 
     -- behind a lexical region
@@ -382,7 +469,126 @@ module _ (p : Source) (x : Exits) (bs : List InScope) (c : Context) (stands : Is
       known = known_opened p.reading c.next_region scopes.Lexical c.regions c.locals c.result stands.known;
       regions = stand_here scopes.Lexical refl;
       home = same_home p.reading c.next_region region ns c bs stands.known refl alive stands.home;
+      lent = lent_more (Names c.next_region (opened_life p.reading region ns) true) bs x.locks stands.lent;
     }
+
+-- ---- what is lent
+
+lent_added : (ns : List ℕ) (n object : ℕ) (bs : List InScope) → AreLent ns bs → AreLent (ns ++ n ∷ []) (Lent n object ∷ bs)
+lent_added [] n object bs are = ((object, newest bs), tt)
+lent_added (m ∷ ns) n object bs ((other, among), are) = ((other, later (Lent n object) bs among), lent_added ns n object bs are)
+
+-- where the local of this number is lent
+pub context_lent : (p : Source) (x : Exits) (bs : List InScope) (c : Context) → IsContext p x bs c → (n object : ℕ) → n < c.next_local → IsContext p (lending x n) (Lent n object ∷ bs) c
+context_lent p x bs c stands n object less = record {
+  globals = stands.globals;
+  functions = stands.functions;
+  structs = stands.structs;
+  result = stands.result;
+  gives = stands.gives;
+  loop = stands.loop;
+  scope = (c.locals, refl, stands.scope);
+  below = (less, stands.below);
+  counters = λ l few. later (Lent n object) bs (stands.counters l few);
+  known = stands.known;
+  regions = stands.regions;
+  home = stands.home;
+  lent = lent_added x.locks n object bs stands.lent;
+}
+
+-- the name of a new region
+name_same : (m : Reading) → HasLoans m → (number : ℕ) (l : Life) (alive : Bool) (bs : List InScope) (r : Region) → IsOtherBy m number r → lives_in bs r ≡ lives_in (Names number l alive ∷ bs) r
+name_same AsHeap loans number l alive bs r other = absurd loans
+name_same (ByScope lends) loans number l alive bs r other = other_life number l alive bs r other
+
+stand_named : (m : Reading) → HasLoans m → (number : ℕ) (l : Life) (alive : Bool) (c : RegionContext) (bs : List InScope)
+    → ((r : Region) → Contains (live_regions c.live c.opened) r → IsOtherBy m number r) → ((a b : Region) → Contains c.written (a, b) → IsOtherBy m number a × IsOtherBy m number b)
+    → Stand m c bs → Stand m c (Names number l alive ∷ bs)
+stand_named AsHeap loans number l alive c bs others pairs stand = absurd loans
+stand_named (ByScope lends) loans number l alive c bs others pairs stand =
+    renamed number l alive c bs (IsOther number) (λ r other. other_life number l alive bs r other) (λ r other there. other_there number l alive bs r other there) others pairs stand
+
+stand_again : (m : Reading) → HasLoans m → (number : ℕ) (c : RegionContext) (bs : List InScope) → Stand m c bs → Stand m c (Names number (life_named bs number) true ∷ bs)
+stand_again AsHeap loans number c bs stand = absurd loans
+stand_again (ByScope lends) loans number c bs stand =
+    renamed number (life_named bs number) true c bs (λ r. Unit {0}) (λ r is. again_life number bs r) (λ r is there. again_there number (life_named bs number) bs r there) (λ r has. tt) (λ a b has. (tt, tt)) stand
+
+stand_also : (m : Reading) → HasLoans m → (kind : ScopeKind) (number : ℕ) (l : Life) (c : RegionContext) (bs : List InScope) → is_outlived_by_live kind ≡ false → Stand m c (Names number l true ∷ bs)
+    → Stand m (with_scope kind (regions.Variable number) c) (Names number l true ∷ bs)
+stand_also AsHeap loans kind number l c bs older stand = absurd loans
+stand_also (ByScope lends) loans kind number l c bs older stand =
+    also_opened kind number c (λ n. life_named (Names number l true ∷ bs) n) (λ n. is_live_named (Names number l true ∷ bs) n) older (same_name number true (is_live_named bs number)) stand
+
+home_named : (m : Reading) (region number : ℕ) (l : Life) (alive : Bool) (bs : List InScope) → life_named bs region ≡ life_named (Names number l alive ∷ bs) region
+    → (is_live_named bs region ≡ true → is_live_named (Names number l alive ∷ bs) region ≡ true) → IsHome m region bs → IsHome m region (Names number l alive ∷ bs)
+home_named AsHeap region number l alive bs same still is = tt
+home_named (ByScope lends) region number l alive bs same still (at_home, there) = (subst (λ k. IsNumber k (home_of bs)) same at_home, still there)
+
+known_again : (m : Reading) (n r : ℕ) (c : RegionContext) (vs : List LocalInScope) (result : Option Ty) → r < n → AreKnown m n c vs result → AreKnown m n (with_scope scopes.Dynamic (regions.Variable r) c) vs result
+known_again AsHeap n r c vs result less known = tt
+known_again (ByScope lends) n r c vs result less known = record { live = live; pairs = known.pairs; locals = known.locals; gives = known.gives }
+  where
+    live : (s : Region) → Contains (regions.Variable r ∷ live_regions c.live c.opened) s → IsKnown n s
+    live s has = elim (contains_later (regions.Variable r) s (live_regions c.live c.opened) has) [
+      | inl new ↦ subst (λ z. IsKnown n z) new less
+      | inr old ↦ known.live s old
+    ]
+
+live_other : (m : Reading) (c : Context) → AreKnown m c.next_region c.regions c.locals c.result → HasLoans m → IsLive c (regions.Variable c.region) → c.region ≢ c.next_region
+live_other AsHeap c known loans live = absurd loans
+live_other (ByScope lends) c known loans live = let less : c.region < c.next_region = known.live (regions.Variable c.region) live in λ e. absurd (omega (arith, less, e))
+
+module _ (p : Source) (x : Exits) (bs : List InScope) (c : Context) (stands : IsContext p x bs c) (loans : HasLoans p.reading) (alive : IsLive c (regions.Variable c.region)) where
+  context_named : (number : ℕ) (l : Life) (live : Bool) → ((r : Region) → IsOtherBy p.reading c.next_region r → lives_in bs r ≡ lives_in (Names number l live ∷ bs) r) → (n : ℕ) (regions : RegionContext)
+      → AreKnown p.reading n regions c.locals c.result → Stand p.reading regions (Names number l live ∷ bs) → IsHome p.reading c.region (Names number l live ∷ bs)
+      → IsContext p x (Names number l live ∷ bs) (record c { next_region = n; regions = regions })
+  context_named number l live same n regions known stand at_home =
+      let inner : List InScope = Names number l live ∷ bs in
+      record {
+        globals = stands.globals;
+        functions = stands.functions;
+        structs = stands.structs;
+        result = stands.result;
+        gives = sym (value_alike (lives_in bs) (lives_in inner) (result_type c.result)
+            (in_value (IsOtherBy p.reading c.next_region) (λ r. lives_in bs r ≡ lives_in inner r) same (result_type c.result)
+            (others_value p.reading c.next_region c.regions c.locals c.result stands.known))) ∙ stands.gives;
+        loop = stands.loop;
+        scope = (c.locals, refl, scope_kept p.reading c.next_region (lives_in bs) (lives_in inner) c.locals bs same (others_locals p.reading c.next_region c.regions c.locals c.result stands.known) stands.scope);
+        below = (tt, stands.below);
+        counters = λ k less. later (Names number l live) bs (stands.counters k less);
+        known = known;
+        regions = stand;
+        home = at_home;
+        lent = lent_more (Names number l live) bs x.locks stands.lent;
+      }
+
+  stand_new : (l : Life) (live : Bool) → Stand p.reading c.regions (Names c.next_region l live ∷ bs)
+  stand_new l live = stand_named p.reading loans c.next_region l live c.regions bs (known_live p.reading c.next_region c.regions c.locals c.result stands.known)
+      (known_pairs p.reading c.next_region c.regions c.locals c.result stands.known) stands.regions
+
+  home_new : (l : Life) (live : Bool) → IsHome p.reading c.region (Names c.next_region l live ∷ bs)
+  home_new l live =
+      let apart = live_other p.reading c stands.known loans alive in
+      home_named p.reading c.region c.next_region l live bs (sym (other_name c.next_region c.region l (life_named bs c.region) apart))
+      (λ there. other_name c.next_region c.region live (is_live_named bs c.region) apart ∙ there) stands.home
+
+  -- behind a key, whose region is not open
+  pub context_key : (l : Life) → IsContext p x (Names c.next_region l false ∷ bs) (with_region c)
+  context_key l = context_named c.next_region l false (name_same p.reading loans c.next_region l false bs) (suc c.next_region) c.regions
+      (known_behind p.reading c.next_region (suc c.next_region) c.regions c.locals c.result (let most : c.next_region ≤ suc c.next_region = omega arith in most) stands.known) (stand_new l false) (home_new l false)
+
+  -- behind an alias
+  pub context_alias : (l : Life) → IsContext p x (Names c.next_region l true ∷ bs) (with_opened scopes.Alias c)
+  context_alias l = context_named c.next_region l true (name_same p.reading loans c.next_region l true bs) (suc c.next_region) (with_scope scopes.Alias (regions.Variable c.next_region) c.regions)
+      (known_opened p.reading c.next_region scopes.Alias c.regions c.locals c.result stands.known)
+      (stand_also p.reading loans scopes.Alias c.next_region l c.regions bs refl (stand_new l true)) (home_new l true)
+
+  -- where the region of a key is open
+  pub context_again : (r : ℕ) → r < c.next_region → IsContext p x (Names r (life_named bs r) true ∷ bs) (with_key_opened r c)
+  context_again r less = context_named r (life_named bs r) true (λ s other. again_life r bs s) c.next_region (with_scope scopes.Dynamic (regions.Variable r) c.regions)
+      (known_again p.reading c.next_region r c.regions c.locals c.result less stands.known)
+      (stand_also p.reading loans scopes.Dynamic r (life_named bs r) c.regions bs refl (stand_again p.reading loans r c.regions bs stands.regions))
+      (home_named p.reading c.region r (life_named bs r) true bs (again_life r bs (regions.Variable c.region)) (λ there. again_there r (life_named bs r) bs (regions.Variable c.region) there) stands.home)
 
 -- ---- a function begins
 
@@ -392,9 +598,9 @@ other_same m region ns c bs stand r other = opened_same m 0 region ns c bs stand
 
 named_other : (m : Reading) (k : ℕ) (r : Region) → IsNamed k r → IsOtherBy m 0 r
 named_other AsHeap k r named = tt
-named_other ByScope k regions.Heap named = tt
-named_other ByScope k regions.Unique named = tt
-named_other ByScope k (regions.Variable n) (some, most) = λ e. (let z : n ≡ 0 = e in absurd (omega (arith, some, z)))
+named_other (ByScope lends) k regions.Heap named = tt
+named_other (ByScope lends) k regions.Unique named = tt
+named_other (ByScope lends) k (regions.Variable n) (some, most) = λ e. (let z : n ≡ 0 = e in absurd (omega (arith, some, z)))
 
 named_known : (k : ℕ) (r : Region) → IsNamed k r → IsKnown (suc k) r
 named_known k regions.Heap named = tt
@@ -464,7 +670,7 @@ known_parameters k number (t ∷ ts) vs (one, named) known =
 -- and what its body knows was declared
 pub known_body : (m : Reading) (p : Program) (h : Function) → IsWellTypedFunction p h → AreKnown m (suc h.variables) (body_context p h).regions (parameters_in_scope h.parameters 0 []) h.result
 known_body AsHeap p h well = tt
-known_body ByScope p h well = record {
+known_body (ByScope lends) p h well = record {
   live = live;
   pairs = λ a b has. (let (one, two) = named_pairs h.variables h.constraints a b well.constraints has in (named_known h.variables a one, named_known h.variables b two));
   locals = known_parameters h.variables 0 h.parameters [] well.parameters tt;
@@ -507,7 +713,7 @@ field_by : (m : Reading) (c : RegionContext) (bs : List InScope) (rs : List Regi
     → at (lives_among (map (lives_in bs) rs)) t ≡ at (lives_by (lives_in bs) rs) t
 field_by AsHeap c bs rs s t stand count known = read_alike (lives_among (map (lives_in bs) rs)) (lives_by (lives_in bs) rs) t
     (every_in (λ r. lives_among (map (lives_in bs) rs) r ≡ lives_by (lives_in bs) rs r) (field_heap (lives_in bs) rs (heap_lives (λ n. life_named bs n) (λ n. is_live_named bs n) stand)) t)
-field_by ByScope c bs rs s t stand count known = read_alike (lives_among (map (lives_in bs) rs)) (lives_by (lives_in bs) rs) t
+field_by (ByScope lends) c bs rs s t stand count known = read_alike (lives_among (map (lives_in bs) rs)) (lives_by (lives_in bs) rs) t
     (all_in (IsKnown s.parameters) (λ r. lives_among (map (lives_in bs) rs) r ≡ lives_by (lives_in bs) rs r)
     (λ r is. field_lives (lives_in bs) rs r refl refl (subst (λ n. IsKnown n r) (sym count) is)) t known)
 
@@ -533,7 +739,7 @@ fields_mean p x bs c stands rs s count known = all_mean p x bs c stands rs s s.f
 pub global_means : (m : Reading) (c : RegionContext) (bs : List InScope) (t : Ty) → Stand m c bs → IsDeclarable m 0 t → read bs t ≡ at as_heap t
 global_means AsHeap c bs t stand known =
     read_alike (lives_in bs) as_heap t (every_in (λ r. lives_in bs r ≡ heap_life) (heap_lives (λ n. life_named bs n) (λ n. is_live_named bs n) stand) t)
-global_means ByScope c bs t stand known = read_alike (lives_in bs) as_heap t (all_in (IsKnown 0) (λ r. lives_in bs r ≡ heap_life) none t known)
+global_means (ByScope lends) c bs t stand known = read_alike (lives_in bs) as_heap t (all_in (IsKnown 0) (λ r. lives_in bs r ≡ heap_life) none t known)
   where
     none : (r : Region) → IsKnown 0 r → lives_in bs r ≡ heap_life
     none regions.Heap is = refl
@@ -560,7 +766,7 @@ is_among n (r ∷ rs) = is_among n rs
 -- and which of that is live there
 abbrev pub live_by : Reading → List Region → ℕ → Bool
 live_by AsHeap effect k = true
-live_by ByScope effect k = is_among k effect
+live_by (ByScope lends) effect k = is_among k effect
 
 -- where region variables are put in their place
 abbrev IsBase : Lives → Type 0
@@ -636,11 +842,11 @@ module _ (p : Source) (x : Exits) (bs : List InScope) (c : Context) (stands : Is
 
   stand_by : (r : Reading) → Stand r c.regions bs → StandBy r (regions_at_call h) (these_by (lives_in bs) m) (live_by r h.effect)
   stand_by AsHeap stand = λ n. (heap_lives (λ n. life_named bs n) (λ n. is_live_named bs n) stand (substituted_region m (regions.Variable n)), refl)
-  stand_by ByScope stand = instance_by_scope
+  stand_by (ByScope lends) stand = instance_by_scope
 
   lasting_by : (r : Reading) → Stand r c.regions bs → (n : ℕ) → live_by r h.effect n ≡ true → (s : Region) × IsThere bs s × (lives_in bs s ≡ these_by (lives_in bs) m n)
   lasting_by AsHeap stand n live = (substituted_region m (regions.Variable n), heap_there (λ n. life_named bs n) (λ n. is_live_named bs n) stand (substituted_region m (regions.Variable n)), refl)
-  lasting_by ByScope stand n live = (substituted_region m (regions.Variable n), there_of p x bs c stands (substituted_region m (regions.Variable n)) (among_live c m h.effect n alive live), refl)
+  lasting_by (ByScope lends) stand n live = (substituted_region m (regions.Variable n), there_of p x bs c stands (substituted_region m (regions.Variable n)) (among_live c m h.effect n alive live), refl)
 
   pub instance_is : IsInstance p bs h (these_by (lives_in bs) m) (live_by p.reading h.effect)
-  instance_is = record { stand = stand_by p.reading stands.regions; lasting = lasting_by p.reading stands.regions }
+  instance_is = record { stand = stand_by p.reading stands.regions; lasting = lasting_by p.reading stands.regions; named = λ n. (substituted_region m (regions.Variable n), refl) }

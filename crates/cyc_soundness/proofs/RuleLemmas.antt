@@ -1,14 +1,11 @@
 -- What the flow rules only lower: what is known at breaks, and what is known behind a `try`.
-use Rattle.std.proofs.Common.{◌≡◌, ℕ, suc, ◌+◌, [], refl, sym, subst}
+use Rattle.std.proofs.Common.{◌≡◌, [], ◌++◌, refl, sym, subst, append-nil}
 use Rattle.cyc_types.specs.TypedTrees.{Statement, Block, Empty, Evaluate, Swap, If, While, Return, Break, Continue, Throw, Try, Items, NoItems, MoreItems, Item, Execute, Declare, DeclareRegion, OpenRegion, DeclareAlias, DeclareKey, Clauses, NoClauses, Default, Case}
-use Rattle.cyc_types.specs.Declarations.{declared_regions}
 use Rattle.cyc_types.specs.Rules.{Derives}
 use Rattle.cyc_types.specs.flow.States.{State, Unreached, Full, meet, with_each}
 use Rattle.cyc_types.specs.flow.Statements.{Around, Known, left_loop, locks_of, behind_item, at_end, or_clause, with_caught, rule_statement, rule_items, rule_item, rule_clauses}
 use Rattle.cyc_types.specs.flow.Statements as statements
 use Rattle.cyc_soundness.specs.Frames.{Implies}
-use Rattle.cyc_soundness.specs.Lives.{Reading}
-use Rattle.cyc_soundness.specs.Classes.{InItems}
 use Rattle.cyc_soundness.proofs.FlowLemmas.{implies_self, implies_after, meet_first}
 
 carried : (b : State) (k m : Known) → m ≡ k → Implies b k.breaks → Implies b m.breaks
@@ -57,12 +54,6 @@ clauses_implied c start (Case x n r js cs) k m (l, d, later) =
     implies_after k.now (meet k.now (with_each Full (locks_of js) l.now)) m.now (meet_first k.now (with_each Full (locks_of js) l.now))
     (clauses_implied c start cs (or_clause k.now js l) m later)
 
--- items of these programs lock nothing
-pub no_locks : (m : Reading) (n : ℕ) (js : Items) → InItems m n js → locks_of js ≡ []
-no_locks m n NoItems kept = refl
-no_locks m n (MoreItems (Execute s) js) (one, kept) = no_locks m (n + declared_regions s) js kept
-no_locks m n (MoreItems (Declare l t v) js) (named, one, kept) = no_locks m n js kept
-no_locks m n (MoreItems (DeclareRegion r l) js) (scopes, kept) = no_locks m (suc n) js kept
-no_locks m n (MoreItems (OpenRegion r l p key) js) kept = absurd kept
-no_locks m n (MoreItems (DeclareAlias r l t p source) js) kept = absurd kept
-no_locks m n (MoreItems (DeclareKey r l) js) kept = absurd kept
+-- an item that locks nothing leaves the rules where they were
+pub nothing_locked : (c : Around) (js : Items) (k m : Known) → Derives (rule_items (record c { locks = c.locks ++ [] }) js k) m → Derives (rule_items c js k) m
+nothing_locked c js k m d = subst (λ ns. Derives (rule_items (record c { locks = ns }) js k) m) (append-nil c.locks) d

@@ -10,23 +10,23 @@ use Rattle.cyc_types.specs.TypedTrees.{Operations, NoOperations, ThenCompute, Th
 use Rattle.cyc_types.specs.typing.Tests.{is_tested, is_moved}
 use Rattle.cyc_types.specs.typing.WellTyped.{LocalInScope, Context, HasLocal, HasPlace, Converts, PointerOperation, adds, subtracts, equals, differs, thin_null, thin_there, fat_null, fat_there, null_is, null_is_not, IsChain}
 use Rattle.cyc_types.specs.flow.States as flow
-use Rattle.cyc_types.specs.flow.States.{Full, with_fullness}
+use Rattle.cyc_types.specs.flow.States.{Full, with_fullness, with_each, is_reached}
 use Rattle.cyc_meaning.specs.Values as values
-use Rattle.cyc_meaning.specs.State.{Region, Access, Found, Closed, Missing, found_region, is_open, heap_number, globals_number, World, FillElement, AwaitingPlace, SwapRight, Write, Environment, with_local, Awaiting, Entry, Needs, NeedsPlace, Discard, Rest, Join, Loop, CloseRegion, CloseLexical, Handler, Caller, Main}
+use Rattle.cyc_meaning.specs.State.{Object, Region, Access, Found, Closed, Missing, found_region, is_open, heap_number, globals_number, World, FillElement, AwaitingPlace, SwapRight, Write, Environment, with_local, Awaiting, Entry, Needs, NeedsPlace, Discard, Rest, Join, Loop, CloseRegion, CloseLexical, EndLoan, Handler, Caller, Main}
 use Rattle.cyc_meaning.specs.Nesting.{ends_of, IsFound, AreOpen, IsHome, IsNested}
 use Rattle.cyc_meaning.specs.Nesting as nesting
-use Rattle.cyc_soundness.specs.Lives.{Life, OfRegion, OfObject, Never, heap_life, RunTy, RunValue, Void, Null, Value, Lives, at, value_at, Reading}
+use Rattle.cyc_soundness.specs.Lives.{Life, OfRegion, OfObject, Never, Kept, heap_life, RunTy, RunValue, Void, Null, Value, Lives, at, value_at, Reading}
 use Rattle.cyc_soundness.specs.Lives as lives
-use Rattle.cyc_soundness.specs.Worlds.{Typing, IsFull, variable_type, IsEndOf, whole, behind, Outlasts, alike, heap as for_ever, globals as with_globals, encloses, IsOpenLife, Grows}
-use Rattle.cyc_soundness.specs.Frames.{IsAmong, first, later, Bound, InScope, Variable, Level, Home, lives_in, read, home_of, IsHomed, IsScope, AreBelow, IsBound, AreVariables, IsLasting, AreLiveIn, home_in, LiveIn, IsInner, Within, itself, older, IsSet, AreSet, Holds, Exits}
+use Rattle.cyc_soundness.specs.Worlds.{ObjectType, Typing, IsKnownLife, IsTyped, IsFull, variable_type, IsEndOf, whole, behind, Outlasts, alike, heap as for_ever, globals as with_globals, stays, encloses, IsOpenLife, Grows}
+use Rattle.cyc_soundness.specs.Frames.{IsAmong, first, later, Bound, InScope, Variable, Level, Home, Lent, lives_in, read, home_of, IsHomed, IsScope, AreBelow, IsBound, AreVariables, IsLasting, AreLiveIn, home_in, LiveIn, IsInner, Within, itself, older, IsSet, AreSet, Holds, Exits, AreLent}
 use Rattle.cyc_soundness.specs.Classes.{InOperations, Source}
 use Rattle.cyc_soundness.specs.Stacks.{IsAccepted, Want, Nothing, Val, PlaceOf, Go, held, Waits, IsArrayOf, Keeps, IsSpot, of_local, of_global, of_cell, KeepsPlace, AreSwapped, IsStack}
 use Rattle.cyc_soundness.specs.Stacks as stacks
 use Rattle.cyc_soundness.proofs.Numbers.{same_or_other}
-use Rattle.cyc_soundness.proofs.FlowLemmas.{other_set}
+use Rattle.cyc_soundness.proofs.FlowLemmas.{other_set, reached_with}
 use Rattle.cyc_soundness.proofs.ValueLemmas.{ends_through}
 use Rattle.cyc_soundness.proofs.RegionLemmas.{lasting_more}
-use Rattle.cyc_soundness.proofs.WorldLemmas.{type_grown, result_grown, operands_grown, variables_grown, holds_grown}
+use Rattle.cyc_soundness.proofs.WorldLemmas.{dynamic_open, type_grown, result_grown, operands_grown, variables_grown, holds_grown}
 
 -- the functions of a program, each of which the rules accept
 abbrev pub AreAccepted : Source → Type 0
@@ -67,6 +67,7 @@ module _ (p : Source) (g h : Typing) (grows : Grows g h) where
   stack_grown x bs (Go f) (Loop condition body ∷ k) (y, l, v, u, end, same, loop, i, rest) = (y, l, v, u, end, same, loop, i, stack_grown y bs (Go end) k rest)
   stack_grown x bs (Go f) (CloseRegion region home ∷ k) (cs, number, l, alive, end, same, i, live, rest) = (cs, number, l, alive, end, same, i, live, stack_grown x cs (Go end) k rest)
   stack_grown x bs (Go f) (CloseLexical region ∷ k) (end, i, live, rest) = (end, i, live, stack_grown x bs (Go end) k rest)
+  stack_grown x bs (Go f) (EndLoan lent ∷ k) (y, same, rest) = (y, same, stack_grown y bs (Go f) k rest)
   stack_grown x bs (Go f) (Handler cs ∷ k) (c, start, end, stands, holds, catches, i, rest) =
       (c, start, end, stands, holds_grown g h grows start bs holds, catches, i, stack_grown x bs (Go end) k rest)
   stack_grown x bs (Go f) (Caller e ∷ k) (y, cs, end, loop, blocked, gives, bound, variables, live, holds, rest) = (
@@ -169,6 +170,8 @@ void_waits {bs = bs} (stacks.chooses c d v f g h i tested first_stands second_st
 void_waits {bs = bs} (stacks.tests l v f h loop) e = void_tested (lives_in bs) v e loop.tested
 void_waits (stacks.returns t u f h result gives) e = value_void e
 void_waits (stacks.throws f h) e = value_void e
+void_waits (stacks.opens_by cs c b r f h loans within stands among number set less alive next continues) e = value_void e
+void_waits (stacks.aliases cs c b u t f h loans within stands among number set unique known of_type alive next continues) e = value_void e
 
 pub void_goes : (p : Source) (g : Typing) (x : Exits) (bs : List InScope) (f : flow.State) (r : RunValue) (k : List Entry) → r ≡ Void → IsStack p g x bs (Val r f) k → IsStack p g x bs (Go f) k
 void_goes p g x bs f r (Needs a ∷ k) e (ts, cs, next, waits, are, rest) = absurd (void_waits waits e)
@@ -267,6 +270,7 @@ within_holds g f cs bs within (reached, are) = (reached, within_set g f cs bs wi
 pub below_more : (n m : ℕ) (bs : List InScope) → n ≤ m → AreBelow n bs → AreBelow m bs
 below_more n m [] less are = tt
 below_more n m (Variable b ∷ bs) less (is, are) = (omega (arith, less, is), below_more n m bs less are)
+below_more n m (Lent k object ∷ bs) less (is, are) = (omega (arith, less, is), below_more n m bs less are)
 below_more n m (b ∷ bs) less (is, are) = (tt, below_more n m bs less are)
 
 -- ---- a local more, and one that is stored
@@ -282,6 +286,8 @@ pub bound_more : (e : Environment) (number object : ℕ) (bs : List InScope) →
 bound_more e number object [] below are = tt
 bound_more e number object (Variable b ∷ bs) (less, below) (is, are) =
     (local_other e number b.number object (λ e. (let k : b.number ≡ number = e in absurd (omega (arith, less, k)))) ∙ is, bound_more e number object bs below are)
+bound_more e number object (Lent n o ∷ bs) (less, below) (is, are) =
+    (local_other e number n object (λ e. (let k : n ≡ number = e in absurd (omega (arith, less, k)))) ∙ is, bound_more e number object bs below are)
 bound_more e number object (b ∷ bs) (less, below) (is, are) = (is, bound_more e number object bs below are)
 
 pub set_more : (g : Typing) (a : flow.Fullness) (f : flow.State) (number : ℕ) (bs : List InScope) → AreBelow number bs → AreSet g f bs → AreSet g (with_fullness a f number) bs
@@ -291,16 +297,51 @@ set_more g a f number (Variable b ∷ bs) (less, below) (is, are) =
 set_more g a f number (b ∷ bs) (less, below) (is, are) = (tt, set_more g a f number bs below are)
 
 -- two numbers that are one lead to one object
-pub set_stored : (g : Typing) (e : Environment) (f : flow.State) (number object : ℕ) (bs : List InScope) → IsBound e.locals e.counters bs → e.locals number ≡ Some object → IsFull g object → AreSet g f bs → AreSet g (with_fullness Full f number) bs
-set_stored g e f number object [] bound there full are = tt
-set_stored g e f number object (Variable b ∷ bs) (here, bound) there full (is, are) = (go, set_stored g e f number object bs bound there full are)
+pub set_stored : (g : Typing) (e : Environment) (a : flow.Fullness) (f : flow.State) (number object : ℕ) (bs : List InScope) → IsBound e.locals e.counters bs → e.locals number ≡ Some object → IsFull g object → AreSet g f bs → AreSet g (with_fullness a f number) bs
+set_stored g e a f number object [] bound there full are = tt
+set_stored g e a f number object (Variable b ∷ bs) (here, bound) there full (is, are) = (go, set_stored g e a f number object bs bound there full are)
   where
-    go : IsSet (with_fullness Full f number) b.number → IsFull g b.object
+    go : IsSet (with_fullness a f number) b.number → IsFull g b.object
     go s = elim (same_or_other b.number number) [
       | inl same ↦ (let k : Some object ≡ Some b.object = sym there ∙ ap e.locals (sym same) ∙ here in let one : object ≡ b.object = cc in subst (λ o. IsFull g o) one full)
-      | inr apart ↦ is (other_set Full f number b.number apart s)
+      | inr apart ↦ is (other_set a f number b.number apart s)
     ]
-set_stored g e f number object (b ∷ bs) (here, bound) there full (is, are) = (tt, set_stored g e f number object bs bound there full are)
+set_stored g e a f number object (b ∷ bs) (here, bound) there full (is, are) = (tt, set_stored g e a f number object bs bound there full are)
+
+-- ---- what is lent
+
+pub none_among : {A B : Type 0} {a : A} → IsAmong a [] → B
+none_among among = elim among [ ]
+
+among_lent : {n object : ℕ} {bs : List InScope} (e : Environment) → IsAmong (Lent n object) bs → IsBound e.locals e.counters bs → e.locals n ≡ Some object
+among_lent e (first cs) (is, are) = is
+among_lent e (later c cs among) (is, are) = among_lent e among are
+
+lent_full : {n object : ℕ} {bs : List InScope} (g : Typing) → IsAmong (Lent n object) bs → AreVariables g bs → IsFull g object
+lent_full g (first cs) (is, are) = is
+lent_full g (later c cs among) (is, are) = lent_full g among are
+
+lent_one : (n : ℕ) (ns : List ℕ) (bs : List InScope) → IsAmong n ns → AreLent ns bs → (object : ℕ) × IsAmong (Lent n object) bs
+lent_one n ns bs (first ms) (is, are) = is
+lent_one n ns bs (later m ms among) (is, are) = lent_one n ms bs among are
+
+-- some of what is lent
+pub lent_among : (ms ns : List ℕ) (bs : List InScope) → ((n : ℕ) → IsAmong n ms → IsAmong n ns) → AreLent ns bs → AreLent ms bs
+lent_among [] ns bs among are = tt
+lent_among (m ∷ ms) ns bs among are = (lent_one m ns bs (among m (first ms)) are, lent_among ms ns bs (λ n is. among n (later m ms is)) are)
+
+lent_set : (g : Typing) (e : Environment) (ns : List ℕ) (f : flow.State) (bs : List InScope) → IsBound e.locals e.counters bs → AreVariables g bs → AreLent ns bs → AreSet g f bs → AreSet g (with_each Full ns f) bs
+lent_set g e [] f bs bound variables lent are = are
+lent_set g e (n ∷ ns) f bs bound variables ((object, among), lent) are =
+    lent_set g e ns (with_fullness Full f n) bs bound variables lent (set_stored g e Full f n object bs bound (among_lent e among bound) (lent_full g among variables) are)
+
+each_reached : (a : flow.Fullness) (ns : List ℕ) (f : flow.State) → is_reached f ≡ true → is_reached (with_each a ns f) ≡ true
+each_reached a [] f reached = reached
+each_reached a (n ∷ ns) f reached = each_reached a ns (with_fullness a f n) (reached_with a f n reached)
+
+-- what is lent holds something, and so is full where it is given back
+pub lent_holds : (g : Typing) (e : Environment) (ns : List ℕ) (f : flow.State) (bs : List InScope) → IsBound e.locals e.counters bs → AreVariables g bs → AreLent ns bs → Holds g f bs → Holds g (with_each Full ns f) bs
+lent_holds g e ns f bs bound variables lent (reached, are) = (each_reached Full ns f reached, lent_set g e ns f bs bound variables lent are)
 
 -- ---- regions that will end
 
@@ -361,23 +402,39 @@ end_among : (m : ℕ) (ms ns : List ℕ) → IsEndOf (m ∷ ms) ns → IsAmong m
 end_among m ms ns whole = first ms
 end_among m ms ns (behind n os end) = later n os (end_among m ms os end)
 
-pub lasting_open : (regions : List Region) (ns : List ℕ) (l : Life) → AreOpen regions ns → is_open (slice_get regions heap_number) ≡ true → IsLasting ns l → IsOpenLife regions l
-lasting_open regions ns (OfRegion m ms) opens heap (inl is_heap) = subst (λ l. IsOpenLife regions l) (sym is_heap) heap
-lasting_open regions ns (OfRegion m ms) opens heap (inr end) = open_of regions (end_among m ms ns end) opens
-lasting_open regions ns (OfObject o) opens heap is = is
-lasting_open regions ns Never opens heap is = is
+-- a dynamic region is open
+abbrev pub IsKeptOpen : List Region → Life → Type 0
+IsKeptOpen regions (Kept number) = is_open (slice_get regions number) ≡ true
+IsKeptOpen regions l = Unit {0}
+
+pub kept_open : (g : Typing) (regions : List Region) (objects : List Object) (l : Life) → IsTyped g regions objects → IsKnownLife g l → IsKeptOpen regions l
+kept_open g regions objects (Kept number) typed known = dynamic_open (slice_get regions number) (typed.kept number known)
+kept_open g regions objects (OfRegion number ns) typed known = tt
+kept_open g regions objects (OfObject object) typed known = tt
+kept_open g regions objects Never typed known = tt
+
+pub object_known : (g : Typing) (regions : List Region) (objects : List Object) (number : ℕ) (t : ObjectType) → IsTyped g regions objects → slice_get g.objects number ≡ Some t → IsKnownLife g t.life
+object_known g regions objects number t typed there = let (x, m, at, flag, is) = typed.each number t there in is.known
+
+pub lasting_open : (regions : List Region) (ns : List ℕ) (l : Life) → AreOpen regions ns → is_open (slice_get regions heap_number) ≡ true → IsKeptOpen regions l → IsLasting ns l → IsOpenLife regions l
+lasting_open regions ns (OfRegion m ms) opens heap kept (inl is_heap) = subst (λ l. IsOpenLife regions l) (sym is_heap) heap
+lasting_open regions ns (OfRegion m ms) opens heap kept (inr end) = open_of regions (end_among m ms ns end) opens
+lasting_open regions ns (OfObject o) opens heap kept is = is
+lasting_open regions ns Never opens heap kept is = is
+lasting_open regions ns (Kept number) opens heap kept is = kept
 
 around_heap : (n : ℕ) (ns : List ℕ) → OfRegion n ns ≡ heap_life → ns ≡ []
 around_heap n ns e = let k : OfRegion n ns ≡ OfRegion 0 [] = e in cc
 
 -- what lasts as long as what has not ended is there
-pub outlasting_open : (regions : List Region) (ns : List ℕ) (l m : Life) → AreOpen regions ns → is_open (slice_get regions heap_number) ≡ true → is_open (slice_get regions globals_number) ≡ true → Outlasts l m
+pub outlasting_open : (regions : List Region) (ns : List ℕ) (l m : Life) → AreOpen regions ns → is_open (slice_get regions heap_number) ≡ true → is_open (slice_get regions globals_number) ≡ true → IsKeptOpen regions l → Outlasts l m
     → IsLasting ns m → IsOpenLife regions l
-outlasting_open regions ns l m opens heap globals (alike _) is = lasting_open regions ns l opens heap is
-outlasting_open regions ns l m opens heap globals (for_ever _) is = heap
-outlasting_open regions ns l m opens heap globals (with_globals _) is = globals
-outlasting_open regions ns l m opens heap globals (encloses a b as' bs end) (inl heap_is) = elim (subst (λ z. IsEndOf (a ∷ as') z) (around_heap b bs heap_is) end) [ ]
-outlasting_open regions ns l m opens heap globals (encloses a b as' bs end) (inr later') = open_of regions (end_among a as' ns (ends_through (a ∷ as') bs b ns end later')) opens
+outlasting_open regions ns l m opens heap globals kept (alike _) is = lasting_open regions ns l opens heap kept is
+outlasting_open regions ns l m opens heap globals kept (for_ever _) is = heap
+outlasting_open regions ns l m opens heap globals kept (with_globals _) is = globals
+outlasting_open regions ns l m opens heap globals kept (stays number _) is = kept
+outlasting_open regions ns l m opens heap globals kept (encloses a b as' bs end) (inl heap_is) = elim (subst (λ z. IsEndOf (a ∷ as') z) (around_heap b bs heap_is) end) [ ]
+outlasting_open regions ns l m opens heap globals kept (encloses a b as' bs end) (inr later') = open_of regions (end_among a as' ns (ends_through (a ∷ as') bs b ns end later')) opens
 
 pub found_is : (a : Access Region) → IsFound a → (r : Region) × (a ≡ Found r)
 found_is (Found r) h = (r, refl)
@@ -413,3 +470,5 @@ waits_within {bs = bs} (stacks.chooses c d v f g h i tested first_stands second_
 waits_within {bs = bs} (stacks.tests l v f h loop) = itself bs
 waits_within {bs = bs} (stacks.returns t u f h result gives) = itself bs
 waits_within {bs = bs} (stacks.throws f h) = itself bs
+waits_within (stacks.opens_by cs c b r f h loans within stands among number set less alive next continues) = within
+waits_within (stacks.aliases cs c b u t f h loans within stands among number set unique known of_type alive next continues) = within

@@ -29,20 +29,21 @@ use Rattle.cyc_meaning.specs.Nesting as nesting
 use Rattle.cyc_meaning.specs.Step.{chosen, looped, supplied}
 use Rattle.cyc_meaning.proofs.ListLemmas.{slice_get-end}
 use Rattle.cyc_meaning.proofs.NestingLemmas.{home_found}
-use Rattle.cyc_soundness.specs.Lives.{Life, OfRegion, OfObject, Never, Reading, AsHeap, ByScope, RunTy, RunValue, Value, kind_at}
+use Rattle.cyc_soundness.specs.Lives.{Life, OfRegion, OfObject, Never, Kept, Reading, AsHeap, ByScope, RunTy, RunValue, Value, kind_at}
 use Rattle.cyc_soundness.specs.Lives as lives
-use Rattle.cyc_soundness.specs.Worlds.{ObjectType, IsNumber, IsOwner, Typing, IsFilled, variable_type, HasType, IsResult, AreCells, IsObject, IsTyped, Grows}
+use Rattle.cyc_soundness.specs.Worlds.{ObjectType, IsKnownLife, IsNumber, IsOwner, Typing, IsFilled, variable_type, HasType, IsResult, AreCells, IsObject, IsTyped, Grows}
 use Rattle.cyc_soundness.specs.Frames.{later, Bound, InScope, Variable, Level, life_named, lives_in, read, IsThere, IsHomed, AreBelow, IsBound, AreVariables, IsLasting, home_in, LiveIn, Within, itself, older, Holds, Implies, LoopExit, Exits, IsHome, IsContext, KnowsProgram}
 use Rattle.cyc_soundness.specs.Stacks.{Executes, Continues, IsLoop, Repeats, IsArray, IsNew, Want, Val, Go, held, Keeps, inside, Waits, IsReturn, IsStack, IsFocus, IsWell}
 use Rattle.cyc_soundness.specs.Stacks as stacks
 use Rattle.cyc_soundness.proofs.TypeLemmas.{is_kind_same, kind_read}
 use Rattle.cyc_soundness.proofs.FlowLemmas.{holds_implied, reached_with, vacant_now}
-use Rattle.cyc_soundness.proofs.WorldLemmas.{type_grown, with_object, object_grows, object_typed, globals_grown, variables_grown, set_grown}
+use Rattle.cyc_soundness.proofs.WorldLemmas.{life_grown, type_grown, with_object, object_grows, object_typed, globals_grown, variables_grown, set_grown}
 use Rattle.cyc_soundness.proofs.StackLemmas.{stack_grown, below_more, local_new, bound_more, set_more, home_is, home_lasting, found_is, within_bound, within_variables, within_live, within_holds}
-use Rattle.cyc_soundness.proofs.RegionLemmas.{there_lasting, known_local}
+use Rattle.cyc_soundness.proofs.RegionLemmas.{lent_more, region_known, there_lasting, known_local}
 use Rattle.cyc_soundness.proofs.ValueLemmas.{negated, complemented, combined, zero_is}
 use Rattle.cyc_soundness.specs.Classes.{InInitial, Source}
 use Rattle.cyc_soundness.proofs.Cells.{running}
+use Rattle.cyc_soundness.proofs.Loans.{opens_on, aliases_on}
 use Rattle.cyc_soundness.proofs.Objects.{plain_on, fields_on, array_on, fill_on, makes_on}
 use Rattle.cyc_soundness.proofs.Places.{gives, follow_on, member_on, index_on, advance_on, count_on, cell_stored, point_on, null_point_on}
 use Rattle.cyc_soundness.proofs.Evaluation.{pass_on, chain_on, converted_on, denied_on, decided_on, writes_local, writes_global}
@@ -63,6 +64,7 @@ context_more p x bs c is_place t b stands new number of_type hidden life = recor
   known = known_local p.reading c is_place t stands.known new;
   regions = stands.regions;
   home = stands.home;
+  lent = lent_more (Variable b) bs x.locks stands.lent;
 }
 
 -- how long the next local is there: as long as the block that it stands in
@@ -71,22 +73,25 @@ pub record NewLife (m : Reading) (bs : List InScope) (region home : ℕ) (k : Li
   pub number : IsNumber life home
   pub lasting : IsLasting (ends_of k) life
   pub homed : IsHomed m (lives_in bs) region life
+  pub known : (g : Typing) → AreVariables g bs → IsKnownLife g life
 
 pub new_life : (m : Reading) (bs : List InScope) (region home : ℕ) (k : List Entry) → LiveIn k bs → IsHome m region bs → nesting.IsHome home k → NewLife m bs region home k
 new_life AsHeap bs region home k live is at_home =
     let (ns, lasting) = home_lasting k in
-    record { life = OfRegion (home_in k) ns; number = sym (home_is home k at_home); lasting = lasting; homed = tt }
-new_life ByScope bs region home k live (number, there) at_home = record {
+    record { life = OfRegion (home_in k) ns; number = sym (home_is home k at_home); lasting = lasting; homed = tt; known = λ g are. tt }
+new_life (ByScope lends) bs region home k live (number, there) at_home = record {
   life = life_named bs region;
   number = subst (λ n. IsNumber (life_named bs region) n) (live.1 ∙ sym (home_is home k at_home)) number;
   lasting = there_lasting (ends_of k) bs (regions.Variable region) live.0 there;
   homed = refl;
+  known = λ g are. region_known g bs (regions.Variable region) are;
 }
 
 pub owner_is : (l : Life) (region : ℕ) → IsNumber l region → IsOwner l (InRegion region)
 owner_is (OfRegion number ns) region is = is
 owner_is (OfObject object) region is = absurd is
 owner_is Never region is = absurd is
+owner_is (Kept number) region is = is
 
 module _ (p : Source) (g : Typing) (x : Exits) (bs : List InScope) (e : Environment) (w : World) (typed : IsTyped g w.regions w.objects) (globals : KnowsProgram g p) (bound : IsBound e.locals e.counters bs) (variables : AreVariables g bs) where
   on : (focus : Focus) (k : List Entry) → LiveIn k bs → IsFocus p g x bs focus k → IsWell p (Running focus k e w)
@@ -105,13 +110,13 @@ module _ (p : Source) (g : Typing) (x : Exits) (bs : List InScope) (e : Environm
   new_typing t l n = with_object g (new_type t l) n
 
   pub declares : (number : ℕ) (kind : Kind) (t : Ty) (content : Option values.Value) (n : ℕ) (l : Life) (focus : Focus) (stack : List Entry) → IsNested stack e w → LiveIn stack bs → AreBelow number bs
-      → IsNumber l e.home → IsLasting (ends_of stack) l → (Grows g (new_typing t l n) → AreCells (new_typing t l n) (read bs t ∷ []) (record { kind = kind; content = content } ∷ []) n)
+      → IsNumber l e.home → IsLasting (ends_of stack) l → IsKnownLife g l → (Grows g (new_typing t l n) → AreCells (new_typing t l n) (read bs t ∷ []) (record { kind = kind; content = content } ∷ []) n)
       → (Grows g (new_typing t l n) → IsFilled (new_typing t l n) (length w.objects) n → IsFocus p (new_typing t l n) x (Variable (new_local number t l) ∷ bs) focus stack)
       → IsWell p (declared (region_at w e.home) focus number kind content stack e w)
-  declares number kind t content n l focus stack nests live below numbered lasting cells goes =
+  declares number kind t content n l focus stack nests live below numbered lasting known cells goes =
       let h = new_typing t l n in
       let grows : Grows g h = object_grows g (new_type t l) n in
-      let is : IsObject h n (new_type t l) (variable e.home kind content) = record { owner = owner_is l e.home numbered; cells = cells grows } in
+      let is : IsObject h n (new_type t l) (variable e.home kind content) = record { owner = owner_is l e.home numbered; known = life_grown g h grows l known; cells = cells grows } in
       let (r, found) = found_is (region_at w e.home) (home_found w.regions e.home stack nests.2 nests.0) in
       let there = subst (λ i. slice_get h.objects i ≡ Some (new_type t l)) (sym typed.count) (slice_get-end g.objects (new_type t l)) in
       let flag = subst (λ i. slice_get h.filled i ≡ Some n) (sym typed.counts) (slice_get-end g.filled n) in
@@ -130,7 +135,7 @@ module _ (p : Source) (g : Typing) (x : Exits) (bs : List InScope) (e : Environm
       let below : AreBelow number bs = subst (λ n. AreBelow n bs) (sym number_is) stands.below in
       let l = new_life p.reading bs c.region e.home k live stands.home nests.2 in
       let h1 = new_typing t l.life 1 in
-      declares number kind t (Some v) 1 l.life Proceeding (Rest js ∷ k) nests live below l.number l.lasting (λ grows. ((kind_is, type_grown g h1 grows (read bs t) v has), tt))
+      declares number kind t (Some v) 1 l.life Proceeding (Rest js ∷ k) nests live below l.number l.lasting (l.known g variables) (λ grows. ((kind_is, type_grown g h1 grows (read bs t) v has), tt))
       (λ grows full. (
         with_fullness Full f number,
         (reached_with Full f number reached, (λ s. full, set_more h1 Full f number bs below (set_grown g h1 grows f bs are))),
@@ -153,7 +158,7 @@ module _ (p : Source) (g : Typing) (x : Exits) (bs : List InScope) (e : Environm
       let below : AreBelow number bs = subst (λ n. AreBelow n bs) (sym number_is) stands.below in
       let l = new_life p.reading bs c.region e.home k live stands.home nests.2 in
       let h0 = new_typing t l.life 0 in
-      declares number kind t None 0 l.life Proceeding (Rest js ∷ k) nests live below l.number l.lasting (λ grows. ((kind_is, refl), tt))
+      declares number kind t None 0 l.life Proceeding (Rest js ∷ k) nests live below l.number l.lasting (l.known g variables) (λ grows. ((kind_is, refl), tt))
       (λ grows full. (
         with_fullness Vacant f number,
         (reached_with Vacant f number reached, (λ s. absurd (vacant_now f number reached s), set_more h0 Vacant f number bs below (set_grown g h0 grows f bs are))),
@@ -196,6 +201,7 @@ module _ (p : Source) (g : Typing) (x : Exits) (bs : List InScope) (e : Environm
           known = loop.stands.known;
           regions = loop.stands.regions;
           home = loop.stands.home;
+          lent = tt;
         },
         holds,
         loop.again,
@@ -279,3 +285,7 @@ module _ (p : Source) (g : Typing) (x : Exits) (bs : List InScope) (e : Environm
   given v k nests live holds is (stacks.returns t u f h result gives) are stack =
       on (Returning (Some v)) k live (h, subst (λ z. IsReturn g z x.gives (Some v)) (sym result) (subst (λ z. IsResult g z v) gives is), stack)
   given v k nests live holds is (stacks.throws {tag} f h) are stack = thrown_on tag v.value k h live is.1 stack
+  given v k nests live holds is (stacks.opens_by {number} {lent} {js} cs c b r f h loans within stands among number_of set less alive number_is continues) are stack =
+      opens_on p g x bs e w typed globals bound variables number lent js v.value k cs c b r f h live holds loans within stands among number_of set less alive number_is continues is.1 stack
+  given v k nests live holds is (stacks.aliases {number} {lent} {js} cs c b u t f h loans within stands among number_of set unique known of_type alive number_is continues) are stack =
+      aliases_on p g x bs e w typed globals bound variables number lent js v k cs c b u t f h live holds loans within stands among number_of set unique known of_type alive number_is continues is stack

@@ -28,7 +28,7 @@ use Rattle.cyc_soundness.proofs.Numbers.{some_same}
 use Rattle.cyc_soundness.proofs.TypeLemmas.{is_kind_same, kind_meant, place_type}
 use Rattle.cyc_soundness.proofs.FlowLemmas.{not_vacant}
 use Rattle.cyc_soundness.proofs.WorldLemmas.{cell_there, holds_grown}
-use Rattle.cyc_soundness.proofs.StackLemmas.{stack_grown, swapped_grown, bound_of, place_local, among_bound, among_variable, among_live, among_set, open_of, globals_among, lasting_open}
+use Rattle.cyc_soundness.proofs.StackLemmas.{stack_grown, swapped_grown, bound_of, place_local, among_bound, among_variable, among_live, among_set, open_of, globals_among, lasting_open, kept_open, object_known}
 use Rattle.cyc_soundness.proofs.RegionLemmas.{there_lasting, there_of, cell_live, global_means}
 use Rattle.cyc_soundness.proofs.Cells.{running, life_of, value_part, writes}
 
@@ -51,7 +51,7 @@ module _ (p : Source) (g : Typing) (x : Exits) (bs : List InScope) (e : Environm
   cell_spot : (t : Ty) (l : Life) (place : values.Value) (k : List Entry) → AreOpen w.regions (ends_of k) → IsLasting (ends_of k) l → is_struct t ≡ false → HasType g (lives.Pointer marks.NonNull (read bs t) l) place
       → SpotAt g w (read bs t) place
   cell_spot t l (values.Thin object offset) k opens lasting plain (y, there, shown, outlasts, part) =
-      let open' = life_of g w typed k y.life l opens outlasts lasting in
+      let open' = life_of g w typed k object y l there opens outlasts lasting in
       let (cell, full) = value_part (lives_in bs) g object y t offset plain part in
       record { number = object; offset = offset; of_type = y; is = refl; there = there; cell = cell; opens = open'; full = full }
   cell_spot t l place k opens lasting plain has = absurd has
@@ -64,7 +64,8 @@ module _ (p : Source) (g : Typing) (x : Exits) (bs : List InScope) (e : Environm
     is = refl;
     there = among_variable g among variables;
     cell = ap (λ u. Some u) of_type;
-    opens = lasting_open w.regions (ends_of k) b.life opens typed.heap (among_live (ends_of k) among live.0);
+    opens = lasting_open w.regions (ends_of k) b.life opens typed.heap
+        (kept_open g w.regions w.objects b.life typed (object_known g w.regions w.objects b.object (variable_type b.of_type b.life b.is_hidden) typed (among_variable g among variables))) (among_live (ends_of k) among live.0);
     full = among_set g f among holds.1 set;
   }
   spot_at t f v k opens live holds plain (of_global number there same) =

@@ -7,7 +7,7 @@ use Rattle.cyc_types.specs.flow.States as flow
 use Rattle.cyc_types.specs.flow.States.{is_reached}
 use Rattle.cyc_meaning.specs.Values.{Operand}
 use Rattle.cyc_meaning.specs.Values as values
-use Rattle.cyc_meaning.specs.State.{World, closed, region_at, Environment, Test, Entry, Needs, NeedsPlace, Discard, Rest, Join, Loop, CloseRegion, CloseLexical, Handler, Caller, Main, Focus, Evaluating, Given, Proceeding, Breaking, Continuing, Returning, Throwing, Catching, Running}
+use Rattle.cyc_meaning.specs.State.{World, closed, region_at, Environment, Test, Entry, Needs, NeedsPlace, Discard, Rest, Join, Loop, CloseRegion, CloseLexical, EndLoan, Handler, Caller, Main, Focus, Evaluating, Given, Proceeding, Breaking, Continuing, Returning, Throwing, Catching, Running}
 use Rattle.cyc_meaning.specs.Parts.{closing}
 use Rattle.cyc_meaning.specs.Regions.{closing_lexical}
 use Rattle.cyc_meaning.specs.Nesting.{IsNested}
@@ -42,7 +42,7 @@ module _ (p : Source) (g : Typing) (e : Environment) (w : World) (typed : IsType
         let (u, (v, outer)) = subst (λ z. IsBound e.locals e.counters z) same bound in
         let (u2, (v2, outside)) = subst (λ z. AreVariables g z) same variables in
         subst (λ a. IsWell p (closing a focus region home k e w)) (sym found)
-        (running p g x cs (record e { home = home }) (closed w region r) (closed_typed g w.regions region (record r { is_open = false }) w.objects (not_heap region home k e w nests) typed) globals outer outside focus k live stands)
+        (running p g x cs (record e { home = home }) (closed w region r) (closed_typed g w.regions region (record r { is_open = false }) w.objects (not_heap region home k e w nests) nests.0.0 typed) globals outer outside focus k live stands)
 
     outside_holds : (f : flow.State) (region number : ℕ) (l : Life) (alive : Bool) (cs : List InScope) → bs ≡ Home region ∷ Names number l alive ∷ cs → Holds g f bs → Holds g f cs
     outside_holds f region number l alive cs same holds = let (reached, (u, (v, are))) = subst (λ z. Holds g f z) same holds in (reached, are)
@@ -51,7 +51,7 @@ module _ (p : Source) (g : Typing) (e : Environment) (w : World) (typed : IsType
     closes_lexical focus region k nests live stands =
         let (r, found) = found_is (region_at w region) nests.0.0 in
         subst (λ a. IsWell p (closing_lexical a focus region k e w)) (sym found)
-        (running p g x bs e (closed w region r) (closed_typed g w.regions region (record r { is_open = false }) w.objects (lexical_not_heap region k e w nests) typed) globals bound variables focus k live stands)
+        (running p g x bs e (closed w region r) (closed_typed g w.regions region (record r { is_open = false }) w.objects (lexical_not_heap region k e w nests) nests.0.0 typed) globals bound variables focus k live stands)
 
     -- a loop's condition is evaluated again
     tests_again : (condition : Expression) (body : Statement) (k : List Entry) (y : Exits) (l : LoopExit) (v : ValueType) (u h : flow.State) → LiveIn k bs → IsLoop p y bs l condition body v u h → Holds g l.head bs → IsStack p g y bs (Go h) k
@@ -65,12 +65,13 @@ module _ (p : Source) (g : Typing) (e : Environment) (w : World) (typed : IsType
     pub proceed : (k : List Entry) (f : flow.State) → IsNested k e w → LiveIn k bs → Holds g f bs → IsStack p g x bs (Go f) k → IsWell p (step_proceeding k e w)
     proceed (Discard ∷ k) f nests live holds stack = on Proceeding k live (f, holds, stack)
     proceed (Rest js ∷ k) f nests live holds (cs, c, h, within, stands, rest, stack) =
-        continue_with p g x bs e w typed globals bound variables js k cs c f h rest.before rest.behind nests live within stands holds rest.typed rest.flows rest.breaks rest.kept stack
+        continue_with p g x bs e w typed globals bound variables js k cs c f h rest.before rest.behind rest.ending rest.locked nests live within stands holds rest.typed rest.flows rest.breaks rest.kept rest.among rest.ends stack
     proceed (Join ∷ k) f nests live holds (h, i, stack) = on Proceeding k live (h, holds_implied g f h bs i holds, stack)
     proceed (Loop condition body ∷ k) f nests live holds (y, l, v, u, h, same, loop, i, stack) = tests_again condition body k y l v u h live loop (holds_implied g f l.head bs i holds) stack
     proceed (CloseRegion region home ∷ k) f nests live holds (cs, number, l, alive, h, same, i, outer, stack) =
         closes Proceeding region home number l alive k cs same nests outer (h, holds_implied g f h cs i (outside_holds f region number l alive cs same holds), stack)
     proceed (CloseLexical region ∷ k) f nests live holds (h, i, outer, stack) = closes_lexical Proceeding region k nests outer (h, holds_implied g f h bs i holds, stack)
+    proceed (EndLoan lent ∷ k) f nests live holds (y, same, stack) = running p g y bs e w typed globals bound variables Proceeding k live (f, holds, stack)
     proceed (Handler cs ∷ k) f nests live holds (c, start, h, stands, known, catches, i, stack) = on Proceeding k live (h, holds_implied g f h bs i holds, stack)
     proceed (Caller outer ∷ k) f nests live holds (y, cs, h, loop, blocked, gives, bound', variables', live', holds', stack) = go x.result refl
       where
@@ -95,6 +96,8 @@ module _ (p : Source) (g : Typing) (e : Environment) (w : World) (typed : IsType
     breaks (CloseRegion region home ∷ k) l f nests live same holds (cs, number, m, alive, h, bs_are, i, outer, stack) =
         closes Breaking region home number m alive k cs bs_are nests outer (l, h, same, outside_holds l.breaks region number m alive cs bs_are holds, stack)
     breaks (CloseLexical region ∷ k) l f nests live same holds (h, i, outer, stack) = closes_lexical Breaking region k nests outer (l, h, same, holds, stack)
+    breaks (EndLoan lent ∷ k) l f nests live same holds (y, lent_is, stack) =
+        running p g y bs e w typed globals bound variables Breaking k live (l, f, sym (ap (λ (z : Exits). z.loop) lent_is) ∙ same, holds, stack)
     breaks (Handler cs ∷ k) l f nests live same holds (c, start, h, stands, known, catches, i, stack) = on Breaking k live (l, h, same, holds, stack)
     breaks (Caller outer ∷ k) l f nests live same holds (y, cs, h, loop, blocked, gives, bound', variables', live', holds', stack) = absurd (never_loop x.loop l loop same)
     breaks (Main ∷ k) l f nests live same holds (loop, int, gives, blocked, stack) = absurd (never_loop x.loop l loop same)
@@ -112,6 +115,8 @@ module _ (p : Source) (g : Typing) (e : Environment) (w : World) (typed : IsType
     continues (CloseRegion region home ∷ k) l f nests live same holds (cs, number, m, alive, h, bs_are, i, outer, stack) =
         closes Continuing region home number m alive k cs bs_are nests outer (l, h, same, outside_holds l.head region number m alive cs bs_are holds, stack)
     continues (CloseLexical region ∷ k) l f nests live same holds (h, i, outer, stack) = closes_lexical Continuing region k nests outer (l, h, same, holds, stack)
+    continues (EndLoan lent ∷ k) l f nests live same holds (y, lent_is, stack) =
+        running p g y bs e w typed globals bound variables Continuing k live (l, f, sym (ap (λ (z : Exits). z.loop) lent_is) ∙ same, holds, stack)
     continues (Handler cs ∷ k) l f nests live same holds (c, start, h, stands, known, catches, i, stack) = on Continuing k live (l, h, same, holds, stack)
     continues (Caller outer ∷ k) l f nests live same holds (y, cs, h, loop, blocked, gives, bound', variables', live', holds', stack) = absurd (never_loop x.loop l loop same)
     continues (Main ∷ k) l f nests live same holds (loop, int, gives, blocked, stack) = absurd (never_loop x.loop l loop same)
@@ -136,6 +141,8 @@ module _ (p : Source) (g : Typing) (e : Environment) (w : World) (typed : IsType
         running p g y bs e w typed globals bound variables (Returning v) k live (h, subst (λ (z : Exits). IsReturn g z.result z.gives v) around_is is, stack)
     returns_on (CloseRegion region home ∷ k) v f nests live is (cs, number, l, alive, h, same, i, outer, stack) = closes (Returning v) region home number l alive k cs same nests outer (h, is, stack)
     returns_on (CloseLexical region ∷ k) v f nests live is (h, i, outer, stack) = closes_lexical (Returning v) region k nests outer (h, is, stack)
+    returns_on (EndLoan lent ∷ k) v f nests live is (y, lent_is, stack) =
+        running p g y bs e w typed globals bound variables (Returning v) k live (f, subst (λ (z : Exits). IsReturn g z.result z.gives v) lent_is is, stack)
     returns_on (Handler cs ∷ k) v f nests live is (c, start, h, stands, known, catches, i, stack) = on (Returning v) k live (h, is, stack)
     returns_on (Caller outer ∷ k) v f nests live is (y, cs, h, loop, blocked, gives, bound', variables', live', holds', stack) = go x.result v refl is
       where
@@ -166,6 +173,7 @@ module _ (p : Source) (g : Typing) (e : Environment) (w : World) (typed : IsType
         running p g y bs e w typed globals bound variables (Throwing tag value) k live (Go h, stack)
     throws_on (CloseRegion region home ∷ k) tag value (Go f) nests live (cs, number, l, alive, h, same, i, outer, stack) = closes (Throwing tag value) region home number l alive k cs same nests outer (Go h, stack)
     throws_on (CloseLexical region ∷ k) tag value (Go f) nests live (h, i, outer, stack) = closes_lexical (Throwing tag value) region k nests outer (Go h, stack)
+    throws_on (EndLoan lent ∷ k) tag value (Go f) nests live (y, lent_is, stack) = running p g y bs e w typed globals bound variables (Throwing tag value) k live (Go f, stack)
     throws_on (Handler cs ∷ k) tag value (Go f) nests live (c, start, h, stands, known, catches, i, stack) = on (Catching tag value cs) k live (c, start, f, h, stands, known, catches, stack)
     throws_on (Caller outer ∷ k) tag value (Go f) nests live (y, cs, h, loop, blocked, gives, bound', variables', live', holds', stack) =
         running p g y cs outer w typed globals bound' variables' (Throwing tag value) k live' (Val x.gives h, stack)

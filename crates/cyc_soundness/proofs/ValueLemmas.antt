@@ -19,7 +19,7 @@ use Rattle.cyc_meaning.specs.Values as values
 use Rattle.cyc_meaning.specs.Operators.{Gives, Raises, is_zero, binary_result, has_no_result, unary_result, binary_word, division_by_zero, array_bounds}
 use Rattle.cyc_meaning.specs.Conversion.{conversion, thinned}
 use Rattle.cyc_soundness.specs.Lives.{Life, RunTy, Int, Pointer, Handle, Key, Lives, at, value_at}
-use Rattle.cyc_soundness.specs.Worlds.{Typing, Outlasts, alike, heap as for_ever, globals as with_globals, encloses, IsEndOf, whole, behind, AgreesWith, IsTarget, HasType, IsResult, Fits}
+use Rattle.cyc_soundness.specs.Worlds.{Typing, Outlasts, alike, heap as for_ever, globals as with_globals, stays, encloses, IsEndOf, whole, behind, AgreesWith, IsTarget, HasType, IsResult, Fits}
 use Rattle.cyc_soundness.proofs.TypeLemmas.{kind_read}
 
 -- ---- what lasts as long
@@ -32,6 +32,7 @@ pub outlasts_through : (a b c : Life) → Outlasts a b → Outlasts b c → Outl
 outlasts_through a b c (alike _) second = second
 outlasts_through a b c (for_ever _) second = for_ever c
 outlasts_through a b c (with_globals _) second = with_globals c
+outlasts_through a b c (stays region _) second = stays region c
 outlasts_through a b c (encloses l m ls ms end) (alike _) = encloses l m ls ms end
 outlasts_through a b c (encloses l m ls ms end) (for_ever _) = elim end [ ]
 outlasts_through a b c (encloses l m ls ms end) (with_globals _) = elim end [ ]

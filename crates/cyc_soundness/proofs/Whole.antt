@@ -31,13 +31,13 @@ use Rattle.cyc_soundness.specs.Lives.{Life, RunTy, RunValue, at, heap_life, live
 use Rattle.cyc_soundness.specs.Lives as lives
 use Rattle.cyc_soundness.specs.Worlds.{ObjectType, Typing, Outlasts, heap as for_ever, global_type, HasType, IsResult, AreOperands, IsObject, IsTyped}
 use Rattle.cyc_soundness.specs.Frames.{InScope, Instance, read, read_value, IsThereBy, IsBound, AreVariables, LiveIn, Holds, Exits, StandBy, lives_among, KnowsProgram}
-use Rattle.cyc_soundness.specs.Classes.{IsDeclarable, InFunctions, InGlobals, InFields, InStructs, IsOfTheHeap, IsOfScopes, Source, IsInClass}
+use Rattle.cyc_soundness.specs.Classes.{IsDeclarable, InFunctions, InGlobals, InFields, InStructs, IsOfTheHeap, IsOfScopes, FreesNothing, Source, IsInClass}
 use Rattle.cyc_soundness.specs.Stacks.{IsAccepted, Val, PlaceOf, regions_at_call, IsStack, IsFocus, IsWell}
 use Rattle.cyc_soundness.specs.Sound.{IsSound}
 use Rattle.cyc_soundness.proofs.Numbers.{some_same}
 use Rattle.cyc_soundness.proofs.TypeLemmas.{kind_meant}
 use Rattle.cyc_soundness.proofs.BuiltLemmas.{built_kept}
-use Rattle.cyc_soundness.proofs.StackLemmas.{AreAccepted}
+use Rattle.cyc_soundness.proofs.StackLemmas.{AreAccepted, none_among}
 use Rattle.cyc_soundness.proofs.Cells.{running}
 use Rattle.cyc_soundness.proofs.Objects.{begin_array, repeat_on, write_on}
 use Rattle.cyc_soundness.proofs.Swapping.{swapped_on, swapping_on}
@@ -141,7 +141,7 @@ found_cells ls None = None
 found_cells ls (Some s) = cells_of ls s
 
 abbrev globals_typed : List StructType → List GlobalVariable → Typing
-globals_typed ss vs = record { objects = map global_of vs; filled = ones vs; fields = λ n ls. found_cells ls (slice_get ss n) }
+globals_typed ss vs = record { objects = map global_of vs; filled = ones vs; fields = λ n ls. found_cells ls (slice_get ss n); kept = [] }
 
 null_typed : (g : Typing) (k : PointerKind) (t : Ty) (r : Region) → is_non_null (types.Pointer k t r) ≡ false → HasType g (at as_heap (types.Pointer k t r)) values.Null
 null_typed g marks.Nullable t r is = tt
@@ -156,7 +156,7 @@ value_typed g v (inr (k, t, r, pointer, null, is)) =
     (subst (λ u. HasType g (at as_heap u) values.Null) (sym pointer) (null_typed g k t r (subst (λ u. is_non_null u ≡ false) pointer null)))
 
 global_is : (g : Typing) (v : GlobalVariable) → IsWellTypedGlobal v → IsObject g 1 (global_of v) (global_object v)
-global_is g v has = record { owner = refl; cells = ((sym (kind_meant as_heap v.of_type), value_typed g v has), tt) }
+global_is g v has = record { owner = refl; known = tt; cells = ((sym (kind_meant as_heap v.of_type), value_typed g v has), tt) }
 
 mapped_length : {A B C : Type 0} (f : A → B) (h : A → C) (xs : List A) → length (map f xs) ≡ length (map h xs)
 mapped_length f h [] = refl
@@ -201,7 +201,7 @@ cells_counted ls s ts is = go (length ls == s.parameters) refl is
 -- at the start all regions are read as the heap
 stand_first : (m : Reading) (c : RegionContext) → StandBy m c (λ n. heap_life) (λ n. true)
 stand_first AsHeap c = λ n. (refl, refl)
-stand_first ByScope c = record { there = λ r has. there r; agrees = λ a b given. agrees a b }
+stand_first (ByScope lends) c = record { there = λ r has. there r; agrees = λ a b given. agrees a b }
   where
     there : (r : Region) → IsThereBy (λ n. true) r
     there regions.Heap = tt
@@ -222,12 +222,13 @@ well_start p input accepted well (in_functions, in_globals, in_structs) =
     let w = first_world p.program input in
     let g = globals_typed p.program.structs p.program.globals in
     let bs : List InScope = Instance (λ n. heap_life) (λ n. true) ∷ [] in
-    let x : Exits = record { loop = None; result = h.result; gives = read_value bs (result_type h.result) } in
+    let x : Exits = record { loop = None; result = h.result; gives = read_value bs (result_type h.result); locks = [] } in
     let objects : IsTyped g w.regions w.objects = record {
       count = mapped_length global_object global_of p.program.globals;
       counts = mapped_length global_object (λ (v : GlobalVariable). 1) p.program.globals;
       each = globals_each g p.program.globals well.globals;
       heap = refl;
+      kept = λ n is. none_among is;
     } in
     let knows : KnowsProgram g p = record {
       globals = λ n t there. (let (object, flag, closed) = all_globals p.reading p.program.globals in_globals n t there in (object, (1, flag, (let one : 1 ≤ 1 = omega arith in one)), closed));
@@ -238,12 +239,12 @@ well_start p input accepted well (in_functions, in_globals, in_structs) =
     let count : 0 ≡ length h.parameters = sym (ap length none) in
     subst (λ o. IsWell p (called o [] (Main ∷ []) w)) (sym found)
     (subst (λ (b : Bool). IsWell p (if b then Running (Entering h []) (Main ∷ []) no_locals w else wrong w)) (sym (eq-eqb 0 (length h.parameters) count))
-    (running p g x bs no_locals w objects knows (tt, tt) (tt, tt) (Entering h []) (Main ∷ []) (((λ n is. inl refl), tt), refl) (
+    (running p g x bs no_locals w objects knows (tt, tt) ((λ n. tt), tt) (Entering h []) (Main ∷ []) (((λ n is. inl refl), tt), refl) (
       end,
       (λ n. heap_life),
       (λ n. true),
       ok,
-      (refl, refl, refl),
+      (refl, refl, refl, refl),
       refl,
       stand_first p.reading (regions_at_call h),
       subst (λ ts. AreOperands g (map (read bs) ts) []) (sym none) tt,
@@ -257,9 +258,13 @@ sound_by p well allowed kept input count =
     let accepted : AreAccepted p = accepted_among p p.program.functions well.functions allowed kept.0 in
     well_alive p (run p.program input count) (well_steps p count (start p.program input) accepted (nests_start p.program input) (well_start p input accepted well kept))
 
+-- programs in which nothing ends but with a scope
+pub lending_sound : (p : Program) → IsWellTypedProgram p → IsAllowedProgram p → FreesNothing p → IsSound p
+lending_sound p well allowed kept = sound_by (record { program = p; reading = ByScope true }) well allowed kept
+
 -- programs that are read by scope
 pub scopes_sound : (p : Program) → IsWellTypedProgram p → IsAllowedProgram p → IsOfScopes p → IsSound p
-scopes_sound p well allowed kept = sound_by (record { program = p; reading = ByScope }) well allowed kept
+scopes_sound p well allowed kept = sound_by (record { program = p; reading = ByScope false }) well allowed kept
 
 globals_as_heap : (vs : List GlobalVariable) → InGlobals AsHeap vs
 globals_as_heap [] = tt

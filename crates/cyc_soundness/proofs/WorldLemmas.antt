@@ -5,11 +5,12 @@ use Rattle.std.proofs.lemmas.List.{length-set}
 use Rattle.cyc_syntax.specs.declared.tree.PointerKind.TheVariants as marks
 use Rattle.cyc_meaning.specs.Values.{Operand, Cell}
 use Rattle.cyc_meaning.specs.Values as values
-use Rattle.cyc_meaning.specs.State.{Region, Owner, InRegion, Unique, Object, World, Found, Closed, located, heap_number, is_open, is_live, cell_in, cell_at, written}
+use Rattle.cyc_meaning.specs.State.{Dynamic, new_region, Region, Owner, InRegion, Unique, Object, World, Found, Closed, found_region, located, heap_number, is_open, is_live, cell_in, cell_at, written}
+use Rattle.cyc_meaning.specs.Nesting.{IsScoped, IsFound}
 use Rattle.cyc_meaning.proofs.ListLemmas.{slice_get-append, slice_get-end, slice_get-set_other}
-use Rattle.cyc_soundness.specs.Lives.{Life, OfRegion, RunTy, Int, Pointer, Handle, Key, Struct, RunValue, Void, Null, Value, kind_at, at}
-use Rattle.cyc_soundness.specs.Worlds.{ObjectType, Typing, IsFilled, IsPart, IsTarget, HasType, IsResult, AreOperands, IsContent, AreCells, IsOwner, IsObject, IsTyped, IsOpenLife, Grows}
-use Rattle.cyc_soundness.specs.Frames.{InScope, Variable, lives_among, IsOfVariable, HoldsIts, AreVariables, AreSet, Holds, KnowsProgram}
+use Rattle.cyc_soundness.specs.Lives.{Life, OfRegion, OfObject, Never, Kept, RunTy, Int, Pointer, Handle, Key, Struct, RunValue, Void, Null, Value, kind_at, at}
+use Rattle.cyc_soundness.specs.Worlds.{IsAmong, first as newest, later as behind, ObjectType, Typing, IsKnownLife, IsDynamic, IsFilled, IsPart, IsTarget, HasType, IsResult, AreOperands, IsContent, AreCells, IsOwner, IsObject, IsTyped, IsOpenLife, Grows}
+use Rattle.cyc_soundness.specs.Frames.{InScope, Variable, Names, Instance, Lent, lives_among, IsOfVariable, HoldsIts, AreVariables, AreSet, Holds, KnowsProgram}
 use Rattle.cyc_soundness.specs.Classes.{Source}
 use Rattle.cyc_types.specs.flow.States as flow
 use Rattle.cyc_soundness.proofs.Numbers.{same_or_other, slice_get-set_same, appended, some_same}
@@ -60,11 +61,20 @@ module _ (g h : Typing) (grows : Grows g h) where
   cells_grown (t ∷ ts) (c ∷ cs) zero ((kind, is), are) = ((kind, content_grown false t c.content is), cells_grown ts cs zero are)
   cells_grown (t ∷ ts) (c ∷ cs) (suc n) ((kind, is), are) = ((kind, content_grown true t c.content is), cells_grown ts cs n are)
 
+  pub life_grown : (l : Life) → IsKnownLife g l → IsKnownLife h l
+  life_grown (Kept region) is = grows.kept region is
+  life_grown (OfRegion region ns) is = tt
+  life_grown (OfObject object) is = tt
+  life_grown Never is = tt
+
   pub object_grown : (n : ℕ) (t : ObjectType) (x : Object) → IsObject g n t x → IsObject h n t x
-  object_grown n t x is = record { owner = is.owner; cells = cells_grown t.cells x.cells n is.cells }
+  object_grown n t x is = record { owner = is.owner; known = life_grown t.life is.known; cells = cells_grown t.cells x.cells n is.cells }
 
   variable_grown : (b : InScope) → IsOfVariable g b → IsOfVariable h b
   variable_grown (Variable b) is = grows.objects b.object _ is
+  variable_grown (Names number life live) is = life_grown life is
+  variable_grown (Instance these live) is = λ n. life_grown (these n) (is n)
+  variable_grown (Lent number object) is = grows.filled object 1 is
   variable_grown b is = tt
 
   pub variables_grown : (bs : List InScope) → AreVariables g bs → AreVariables h bs
@@ -100,6 +110,7 @@ object_grows g t n = record {
   objects = λ number u there. slice_get-append g.objects (t ∷ []) number u there;
   filled = λ number count. λ (m, is, enough). (m, slice_get-append g.filled (n ∷ []) number m is, enough);
   fields = λ number ls ts is. is;
+  kept = λ number is. is;
 }
 
 longer : {A B : Type 0} (xs : List A) (ys : List B) (x : A) (y : B) → length xs ≡ length ys → length (xs ++ x ∷ []) ≡ length (ys ++ y ∷ [])
@@ -115,6 +126,7 @@ object_typed g regions objects t n x typed is = record {
   counts = longer objects g.filled x n typed.counts;
   each = each;
   heap = typed.heap;
+  kept = typed.kept;
 }
   where
     each : (number : ℕ) (u : ObjectType) → slice_get (g.objects ++ t ∷ []) number ≡ Some u
@@ -133,9 +145,27 @@ object_typed g regions objects t n x typed is = record {
 
 -- ---- regions
 
--- the heap is open, whatever else is opened or closed
-pub typed_beside : (g : Typing) (regions others : List Region) (objects : List Object) → IsTyped g regions objects → is_open (slice_get others heap_number) ≡ true → IsTyped g others objects
-typed_beside g regions others objects typed heap = record { count = typed.count; counts = typed.counts; each = typed.each; heap = heap }
+-- the heap and dynamic regions are open, whatever else is opened or closed
+pub typed_beside : (g : Typing) (regions others : List Region) (objects : List Object) → IsTyped g regions objects → is_open (slice_get others heap_number) ≡ true
+    → ((number : ℕ) → IsAmong number g.kept → IsDynamic (slice_get others number)) → IsTyped g others objects
+typed_beside g regions others objects typed heap kept = record { count = typed.count; counts = typed.counts; each = typed.each; heap = heap; kept = kept }
+
+-- a dynamic region is the same in a list where it is found too
+dynamic_there : (o p : Option Region) → ((r : Region) → o ≡ Some r → p ≡ Some r) → IsDynamic o → IsDynamic p
+dynamic_there None p same is = absurd is
+dynamic_there (Some r) p same is = subst (λ z. IsDynamic z) (sym (same r refl)) is
+
+-- and is none that a scope ends
+never_scoped : (o : Option Region) → IsDynamic o → IsFound (found_region o) → ⊥
+never_scoped None is found = is
+never_scoped (Some r) (sort, opens) found =
+    let now : IsFound (Found r) = subst (λ (b : Bool). IsFound (if b then Found r else Closed)) opens found in
+    subst (λ s. IsScoped s) sort now
+
+-- it is open
+pub dynamic_open : (o : Option Region) → IsDynamic o → is_open o ≡ true
+dynamic_open None is = absurd is
+dynamic_open (Some r) (sort, opens) = opens
 
 pub open_region : (o : Option Region) → is_open o ≡ true → (r : Region) × (o ≡ Some r) × (r.is_open ≡ true)
 open_region None opens = absurd (let e : false ≡ true = opens in cc)
@@ -145,10 +175,44 @@ pub opened_typed : (g : Typing) (regions more : List Region) (objects : List Obj
 opened_typed g regions more objects typed =
     let (r, at, opens) = open_region (slice_get regions heap_number) typed.heap in
     typed_beside g regions (regions ++ more) objects typed (ap is_open (slice_get-append regions more heap_number r at) ∙ opens)
+    (λ n among. dynamic_there (slice_get regions n) (slice_get (regions ++ more) n) (λ s is. slice_get-append regions more n s is) (typed.kept n among))
 
-pub closed_typed : (g : Typing) (regions : List Region) (number : ℕ) (r : Region) (objects : List Object) → heap_number ≢ number → IsTyped g regions objects → IsTyped g (set regions number r) objects
-closed_typed g regions number r objects apart typed =
-    typed_beside g regions (set regions number r) objects typed (ap is_open (slice_get-set_other regions number heap_number r apart) ∙ typed.heap)
+pub closed_typed : (g : Typing) (regions : List Region) (number : ℕ) (r : Region) (objects : List Object) → heap_number ≢ number → IsFound (found_region (slice_get regions number)) → IsTyped g regions objects → IsTyped g (set regions number r) objects
+closed_typed g regions number r objects apart found typed =
+    typed_beside g regions (set regions number r) objects typed (ap is_open (slice_get-set_other regions number heap_number r apart) ∙ typed.heap) kept
+  where
+    kept : (n : ℕ) → IsAmong n g.kept → IsDynamic (slice_get (set regions number r) n)
+    kept n among =
+        let other : n ≢ number = (λ e. never_scoped (slice_get regions number) (subst (λ i. IsDynamic (slice_get regions i)) e (typed.kept n among)) found) in
+        subst (λ z. IsDynamic z) (sym (slice_get-set_other regions number n r other)) (typed.kept n among)
+
+-- a dynamic region more
+abbrev pub with_kept : Typing → ℕ → Typing
+with_kept g number = record g { kept = number ∷ g.kept }
+
+pub kept_grows : (g : Typing) (number : ℕ) → Grows g (with_kept g number)
+kept_grows g number = record {
+  objects = λ n t is. is;
+  filled = λ n count is. is;
+  fields = λ n ls ts is. is;
+  kept = λ n is. behind number g.kept is;
+}
+
+pub kept_typed : (g : Typing) (regions : List Region) (objects : List Object) → IsTyped g regions objects → IsTyped (with_kept g (length regions)) (regions ++ new_region Dynamic ∷ []) objects
+kept_typed g regions objects typed =
+    let h = with_kept g (length regions) in
+    let more : IsTyped g (regions ++ new_region Dynamic ∷ []) objects = opened_typed g regions (new_region Dynamic ∷ []) objects typed in
+    record { count = typed.count; counts = typed.counts; each = each; heap = more.heap; kept = λ n among. kept n (length regions) among refl more }
+  where
+    each : (number : ℕ) (t : ObjectType) → slice_get g.objects number ≡ Some t
+        → (x : Object) × (m : ℕ) × (slice_get objects number ≡ Some x) × (slice_get g.filled number ≡ Some m) × IsObject (with_kept g (length regions)) m t x
+    each number t there = let (x, m, at, flag, is) = typed.each number t there in
+        (x, m, at, flag, object_grown g (with_kept g (length regions)) (kept_grows g (length regions)) m t x is)
+
+    kept : (n k : ℕ) → IsAmong n (k ∷ g.kept) → k ≡ length regions → IsTyped g (regions ++ new_region Dynamic ∷ []) objects → IsDynamic (slice_get (regions ++ new_region Dynamic ∷ []) n)
+    kept n k (newest ms) same more = subst (λ i. IsDynamic (slice_get (regions ++ new_region Dynamic ∷ []) i)) (sym same)
+        (subst (λ z. IsDynamic z) (sym (slice_get-end regions (new_region Dynamic))) (refl, refl))
+    kept n k (behind m ms among) same more = more.kept n among
 
 -- ---- cells
 
@@ -184,6 +248,8 @@ typed_cell g (u ∷ ts) (c ∷ cs) (suc n) (suc i) t (one, are) found =
 pub live_owner : (w : World) (l : Life) (o : Owner) → IsOwner l o → IsOpenLife w.regions l → is_live w o ≡ true
 live_owner w (OfRegion region ns) (InRegion number) same opens = subst (λ n. is_open (slice_get w.regions n) ≡ true) same opens
 live_owner w (OfRegion region ns) (Unique live) (heap, same) opens = same
+live_owner w (Kept region) (InRegion number) same opens = subst (λ n. is_open (slice_get w.regions n) ≡ true) same opens
+live_owner w (Kept region) (Unique live) is opens = absurd is
 live_owner w l o is opens = absurd opens
 
 -- what stands at a number, and its cell of this type
@@ -241,7 +307,7 @@ abbrev pub with_filled : Typing → (number count : ℕ) → Typing
 with_filled g number n = record g { filled = set g.filled number n }
 
 pub filled_grows : (g : Typing) (number m n : ℕ) → slice_get g.filled number ≡ Some m → m ≤ n → Grows g (with_filled g number n)
-filled_grows g number m n flag more = record { objects = λ other u there. there; filled = filled; fields = λ struct ls ts is. is }
+filled_grows g number m n flag more = record { objects = λ other u there. there; filled = filled; fields = λ struct ls ts is. is; kept = λ n is. is }
   where
     filled : (other count : ℕ) → IsFilled g other count → IsFilled (with_filled g number n) other count
     filled other count (k, is, enough) = elim (same_or_other other number) [
@@ -280,6 +346,7 @@ module _ (g : Typing) (w : World) (number offset : ℕ) (x : ObjectType) (t : Ru
   is_with_value : IsObject (with_filled g number (risen offset c.filled)) (risen offset c.filled) x with_value
   is_with_value = record {
     owner = c.is.owner;
+    known = life_grown g (with_filled g number (risen offset c.filled)) written_grows x.life c.is.known;
     cells = cells_written (with_filled g number (risen offset c.filled)) x.cells c.object.cells c.filled offset t c.of.cell v
         (cells_grown g (with_filled g number (risen offset c.filled)) written_grows x.cells c.object.cells c.filled c.is.cells) here c.of.at c.of.kind few
         (type_grown g (with_filled g number (risen offset c.filled)) written_grows t v has);
@@ -291,6 +358,7 @@ module _ (g : Typing) (w : World) (number offset : ℕ) (x : ObjectType) (t : Ru
     counts = length-set w.objects number with_value ∙ typed.counts ∙ sym (length-set g.filled number (risen offset c.filled));
     each = each;
     heap = typed.heap;
+    kept = typed.kept;
   }
     where
       each : (other : ℕ) (u : ObjectType) → slice_get g.objects other ≡ Some u

@@ -1,23 +1,28 @@
 -- CLASSES OF PROGRAMS that a theorem speaks of. Each is a predicate on typed trees, empty for the nodes that are not in it yet.
-use Rattle.std.specs.Prelude.{ℕ, suc, ◌+◌, List, [], ◌∷◌, Option, Some, None}
+use Rattle.std.specs.Prelude.{◌≡◌, ℕ, suc, ◌+◌, true, false, List, [], ◌∷◌, Option, Some, None}
 use Rattle.cyc_types.specs.Types.{Ty}
 use Rattle.cyc_types.specs.Declarations.{declared_regions, item_regions}
-use Rattle.cyc_types.specs.TypedTrees.{Local, Global, Expression, Number, NullPointer, HeapRegion, Counter, Copy, Move, Peek, Load, AddressOf, AddressOfCell, NumberOfElements, Call, Unary, Binary, Assign, Store, New, Dereference, Target, Member, Element, Placement, OnHeap, AsUnique, ByHandle, Initial, Plain, Fields, Array, Converted, Convert, Arguments, NoArguments, MoreArguments, Operations, NoOperations, ThenCompute, ThenTest, ThenPointer, ThenPointerPeek, Side, VariableSide, CellSide, Statement, Block, Empty, Evaluate, Swap, If, While, Return, Break, Continue, Throw, Try, Items, NoItems, MoreItems, Execute, Declare, DeclareRegion, Clauses, NoClauses, Default, Case, StructType, GlobalVariable, Function, Program}
+use Rattle.cyc_types.specs.TypedTrees.{Local, Global, Expression, Number, NullPointer, HeapRegion, Counter, Copy, Move, Peek, Load, AddressOf, AddressOfCell, NumberOfElements, Call, Unary, Binary, Assign, Store, New, Dereference, Target, Member, Element, Placement, OnHeap, AsUnique, ByHandle, Initial, Plain, Fields, Array, Converted, Convert, Arguments, NoArguments, MoreArguments, Operations, NoOperations, ThenCompute, ThenTest, ThenPointer, ThenPointerPeek, Side, VariableSide, CellSide, Statement, Block, Empty, Evaluate, Swap, If, While, Return, Break, Continue, Throw, Try, Items, NoItems, MoreItems, Execute, Declare, DeclareRegion, OpenRegion, DeclareAlias, DeclareKey, Clauses, NoClauses, Default, Case, StructType, GlobalVariable, Function, Program}
 use Rattle.cyc_soundness.specs.Lives.{Reading, AsHeap, ByScope, AllIn, IsKnown}
 
 -- a form that makes what ends with a scope
 abbrev pub HasScopes : Reading → Type 0
 HasScopes AsHeap = ⊥
-HasScopes ByScope = Unit {0}
+HasScopes (ByScope lends) = Unit {0}
+
+-- a form that makes or uses what is lent to the end of a block
+abbrev pub HasLoans : Reading → Type 0
+HasLoans AsHeap = ⊥
+HasLoans (ByScope lends) = lends ≡ true
 
 -- a type names only regions with a number below this one
 abbrev pub IsDeclarable : Reading → ℕ → Ty → Type 0
 IsDeclarable AsHeap n t = Unit {0}
-IsDeclarable ByScope n t = AllIn (IsKnown n) t
+IsDeclarable (ByScope lends) n t = AllIn (IsKnown n) t
 
--- Programs without dynamic regions, keys and aliases, which give nothing back. All else is there: all types, objects in the heap, unique
--- ones and those of regions, places behind pointers, swaps, functions with regions, conversions between all marks, loops and exceptions.
--- Read as the heap, they have no lexical regions, and take the address of no local.
+-- Programs that give nothing back. All else is there: all types, objects in the heap, unique ones and those of regions, places behind
+-- pointers, swaps, functions with regions, conversions between all marks, loops and exceptions. Only where things are lent do they have
+-- dynamic regions, keys and aliases. Read as the heap, they have no lexical regions, and take the address of no local.
 abbrev mutual
   pub InExpression : Reading → Expression → Type 0
   InExpression m (Number n) = Unit {0}
@@ -101,7 +106,9 @@ abbrev mutual
   InItems m n (MoreItems (Execute s) js) = InStatement m n s × InItems m (n + declared_regions s) js
   InItems m n (MoreItems (Declare l t v) js) = IsDeclarable m n t × InValue m v × InItems m n js
   InItems m n (MoreItems (DeclareRegion r l) js) = HasScopes m × InItems m (suc n) js
-  InItems m n js = ⊥
+  InItems m n (MoreItems (OpenRegion r l p k) js) = HasLoans m × InItems m n js
+  InItems m n (MoreItems (DeclareAlias r l t p s) js) = HasLoans m × InItems m (suc n) js
+  InItems m n (MoreItems (DeclareKey r l) js) = HasLoans m × InItems m (suc n) js
 
   pub InClauses : Reading → ℕ → Clauses → Type 0
   InClauses m n NoClauses = Unit {0}
@@ -132,7 +139,11 @@ IsOfTheHeap p = InFunctions AsHeap p.functions
 
 -- programs in which what ends does so with a scope
 abbrev pub IsOfScopes : Program → Type 0
-IsOfScopes p = InFunctions ByScope p.functions × InGlobals ByScope p.globals × InStructs ByScope p.structs
+IsOfScopes p = InFunctions (ByScope false) p.functions × InGlobals (ByScope false) p.globals × InStructs (ByScope false) p.structs
+
+-- programs in which nothing ends but with a scope
+abbrev pub FreesNothing : Program → Type 0
+FreesNothing p = InFunctions (ByScope true) p.functions × InGlobals (ByScope true) p.globals × InStructs (ByScope true) p.structs
 
 -- a program, and how its regions are read
 pub record Source : Type 0 where

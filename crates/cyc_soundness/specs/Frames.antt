@@ -1,5 +1,5 @@
 -- THE LOCALS OF A CALL: to which objects the numbers in scope lead, what the flow rules say of them, and where control may go.
-use Rattle.std.specs.Prelude.{◌≡◌, ◌⊎◌, ℕ, ◌<◌, ◌==◌, Bool, true, false, if◌then◌else◌, List, [], ◌∷◌, length, map, Option, Some, None, Contains, slice_get, slice_index_or}
+use Rattle.std.specs.Prelude.{◌≡◌, ◌⊎◌, ℕ, ◌<◌, ◌==◌, Bool, true, false, if◌then◌else◌, List, [], ◌∷◌, ◌++◌, length, map, Option, Some, None, Contains, slice_get, slice_index_or}
 use Rattle.cyc_syntax.specs.Symbols.{Place}
 use Rattle.cyc_types.specs.declared.region.Region.{Region}
 use Rattle.cyc_types.specs.declared.region.Region.TheVariants as regions
@@ -13,13 +13,10 @@ use Rattle.cyc_types.specs.flow.States.{fullness, is_vacant, is_reached}
 use Rattle.cyc_types.specs.flow.Statements.{Loop, Around}
 use Rattle.cyc_meaning.specs.State.{globals_number, Entry, CloseRegion, Caller}
 use Rattle.cyc_meaning.specs.Nesting.{ends_of}
-use Rattle.cyc_soundness.specs.Lives.{Life, OfRegion, RunTy, RunValue, Void, Lives, at, value_at, heap_life, lives_of, as_heap, Reading, AsHeap, ByScope, AllIn, AllInValue, IsKnown}
-use Rattle.cyc_soundness.specs.Worlds.{Typing, IsFull, variable_type, global_type, IsEndOf, Outlasts, IsNumber}
+use Rattle.cyc_soundness.specs.Lives.{Life, OfRegion, Kept, RunTy, RunValue, Void, Lives, at, value_at, heap_life, lives_of, as_heap, Reading, AsHeap, ByScope, AllIn, AllInValue, IsKnown}
+pub use Rattle.cyc_soundness.specs.Worlds.{IsAmong, first, later}
+use Rattle.cyc_soundness.specs.Worlds.{Typing, IsKnownLife, IsFull, variable_type, global_type, IsEndOf, Outlasts, IsNumber}
 use Rattle.cyc_soundness.specs.Classes.{IsDeclarable, Source}
-
-pub data IsAmong {A : Type 0} (a : A) : List A → Type 0 where
-  first : (as' : List A) → IsAmong a (a ∷ as')
-  later : (b : A) (as' : List A) → IsAmong a as' → IsAmong a (b ∷ as')
 
 -- a local in scope, with its object and how long this is there
 pub record Bound : Type 0 where
@@ -41,6 +38,8 @@ pub data InScope : Type 0 where
   Instance : (ℕ → Life) → (ℕ → Bool) → InScope
   -- the region in which the variables of the innermost block live
   Home : (region : ℕ) → InScope
+  -- what the local of this number holds, whose object this is, is lent
+  Lent : (number object : ℕ) → InScope
 
 -- ---- regions
 
@@ -52,6 +51,7 @@ life_named (Level l ∷ bs) k = life_named bs k
 life_named (Names number life live ∷ bs) k = if k == number then life else life_named bs k
 life_named (Instance these live ∷ bs) k = these k
 life_named (Home region ∷ bs) k = life_named bs k
+life_named (Lent number object ∷ bs) k = life_named bs k
 
 abbrev pub is_live_named : List InScope → ℕ → Bool
 is_live_named [] k = true
@@ -60,6 +60,7 @@ is_live_named (Level l ∷ bs) k = is_live_named bs k
 is_live_named (Names number life live ∷ bs) k = if k == number then live else is_live_named bs k
 is_live_named (Instance these live ∷ bs) k = live k
 is_live_named (Home region ∷ bs) k = is_live_named bs k
+is_live_named (Lent number object ∷ bs) k = is_live_named bs k
 
 -- what the regions of the function stand for here
 abbrev pub lives_in : List InScope → Lives
@@ -93,7 +94,7 @@ home_of (b ∷ bs) = home_of bs
 -- A pointer to a local is one into the region of its block; read as the heap, there are none.
 abbrev pub IsHomed : Reading → Lives → (region : ℕ) → Life → Type 0
 IsHomed AsHeap m region l = Unit {0}
-IsHomed ByScope m region l = l ≡ m (regions.Variable region)
+IsHomed (ByScope lends) m region l = l ≡ m (regions.Variable region)
 
 -- the newest in scope, and then the rest of the locals
 abbrev pub IsNewest : Reading → Lives → List LocalInScope → InScope → (rest : List LocalInScope) → Type 0
@@ -109,6 +110,7 @@ IsScope r m vs (b ∷ bs) = (rest : List LocalInScope) × IsNewest r m vs b rest
 -- the numbers of locals in scope were given out before this one
 abbrev pub IsBelow : ℕ → InScope → Type 0
 IsBelow n (Variable b) = b.number < n
+IsBelow n (Lent number object) = number < n
 IsBelow n b = Unit {0}
 
 abbrev pub AreBelow : ℕ → List InScope → Type 0
@@ -119,15 +121,19 @@ AreBelow n (b ∷ bs) = IsBelow n b × AreBelow n bs
 abbrev pub HasMeaning : (locals counters : ℕ → Option ℕ) → InScope → Type 0
 HasMeaning locals counters (Variable b) = locals b.number ≡ Some b.object
 HasMeaning locals counters (Level l) = (index : ℕ) × (counters l ≡ Some index)
+HasMeaning locals counters (Lent number object) = locals number ≡ Some object
 HasMeaning locals counters b = Unit {0}
 
 abbrev pub IsBound : (locals counters : ℕ → Option ℕ) → List InScope → Type 0
 IsBound locals counters [] = Unit {0}
 IsBound locals counters (b ∷ bs) = HasMeaning locals counters b × IsBound locals counters bs
 
--- the objects of locals are variables of their types
+-- the objects of locals are variables of their types, what regions stand for is known, and what is lent is there
 abbrev pub IsOfVariable : Typing → InScope → Type 0
 IsOfVariable g (Variable b) = slice_get g.objects b.object ≡ Some (variable_type b.of_type b.life b.is_hidden)
+IsOfVariable g (Names number life live) = IsKnownLife g life
+IsOfVariable g (Instance these live) = (n : ℕ) → IsKnownLife g (these n)
+IsOfVariable g (Lent number object) = IsFull g object
 IsOfVariable g b = Unit {0}
 
 abbrev pub AreVariables : Typing → List InScope → Type 0
@@ -137,6 +143,7 @@ AreVariables g (b ∷ bs) = IsOfVariable g b × AreVariables g bs
 -- there to the end of one of these regions, of those that will end, or for ever
 abbrev pub IsLasting : List ℕ → Life → Type 0
 IsLasting regions (OfRegion number around) = (OfRegion number around ≡ heap_life) ⊎ IsEndOf (number ∷ around) regions
+IsLasting regions (Kept number) = Unit {0}
 IsLasting regions l = ⊥
 
 -- what is live has not ended
@@ -208,6 +215,8 @@ pub record Exits : Type 0 where
   pub result : Option Ty
   -- as its caller reads it
   pub gives : RunValue
+  -- the locals that the items around have lent since the loop's body began
+  pub locks : List ℕ
 
 -- where there is no result, nothing is given
 abbrev pub HasResult : Option Ty → RunValue → Type 0
@@ -219,7 +228,16 @@ loop_of None = None
 loop_of (Some l) = Some (record { place = l.place; head = l.head })
 
 abbrev pub around : Exits → Around
-around x = record { loop = loop_of x.loop; locks = [] }
+around x = record { loop = loop_of x.loop; locks = x.locks }
+
+-- where one more is lent
+abbrev pub lending : Exits → ℕ → Exits
+lending x n = record x { locks = x.locks ++ n ∷ [] }
+
+-- these locals are lent here
+abbrev pub AreLent : List ℕ → List InScope → Type 0
+AreLent [] bs = Unit {0}
+AreLent (n ∷ ns) bs = ((object : ℕ) × IsAmong (Lent n object) bs) × AreLent ns bs
 
 -- what is known at breaks so far holds behind the loop
 abbrev pub AreBreaks : Option LoopExit → flow.State → Type 0
@@ -240,14 +258,14 @@ pub record AreNamed (c : RegionContext) (these : ℕ → Life) (live : ℕ → B
 -- as the program is read, region variables stand for the heap, or for what the context says of them
 abbrev pub StandBy : Reading → RegionContext → (ℕ → Life) → (ℕ → Bool) → Type 0
 StandBy AsHeap c these live = (n : ℕ) → (these n ≡ heap_life) × (live n ≡ true)
-StandBy ByScope c these live = AreNamed c these live
+StandBy (ByScope lends) c these live = AreNamed c these live
 
 abbrev pub Stand : Reading → RegionContext → List InScope → Type 0
 Stand m c bs = StandBy m c (λ n. life_named bs n) (λ n. is_live_named bs n)
 
 abbrev pub IsHomeBy : Reading → Life → (is_live : Bool) → (home : ℕ) → Type 0
 IsHomeBy AsHeap l live home = Unit {0}
-IsHomeBy ByScope l live home = IsNumber l home × (live ≡ true)
+IsHomeBy (ByScope lends) l live home = IsNumber l home × (live ≡ true)
 
 -- the variables of the innermost block live in the region that this one stands for
 abbrev pub IsHome : Reading → (region : ℕ) → List InScope → Type 0
@@ -266,7 +284,7 @@ pub record IsKnownBy (n : ℕ) (c : RegionContext) (vs : List LocalInScope) (res
 
 abbrev pub AreKnown : Reading → ℕ → RegionContext → List LocalInScope → Option Ty → Type 0
 AreKnown AsHeap n c vs result = Unit {0}
-AreKnown ByScope n c vs result = IsKnownBy n c vs result
+AreKnown (ByScope lends) n c vs result = IsKnownBy n c vs result
 
 -- the context of a tree in a function of this program, where control may go there and this is in scope
 pub record IsContext (p : Source) (x : Exits) (bs : List InScope) (c : Context) : Type 0 where
@@ -282,6 +300,7 @@ pub record IsContext (p : Source) (x : Exits) (bs : List InScope) (c : Context) 
   pub known : AreKnown p.reading c.next_region c.regions c.locals c.result
   pub regions : Stand p.reading c.regions bs
   pub home : IsHome p.reading c.region bs
+  pub lent : AreLent x.locks bs
 
 -- ---- programs
 

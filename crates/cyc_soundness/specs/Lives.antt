@@ -1,7 +1,7 @@
 -- TYPES AS A RUN READS THEM. Trees name regions, which mean something in their function alone. States speak of lives: the region of a
 -- number, or a unique object. A type of a tree becomes one of a state by what each region of its function stands for. (One language of
 -- types in two readings is this project's own choice.)
-use Rattle.std.specs.Prelude.{◌≢◌, ℕ, ◌<◌, List, [], ◌∷◌, map}
+use Rattle.std.specs.Prelude.{◌≢◌, ℕ, ◌<◌, Bool, List, [], ◌∷◌, map}
 use Rattle.cyc_syntax.specs.declared.tree.PointerKind.{PointerKind}
 use Rattle.cyc_types.specs.declared.region.Region.{Region}
 use Rattle.cyc_types.specs.declared.region.Region.TheVariants as regions
@@ -12,11 +12,13 @@ use Rattle.cyc_types.specs.Types as types
 use Rattle.cyc_meaning.specs.Values.{kind_of_mark}
 
 -- How long something is there: to the end of a region, or until it is given back; nothing is there that is null for good. With a region
--- that a scope ends come those that were open around that scope, the innermost first: they last as long.
+-- that a scope ends come those that were open around that scope, the innermost first: they last as long. A dynamic region is kept: no
+-- scope ends it.
 pub data Life : Type 0 where
   OfRegion : (region : ℕ) → (around : List ℕ) → Life
   OfObject : (object : ℕ) → Life
   Never : Life
+  Kept : (region : ℕ) → Life
 
 pub data RunTy : Type 0 where
   Int : RunTy
@@ -76,8 +78,8 @@ as_heap r = heap_life
 pub data Reading : Type 0 where
   -- each as the heap: no pointer leads to what is anywhere else
   AsHeap : Reading
-  -- each as what it stands for where it is in scope
-  ByScope : Reading
+  -- Each as what it stands for where it is in scope. Where things are lent, there are keys and aliases too.
+  ByScope : (lends : Bool) → Reading
 
 -- ---- which regions a type names
 

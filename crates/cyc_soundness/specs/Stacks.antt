@@ -1,6 +1,6 @@
 -- THE TYPING OF STATES. Each entry of the control stack is typed from what it awaits to what it hands on. Typed trees on it keep their
 -- judgements, types and flow in one; the locals in scope are an index, of which an entry may forget the newest.
-use Rattle.std.specs.Prelude.{◌≡◌, ◌⊎◌, ℕ, zero, suc, ◌+◌, ◌<◌, ◌≤◌, Bool, true, false, List, [], ◌∷◌, length, map, Option, Some, None, slice_get}
+use Rattle.std.specs.Prelude.{◌≡◌, ◌⊎◌, ℕ, zero, suc, ◌+◌, ◌<◌, ◌≤◌, Bool, true, false, List, [], ◌∷◌, ◌++◌, length, map, Option, Some, None, slice_get}
 use Rattle.cyc_syntax.specs.declared.tree.PointerKind.{PointerKind}
 use Rattle.cyc_syntax.specs.declared.tree.PointerKind.TheVariants as marks
 use Rattle.cyc_types.specs.declared.region.Region.{Region}
@@ -17,24 +17,26 @@ use Rattle.cyc_types.specs.Types as types
 use Rattle.cyc_types.specs.TypedTrees.{Expression, Dereference, Initial, Convert, Arguments, Operations, Side, Statement, Items, Clauses, StructType, GlobalVariable, Function}
 use Rattle.cyc_types.specs.Outlives.{RegionContext}
 use Rattle.cyc_types.specs.Rules.{AllKept, Derives}
-use Rattle.cyc_types.specs.typing.Tests.{is_struct, is_tested, kind_of_mark, kind_of, kind_of_value}
+use Rattle.cyc_types.specs.typing.Tests.{is_struct, is_unique, is_tested, kind_of_mark, kind_of, kind_of_value}
 use Rattle.cyc_types.specs.typing.Expressions.{assigned_type}
-use Rattle.cyc_types.specs.typing.WellTyped.{LocalInScope, Context, WellTyped, IsPeek, IsCell, IsSide, ArePassed, IsMade, Converts, PointerOperation, IsChain, with_counter, IsLive, in_body, body_context, with_local, WellTypedStatement, WellTypedItems, WellTypedClauses, IsWellTypedFunction, parameters_in_scope}
+use Rattle.cyc_types.specs.typing.Statements.{with_region_of}
+use Rattle.cyc_types.specs.declared.scope.ScopeKind.TheVariants as scopes
+use Rattle.cyc_types.specs.typing.WellTyped.{LocalInScope, Context, WellTyped, IsPeek, IsCell, IsSide, ArePassed, IsMade, Converts, PointerOperation, IsChain, with_counter, IsLive, in_body, body_context, with_local, with_opened, with_key_opened, WellTypedStatement, WellTypedItems, WellTypedClauses, IsWellTypedFunction, parameters_in_scope}
 use Rattle.cyc_types.specs.flow.States as flow
-use Rattle.cyc_types.specs.flow.States.{Unreached, Full, with_fullness, is_reached}
+use Rattle.cyc_types.specs.flow.States.{Unreached, Locked, Full, with_fullness, with_each, is_reached}
 use Rattle.cyc_types.specs.flow.Expressions.{rule, rule_place, rule_initial, rule_arguments, rule_operations}
-use Rattle.cyc_types.specs.flow.Statements.{rule_side, side_demanded, rule_statement, rule_items, rule_clauses}
+use Rattle.cyc_types.specs.flow.Statements.{rule_side, side_demanded, locks_of, rule_statement, rule_items, rule_clauses}
 use Rattle.cyc_types.specs.flow.Programs.{start_of, in_function}
 use Rattle.cyc_meaning.specs.Values.{Operand}
 use Rattle.cyc_meaning.specs.Values as values
-use Rattle.cyc_meaning.specs.State.{Owner, Awaiting, ConvertTo, Operate, Chain, Apply, ApplyPointer, Decide, Store, StoreCell, Pass, Follow, FollowMember, Index, Advance, CountElements, PlaceBy, MakePlain, MakeFields, MakeArray, FillElement, Initialise, Choose, Test, Return, ThrowWith, AwaitingPlace, LoadFrom, TakeAddress, StoreTo, SwapLeft, SwapRight, Write, Entry, Needs, NeedsPlace, Discard, Rest, Join, Loop, CloseRegion, CloseLexical, Handler, Caller, Main, Environment, World, Focus, Evaluating, Locating, Given, GivenPlace, Executing, Proceeding, Calling, Entering, Binding, Naming, Writing, Swapping, Beginning, Repeating, Breaking, Continuing, Returning, Throwing, Catching, State, Running, Ended, Dead, Wrong}
+use Rattle.cyc_meaning.specs.State.{Owner, Awaiting, ConvertTo, Operate, Chain, Apply, ApplyPointer, Decide, Store, StoreCell, Pass, Follow, FollowMember, Index, Advance, CountElements, PlaceBy, MakePlain, MakeFields, MakeArray, FillElement, Initialise, Choose, Test, Return, ThrowWith, OpenBy, AliasOf, AwaitingPlace, LoadFrom, TakeAddress, StoreTo, SwapLeft, SwapRight, Write, Entry, Needs, NeedsPlace, Discard, Rest, Join, Loop, CloseRegion, CloseLexical, EndLoan, Handler, Caller, Main, Environment, World, Focus, Evaluating, Locating, Given, GivenPlace, Executing, Proceeding, Calling, Entering, Binding, Naming, Writing, Swapping, Beginning, Repeating, Breaking, Continuing, Returning, Throwing, Catching, State, Running, Ended, Dead, Wrong}
 use Rattle.cyc_meaning.specs.Allocation.{writes_from}
 use Rattle.cyc_meaning.specs.Parts.{target_of, target_of_value}
-use Rattle.cyc_soundness.specs.Lives.{Life, RunTy, RunValue, Value, at, value_at, heap_life, lives_of, as_heap, Reading}
+use Rattle.cyc_soundness.specs.Lives.{Life, RunTy, RunValue, Value, at, value_at, heap_life, lives_of, as_heap, Reading, AllIn, IsKnown}
 use Rattle.cyc_soundness.specs.Lives as lives
 use Rattle.cyc_soundness.specs.Worlds.{ObjectType, Typing, AgreesWith, IsFilled, IsFull, HasType, IsResult, AreOperands, IsOwner, IsTyped}
-use Rattle.cyc_soundness.specs.Classes.{InExpression, InPlace, InSide, InInitial, InArguments, InOperations, InStatement, InItems, InClauses, IsDeclarable, Source}
-use Rattle.cyc_soundness.specs.Frames.{IsAmong, Bound, InScope, Variable, Level, Names, Instance, Home, lives_in, read, read_value, IsThere, IsScope, AreBelow, IsBound, AreVariables, LiveIn, Within, IsSet, Holds, Implies, LoopExit, Exits, HasResult, around, AreBreaks, is_loop, Stand, IsHome, IsContext, lives_among, KnowsProgram}
+use Rattle.cyc_soundness.specs.Classes.{HasLoans, InExpression, InPlace, InSide, InInitial, InArguments, InOperations, InStatement, InItems, InClauses, IsDeclarable, Source}
+use Rattle.cyc_soundness.specs.Frames.{IsAmong, Bound, InScope, Variable, Level, Names, Instance, Home, life_named, lives_in, read, read_value, IsThere, IsScope, AreBelow, IsBound, AreVariables, LiveIn, Within, IsSet, Holds, Implies, LoopExit, Exits, HasResult, around, lending, AreBreaks, is_loop, Stand, IsHome, IsContext, lives_among, KnowsProgram}
 
 -- ---- trees, with what is known before and behind them
 
@@ -88,13 +90,19 @@ pub record Executes (m : Reading) (x : Exits) (c : Context) (s : Statement) (f h
   pub breaks : AreBreaks x.loop behind
   pub kept : InStatement m c.next_region s
 
+-- what is left of a block: at its end, what its items have locked is full again
 pub record Continues (m : Reading) (x : Exits) (c : Context) (js : Items) (f h : flow.State) : Type 0 where
   pub before : flow.State
   pub behind : flow.State
+  pub ending : flow.State
+  -- what the items before these have locked
+  pub locked : List ℕ
   pub typed : WellTypedItems c js
-  pub flows : Derives (rule_items (around x) js (record { now = f; breaks = before })) (record { now = h; breaks = behind })
+  pub flows : Derives (rule_items (around x) js (record { now = f; breaks = before })) (record { now = ending; breaks = behind })
   pub breaks : AreBreaks x.loop behind
   pub kept : InItems m c.next_region js
+  pub among : (n : ℕ) → IsAmong n locked → IsAmong n x.locks
+  pub ends : Implies (with_each Full (locked ++ locks_of js) ending) h
 
 -- clauses that begin with this known
 pub record Catches (m : Reading) (x : Exits) (c : Context) (start : flow.State) (cs : Clauses) (f h : flow.State) : Type 0 where
@@ -148,6 +156,7 @@ regions_at_call h = record { written = h.constraints; live = regions.Heap ∷ re
 pub record IsInstance (p : Source) (bs : List InScope) (h : Function) (these : ℕ → Life) (live : ℕ → Bool) : Type 0 where
   pub stand : Stand p.reading (regions_at_call h) (Instance these live ∷ [])
   pub lasting : (n : ℕ) → live n ≡ true → (r : Region) × IsThere bs r × (lives_in bs r ≡ these n)
+  pub named : (n : ℕ) → (r : Region) × (lives_in bs r ≡ these n)
 
 -- a call with arguments of these types gives this
 abbrev pub IsCalled : Source → List InScope → Callee → List RunTy → RunValue → Type 0
@@ -170,7 +179,7 @@ null = record { kind = kinds.Nullable; value = values.Null }
 
 -- in the body of this loop
 abbrev pub inside : Exits → LoopExit → Exits
-inside x l = record x { loop = Some l }
+inside x l = record x { loop = Some l; locks = [] }
 
 -- A loop, whose condition has a value of this type and leaves this known; behind the loop it is this.
 pub record IsLoop (p : Source) (x : Exits) (bs : List InScope) (l : LoopExit) (condition : Expression) (body : Statement) (v : ValueType) (f exit : flow.State) : Type 0 where
@@ -247,6 +256,15 @@ pub data Waits (p : Source) (x : Exits) (bs : List InScope) : Awaiting → List 
       → Waits p x bs (Test condition body) [] (read_value bs v) f bs (Go h)
   returns : (t : Ty) (u : RunTy) (f h : flow.State) → x.result ≡ Some t → Value u ≡ x.gives → Waits p x bs Return [] (Value u) f bs (Go h)
   throws : {tag : ℕ} (f h : flow.State) → Waits p x bs (ThrowWith tag) [] (Value lives.Int) f bs (Go h)
+
+  opens_by : {number lent : ℕ} {js : Items} (cs : List InScope) (c : Context) (b : Bound) (r : ℕ) (f h : flow.State) → HasLoans p.reading → Within cs bs → IsContext p x bs c → IsAmong (Variable b) bs → b.number ≡ lent → IsSet f lent
+      → r < c.next_region → IsLive c (regions.Variable c.region) → number ≡ c.next_local
+      → Continues p.reading (lending x lent) (with_local false (types.Handle (regions.Variable r)) (with_key_opened r c)) js (with_fullness Full (with_fullness Locked f lent) number) h
+      → Waits p x bs (OpenBy number lent js) [] (Value (lives.Key (life_named bs r))) f cs (Go h)
+  aliases : {number lent : ℕ} {js : Items} (cs : List InScope) (c : Context) (b : Bound) (u t : Ty) (f h : flow.State) → HasLoans p.reading → Within cs bs → IsContext p x bs c → IsAmong (Variable b) bs → b.number ≡ lent → IsSet f lent
+      → is_unique u ≡ true → AllIn (IsKnown c.next_region) u → t ≡ with_region_of (regions.Variable c.next_region) u → IsLive c (regions.Variable c.region) → number ≡ c.next_local
+      → Continues p.reading (lending x lent) (with_local true t (with_opened scopes.Alias c)) js (with_fullness Full (with_fullness Locked f lent) number) h
+      → Waits p x bs (AliasOf number lent js) [] (Value (read bs u)) f cs (Go h)
 
 -- what waits for a place, of this type and there so long, and what goes on then
 pub data WaitsPlace (p : Source) (x : Exits) (bs : List InScope) : AwaitingPlace → RunTy → Life → flow.State → Want → Type 0 where
@@ -327,6 +345,8 @@ IsStack p g x bs (Go f) (Loop condition body ∷ k) =
 IsStack p g x bs (Go f) (CloseRegion region home ∷ k) =
     (cs : List InScope) × (number : ℕ) × (l : Life) × (live : Bool) × (h : flow.State) × (bs ≡ Home region ∷ Names number l live ∷ cs) × Implies f h × LiveIn k cs × IsStack p g x cs (Go h) k
 IsStack p g x bs (Go f) (CloseLexical region ∷ k) = (h : flow.State) × Implies f h × LiveIn k bs × IsStack p g x bs (Go h) k
+-- what was lent is not so any more
+IsStack p g x bs (Go f) (EndLoan lent ∷ k) = (y : Exits) × (x ≡ lending y lent) × IsStack p g y bs (Go f) k
 IsStack p g x bs (Go f) (Handler cs ∷ k) =
     (c : Context) × (start h : flow.State) × IsContext p x bs c × Holds g start bs × Catches p.reading x c start cs f h × Implies f h × IsStack p g x bs (Go h) k
 -- the caller's locals are as they were, and hold what they held
@@ -383,7 +403,7 @@ AreFull g (b ∷ bs) = IsFilledIn g b × AreFull g bs
 
 -- in a function's body, outside of loops
 abbrev pub IsBody : Exits → List InScope → Function → Type 0
-IsBody x bs h = (x.loop ≡ None) × (x.result ≡ h.result) × (read_value bs (result_type h.result) ≡ x.gives)
+IsBody x bs h = (x.loop ≡ None) × (x.locks ≡ []) × (x.result ≡ h.result) × (read_value bs (result_type h.result) ≡ x.gives)
 
 abbrev pub IsFocus : Source → Typing → Exits → List InScope → Focus → List Entry → Type 0
 IsFocus p g x bs (Evaluating a) k =

@@ -8,8 +8,12 @@ use Rattle.cyc_types.specs.Outlives.{RegionContext, OutlivesIn}
 use Rattle.cyc_meaning.specs.Values.{Operand, Cell}
 use Rattle.cyc_meaning.specs.Values as values
 use Rattle.cyc_meaning.specs.Operators.{Result, Gives, Raises, Misfits}
-use Rattle.cyc_meaning.specs.State.{Region, Owner, InRegion, Unique, Object, heap_number, globals_number, is_open}
-use Rattle.cyc_soundness.specs.Lives.{Life, OfRegion, OfObject, heap_life, RunTy, Int, Pointer, Handle, Key, Struct, RunValue, Void, Null, Value, Lives, kind_at}
+use Rattle.cyc_meaning.specs.State.{Dynamic, Region, Owner, InRegion, Unique, Object, heap_number, globals_number, is_open}
+use Rattle.cyc_soundness.specs.Lives.{Life, OfRegion, OfObject, Kept, heap_life, RunTy, Int, Pointer, Handle, Key, Struct, RunValue, Void, Null, Value, Lives, kind_at}
+
+pub data IsAmong {A : Type 0} (a : A) : List A → Type 0 where
+  first : (as' : List A) → IsAmong a (a ∷ as')
+  later : (b : A) (as' : List A) → IsAmong a as' → IsAmong a (b ∷ as')
 
 pub record ObjectType : Type 0 where
   pub cells : List RunTy
@@ -24,6 +28,13 @@ pub record Typing : Type 0 where
   pub filled : List ℕ
   -- the types of a struct's cells, by its number and what its regions stand for
   pub fields : ℕ → List Life → Option (List RunTy)
+  -- the dynamic regions, which are open for good
+  pub kept : List ℕ
+
+-- a dynamic region is one of this world
+abbrev pub IsKnownLife : Typing → Life → Type 0
+IsKnownLife g (Kept region) = IsAmong region g.kept
+IsKnownLife g l = Unit {0}
 
 -- at least so many cells of an object hold something
 abbrev pub IsFilled : Typing → (object count : ℕ) → Type 0
@@ -49,11 +60,12 @@ pub data IsEndOf (ms : List ℕ) : List ℕ → Type 0 where
   behind : (n : ℕ) (ns : List ℕ) → IsEndOf ms ns → IsEndOf ms (n ∷ ns)
 
 -- What is there as long as the first is there as long as the second: the heap and the globals are for ever, and a region that was open
--- around a scope is open to its end.
+-- around a scope is open to its end. So are dynamic regions.
 pub data Outlasts : Life → Life → Type 0 where
   alike : (l : Life) → Outlasts l l
   heap : (l : Life) → Outlasts heap_life l
   globals : (l : Life) → Outlasts global_life l
+  stays : (region : ℕ) (l : Life) → Outlasts (Kept region) l
   encloses : (m n : ℕ) (ms ns : List ℕ) → IsEndOf (m ∷ ms) ns → Outlasts (OfRegion m ms) (OfRegion n ns)
 
 -- regions stand for lives of which those last as long that are known here to outlive the others
@@ -75,7 +87,13 @@ IsTarget g t l object offset =
 -- the region of this number has this life
 abbrev pub IsNumber : Life → (region : ℕ) → Type 0
 IsNumber (OfRegion number around) region = number ≡ region
+IsNumber (Kept number) region = number ≡ region
 IsNumber l region = ⊥
+
+-- and the key of a dynamic region has this number
+abbrev pub IsKeyOf : Life → (region : ℕ) → Type 0
+IsKeyOf (Kept number) region = number ≡ region
+IsKeyOf l region = ⊥
 
 -- a value of this type
 abbrev pub HasType : Typing → RunTy → values.Value → Type 0
@@ -86,7 +104,7 @@ HasType g (Pointer marks.NonNull t l) (values.Thin object offset) = IsTarget g t
 HasType g (Pointer marks.Fat t l) values.Null = Unit {0}
 HasType g (Pointer marks.Fat t l) (values.Fat object start count index) = (i : ℕ) → i < count → IsTarget g t l object (start + i)
 HasType g (Handle l) (values.Handle region) = IsNumber l region
-HasType g (Key l) (values.Key region) = IsNumber l region
+HasType g (Key l) (values.Key region) = IsKeyOf l region
 HasType g t value = ⊥
 
 -- what an expression gave
@@ -131,23 +149,32 @@ abbrev pub IsOwner : Life → Owner → Type 0
 IsOwner (OfRegion region around) (InRegion number) = region ≡ number
 IsOwner (OfRegion region around) (Unique live) = (region ≡ heap_number) × (live ≡ true)
 IsOwner (OfObject object) (Unique live) = Unit {0}
+IsOwner (Kept region) (InRegion number) = region ≡ number
 IsOwner l o = ⊥
 
 pub record IsObject (g : Typing) (filled : ℕ) (t : ObjectType) (x : Object) : Type 0 where
   pub owner : IsOwner t.life x.owner
+  pub known : IsKnownLife g t.life
   pub cells : AreCells g t.cells x.cells filled
 
--- each object has its type, and there are no others; the heap is open
+-- a dynamic region that is open
+abbrev pub IsDynamic : Option Region → Type 0
+IsDynamic None = ⊥
+IsDynamic (Some r) = (r.sort ≡ Dynamic) × (r.is_open ≡ true)
+
+-- each object has its type, and there are no others; the heap is open, and so are dynamic regions
 pub record IsTyped (g : Typing) (regions : List Region) (objects : List Object) : Type 0 where
   pub count : length objects ≡ length g.objects
   pub counts : length objects ≡ length g.filled
   pub each : (number : ℕ) (t : ObjectType) → slice_get g.objects number ≡ Some t
       → (x : Object) × (filled : ℕ) × (slice_get objects number ≡ Some x) × (slice_get g.filled number ≡ Some filled) × IsObject g filled t x
   pub heap : is_open (slice_get regions heap_number) ≡ true
+  pub kept : (number : ℕ) → IsAmong number g.kept → IsDynamic (slice_get regions number)
 
 -- what has this life is there, by which regions are open
 abbrev pub IsOpenLife : List Region → Life → Type 0
 IsOpenLife regions (OfRegion number around) = is_open (slice_get regions number) ≡ true
+IsOpenLife regions (Kept number) = is_open (slice_get regions number) ≡ true
 IsOpenLife regions l = ⊥
 
 -- ---- growth
@@ -157,3 +184,4 @@ pub record Grows (g h : Typing) : Type 0 where
   pub objects : (number : ℕ) (t : ObjectType) → slice_get g.objects number ≡ Some t → slice_get h.objects number ≡ Some t
   pub filled : (number count : ℕ) → IsFilled g number count → IsFilled h number count
   pub fields : (struct : ℕ) (ls : List Life) (ts : List RunTy) → g.fields struct ls ≡ Some ts → h.fields struct ls ≡ Some ts
+  pub kept : (number : ℕ) → IsAmong number g.kept → IsAmong number h.kept

@@ -15,7 +15,7 @@ ghost use Rattle.cyc_soundness.specs.Lives.{RunTy, Lives, at, value_at};
 ghost use Rattle.cyc_soundness.specs.Worlds.{Typing, AgreesWith, HasType, IsResult, Fits, Grows};
 ghost use Rattle.cyc_soundness.specs.Frames.{InScope, Exits};
 ghost use Rattle.cyc_soundness.specs.Stacks.{Want, IsStack};
-ghost use Rattle.cyc_soundness.specs.Classes.{IsOfTheHeap, IsOfScopes, Source};
+ghost use Rattle.cyc_soundness.specs.Classes.{IsOfTheHeap, IsOfScopes, FreesNothing, Source};
 ghost use Rattle.cyc_soundness.specs.Sound.{IsSound};
 
 /// What is known of a world only grows, and what was typed stays so: a value keeps its type for good, and so does a
@@ -44,6 +44,13 @@ pub fn heap_programs_are_sound()
 /// ended.
 pub fn scoped_programs_are_sound()
     ensures { (p : Program) → IsWellTypedProgram p → IsAllowedProgram p → IsOfScopes p → IsSound p }
+{}
+
+/// No run of a program that gives nothing back is ever dead or wrong, where the typing rules and the flow rules accept it: all
+/// that ends there does so with a scope, and a dynamic region never does. Regions are opened by their keys, and aliases
+/// share what unique pointers lead to, to the end of a block.
+pub fn programs_that_free_nothing_are_sound()
+    ensures { (p : Program) → IsWellTypedProgram p → IsAllowedProgram p → FreesNothing p → IsSound p }
 {}
 
 /// No run of a program that is built and that both sets of rules accept is ever dead or wrong.
