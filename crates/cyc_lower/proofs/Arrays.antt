@@ -1,7 +1,7 @@
 -- The steps that make arrays: the length is tested, the store is asked for a block, and then each element is evaluated and written.
 use Rattle.std.proofs.Common.{◌≡◌, ◌≢◌, ℕ, zero, suc, ◌+◌, ◌*◌, ◌≤◌, ◌<◌, max, Bool, true, false, List, [], ◌∷◌, length, Option, None, Some, slice_get, refl, sym, ap, subst, ◌∙◌, arith, inl, inr, length-append}
 use Rattle.std.specs.Prelude.{nat_le, nat_lt, ◌==◌, ◌&&◌, if◌then◌else◌}
-use Rattle.std.proofs.lemmas.Bool.{le-leb, lt-ltb, and_from, eqb-true, eq-eqb, false_from_ne_true, leb-true, ltb-true, cases_Bool}
+use Rattle.std.proofs.lemmas.Bool.{le-leb, lt-ltb, and_from, eqb-true, eq-eqb, false_from_ne_true, leb-true, leb-false, cases_Bool}
 use Rattle.std.proofs.Math.Nat.{le-max_left}
 use Rattle.cyc_words.specs.Ending.{Full}
 use Rattle.cyc_words.specs.Word.{add_of, shl_of}
@@ -124,17 +124,16 @@ module _ (source : Program) (pages calls : ℕ) where
     -- it is not too long: all that the store is asked for comes to slots
     begins : (focus : Focus) (k₀ : List Entry) (n : ℕ) → step source (Running focus k₀ e w) ≡ Running (Beginning owner n level wanted element) k e w → SharedAt source pages calls k₀ e w c
         → c.active.slots t ≡ n → n ≤ most_elements → Waits c.active.next → IsMatched source pages calls (Running focus k₀ e w) (plain.Running c)
-    begins focus k₀ n does shared₀ is few (handle, d, h, r, s, q, owned, (branch, uncaught, count, index, none, size, ask, end), level_is, single, elements, lands) =
+    begins focus k₀ n does shared₀ is few (handle, d, h, r, s, q, owned, (m, (block_at, branch, raised, passed), count, index, none, size, ask, end), level_is, single, elements, lands) =
         let slots = c.active.slots in
         let base = base_of source c.active.function in
-        let p = c.active.next in
         let next = Running (Beginning owner n level wanted element) k e w in
         let now = Running focus k₀ e w in
         let s1 = put slots (t + 1) (slots t) in
         let s2 = put s1 (t + 2) 0 in
         let s3 = put s2 (t + 3) (truth (s2 t == 0)) in
         let s4 = put s3 (t + 3) (add_of (s3 (t + 3)) (s3 t)) in
-        let c0 = at c (p + 2) in
+        let c0 = at c m in
         let c1 = advanced (with_slots c0 s1) in
         let c2 = advanced (with_slots c1 s2) in
         let c3 = advanced (with_slots c2 s3) in
@@ -162,7 +161,7 @@ module _ (source : Program) (pages calls : ℕ) where
         ) in
         by_places source pages calls now next (place_in source pages calls c) (place_in source pages calls c0 ∷ place_in source pages calls c1 ∷ place_in source pages calls c2 ∷ place_in source pages calls c3 ∷ []) (plain.Running c) does
         (
-          (apart source pages calls c c0 (λ same. omega (arith, same)), (apart source pages calls c c1 (λ same. omega (arith, same)), (apart source pages calls c c2 (λ same. omega (arith, same)), (apart source pages calls c c3 (λ same. omega (arith, same)), tt)))),
+          (apart source pages calls c c0 (λ same. omega (arith, same, passed)), (apart source pages calls c c1 (λ same. omega (arith, same, passed)), (apart source pages calls c c2 (λ same. omega (arith, same, passed)), (apart source pages calls c c3 (λ same. omega (arith, same, passed)), tt)))),
           (
             (apart source pages calls c0 c1 (λ same. omega (arith, same)), (apart source pages calls c0 c2 (λ same. omega (arith, same)), (apart source pages calls c0 c3 (λ same. omega (arith, same)), tt))),
             (
@@ -172,7 +171,7 @@ module _ (source : Program) (pages calls : ℕ) where
           ),
         )
         (known source pages calls c _ branch, (known source pages calls c0 _ count, (known source pages calls c1 _ index, (known source pages calls c2 _ none, (known source pages calls c3 _ size, tt)))))
-        (through now next c c0 _ (place_in source pages calls c0 ∷ place_in source pages calls c1 ∷ place_in source pages calls c2 ∷ place_in source pages calls c3 ∷ []) branch (λ choice. ap (λ b. plain_step.branches c b (p + 2)) (ap (λ x. nat_lt x (most_elements + 1)) is ∙ lt-ltb n (most_elements + 1) (omega (arith, few)))) (within c0 shared) (way c shared₀)
+        (through now next c c0 _ (place_in source pages calls c0 ∷ place_in source pages calls c1 ∷ place_in source pages calls c2 ∷ place_in source pages calls c3 ∷ []) branch (λ choice. ap (λ b. plain_step.branches c b block_at) (ap (nat_le (most_elements + 1)) is ∙ false_from_ne_true (nat_le (most_elements + 1) n) (λ told. absurd (omega (arith, few, leb-true (most_elements + 1) n told)))) ∙ ap (λ x. plain.Running (at c x)) passed) (within c0 shared) (way c shared₀)
         (through now next c0 c1 _ (place_in source pages calls c1 ∷ place_in source pages calls c2 ∷ place_in source pages calls c3 ∷ []) count (λ choice. refl) (within c1 shared) (way c0 shared₀)
         (through now next c1 c2 _ (place_in source pages calls c2 ∷ place_in source pages calls c3 ∷ []) index (λ choice. refl) (within c2 shared) (way c1 shared₀)
         (through now next c2 c3 _ (place_in source pages calls c3 ∷ []) none (λ choice. refl) (within c3 shared) (way c2 shared₀)
@@ -186,12 +185,21 @@ module _ (source : Program) (pages calls : ℕ) where
     -- it is too long
     raises : (focus : Focus) (k₀ : List Entry) (n : ℕ) → step source (Running focus k₀ e w) ≡ Running (Throwing array_size 0) k e w → SharedAt source pages calls k₀ e w c
         → c.active.slots t ≡ n → (n ≤ most_elements → ⊥) → Waits c.active.next → IsMatched source pages calls (Running focus k₀ e w) (plain.Running c)
-    raises focus k₀ n does shared₀ is long (handle, d, h, r, s, q, owned, (branch, uncaught, count, index, none, size, ask, end), level_is, single, elements, lands) =
+    raises focus k₀ n does shared₀ is long (handle, d, h, r, s, q, owned, (m, (block_at, branch, raised, passed), count, index, none, size, ask, end), level_is, single, elements, lands) =
         let g = c.active.function in
         by_one source pages calls does shared₀ branch
-        (λ choice. subst (λ b. Matches source pages calls (Running (Throwing array_size 0) k e w) (plain_step.branches c b (c.active.next + 2)))
-        (sym (ap (λ x. nat_lt x (most_elements + 1)) is ∙ false_from_ne_true (nat_lt n (most_elements + 1)) (λ told. long (omega (arith, ltb-true n (most_elements + 1) told)))))
-        (shared, omega (arith, lands_depth source g e.locals kinds.Fat d q c.frames k lands, shared.fits), lands_plain source g e.locals kinds.Fat d q c.frames k lands, operands.Word 0, uncaught, refl))
+        (λ choice. subst (λ b. Matches source pages calls (Running (Throwing array_size 0) k e w) (plain_step.branches c b block_at))
+        (sym (ap (nat_le (most_elements + 1)) is ∙ too_long))
+        (shared, omega (arith, lands_depth source g e.locals kinds.Fat d q c.frames k lands, shared.fits), lands_plain source g e.locals kinds.Fat d q c.frames k lands, operands.Word 0, raised, refl))
+      where
+        few_by : (x : ℕ) → nat_le (most_elements + 1) x ≡ false → x ≤ most_elements
+        few_by x less = omega (arith, leb-false (most_elements + 1) x less)
+
+        too_long : nat_le (most_elements + 1) n ≡ true
+        too_long = elim (cases_Bool (nat_le (most_elements + 1) n)) [
+          | inl more ↦ more
+          | inr less ↦ absurd (long (few_by n less))
+        ]
 
     measures : (i : Kind) (u : Value) → IsWell (makes_array owner level wanted element u k e w) → Is shared.tables i u c.active.slots t → SharedAt source pages calls (Needs (MakeArray owner level wanted element) ∷ k) e w c
         → Waits c.active.next → IsMatched source pages calls (Running (Given (record { kind = i; value = u })) (Needs (MakeArray owner level wanted element) ∷ k) e w) (plain.Running c)

@@ -2,7 +2,7 @@
 use Rattle.std.proofs.Common.{◌≡◌, ℕ, zero, suc, ◌+◌, ◌≤◌, ◌<◌, Bool, true, false, List, [], ◌∷◌, ◌++◌, length, map, Option, None, Some, slice_get, refl, sym, ap, subst, ◌∙◌, arith, length-append}
 use Rattle.std.proofs.lemmas.Option.{same_Some, none-some, get_or_from_slice_get, slice_get-map}
 use Rattle.std.specs.Prelude.{unwrap_or, option_map, if◌then◌else◌, ◌==◌}
-use Rattle.cyc_meaning.specs.Operators.{null_exception, division_by_zero}
+use Rattle.cyc_meaning.specs.Operators.{array_size, null_exception, division_by_zero}
 use Rattle.cyc_types.specs.declared.typed.Kind.{Kind}
 use Rattle.cyc_types.specs.declared.typed.Kind.TheVariants as kinds
 use Rattle.cyc_types.specs.declared.typed.Callee.TheVariants as callees
@@ -18,6 +18,7 @@ use Rattle.cyc_plain.specs.declared.instruction.UnaryOperator.TheVariants as pla
 use Rattle.cyc_plain.specs.declared.instruction.BinaryOperator.TheVariants as plain_binary
 use Rattle.cyc_plain.specs.declared.instruction.Request.TheVariants as requests
 use Rattle.cyc_plain.specs.declared.instruction.Comparison.{Comparison}
+use Rattle.cyc_plain.specs.declared.instruction.Comparison.TheVariants as comparisons
 use Rattle.cyc_plain.specs.declared.instruction.Operand.{Operand}
 use Rattle.cyc_plain.specs.declared.instruction.Operand.TheVariants as operands
 use Rattle.cyc_plain.specs.declared.instruction.Instruction.{Instruction}
@@ -30,9 +31,10 @@ use Rattle.cyc_meaning.specs.Values.{kind_of, words_of_kind}
 use Rattle.cyc_meaning.specs.FrameCount.{words_of_all, operand_words}
 use Rattle.cyc_objects.proofs.NumberLemmas.{slice_get-there}
 use Rattle.cyc_lower.specs.Slots.{counted, Types, starts_of, slot_of}
-use Rattle.cyc_lower.specs.Lowering.{begun_code, filled_code, ended_code, elements_code, array_code, types_of, are_as_wide, converts_there, passed_words, source_of, source_slot, moved_by, move_of, operand_of, operand_or, code_unless, slot_or, code_unless_slot, left_with, left_of, value_slot, next_slot, slot_with, left_slot, value_operand, converted_operand, printed_operand, jump_if_nonzero, check_code, conversion_code, divisor_code, checked_code, operator_code, truth_code, load_code, low_byte, test_code, is_in, copy_code, expression_code, arguments_code, converted_code, converted_operand_code, printed_code, initial_code, assignment_code, assigned_operand, operations_code, discarded_code, failing_comparison, compared_or, compared_of, first_operand, first_code, second_code, pair_code, condition_code, condition_of, failing_jump, break_target, continue_target, return_code, declaration_code, statement_code, items_code, function_code, first_temporary, results_of, lower_function, lower_program, behind_left, pointer_code, outside_loops, inside_loop, pointer_operator, index_code, pointer_instructions, stores_code, object_code, made_code, place_operand, place_offset, place_code, address_code}
+use Rattle.cyc_lower.specs.Lowering.{most_elements, begun_code, filled_code, ended_code, elements_code, array_code, types_of, are_as_wide, converts_there, passed_words, source_of, source_slot, moved_by, move_of, operand_of, operand_or, code_unless, slot_or, code_unless_slot, left_with, left_of, value_slot, next_slot, slot_with, left_slot, value_operand, converted_operand, printed_operand, jump_if_nonzero, check_code, conversion_code, divisor_code, checked_code, operator_code, truth_code, load_code, low_byte, test_code, is_in, copy_code, expression_code, arguments_code, converted_code, converted_operand_code, printed_code, initial_code, assignment_code, assigned_operand, operations_code, discarded_code, failing_comparison, compared_or, compared_of, first_operand, first_code, second_code, pair_code, condition_code, condition_of, failing_jump, break_target, continue_target, return_code, declaration_code, statement_code, items_code, function_code, first_temporary, results_of, lower_function, lower_program, behind_left, pointer_code, outside_loops, inside_loop, pointer_operator, index_code, pointer_instructions, stores_code, object_code, made_code, place_operand, place_offset, place_code, address_code, raising, blocks, guard_code, body_code}
 use Rattle.cyc_lower.specs.declared.statements.Exits.{Exits}
-use Rattle.cyc_lower.proofs.Stands.{BegunAt, FilledAt, OperandBy, CheckAt, ConversionBy, ConversionAt, DivisorAt, CheckedAt, OperatorAt, LoadAt, CopyBy, ExpressionAt, InitialAt, InitialBy, ConvertedAt, ConvertedOperandAt, PrintedAt, ArgumentsAt, OperationsAt, PairAt, ConditionAt, AssignmentAt, DiscardedAt, ReturnedAt, ReturnAt, DeclarationAt, StatementAt, ItemsAt, FirstTwoAt, IndexAt, PointerAt, StoresAt, ObjectAt, MadeAt, AddressAt, PlaceAt}
+use Rattle.cyc_lower.proofs.Stands.{BegunAt, FilledAt, OperandBy, CheckAt, ConversionBy, ConversionAt, DivisorAt, CheckedAt, OperatorAt, LoadAt, CopyBy, ExpressionAt, InitialAt, InitialBy, ConvertedAt, ConvertedOperandAt, PrintedAt, ArgumentsAt, OperationsAt, PairAt, ConditionAt, AssignmentAt, DiscardedAt, ReturnedAt, ReturnAt, DeclarationAt, StatementAt, ItemsAt, FirstTwoAt, IndexAt, PointerAt, StoresAt, ObjectAt, MadeAt, AddressAt, PlaceAt, GuardAt}
+use Rattle.cyc_lower.proofs.Lengths.{body_long}
 use Rattle.cyc_lower.proofs.Widths.{kind_of_result, given, passed_kind, type_words}
 use Rattle.cyc_lower.proofs.Fitting.{FitsPlace, FitsStored, FitsCell, FitsObject, Fits, FitsConverted, FitArguments, FitOperations, FitsReturn, FitsInitial, FitsStatement, FitItems, AreFitting, IsFitting}
 use Rattle.cyc_lower.proofs.Values.{as_wide}
@@ -43,7 +45,20 @@ use Rattle.cyc_lower.proofs.Calls.{FunctionsStand}
 cut : (p q : ℕ) (a b : List Instruction) → p + length (a ++ b) ≡ q → p + length a + length b ≡ q
 cut p q a b end = omega (arith, end, length-append a b)
 
-module _ (code : List Instruction) (b : Numbering) (types : Types) where
+-- the blocks that raise exceptions stand behind this place
+abbrev BlocksStand : List Instruction → (raises : ℕ) → Type 0
+BlocksStand code raises = (tag : ℕ) → 1 ≤ tag → tag ≤ 4 → At code (raises + tag) (raising tag)
+
+blocks_stand : (code : List Instruction) (raises : ℕ) → HasAt code (raises + 1) blocks → BlocksStand code raises
+blocks_stand code raises has zero some few = absurd (omega (arith, some))
+blocks_stand code raises (first, rest) (suc zero) some few = first
+blocks_stand code raises (first, (second, rest)) (suc (suc zero)) some few = subst (λ n. At code n (raising 2)) (let e : raises + 1 + 1 ≡ raises + 2 = omega arith in e) second
+blocks_stand code raises (first, (second, (third, rest))) (suc (suc (suc zero))) some few = subst (λ n. At code n (raising 3)) (let e : raises + 1 + 1 + 1 ≡ raises + 3 = omega arith in e) third
+blocks_stand code raises (first, (second, (third, (fourth, none)))) (suc (suc (suc (suc zero)))) some few =
+    subst (λ n. At code n (raising 4)) (let e : raises + 1 + 1 + 1 + 1 ≡ raises + 4 = omega arith in e) fourth
+blocks_stand code raises has (suc (suc (suc (suc (suc n))))) some few = absurd (omega (arith, few))
+
+module _ (code : List Instruction) (b : Numbering) (types : Types) (raised : BlocksStand code types.raises) where
   -- ---- operands
 
   -- an operand without code, or code that stands here
@@ -93,28 +108,31 @@ module _ (code : List Instruction) (b : Numbering) (types : Types) where
 
   -- ---- expressions
 
-  check_stands : (tag : ℕ) (o : Operand) (p q : ℕ) → p + 2 ≡ q → HasAt code p (check_code tag o p) → CheckAt code b types tag o p q
-  check_stands tag o p q end (jump, (uncaught, none)) = (subst (λ t. At code p (jump_if_nonzero o t)) end jump, uncaught, end)
+  guard_stands : (tag : ℕ) (failing : Comparison) (l r : Operand) (p q : ℕ) → 1 ≤ tag → tag ≤ 4 → p + 1 ≡ q → HasAt code p (guard_code (starts_of types) tag failing l r) → GuardAt code b types tag failing l r p q
+  guard_stands tag failing l r p q some few end (jump, none) = (types.raises + tag, jump, raised tag some few, end)
 
-  conversion_by : (to : Kind) (o : Operand) (p q : ℕ) → p + length (conversion_code to o p) ≡ q → HasAt code p (conversion_code to o p) → ConversionBy code b types to o p q
-  conversion_by kinds.NonNull o p q end has = check_stands null_exception o p q end has
+  check_stands : (tag : ℕ) (o : Operand) (p q : ℕ) → 1 ≤ tag → tag ≤ 4 → p + 1 ≡ q → HasAt code p (check_code (starts_of types) tag o) → CheckAt code b types tag o p q
+  check_stands tag o p q some few end has = guard_stands tag comparisons.Equal o (operands.Word 0) p q some few end has
+
+  conversion_by : (to : Kind) (o : Operand) (p q : ℕ) → p + length (conversion_code (starts_of types) to o p) ≡ q → HasAt code p (conversion_code (starts_of types) to o p) → ConversionBy code b types to o p q
+  conversion_by kinds.NonNull o p q end has = check_stands null_exception o p q (omega arith) (omega arith) end has
   conversion_by to o p q end has = omega (arith, end)
 
-  conversion_stands : (from to : Kind) (o : Operand) (p q : ℕ) → are_as_wide from to ≡ true → p + length (conversion_code to o p) ≡ q → HasAt code p (conversion_code to o p) → ConversionAt code b types from to o p q
+  conversion_stands : (from to : Kind) (o : Operand) (p q : ℕ) → are_as_wide from to ≡ true → p + length (conversion_code (starts_of types) to o p) ≡ q → HasAt code p (conversion_code (starts_of types) to o p) → ConversionAt code b types from to o p q
   conversion_stands from to o p q wide end has = (wide, conversion_by to o p q end has)
 
-  divisor_stands : (o : Operand) (p q : ℕ) → p + length (divisor_code o p) ≡ q → HasAt code p (divisor_code o p) → DivisorAt code b types o p q
+  divisor_stands : (o : Operand) (p q : ℕ) → p + length (divisor_code (starts_of types) o) ≡ q → HasAt code p (divisor_code (starts_of types) o) → DivisorAt code b types o p q
   divisor_stands (operands.Word (suc n)) p q end has = omega (arith, end)
-  divisor_stands (operands.Word zero) p q end has = check_stands division_by_zero (operands.Word zero) p q end has
-  divisor_stands (operands.Slot n) p q end has = check_stands division_by_zero (operands.Slot n) p q end has
+  divisor_stands (operands.Word zero) p q end has = check_stands division_by_zero (operands.Word zero) p q (omega arith) (omega arith) end has
+  divisor_stands (operands.Slot n) p q end has = check_stands division_by_zero (operands.Slot n) p q (omega arith) (omega arith) end has
 
-  checked_stands : (o : Operator) (l r : Operand) (d p q : ℕ) → p + length (checked_code o l r p d) ≡ q → HasAt code p (checked_code o l r p d) → CheckedAt code b types o d l r p q
+  checked_stands : (o : Operator) (l r : Operand) (d p q : ℕ) → p + length (checked_code (starts_of types) o l r d) ≡ q → HasAt code p (checked_code (starts_of types) o l r d) → CheckedAt code b types o d l r p q
   checked_stands o l r d p q end has =
-      let front = divisor_code r p in
+      let front = divisor_code (starts_of types) r in
       let (here, none) = has_back code p front _ has in
       (p + length front, divisor_stands r p (p + length front) refl (has_front code p front _ has), here, cut p q front _ end)
 
-  operator_stands : (o : Operator) (l r : Operand) (d p q : ℕ) → p + length (operator_code o l r p d) ≡ q → HasAt code p (operator_code o l r p d) → OperatorAt code b types o d l r p q
+  operator_stands : (o : Operator) (l r : Operand) (d p q : ℕ) → p + length (operator_code (starts_of types) o l r d) ≡ q → HasAt code p (operator_code (starts_of types) o l r d) → OperatorAt code b types o d l r p q
   operator_stands operators.Divide l r d p q end has = checked_stands operators.Divide l r d p q end has
   operator_stands operators.Remainder l r d p q end has = checked_stands operators.Remainder l r d p q end has
   operator_stands o l r d p q end (here, none) = (here, end)
@@ -161,18 +179,9 @@ module _ (code : List Instruction) (b : Numbering) (types : Types) where
       let (here, none) = has_back code (p + 1) stores move rest in
       (m, refl, some, few, ask, stores_stand words (t + words) 0 t (p + 1) m refl (has_front code (p + 1) stores move rest), here, omega (arith, end, length-append stores move))
 
-  begun_stands : (handle t p q : ℕ) → p + 7 ≡ q → HasAt code p (begun_code handle p t) → BegunAt code b types handle t p q
-  begun_stands handle t p q end (branch, (uncaught, (count, (index, (none, (size, (ask, rest))))))) =
-      let second : p + 1 + 1 ≡ p + 2 = omega arith in (
-        branch,
-        uncaught,
-        subst (λ n. At code n (instructions.Move (t + 1) (operands.Slot t))) second count,
-        subst (λ n. At code (n + 1) (instructions.Move (t + 2) (operands.Word 0))) second index,
-        subst (λ n. At code (n + 1 + 1) (instructions.Unary plain_unary.Not (t + 3) (operands.Slot t))) second none,
-        subst (λ n. At code (n + 1 + 1 + 1) (instructions.Binary plain_binary.Add (t + 3) (operands.Slot (t + 3)) (operands.Slot t))) second size,
-        subst (λ n. At code (n + 1 + 1 + 1 + 1) (instructions.Ask (requests.Allocate t (operands.Word handle) (operands.Slot (t + 3))))) second ask,
-        end,
-      )
+  begun_stands : (handle t p q : ℕ) → p + 6 ≡ q → HasAt code p (begun_code (starts_of types) handle t) → BegunAt code b types handle t p q
+  begun_stands handle t p q end (guard, (count, (index, (none, (size, (ask, rest)))))) =
+      (p + 1, guard_stands array_size comparisons.GreaterOrEqualUnsigned (operands.Slot t) (operands.Word (most_elements + 1)) p (p + 1) (omega arith) (omega arith) refl (guard, tt), count, index, none, size, ask, omega (arith, end))
 
   filled_stands : (t head p q : ℕ) → p + 5 ≡ q → HasAt code p (filled_code head t) → FilledAt code b types t head p q
   filled_stands t head p q end (scaled, (address, (store, (next, (again, rest))))) = (scaled, address, store, next, again, end)
@@ -195,8 +204,8 @@ module _ (code : List Instruction) (b : Numbering) (types : Types) where
 
   initial_by : (there : Bool) (from to : Kind) (a : Expression) (d t p q : ℕ) → from ≡ given b.functions a → are_as_wide from to ≡ true → converts_there from to ≡ there
       → ((slot r : ℕ) → p + length (expression_code (starts_of types) a p slot t) ≡ r → HasAt code p (expression_code (starts_of types) a p slot t) → ExpressionAt code b types a slot t p r)
-      → p + length (if there then expression_code (starts_of types) a p d t else moved_by (source_of (starts_of types) (Convert from to a)) (expression_code (starts_of types) a p (source_slot (starts_of types) (Convert from to a) t) t) to (converted_operand (starts_of types) (Convert from to a) t) p d) ≡ q
-      → HasAt code p (if there then expression_code (starts_of types) a p d t else moved_by (source_of (starts_of types) (Convert from to a)) (expression_code (starts_of types) a p (source_slot (starts_of types) (Convert from to a) t) t) to (converted_operand (starts_of types) (Convert from to a) t) p d)
+      → p + length (if there then expression_code (starts_of types) a p d t else moved_by (starts_of types) (source_of (starts_of types) (Convert from to a)) (expression_code (starts_of types) a p (source_slot (starts_of types) (Convert from to a) t) t) to (converted_operand (starts_of types) (Convert from to a) t) p d) ≡ q
+      → HasAt code p (if there then expression_code (starts_of types) a p d t else moved_by (starts_of types) (source_of (starts_of types) (Convert from to a)) (expression_code (starts_of types) a p (source_slot (starts_of types) (Convert from to a) t) t) to (converted_operand (starts_of types) (Convert from to a) t) p d)
       → InitialBy code b types there from to a d t p q
   initial_by true from to a d t p q kind wide lands stands end has = (words_kept from to a kind lands, stands d q end has)
   initial_by false from to a d t p q kind wide lands stands end has =
@@ -206,7 +215,7 @@ module _ (code : List Instruction) (b : Numbering) (types : Types) where
       let inner = expression_code (starts_of types) a p slot t in
       let front = code_unless known inner in
       let m = p + length front in
-      let conversion = conversion_code to o m in
+      let conversion = conversion_code (starts_of types) to o m in
       let both = front ++ conversion in
       let r = p + length both in
       let has_both = has_front code p both _ has in
@@ -215,49 +224,49 @@ module _ (code : List Instruction) (b : Numbering) (types : Types) where
 
 module _ (code : List Instruction) (b : Numbering) where
   mutual
-    expression_stands : (types : Types) → (a : Expression) (d t p q : ℕ) → Fits b types a → p + length (expression_code (starts_of types) a p d t) ≡ q → HasAt code p (expression_code (starts_of types) a p d t) → ExpressionAt code b types a d t p q
-    expression_stands types (Number n) d t p q numbered end (here, none) = (here, end)
-    expression_stands types NullPointer d t p q numbered end (here, none) = (here, end)
-    expression_stands types (Counter l) d t p q few end (here, none) =
+    expression_stands : (types : Types) (raised : BlocksStand code types.raises) → (a : Expression) (d t p q : ℕ) → Fits b types a → p + length (expression_code (starts_of types) a p d t) ≡ q → HasAt code p (expression_code (starts_of types) a p d t) → ExpressionAt code b types a d t p q
+    expression_stands types raised (Number n) d t p q numbered end (here, none) = (here, end)
+    expression_stands types raised NullPointer d t p q numbered end (here, none) = (here, end)
+    expression_stands types raised (Counter l) d t p q few end (here, none) =
         let (slot, there) = slice_get-there types.counters l few in
         (slot, there, subst (λ (s : Option ℕ). At code p (instructions.Move d (operands.Slot (unwrap_or s 0)))) there here, end)
-    expression_stands types (Copy l ty) d t p q numbered end has = load_stands code b types l (kind_of ty) (words_of ty) d p q numbered end has
-    expression_stands types (Move w n ty) d t p q numbered end has = load_stands code b types (Local w n) (kind_of ty) (words_of ty) d p q numbered end has
-    expression_stands types (Peek w n ty) d t p q numbered end has = load_stands code b types (Local w n) (kind_of ty) (words_of ty) d p q numbered end has
-    expression_stands types (Call callees.Putchar cs ty) d t p q (s, signature, many, passed, result, numbered) end has =
+    expression_stands types raised (Copy l ty) d t p q numbered end has = load_stands code b types raised l (kind_of ty) (words_of ty) d p q numbered end has
+    expression_stands types raised (Move w n ty) d t p q numbered end has = load_stands code b types raised (Local w n) (kind_of ty) (words_of ty) d p q numbered end has
+    expression_stands types raised (Peek w n ty) d t p q numbered end has = load_stands code b types raised (Local w n) (kind_of ty) (words_of ty) d p q numbered end has
+    expression_stands types raised (Call callees.Putchar cs ty) d t p q (s, signature, many, passed, result, numbered) end has =
         let front = printed_code (starts_of types) cs p t in
         let (write, (low, none)) = has_back code p front _ has in
         let single : argument_count cs ≡ 1 = many ∙ ap (λ (x : Signature). length x.parameters) signature in
         let long = cut p q front (instructions.WriteByte (printed_operand (starts_of types) cs (operands.Slot t) t) ∷ low_byte (printed_operand (starts_of types) cs (operands.Slot t) t) d ∷ []) end in
-        (printed_operand (starts_of types) cs (operands.Slot t) t, p + length front, printed_stands types cs (operands.Slot t) t p (p + length front) single numbered refl (has_front code p front _ has), write, low, omega (arith, long))
-    expression_stands types (Call callees.Getchar cs ty) d t p q (s, signature, many, passed, result, numbered) end has =
+        (printed_operand (starts_of types) cs (operands.Slot t) t, p + length front, printed_stands types raised cs (operands.Slot t) t p (p + length front) single numbered refl (has_front code p front _ has), write, low, omega (arith, long))
+    expression_stands types raised (Call callees.Getchar cs ty) d t p q (s, signature, many, passed, result, numbered) end has =
         let front = arguments_code (starts_of types) cs p t in
         let (here, none) = has_back code p front _ has in
-        (p + length front, arguments_stand types cs t p (p + length front) numbered refl (has_front code p front _ has), here, cut p q front _ end)
-    expression_stands types (Call (callees.Function n) cs ty) d t p q (s, signature, many, passed, result, numbered) end has =
+        (p + length front, arguments_stand types raised cs t p (p + length front) numbered refl (has_front code p front _ has), here, cut p q front _ end)
+    expression_stands types raised (Call (callees.Function n) cs ty) d t p q (s, signature, many, passed, result, numbered) end has =
         let front = arguments_code (starts_of types) cs p t in
         let (here, none) = has_back code p front _ has in
-        (p + length front, arguments_stand types cs t p (p + length front) numbered refl (has_front code p front _ has), here, cut p q front _ end)
-    expression_stands types (Unary o a) d t p q numbered end has =
+        (p + length front, arguments_stand types raised cs t p (p + length front) numbered refl (has_front code p front _ has), here, cut p q front _ end)
+    expression_stands types raised (Unary o a) d t p q numbered end has =
         let inner = expression_code (starts_of types) a p (value_slot (starts_of types) a t) t in
         let front = code_unless (operand_of (starts_of types) a) inner in
         let m = p + length front in
         let (here, none) = has_back code p front _ has in
-        (value_operand (starts_of types) a t, m, operand_by code b types (operand_of (starts_of types) a) _ inner (value_slot (starts_of types) a t) p m refl (has_front code p front _ has) (λ e h. expression_stands types a (value_slot (starts_of types) a t) t p m numbered e h), here, cut p q front _ end)
-    expression_stands types (Binary a os ty) d t p q (numbered, rest) end has =
+        (value_operand (starts_of types) a t, m, operand_by code b types raised (operand_of (starts_of types) a) _ inner (value_slot (starts_of types) a t) p m refl (has_front code p front _ has) (λ e h. expression_stands types raised a (value_slot (starts_of types) a t) t p m numbered e h), here, cut p q front _ end)
+    expression_stands types raised (Binary a os ty) d t p q (numbered, rest) end has =
         let inner = expression_code (starts_of types) a p (left_slot (starts_of types) a os d t) t in
         let front = code_unless (left_of (starts_of types) a os) inner in
         let m = p + length front in
         let l = operand_or (left_of (starts_of types) a os) (left_slot (starts_of types) a os d t) in
         let back = operations_code (starts_of types) os m l d t in
-        (l, m, operand_by code b types (left_of (starts_of types) a os) _ inner (left_slot (starts_of types) a os d t) p m refl (has_front code p front back has) (λ e h. expression_stands types a (left_slot (starts_of types) a os d t) t p m numbered e h), operations_stand types os l d t m q (operand_words (type_of a)) ty rest (first_left code b types a os d t) (cut p q front back end) (has_back code p front back has))
-    expression_stands types (Assign (Local w n) c ty) d t p q ((few, room), numbered) end has =
+        (l, m, operand_by code b types raised (left_of (starts_of types) a os) _ inner (left_slot (starts_of types) a os d t) p m refl (has_front code p front back has) (λ e h. expression_stands types raised a (left_slot (starts_of types) a os d t) t p m numbered e h), operations_stand types raised os l d t m q (operand_words (type_of a)) ty rest (first_left code b types raised a os d t) (cut p q front back end) (has_back code p front back has))
+    expression_stands types raised (Assign (Local w n) c ty) d t p q ((few, room), numbered) end has =
         let o = operands.Slot (slot_of (starts_of types) n) in
         let front = initial_code (starts_of types) c p (slot_of (starts_of types) n) t in
         let back = copy_code (passed_words c) o d in
         let m = p + length front in
-        (o, m, (refl, room, initial_stands types c (slot_of (starts_of types) n) t p m numbered refl (has_front code p front back has)), copy_by code b types (is_in o d) (passed_words c) o d m q (cut p q front back end) (has_back code p front back has))
-    expression_stands types (Assign (Global n) c ty) d t p q ((few, single), numbered) end has =
+        (o, m, (refl, room, initial_stands types raised c (slot_of (starts_of types) n) t p m numbered refl (has_front code p front back has)), copy_by code b types raised (is_in o d) (passed_words c) o d m q (cut p q front back end) (has_back code p front back has))
+    expression_stands types raised (Assign (Global n) c ty) d t p q ((few, single), numbered) end has =
         let o = converted_operand (starts_of types) c t in
         let front = converted_operand_code (starts_of types) c p t in
         let both = front ++ instructions.StoreGlobal n o ∷ [] in
@@ -265,19 +274,19 @@ module _ (code : List Instruction) (b : Numbering) where
         let m = p + length both in
         let has_both = has_front code p both back has in
         let (here, none) = has_back code p front _ has_both in
-        (o, m, (p + length front, converted_operand_stands types c t p (p + length front) numbered refl (has_front code p front _ has_both), few, single, here, cut p m front _ refl), copy_by code b types (is_in o d) (passed_words c) o d m q (cut p q both back end) (has_back code p both back has))
-    expression_stands types (Load x) d t p q numbered end has =
+        (o, m, (p + length front, converted_operand_stands types raised c t p (p + length front) numbered refl (has_front code p front _ has_both), few, single, here, cut p m front _ refl), copy_by code b types raised (is_in o d) (passed_words c) o d m q (cut p q both back end) (has_back code p both back has))
+    expression_stands types raised (Load x) d t p q numbered end has =
         let front = place_code (starts_of types) x p t in
         let r = p + length front in
         let (here, none) = has_back code p front _ has in
-        (place_operand (starts_of types) x t, place_offset (starts_of types) x, r, place_stands types x t p r numbered refl (has_front code p front _ has), cell_single code b types x numbered, here, cut p q front _ end)
-    expression_stands types (AddressOfCell x ty) d t p q numbered end has =
+        (place_operand (starts_of types) x t, place_offset (starts_of types) x, r, place_stands types raised x t p r numbered refl (has_front code p front _ has), cell_single code b types raised x numbered, here, cut p q front _ end)
+    expression_stands types raised (AddressOfCell x ty) d t p q numbered end has =
         let o = place_operand (starts_of types) x t in
         let front = place_code (starts_of types) x p t in
         let back = address_code o (place_offset (starts_of types) x) d in
         let r = p + length front in
-        (o, place_offset (starts_of types) x, r, place_stands types x t p r numbered refl (has_front code p front back has), address_stands code b types o (place_offset (starts_of types) x) d r q (cut p q front back end) (has_back code p front back has))
-    expression_stands types (Store x c ty) d t p q (place, single, numbered) end has =
+        (o, place_offset (starts_of types) x, r, place_stands types raised x t p r numbered refl (has_front code p front back has), address_stands code b types raised o (place_offset (starts_of types) x) d r q (cut p q front back end) (has_back code p front back has))
+    expression_stands types raised (Store x c ty) d t p q (place, single, numbered) end has =
         let a = place_operand (starts_of types) x t in
         let bytes = place_offset (starts_of types) x in
         let o = converted_operand (starts_of types) c (t + 1) in
@@ -304,74 +313,74 @@ module _ (code : List Instruction) (b : Numbering) where
             r,
             s,
             u,
-            place_stands types x t p r place refl (has_front code p front bring has_address),
-            address_stands code b types a bytes t r s (cut p s front bring refl) (has_back code p front bring has_address),
-            converted_operand_stands types c (t + 1) s u numbered refl (has_front code s value write has_value),
+            place_stands types raised x t p r place refl (has_front code p front bring has_address),
+            address_stands code b types raised a bytes t r s (cut p s front bring refl) (has_back code p front bring has_address),
+            converted_operand_stands types raised c (t + 1) s u numbered refl (has_front code s value write has_value),
             single,
             here,
             cut s m value write (cut p m address (value ++ write) refl),
           ),
-          copy_by code b types (is_in o d) (passed_words c) o d m q (cut p q both back end) (has_back code p both back has),
+          copy_by code b types raised (is_in o d) (passed_words c) o d m q (cut p q both back end) (has_back code p both back has),
         )
-    expression_stands types (New OnHeap i ty) d t p q numbered end has = made_stands types i HEAP d t p q numbered end has
-    expression_stands types (New AsUnique i ty) d t p q numbered end has = absurd numbered
-    expression_stands types (New (ByHandle h) i ty) d t p q numbered end has = absurd numbered
-    expression_stands types a d t p q numbered end has = absurd numbered
+    expression_stands types raised (New OnHeap i ty) d t p q numbered end has = made_stands types raised i HEAP d t p q numbered end has
+    expression_stands types raised (New AsUnique i ty) d t p q numbered end has = absurd numbered
+    expression_stands types raised (New (ByHandle h) i ty) d t p q numbered end has = absurd numbered
+    expression_stands types raised a d t p q numbered end has = absurd numbered
 
-    place_stands : (types : Types) → (x : Dereference) (t p q : ℕ) → FitsCell b types x → p + length (place_code (starts_of types) x p t) ≡ q → HasAt code p (place_code (starts_of types) x p t)
+    place_stands : (types : Types) (raised : BlocksStand code types.raises) → (x : Dereference) (t p q : ℕ) → FitsCell b types x → p + length (place_code (starts_of types) x p t) ≡ q → HasAt code p (place_code (starts_of types) x p t)
         → PlaceAt code b types x (place_operand (starts_of types) x t) (place_offset (starts_of types) x) t p q
-    place_stands types (Target k a ty) t p q (thin, single, numbered) end has =
+    place_stands types raised (Target k a ty) t p q (thin, single, numbered) end has =
         let slot = value_slot (starts_of types) a t in
         let o = value_operand (starts_of types) a t in
         let inner = expression_code (starts_of types) a p slot t in
         let front = code_unless (operand_of (starts_of types) a) inner in
         let m = p + length front in
-        let check = check_code null_exception o m in (
+        let check = check_code (starts_of types) null_exception o in (
           m,
-          operand_by code b types (operand_of (starts_of types) a) _ inner slot p m refl (has_front code p front check has) (λ e h. expression_stands types a slot t p m numbered e h),
+          operand_by code b types raised (operand_of (starts_of types) a) _ inner slot p m refl (has_front code p front check has) (λ e h. expression_stands types raised a slot t p m numbered e h),
           thin,
-          check_stands code b types null_exception o m q (cut p q front check end) (has_back code p front check has),
+          check_stands code b types raised null_exception o m q (omega arith) (omega arith) (cut p q front check end) (has_back code p front check has),
           refl,
         )
-    place_stands types (Member k a s f ty) t p q (thin, single, there, numbered) end has =
+    place_stands types raised (Member k a s f ty) t p q (thin, single, there, numbered) end has =
         let slot = value_slot (starts_of types) a t in
         let o = value_operand (starts_of types) a t in
         let inner = expression_code (starts_of types) a p slot t in
         let front = code_unless (operand_of (starts_of types) a) inner in
         let m = p + length front in
-        let check = check_code null_exception o m in (
+        let check = check_code (starts_of types) null_exception o in (
           m,
-          operand_by code b types (operand_of (starts_of types) a) _ inner slot p m refl (has_front code p front check has) (λ e h. expression_stands types a slot t p m numbered e h),
+          operand_by code b types raised (operand_of (starts_of types) a) _ inner slot p m refl (has_front code p front check has) (λ e h. expression_stands types raised a slot t p m numbered e h),
           thin,
-          check_stands code b types null_exception o m q (cut p q front check end) (has_back code p front check has),
+          check_stands code b types raised null_exception o m q (omega arith) (omega arith) (cut p q front check end) (has_back code p front check has),
           there,
           refl,
         )
-    place_stands types x t p q numbered end has = absurd numbered
+    place_stands types raised x t p q numbered end has = absurd numbered
 
-    made_stands : (types : Types) → (i : Initial) (handle d t p q : ℕ) → FitsObject b types i → p + length (made_code (starts_of types) i handle p d t) ≡ q → HasAt code p (made_code (starts_of types) i handle p d t) → MadeAt code b types i handle d t p q
-    made_stands types (Plain kind a) handle d t p q (single, kind_is, numbered) end has =
+    made_stands : (types : Types) (raised : BlocksStand code types.raises) → (i : Initial) (handle d t p q : ℕ) → FitsObject b types i → p + length (made_code (starts_of types) i handle p d t) ≡ q → HasAt code p (made_code (starts_of types) i handle p d t) → MadeAt code b types i handle d t p q
+    made_stands types raised (Plain kind a) handle d t p q (single, kind_is, numbered) end has =
         let front = expression_code (starts_of types) a p t t in
         let back = object_code handle 1 d t in
         let m = p + length front in (
           m,
-          expression_stands types a t t p m numbered refl (has_front code p front back has),
+          expression_stands types raised a t t p m numbered refl (has_front code p front back has),
           ap words_of_kind (sym kind_is),
-          subst (λ n. ObjectAt code b types handle 1 n t d m q) (sym single) (object_stands code b types handle 1 d t m q (omega arith) (omega arith) (cut p q front back end) (has_back code p front back has)),
+          subst (λ n. ObjectAt code b types handle 1 n t d m q) (sym single) (object_stands code b types raised handle 1 d t m q (omega arith) (omega arith) (cut p q front back end) (has_back code p front back has)),
         )
-    made_stands types (Fields cs) handle d t p q (single, some, few, numbered) end has =
+    made_stands types raised (Fields cs) handle d t p q (single, some, few, numbered) end has =
         let front = arguments_code (starts_of types) cs p t in
         let back = object_code handle (argument_count cs) d t in
         let m = p + length front in (
           m,
-          arguments_stand types cs t p m numbered refl (has_front code p front back has),
-          subst (λ n. ObjectAt code b types handle (argument_count cs) n t d m q) single (object_stands code b types handle (argument_count cs) d t m q some few (cut p q front back end) (has_back code p front back has)),
+          arguments_stand types raised cs t p m numbered refl (has_front code p front back has),
+          subst (λ n. ObjectAt code b types handle (argument_count cs) n t d m q) single (object_stands code b types raised handle (argument_count cs) d t m q some few (cut p q front back end) (has_back code p front back has)),
         )
-    made_stands types (Array w level n kind a) handle d t p q (level_is, single, kind_is, fits_n, fits_a) end has =
+    made_stands types raised (Array w level n kind a) handle d t p q (level_is, single, kind_is, fits_n, fits_a) end has =
         let count = expression_code (starts_of types) n p t t in
         let m = p + length count in
-        let h = m + 7 in
-        let begun = begun_code handle m t in
+        let h = m + 6 in
+        let begun = begun_code (starts_of types) handle t in
         let element = expression_code (starts_of (counted types (t + 2))) a (h + 1) (t + 3) (t + 3) in
         let filled = filled_code h t in
         let ended = ended_code d t in
@@ -387,75 +396,75 @@ module _ (code : List Instruction) (b : Numbering) where
           h,
           r,
           s,
-          expression_stands types n t t p m fits_n refl (has_front code p count (begun ++ elements) has),
-          begun_stands code b types handle t m h refl (has_front code m begun elements has_rest),
+          expression_stands types raised n t t p m fits_n refl (has_front code p count (begun ++ elements) has),
+          begun_stands code b types raised handle t m h refl (has_front code m begun elements has_rest),
           level_is,
           single,
           (
             branch,
             omega arith,
-            expression_stands (counted types (t + 2)) a (t + 3) (t + 3) (h + 1) r (fits_a (t + 2)) refl (has_front code (h + 1) element filled has_both),
-            filled_stands code b types t h r s (omega (arith, length-append element filled)) (has_back code (h + 1) element filled has_both),
+            expression_stands (counted types (t + 2)) raised a (t + 3) (t + 3) (h + 1) r (fits_a (t + 2)) refl (has_front code (h + 1) element filled has_both),
+            filled_stands code b types raised t h r s (omega (arith, length-append element filled)) (has_back code (h + 1) element filled has_both),
             first_index,
-            copy_by code b types (is_in (operands.Slot t) d) 3 (operands.Slot t) d (s + 1) q
+            copy_by code b types raised (is_in (operands.Slot t) d) 3 (operands.Slot t) d (s + 1) q
                 (omega (arith, cut m q begun elements (cut p q count (begun ++ elements) end), length-append both ended)) has_copy,
           ),
         )
 
-    initial_stands : (types : Types) → (c : Converted) (d t p q : ℕ) → FitsConverted b types c → p + length (initial_code (starts_of types) c p d t) ≡ q → HasAt code p (initial_code (starts_of types) c p d t) → InitialAt code b types c d t p q
-    initial_stands types (Convert from to a) d t p q (kind, wide, numbered) end has =
-        initial_by code b types (converts_there from to) from to a d t p q kind wide refl (λ slot r e h. expression_stands types a slot t p r numbered e h) end has
+    initial_stands : (types : Types) (raised : BlocksStand code types.raises) → (c : Converted) (d t p q : ℕ) → FitsConverted b types c → p + length (initial_code (starts_of types) c p d t) ≡ q → HasAt code p (initial_code (starts_of types) c p d t) → InitialAt code b types c d t p q
+    initial_stands types raised (Convert from to a) d t p q (kind, wide, numbered) end has =
+        initial_by code b types raised (converts_there from to) from to a d t p q kind wide refl (λ slot r e h. expression_stands types raised a slot t p r numbered e h) end has
 
-    converted_stands : (types : Types) → (c : Converted) (t p q : ℕ) → FitsConverted b types c → p + length (converted_code (starts_of types) c p t) ≡ q → HasAt code p (converted_code (starts_of types) c p t) → ConvertedAt code b types c t p q
-    converted_stands types (Convert from to a) t p q (kind, wide, numbered) end has =
+    converted_stands : (types : Types) (raised : BlocksStand code types.raises) → (c : Converted) (t p q : ℕ) → FitsConverted b types c → p + length (converted_code (starts_of types) c p t) ≡ q → HasAt code p (converted_code (starts_of types) c p t) → ConvertedAt code b types c t p q
+    converted_stands types raised (Convert from to a) t p q (kind, wide, numbered) end has =
         let front = expression_code (starts_of types) a p t t in
-        let back = conversion_code to (operands.Slot t) (p + length front) in
-        (p + length front, expression_stands types a t t p (p + length front) numbered refl (has_front code p front back has), conversion_stands code b types from to (operands.Slot t) (p + length front) q wide (cut p q front back end) (has_back code p front back has))
+        let back = conversion_code (starts_of types) to (operands.Slot t) (p + length front) in
+        (p + length front, expression_stands types raised a t t p (p + length front) numbered refl (has_front code p front back has), conversion_stands code b types raised from to (operands.Slot t) (p + length front) q wide (cut p q front back end) (has_back code p front back has))
 
-    converted_operand_stands : (types : Types) → (c : Converted) (t p q : ℕ) → FitsConverted b types c → p + length (converted_operand_code (starts_of types) c p t) ≡ q → HasAt code p (converted_operand_code (starts_of types) c p t) → ConvertedOperandAt code b types c t (converted_operand (starts_of types) c t) p q
-    converted_operand_stands types (Convert from to a) t p q (kind, wide, numbered) end has =
+    converted_operand_stands : (types : Types) (raised : BlocksStand code types.raises) → (c : Converted) (t p q : ℕ) → FitsConverted b types c → p + length (converted_operand_code (starts_of types) c p t) ≡ q → HasAt code p (converted_operand_code (starts_of types) c p t) → ConvertedOperandAt code b types c t (converted_operand (starts_of types) c t) p q
+    converted_operand_stands types raised (Convert from to a) t p q (kind, wide, numbered) end has =
         let slot = source_slot (starts_of types) (Convert from to a) t in
         let known = source_of (starts_of types) (Convert from to a) in
         let inner = expression_code (starts_of types) a p slot t in
         let front = code_unless known inner in
         let m = p + length front in
-        let back = conversion_code to (converted_operand (starts_of types) (Convert from to a) t) m in
-        (m, operand_by code b types known _ inner slot p m refl (has_front code p front back has) (λ e h. expression_stands types a slot t p m numbered e h), conversion_stands code b types from to (converted_operand (starts_of types) (Convert from to a) t) m q wide (cut p q front back end) (has_back code p front back has))
+        let back = conversion_code (starts_of types) to (converted_operand (starts_of types) (Convert from to a) t) m in
+        (m, operand_by code b types raised known _ inner slot p m refl (has_front code p front back has) (λ e h. expression_stands types raised a slot t p m numbered e h), conversion_stands code b types raised from to (converted_operand (starts_of types) (Convert from to a) t) m q wide (cut p q front back end) (has_back code p front back has))
 
-    printed_stands : (types : Types) → (cs : Arguments) (o : Operand) (t p q : ℕ) → argument_count cs ≡ 1 → FitArguments b types cs → p + length (printed_code (starts_of types) cs p t) ≡ q → HasAt code p (printed_code (starts_of types) cs p t) → PrintedAt code b types cs t (printed_operand (starts_of types) cs o t) p q
-    printed_stands types NoArguments o t p q single numbered end has = absurd (omega (arith, single))
-    printed_stands types (MoreArguments c NoArguments) o t p q single (numbered, rest) end has =
+    printed_stands : (types : Types) (raised : BlocksStand code types.raises) → (cs : Arguments) (o : Operand) (t p q : ℕ) → argument_count cs ≡ 1 → FitArguments b types cs → p + length (printed_code (starts_of types) cs p t) ≡ q → HasAt code p (printed_code (starts_of types) cs p t) → PrintedAt code b types cs t (printed_operand (starts_of types) cs o t) p q
+    printed_stands types raised NoArguments o t p q single numbered end has = absurd (omega (arith, single))
+    printed_stands types raised (MoreArguments c NoArguments) o t p q single (numbered, rest) end has =
         let front = converted_operand_code (starts_of types) c p t in
-        converted_operand_stands types c t p q numbered (omega (arith, cut p q front [] end)) (has_front code p front [] has)
-    printed_stands types (MoreArguments c (MoreArguments c' cs)) o t p q single numbered end has = absurd (omega (arith, single))
+        converted_operand_stands types raised c t p q numbered (omega (arith, cut p q front [] end)) (has_front code p front [] has)
+    printed_stands types raised (MoreArguments c (MoreArguments c' cs)) o t p q single numbered end has = absurd (omega (arith, single))
 
-    arguments_stand : (types : Types) → (cs : Arguments) (t p q : ℕ) → FitArguments b types cs → p + length (arguments_code (starts_of types) cs p t) ≡ q → HasAt code p (arguments_code (starts_of types) cs p t) → ArgumentsAt code b types cs t p q
-    arguments_stand types NoArguments t p q numbered end has = omega (arith, end)
-    arguments_stand types (MoreArguments c cs) t p q (numbered, rest) end has =
+    arguments_stand : (types : Types) (raised : BlocksStand code types.raises) → (cs : Arguments) (t p q : ℕ) → FitArguments b types cs → p + length (arguments_code (starts_of types) cs p t) ≡ q → HasAt code p (arguments_code (starts_of types) cs p t) → ArgumentsAt code b types cs t p q
+    arguments_stand types raised NoArguments t p q numbered end has = omega (arith, end)
+    arguments_stand types raised (MoreArguments c cs) t p q (numbered, rest) end has =
         let front = converted_code (starts_of types) c p t in
         let back = arguments_code (starts_of types) cs (p + length front) (t + passed_words c) in
-        (p + length front, converted_stands types c t p (p + length front) numbered refl (has_front code p front back has), arguments_stand types cs (t + passed_words c) (p + length front) q rest (cut p q front back end) (has_back code p front back has))
+        (p + length front, converted_stands types raised c t p (p + length front) numbered refl (has_front code p front back has), arguments_stand types raised cs (t + passed_words c) (p + length front) q rest (cut p q front back end) (has_back code p front back has))
 
-    operations_stand : (types : Types) → (os : Operations) (l : Operand) (d t p q left : ℕ) (ty : Ty) → FitOperations b types left ty os → IsLeft code b types os l d t → p + length (operations_code (starts_of types) os p l d t) ≡ q → HasAt code p (operations_code (starts_of types) os p l d t) → OperationsAt code b types os l d t p q
-    operations_stand types NoOperations l d t p q words ty numbered left end has = (left, omega (arith, end))
-    operations_stand types (ThenCompute o a os) l d t p q words ty (numbered, rest) left end has =
+    operations_stand : (types : Types) (raised : BlocksStand code types.raises) → (os : Operations) (l : Operand) (d t p q left : ℕ) (ty : Ty) → FitOperations b types left ty os → IsLeft code b types raised os l d t → p + length (operations_code (starts_of types) os p l d t) ≡ q → HasAt code p (operations_code (starts_of types) os p l d t) → OperationsAt code b types os l d t p q
+    operations_stand types raised NoOperations l d t p q words ty numbered left end has = (left, omega (arith, end))
+    operations_stand types raised (ThenCompute o a os) l d t p q words ty (numbered, rest) left end has =
         let inner = expression_code (starts_of types) a p (value_slot (starts_of types) a (suc t)) (suc t) in
         let operand = code_unless (operand_of (starts_of types) a) inner in
         let r = value_operand (starts_of types) a (suc t) in
         let next = next_slot os d t in
         let m = p + length operand in
-        let operator = operator_code o l r m next in
+        let operator = operator_code (starts_of types) o l r next in
         let s = p + length (operand ++ operator) in
         let back = operations_code (starts_of types) os s (operands.Slot next) d t in
         let front_has = has_front code p (operand ++ operator) back has in (
           r,
           m,
           s,
-          right_by code b types (operand_of (starts_of types) a) (l ≡ operands.Slot t) _ inner (value_slot (starts_of types) a (suc t)) p m left refl (has_front code p operand operator front_has) (λ e h. expression_stands types a (value_slot (starts_of types) a (suc t)) (suc t) p m numbered e h),
-          operator_stands code b types o l r next m s (cut p s operand operator refl) (has_back code p operand operator front_has),
-          operations_stand types os (operands.Slot next) d t s q (words_of ty) ty rest (next_left code b types os d t) (cut p q (operand ++ operator) back end) (has_back code p (operand ++ operator) back has),
+          right_by code b types raised (operand_of (starts_of types) a) (l ≡ operands.Slot t) _ inner (value_slot (starts_of types) a (suc t)) p m left refl (has_front code p operand operator front_has) (λ e h. expression_stands types raised a (value_slot (starts_of types) a (suc t)) (suc t) p m numbered e h),
+          operator_stands code b types raised o l r next m s (cut p s operand operator refl) (has_back code p operand operator front_has),
+          operations_stand types raised os (operands.Slot next) d t s q (words_of ty) ty rest (next_left code b types raised os d t) (cut p q (operand ++ operator) back end) (has_back code p (operand ++ operator) back has),
         )
-    operations_stand types (ThenTest o a os) l d t p q words ty (numbered, rest) left end has =
+    operations_stand types raised (ThenTest o a os) l d t p q words ty (numbered, rest) left end has =
         let operand = expression_code (starts_of types) a (p + 1) t t in
         let next = next_slot os d t in
         let front = test_code o operand p next t in
@@ -467,11 +476,11 @@ module _ (code : List Instruction) (b : Numbering) where
           p + length front,
           left,
           jump,
-          expression_stands types a t t (p + 1) (p + 1 + length operand) numbered refl (has_front code (p + 1) operand (truth_code t next) inner),
+          expression_stands types raised a t t (p + 1) (p + 1 + length operand) numbered refl (has_front code (p + 1) operand (truth_code t next) inner),
           (first, second, omega (arith, long)),
-          operations_stand types os (operands.Slot next) d t (p + length front) q (words_of ty) ty rest (next_left code b types os d t) (cut p q front back end) (has_back code p front back has),
+          operations_stand types raised os (operands.Slot next) d t (p + length front) q (words_of ty) ty rest (next_left code b types raised os d t) (cut p q front back end) (has_back code p front back has),
         )
-    operations_stand types (ThenPointer o a os) l d t p q words ty (wide, numbered, rest) left end has =
+    operations_stand types raised (ThenPointer o a os) l d t p q words ty (wide, numbered, rest) left end has =
         let inner = expression_code (starts_of types) a p (value_slot (starts_of types) a (behind_left o t)) (behind_left o t) in
         let next = next_slot os d t in
         let r = value_operand (starts_of types) a (behind_left o t) in
@@ -485,11 +494,11 @@ module _ (code : List Instruction) (b : Numbering) where
           m,
           s,
           left,
-          operand_by code b types (operand_of (starts_of types) a) _ inner (value_slot (starts_of types) a (behind_left o t)) p m refl (has_front code p operand _ front_has) (λ e h. expression_stands types a (value_slot (starts_of types) a (behind_left o t)) (behind_left o t) p m numbered e h),
-          pointer_stands code b types o l r t next m s left (cut p s operand (pointer_instructions o l r next) refl) (has_back code p operand _ front_has),
-          operations_stand types os (operands.Slot next) d t s q (words_of ty) ty rest (next_left code b types os d t) (cut p q both back end) (has_back code p both back has),
+          operand_by code b types raised (operand_of (starts_of types) a) _ inner (value_slot (starts_of types) a (behind_left o t)) p m refl (has_front code p operand _ front_has) (λ e h. expression_stands types raised a (value_slot (starts_of types) a (behind_left o t)) (behind_left o t) p m numbered e h),
+          pointer_stands code b types raised o l r t next m s left (cut p s operand (pointer_instructions o l r next) refl) (has_back code p operand _ front_has),
+          operations_stand types raised os (operands.Slot next) d t s q (words_of ty) ty rest (next_left code b types raised os d t) (cut p q both back end) (has_back code p both back has),
         )
-    operations_stand types (ThenPointerPeek n o a os) l d t p q words ty (wide, numbered, rest) left end has =
+    operations_stand types raised (ThenPointerPeek n o a os) l d t p q words ty (wide, numbered, rest) left end has =
         let inner = expression_code (starts_of types) a p (value_slot (starts_of types) a (behind_left o t)) (behind_left o t) in
         let next = next_slot os d t in
         let r = value_operand (starts_of types) a (behind_left o t) in
@@ -503,25 +512,25 @@ module _ (code : List Instruction) (b : Numbering) where
           m,
           s,
           left,
-          operand_by code b types (operand_of (starts_of types) a) _ inner (value_slot (starts_of types) a (behind_left o t)) p m refl (has_front code p operand _ front_has) (λ e h. expression_stands types a (value_slot (starts_of types) a (behind_left o t)) (behind_left o t) p m numbered e h),
-          pointer_stands code b types o l r t next m s left (cut p s operand (pointer_instructions o l r next) refl) (has_back code p operand _ front_has),
-          operations_stand types os (operands.Slot next) d t s q (words_of ty) ty rest (next_left code b types os d t) (cut p q both back end) (has_back code p both back has),
+          operand_by code b types raised (operand_of (starts_of types) a) _ inner (value_slot (starts_of types) a (behind_left o t)) p m refl (has_front code p operand _ front_has) (λ e h. expression_stands types raised a (value_slot (starts_of types) a (behind_left o t)) (behind_left o t) p m numbered e h),
+          pointer_stands code b types raised o l r t next m s left (cut p s operand (pointer_instructions o l r next) refl) (has_back code p operand _ front_has),
+          operations_stand types raised os (operands.Slot next) d t s q (words_of ty) ty rest (next_left code b types raised os d t) (cut p q both back end) (has_back code p both back has),
         )
 
-module _ (code : List Instruction) (b : Numbering) (types : Types) where
+module _ (code : List Instruction) (b : Numbering) (types : Types) (raised : BlocksStand code types.raises) where
   assignment_stands : (l : Lvalue) (c : Converted) (t p q : ℕ) → FitsStored b types l (passed_kind c) → FitsConverted b types c → p + length (assignment_code (starts_of types) l c p t) ≡ q → HasAt code p (assignment_code (starts_of types) l c p t) → AssignmentAt code b types l c (assigned_operand (starts_of types) l c t) t p q
-  assignment_stands (Local w n) c t p q (few, room) numbered end has = (refl, room, initial_stands code b types c (slot_of (starts_of types) n) t p q numbered end has)
+  assignment_stands (Local w n) c t p q (few, room) numbered end has = (refl, room, initial_stands code b types raised c (slot_of (starts_of types) n) t p q numbered end has)
   assignment_stands (Global n) c t p q (few, single) numbered end has =
       let front = converted_operand_code (starts_of types) c p t in
       let (here, none) = has_back code p front _ has in
-      (p + length front, converted_operand_stands code b types c t p (p + length front) numbered refl (has_front code p front _ has), few, single, here, cut p q front _ end)
+      (p + length front, converted_operand_stands code b types raised c t p (p + length front) numbered refl (has_front code p front _ has), few, single, here, cut p q front _ end)
 
   discarded_stands : (a : Expression) (t p q : ℕ) → Fits b types a → p + length (discarded_code (starts_of types) a p t) ≡ q → HasAt code p (discarded_code (starts_of types) a p t) → DiscardedAt code b types a t p q
   discarded_stands (Call callees.Putchar cs ty) t p q (s, signature, many, passed, result, numbered) end has =
       let front = printed_code (starts_of types) cs p t in
       let (write, none) = has_back code p front _ has in
       let single : argument_count cs ≡ 1 = many ∙ ap (λ (x : Signature). length x.parameters) signature in
-      (printed_operand (starts_of types) cs (operands.Slot t) t, p + length front, printed_stands code b types cs (operands.Slot t) t p (p + length front) single numbered refl (has_front code p front _ has), write, cut p q front _ end)
+      (printed_operand (starts_of types) cs (operands.Slot t) t, p + length front, printed_stands code b types raised cs (operands.Slot t) t p (p + length front) single numbered refl (has_front code p front _ has), write, cut p q front _ end)
   discarded_stands (Assign l c ty) t p q (few, numbered) end has = (assigned_operand (starts_of types) l c t, assignment_stands l c t p q few numbered end has)
   discarded_stands (Store x c ty) t p q (place, single, numbered) end has =
       let a = place_operand (starts_of types) x t in
@@ -545,16 +554,16 @@ module _ (code : List Instruction) (b : Numbering) (types : Types) where
           r,
           s,
           u,
-          place_stands code b types x t p r place refl (has_front code p front bring has_address),
-          address_stands code b types a bytes t r s (cut p s front bring refl) (has_back code p front bring has_address),
-          converted_operand_stands code b types c (t + 1) s u numbered refl (has_front code s value write has_value),
+          place_stands code b types raised x t p r place refl (has_front code p front bring has_address),
+          address_stands code b types raised a bytes t r s (cut p s front bring refl) (has_back code p front bring has_address),
+          converted_operand_stands code b types raised c (t + 1) s u numbered refl (has_front code s value write has_value),
           single,
           here,
           cut s q value write (cut p q address (value ++ write) end),
         ),
       )
   discarded_stands a t p q numbered end has =
-      (operand_or (operand_of (starts_of types) a) t, operand_by code b types (operand_of (starts_of types) a) _ (expression_code (starts_of types) a p t t) t p q end has (λ e h. expression_stands code b types a t t p q numbered e h))
+      (operand_or (operand_of (starts_of types) a) t, operand_by code b types raised (operand_of (starts_of types) a) _ (expression_code (starts_of types) a p t t) t p q end has (λ e h. expression_stands code b types raised a t t p q numbered e h))
 
   -- two operands that are compared
   pair_stands : (a c : Expression) (t p q : ℕ) → Fits b types a → Fits b types c → p + length (pair_code (starts_of types) a c p t) ≡ q → HasAt code p (pair_code (starts_of types) a c p t)
@@ -565,9 +574,9 @@ module _ (code : List Instruction) (b : Numbering) (types : Types) where
       let m = p + length front in
       let back = second_code (starts_of types) c m t in (
         m,
-        operand_by code b types (left_with (operand_of (starts_of types) c) (operand_of (starts_of types) a)) _ (expression_code (starts_of types) a p slot t) slot p m refl (has_front code p front back has) (λ e h. expression_stands code b types a slot t p m numbered_a e h),
-        right_by code b types (operand_of (starts_of types) c) (first_operand (starts_of types) a c t ≡ operands.Slot t) _ (expression_code (starts_of types) c m (value_slot (starts_of types) c (suc t)) (suc t)) (value_slot (starts_of types) c (suc t)) m q (left_first code b types (operand_of (starts_of types) c) a t)
-            (cut p q front back end) (has_back code p front back has) (λ e h. expression_stands code b types c (value_slot (starts_of types) c (suc t)) (suc t) m q numbered_c e h),
+        operand_by code b types raised (left_with (operand_of (starts_of types) c) (operand_of (starts_of types) a)) _ (expression_code (starts_of types) a p slot t) slot p m refl (has_front code p front back has) (λ e h. expression_stands code b types raised a slot t p m numbered_a e h),
+        right_by code b types raised (operand_of (starts_of types) c) (first_operand (starts_of types) a c t ≡ operands.Slot t) _ (expression_code (starts_of types) c m (value_slot (starts_of types) c (suc t)) (suc t)) (value_slot (starts_of types) c (suc t)) m q (left_first code b types raised (operand_of (starts_of types) c) a t)
+            (cut p q front back end) (has_back code p front back has) (λ e h. expression_stands code b types raised c (value_slot (starts_of types) c (suc t)) (suc t) m q numbered_c e h),
       )
 
   compared_numbered : (a : Expression) → Fits b types a → Fits b types (compared_of a).left × Fits b types (compared_of a).right
@@ -604,7 +613,7 @@ module _ (code : List Instruction) (b : Numbering) (types : Types) where
       let front = code_unless_slot known inner in
       let m = p + length front in
       let s = slot_or known t in
-      let conversion = conversion_code to (operands.Slot s) m in
+      let conversion = conversion_code (starts_of types) to (operands.Slot s) m in
       let both = front ++ conversion in
       let r = p + length both in
       let has_both = has_front code p both _ has in
@@ -614,8 +623,8 @@ module _ (code : List Instruction) (b : Numbering) (types : Types) where
         s,
         m,
         r,
-        returned_by code b types known _ inner t p m refl (has_front code p front conversion has_both) (λ e h. expression_stands code b types a t t p m fitting e h),
-        conversion_stands code b types from to (operands.Slot s) m r wide (cut p r front conversion refl) (has_back code p front conversion has_both),
+        returned_by code b types raised known _ inner t p m refl (has_front code p front conversion has_both) (λ e h. expression_stands code b types raised a t t p m fitting e h),
+        conversion_stands code b types raised from to (operands.Slot s) m r wide (cut p r front conversion refl) (has_back code p front conversion has_both),
         here,
         words,
         kind,
@@ -623,7 +632,7 @@ module _ (code : List Instruction) (b : Numbering) (types : Types) where
 
   declaration_stands : (n : ℕ) (v : Option Converted) (t p q : ℕ) → n < b.locals → FitsInitial b types n v → p + length (declaration_code (starts_of types) n v p t) ≡ q → HasAt code p (declaration_code (starts_of types) n v p t) → DeclarationAt code b types n v t p q
   declaration_stands n None t p q few numbered end has = (few, omega (arith, end))
-  declaration_stands n (Some c) t p q few (room, numbered) end has = (few, room, initial_stands code b types c (slot_of (starts_of types) n) t p q numbered end has)
+  declaration_stands n (Some c) t p q few (room, numbered) end has = (few, room, initial_stands code b types raised c (slot_of (starts_of types) n) t p q numbered end has)
 
   mutual
     statement_stands : (s : Statement) (in_loop : Bool) (exits : Exits) (d p q : ℕ) → FitsStatement b types in_loop s → p + length (statement_code (starts_of types) s p exits d) ≡ q → HasAt code p (statement_code (starts_of types) s p exits d) → StatementAt code b types s exits d p q
@@ -712,7 +721,7 @@ module _ (source : Program) where
   pub routine_there : (n : ℕ) (h : Function) → slice_get source.functions n ≡ Some h → routine_at (lower_program source) n ≡ lower_function source.structs h
   routine_there n h there = get_or_from_slice_get (map (lower_function source.structs) source.functions) n (lower_function source.structs h) no_routine (slice_get-map (lower_function source.structs) source.functions n ∙ ap (option_map (lower_function source.structs)) there)
 
-  -- the code of a function, with its body at the beginning and a return behind it
+  -- the code of a function, with its body at the beginning, and a return behind it
   abbrev BodyStands : Function → List Instruction → Option Function → Type 0
   BodyStands h code o =
       (m : ℕ) × ItemsAt code (bounds_in source o) (types_in source o) h.body (outside_loops (words_of_all (types_in source o).locals)) (words_of_all (types_in source o).locals) 0 m
@@ -721,12 +730,14 @@ module _ (source : Program) where
   body_stands : (h : Function) → FitItems (bounds_in source (Some h)) (types_of source.structs h) false h.body → BodyStands h (function_code source.structs h) (Some h)
   body_stands h numbered =
       let d = first_temporary h in
-      let starts = starts_of (types_of source.structs h) in
-      let body = items_code starts h.body 0 (outside_loops d) d in
-      let end = instructions.Return d ∷ [] in
-      let has = has_whole (body ++ end) in
-      let (here, none) = has_back (body ++ end) 0 body end has in
-      (0 + length body, items_stand (body ++ end) (bounds_in source (Some h)) (types_of source.structs h) h.body false (outside_loops d) d 0 (0 + length body) numbered refl (has_front (body ++ end) 0 body end has), here)
+      let types = types_of source.structs h in
+      let body = body_code types h in
+      let end = instructions.Return d ∷ blocks in
+      let code = body ++ end in
+      let has = has_whole code in
+      let (here, raising_all) = has_back code 0 body end has in
+      let raised = blocks_stand code types.raises (subst (λ n. HasAt code (n + 1) blocks) (let e : 0 + length body ≡ types.raises = omega (arith, body_long source.structs h) in e) raising_all) in
+      (0 + length body, items_stand code (bounds_in source (Some h)) types raised h.body false (outside_loops d) d 0 (0 + length body) numbered refl (has_front code 0 body end has), here)
 
   pub functions_stand : (pages calls : ℕ) → IsFitting source → FunctionsStand source pages calls
   functions_stand pages calls numbered n h there =

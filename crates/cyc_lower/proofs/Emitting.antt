@@ -49,10 +49,10 @@ behind xs ys some = omega (arith, length-append xs ys)
 before : (xs ys : List Instruction) → 0 < length xs → 0 < length (xs ++ ys)
 before xs ys some = omega (arith, length-append xs ys)
 
-operates : (o : Operator) (l r : Operand) (p d : ℕ) → 0 < length (operator_code o l r p d)
-operates operators.Divide l r p d = behind _ (instructions.Binary (binary_operator operators.Divide) d l r ∷ []) (omega arith)
-operates operators.Remainder l r p d = behind _ (instructions.Binary (binary_operator operators.Remainder) d l r ∷ []) (omega arith)
-operates o l r p d = omega arith
+operates : (starts : Starts) (o : Operator) (l r : Operand) (d : ℕ) → 0 < length (operator_code starts o l r d)
+operates starts operators.Divide l r d = behind _ (instructions.Binary (binary_operator operators.Divide) d l r ∷ []) (omega arith)
+operates starts operators.Remainder l r d = behind _ (instructions.Binary (binary_operator operators.Remainder) d l r ∷ []) (omega arith)
+operates starts o l r d = omega arith
 
 -- what was added makes the code longer
 pub grown : (old more new : List Instruction) → new ≡ old ++ more → 0 < length more → length old < length new
@@ -207,20 +207,20 @@ stores_end old code many address first i done (suc left, count, made) = absurd (
 
 -- ---- arrays
 
-pub made_begun : (old m1 m2 : List Instruction) (handle behind t : ℕ) → behind ≡ t + 3 → m1 ≡ old ++ measured_code (length old) (behind - 2) (behind - 1) t → m2 ≡ m1 ++ asked_code handle behind t
-    → m2 ≡ old ++ begun_code handle (length old) t
-made_begun old m1 m2 handle behind t is e1 e2 =
+pub made_begun : (starts : Starts) (old m1 m2 : List Instruction) (handle behind t : ℕ) → behind ≡ t + 3 → m1 ≡ old ++ measured_code starts (behind - 2) (behind - 1) t → m2 ≡ m1 ++ asked_code handle behind t
+    → m2 ≡ old ++ begun_code starts handle t
+made_begun starts old m1 m2 handle behind t is e1 e2 =
     let x : behind - 2 ≡ t + 1 = omega (arith, is) in
     let y : behind - 1 ≡ t + 2 = omega (arith, is) in
     e2
     ∙ ap (λ (s : ℕ). m1 ++ asked_code handle s t) is
-    ∙ ap (λ (l : List Instruction). l ++ asked_code handle (t + 3) t) (e1 ∙ ap (λ (n : ℕ). old ++ measured_code (length old) n (behind - 1) t) x ∙ ap (λ (n : ℕ). old ++ measured_code (length old) (t + 1) n t) y)
-    ∙ append_assoc old (measured_code (length old) (t + 1) (t + 2) t) (asked_code handle (t + 3) t)
+    ∙ ap (λ (l : List Instruction). l ++ asked_code handle (t + 3) t) (e1 ∙ ap (λ (n : ℕ). old ++ measured_code starts n (behind - 1) t) x ∙ ap (λ (n : ℕ). old ++ measured_code starts (t + 1) n t) y)
+    ∙ append_assoc old (measured_code starts (t + 1) (t + 2) t) (asked_code handle (t + 3) t)
 
 -- the elements, whose loop begins at place head
 pub made_elements : (starts : Starts) (counters : List ℕ) (a : Expression) (old begun made filled patched new : List Instruction) (x : Instruction) (last : Condition) (head behind d t : ℕ) → behind ≡ t + 3
     → counters ≡ starts.counters ++ (behind - 1) ∷ [] → head ≡ length old → begun ≡ old ++ x ∷ []
-    → made ≡ begun ++ expression_code (record { locals = starts.locals; structs = starts.structs; counters = counters }) a (length begun) behind behind
+    → made ≡ begun ++ expression_code (record { locals = starts.locals; structs = starts.structs; raises = starts.raises; counters = counters }) a (length begun) behind behind
     → filled ≡ made ++ written_code head (behind - 1) behind (behind + 1) t → last ≡ last_element (behind - 2) (behind - 1)
     → patched ≡ set filled head (failing_jump last (length filled)) → new ≡ patched ++ restarted_code d (behind - 1) t
     → new ≡ old ++ elements_code (expression_code (with_counter starts (t + 2)) a (length old + 1) (t + 3) (t + 3)) (length old) d t
@@ -230,7 +230,7 @@ made_elements starts counters a old begun made filled patched new i last head be
     let z : behind + 1 ≡ t + 4 = omega (arith, is) in
     let first : made ≡ begun ++ expression_code (with_counter starts (t + 2)) a (length begun) (t + 3) (t + 3)
     = e1
-    ∙ ap (λ (cs : List ℕ). begun ++ expression_code (record { locals = starts.locals; structs = starts.structs; counters = cs }) a (length begun) behind behind) (counters_are ∙ ap (λ (n : ℕ). starts.counters ++ n ∷ []) y)
+    ∙ ap (λ (cs : List ℕ). begun ++ expression_code (record { locals = starts.locals; structs = starts.structs; raises = starts.raises; counters = cs }) a (length begun) behind behind) (counters_are ∙ ap (λ (n : ℕ). starts.counters ++ n ∷ []) y)
     ∙ ap (λ (n : ℕ). begun ++ expression_code (with_counter starts (t + 2)) a (length begun) n n) is in
     let second : filled ≡ made ++ filled_code (length old) t
     = e2
@@ -263,16 +263,16 @@ module _ (starts : Starts) where
 
   computes : (o : Operator) (b : Expression) (os : Operations) (p : ℕ) (l : Operand) (d t : ℕ) → 0 < length (operations_code starts (ThenCompute o b os) p l d t)
   computes o b os p l d t =
-      before (compute_code o l (value_operand starts b (suc t)) (value_code starts b p (suc t)) p (next_slot os d t)) _
-      (behind (value_code starts b p (suc t)) _ (operates o l (value_operand starts b (suc t)) (p + length (value_code starts b p (suc t))) (next_slot os d t)))
+      before (compute_code starts o l (value_operand starts b (suc t)) (value_code starts b p (suc t)) (next_slot os d t)) _
+      (behind (value_code starts b p (suc t)) _ (operates starts o l (value_operand starts b (suc t)) (next_slot os d t)))
 
   tests : (o : LogicalOperator) (b : Expression) (os : Operations) (p : ℕ) (l : Operand) (d t : ℕ) → 0 < length (operations_code starts (ThenTest o b os) p l d t)
   tests o b os p l d t = before (test_code o (expression_code starts b (p + 1) t t) p (next_slot os d t) t) _ (omega arith)
 
   initial_by : (there : Bool) (known : Option Operand) (at_once inner : List Instruction) (to : Kind) (o : Operand) (p d : ℕ) → 0 < length at_once
-      → 0 < length (if there then at_once else moved_by known inner to o p d)
+      → 0 < length (if there then at_once else moved_by starts known inner to o p d)
   initial_by true known at_once inner to o p d some = some
-  initial_by false known at_once inner to o p d some = behind (converted_by known inner to o p) (move_of (words_of_kind to) d o ∷ []) (omega arith)
+  initial_by false known at_once inner to o p d some = behind (converted_by starts known inner to o p) (move_of (words_of_kind to) d o ∷ []) (omega arith)
 
   place_some : (x : Dereference) (p t : ℕ) → 0 < length (place_code starts x p t)
   place_some (Target k a ty) p t = behind (code_unless (operand_of starts a) (expression_code starts a p (value_slot starts a t) t)) _ (omega arith)
@@ -504,14 +504,14 @@ module _ (starts : Starts) where
       made_left a os old new d t to plain (λ none. absurd (let f : false ≡ true = sym more ∙ eq-eqb (length os) 0 none in cc)) (λ some. there) is
 
   pub made_compute : (value : Operation) (o : Operator) (e : Expr) (old m1 m2 : List Instruction) (l r : Operand) (d t : ℕ) → value ≡ operation.Compute o e
-      → r ≡ value_operand starts (view_expression e) (t + 1) → m1 ≡ old ++ value_code starts (view_expression e) (length old) (t + 1) → m2 ≡ m1 ++ operator_code o l r (length m1) d
+      → r ≡ value_operand starts (view_expression e) (t + 1) → m1 ≡ old ++ value_code starts (view_expression e) (length old) (t + 1) → m2 ≡ m1 ++ operator_code starts o l r d
       → m2 ≡ old ++ operation_code starts value (length old) l d t
   made_compute value o e old m1 m2 l r d t is r_is e1 e2 =
       let a = view_expression e in
       let next : t + 1 ≡ suc t = omega arith in
       let right = value_operand starts a (suc t) in
-      joined old (value_code starts a (length old) (suc t)) (λ p. operator_code o l right p d) m1 m2 (e1 ∙ ap (λ (n : ℕ). old ++ value_code starts a (length old) n) next)
-      (e2 ∙ ap (λ (x : Operand). m1 ++ operator_code o l x (length m1) d) (r_is ∙ ap (value_operand starts a) next))
+      joined old (value_code starts a (length old) (suc t)) (λ p. operator_code starts o l right d) m1 m2 (e1 ∙ ap (λ (n : ℕ). old ++ value_code starts a (length old) n) next)
+      (e2 ∙ ap (λ (x : Operand). m1 ++ operator_code starts o l x d) (r_is ∙ ap (value_operand starts a) next))
       ∙ ap (λ (x : Operation). old ++ operation_code starts x (length old) l d t) (sym is)
 
   pointed : (o : PointerOperator) (l r : Operand) (d : ℕ) → 0 < length (pointer_instructions o l r d)
@@ -528,7 +528,7 @@ module _ (starts : Starts) where
 
   -- where one operator is made, more may follow
   operates_longer : (x : Operation) (p : ℕ) (l : Operand) (d t : ℕ) → 0 < length (operation_code starts x p l d t)
-  operates_longer (operation.Compute o e) p l d t = behind (value_code starts (view_expression e) p (suc t)) _ (operates o l (value_operand starts (view_expression e) (suc t)) (p + length (value_code starts (view_expression e) p (suc t))) d)
+  operates_longer (operation.Compute o e) p l d t = behind (value_code starts (view_expression e) p (suc t)) _ (operates starts o l (value_operand starts (view_expression e) (suc t)) d)
   operates_longer (operation.Test o e) p l d t = omega arith
   operates_longer (operation.Pointer o e) p l d t = behind (value_code starts (view_expression e) p (behind_left o t)) _ (pointed o l (value_operand starts (view_expression e) (behind_left o t)) d)
   operates_longer (operation.PointerPeek n o e) p l d t = behind (value_code starts (view_expression e) p (behind_left o t)) _ (pointed o l (value_operand starts (view_expression e) (behind_left o t)) d)

@@ -28,7 +28,7 @@ use Rattle.cyc_plain.proofs.RunLaws.{zeros}
 use Rattle.cyc_meaning.specs.State.{status_of as status_of_source}
 use Rattle.cyc_meaning.specs.Run.{limited_run}
 use Rattle.cyc_meaning.specs.FrameCount.{frame_count, expression_need}
-use Rattle.cyc_lower.specs.Lowering.{jump_if_zero, jump_if_nonzero, function_code, lower_program}
+use Rattle.cyc_lower.specs.Lowering.{jump_if_zero, function_code, lower_program, blocks}
 use Rattle.cyc_meaning.specs.SourceMachine.{status_in}
 
 -- ---- trees
@@ -256,7 +256,7 @@ null_is_caught = refl
 source_catches_null : source_ends 20 converting [] ≡ Ended (Uncaught 1 (pos 0))
 source_catches_null = refl
 
--- ---- code
+-- ---- code, with the blocks that raise exceptions behind it
 
 abbrev code_of_body : Items → List Instruction
 code_of_body body = function_code [] (function [] ints body)
@@ -265,15 +265,15 @@ code_of_body body = function_code [] (function [] ints body)
 loop_code : code_of_body (all (While nowhere (local 0) Break ∷ returns (local 1) ∷ [])) ≡
     Jump 2 ∷ Jump 5 ∷ jump_if_zero (Slot 0) 1 ∷ Jump 1 ∷ Jump 2
     ∷ instructions.Return 1
-    ∷ instructions.Return 2 ∷ []
+    ∷ instructions.Return 2 ∷ blocks
 loop_code = refl
 
--- a branch, and a division with its test
+-- a branch, and a division with its test, which leads to the last block where it fails
 branch_code : code_of_body (all (If (local 0) (Evaluate (two (local 0) (ThenCompute Divide (local 1) NoOperations))) Empty ∷ [])) ≡
-    jump_if_zero (Slot 0) 5
-    ∷ jump_if_nonzero (Slot 1) 3 ∷ instructions.Uncaught 4 (Slot 1) ∷ instructions.Binary plain_binary.Divide 2 (Slot 0) (Slot 1)
-    ∷ Jump 5
-    ∷ instructions.Return 2 ∷ []
+    jump_if_zero (Slot 0) 4
+    ∷ jump_if_zero (Slot 1) 8 ∷ instructions.Binary plain_binary.Divide 2 (Slot 0) (Slot 1)
+    ∷ Jump 4
+    ∷ instructions.Return 2 ∷ blocks
 branch_code = refl
 
 -- a condition that compares is one jump, and so is one that negates
@@ -281,33 +281,33 @@ compared_code : code_of_body (all (If (two (local 0) (ThenCompute Less (local 1)
     instructions.Branch comparisons.GreaterOrEqual (Slot 0) (Slot 1) 3
     ∷ instructions.Return 0
     ∷ Jump 3
-    ∷ instructions.Return 2 ∷ []
+    ∷ instructions.Return 2 ∷ blocks
 compared_code = refl
 
 negated_code : code_of_body (all (While nowhere (Unary unary.Not (local 0)) Break ∷ [])) ≡
     Jump 2 ∷ Jump 5 ∷ instructions.Branch comparisons.NotEqual (Slot 0) (Constant 0) 1 ∷ Jump 1 ∷ Jump 2
-    ∷ instructions.Return 2 ∷ []
+    ∷ instructions.Return 2 ∷ blocks
 negated_code = refl
 
 -- a local gets a sum by one instruction, and a byte is printed by one
 direct_code : code_of_body (all (Evaluate (sets 0 (two (local 0) (ThenCompute Add (Number 1) NoOperations))) ∷ Evaluate (call Putchar (local 1 ∷ [])) ∷ [])) ≡
     instructions.Binary plain_binary.Add 0 (Slot 0) (Constant 1)
     ∷ instructions.WriteByte (Slot 1)
-    ∷ instructions.Return 2 ∷ []
+    ∷ instructions.Return 2 ∷ blocks
 direct_code = refl
 
 -- a chain that ends in the local that it reads has its values before in a temporary
 chain_code : code_of_body (all (Evaluate (sets 0 (two (local 1) (ThenCompute Subtract (Number 3) (ThenCompute Divide (local 0) (ThenCompute Remainder (Number 7) NoOperations))))) ∷ [])) ≡
     instructions.Binary plain_binary.Subtract 2 (Slot 1) (Constant 3)
-    ∷ jump_if_nonzero (Slot 0) 3 ∷ instructions.Uncaught 4 (Slot 0) ∷ instructions.Binary plain_binary.Divide 2 (Slot 2) (Slot 0)
+    ∷ jump_if_zero (Slot 0) 8 ∷ instructions.Binary plain_binary.Divide 2 (Slot 2) (Slot 0)
     ∷ instructions.Binary plain_binary.Remainder 0 (Slot 2) (Constant 7)
-    ∷ instructions.Return 2 ∷ []
+    ∷ instructions.Return 2 ∷ blocks
 chain_code = refl
 
 -- a local behind a fat pointer has the slot behind its three words, and temporaries stand behind both
 wide_code : function_code [] (function [] (Pointer Fat Int Heap ∷ Int ∷ []) (all (Evaluate (sets 1 (two (local 1) (ThenCompute Add (Number 1) NoOperations))) ∷ []))) ≡
     instructions.Binary plain_binary.Add 3 (Slot 3) (Constant 1)
-    ∷ instructions.Return 4 ∷ []
+    ∷ instructions.Return 4 ∷ blocks
 wide_code = refl
 
 -- ---- frame counts

@@ -6,6 +6,7 @@ pub mod TypedConstants
 -- the answers of `lower`
 pub mod Lowerings
 pub mod Routines
+pub mod Lengths
 -- a run of the plain program is one of the source
 pub mod Relation
 pub mod Matched

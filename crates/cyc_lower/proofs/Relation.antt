@@ -37,7 +37,7 @@ use Rattle.cyc_meaning.specs.FrameCount.{words_of_all}
 use Rattle.cyc_lower.specs.declared.statements.Exits.{Exits}
 use Rattle.cyc_meaning.specs.Pointers.{result_kind as operator_kind}
 use Rattle.cyc_lower.specs.Slots.{Types, Starts, starts_of, slot_of}
-use Rattle.cyc_lower.specs.Lowering.{most_elements, unary_operator, failing_comparison, operand_of, move_of, low_byte, converts_there, all_passed, compared_of, break_target, continue_target, results_of, lower_program, outside_loops, slot_types}
+use Rattle.cyc_lower.specs.Lowering.{most_elements, unary_operator, failing_comparison, operand_of, move_of, low_byte, converts_there, all_passed, compared_of, break_target, continue_target, results_of, lower_program, outside_loops, slot_types, raises_of}
 use Rattle.cyc_lower.proofs.Widths.{kind_of_result, given, called_kind, HasRoom, Outside, chain_kind}
 use Rattle.cyc_lower.proofs.Stands.{BegunAt, ElementsAt, CheckAt, ConversionAt, PlaceAt, OperatorAt, TruthAt, CopyAt, ExpressionAt, ArgumentsAt, OperationsAt, ValueAt, ConditionAt, FailingAt, ComparesAt, DiscardedAt, StatementAt, ItemsAt, PointerAt, StoresAt, ObjectAt, AddressAt, ConvertedOperandAt}
 
@@ -244,13 +244,17 @@ module _ (source : Program) where
   abbrev pub bounds_at : ℕ → Numbering
   bounds_at g = bounds_in (slice_get source.functions g)
 
-  -- the types of its locals with the structs, and their first slots
+  -- the types of its locals with the structs and the place of its blocks, and their first slots
   abbrev pub local_types : Option Function → List Ty
   local_types None = []
   local_types (Some h) = slot_types h
 
+  abbrev pub raises_in : Option Function → ℕ
+  raises_in None = 0
+  raises_in (Some h) = raises_of source.structs h
+
   abbrev pub types_in : Option Function → Types
-  types_in h = record { locals = local_types h; structs = source.structs; counters = [] }
+  types_in h = record { locals = local_types h; structs = source.structs; raises = raises_in h; counters = [] }
 
   abbrev pub types_at : ℕ → Types
   types_at g = types_in (slice_get source.functions g)
@@ -260,7 +264,7 @@ module _ (source : Program) where
 
   -- the same where these entries wait, of which some are arrays that are being filled
   abbrev pub types_on : ℕ → List Entry → Types
-  types_on g k = record { locals = local_types (slice_get source.functions g); structs = source.structs; counters = counters_of (words_of_all (local_types (slice_get source.functions g))) k }
+  types_on g k = record { locals = local_types (slice_get source.functions g); structs = source.structs; raises = raises_in (slice_get source.functions g); counters = counters_of (words_of_all (local_types (slice_get source.functions g))) k }
 
   abbrev pub starts_on : ℕ → List Entry → Starts
   starts_on g k = starts_of (types_on g k)

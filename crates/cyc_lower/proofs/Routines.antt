@@ -1,5 +1,5 @@
 -- Functions and globals that are lowered one after the other.
-use Rattle.std.proofs.Common.{◌≡◌, ℕ, zero, suc, ◌+◌, ◌<◌, ◌≤◌, List, [], ◌∷◌, ◌++◌, length, get_or, map, take, Some, refl, sym, ap, ◌∙◌, arith, slice_get}
+use Rattle.std.proofs.Common.{◌≡◌, ℕ, zero, suc, ◌+◌, ◌<◌, ◌≤◌, List, [], ◌∷◌, ◌++◌, length, get_or, map, take, Some, refl, sym, ap, ◌∙◌, arith, slice_get, append_assoc}
 use Rattle.cyc_words.specs.declared.fault.Code.{Code}
 use Rattle.cyc_words.specs.declared.fault.Code.TheVariants.{TooManyFunctions}
 use Rattle.cyc_words.specs.declared.fault.Fault.{Fault}
@@ -10,8 +10,8 @@ use Rattle.cyc_types.specs.TypedTreeView.{view_function, view_program}
 use Rattle.cyc_meaning.specs.FrameCount.{frame_count, words_of_all}
 use Rattle.cyc_plain.specs.declared.instruction.Instruction.{Instruction}
 use Rattle.cyc_plain.specs.declared.instruction.Instruction.TheVariants.{Return}
-use Rattle.cyc_lower.specs.Slots.{Starts, starts_of}
-use Rattle.cyc_lower.specs.Lowering.{types_of, first_temporary, outside_loops, items_code, function_code}
+use Rattle.cyc_lower.specs.Slots.{starts_from}
+use Rattle.cyc_lower.specs.Lowering.{slot_types, types_with, types_of, raises_of, body_code, first_temporary, outside_loops, items_code, blocks, function_code}
 use Rattle.cyc_lower.specs.declared.limits.TheConstants.{MOST_FUNCTIONS}
 use Rattle.cyc_lower.specs.Lowered.{HasTooMany}
 use Rattle.cyc_lower.specs.Emission.{most_frame_count, most_locals}
@@ -32,15 +32,19 @@ pub few_locals : (f : FunctionCode) → frame_count (view_function f) ≤ most_f
     → (words_of_all (view_function f).parameters ≤ most_frame_count) × (first_temporary (view_function f) ≤ most_locals)
 few_locals f small = (omega (arith, small), omega (arith, small, slots-few (view_function f)))
 
--- the code of a function's body, with a return behind it
-pub function_made : (structs : List StructType) (h : Function) (starts : Starts) (free : ℕ) (js : Items) (begun body code : List Instruction) → starts ≡ starts_of (types_of structs h) → free ≡ first_temporary h → js ≡ h.body → begun ≡ []
-    → body ≡ begun ++ items_code starts js (length begun) (outside_loops free) free → code ≡ body ++ Return free ∷ [] → code ≡ function_code structs h
-function_made structs h starts free js begun body code starts_is free_is js_is begun_is body_is code_is =
+-- the code of a function's body, made again for the length that it had, with a return and the blocks behind it
+pub function_made : (structs : List StructType) (h : Function) (locals again : List ℕ) (free raises : ℕ) (first body ended code : List Instruction) → locals ≡ starts_from 0 (slot_types h) → again ≡ starts_from 0 (slot_types h)
+    → free ≡ first_temporary h → first ≡ items_code (record { locals = locals; structs = structs; raises = 0; counters = [] }) h.body 0 (outside_loops free) free → raises ≡ length first
+    → body ≡ items_code (record { locals = again; structs = structs; raises = raises; counters = [] }) h.body 0 (outside_loops free) free
+    → ended ≡ body ++ Return free ∷ [] → code ≡ ended ++ blocks → code ≡ function_code structs h
+function_made structs h locals again free raises first body ended code locals_is again_is free_is first_is raises_is body_is ended_is code_is =
+    let made : first ≡ body_code (types_with 0 structs h) h =
+    first_is ∙ (λ i. items_code (record { locals = locals_is i; structs = structs; raises = 0; counters = [] }) h.body 0 (outside_loops (free_is i)) (free_is i)) in
+    let known : raises ≡ raises_of structs h = raises_is ∙ ap (λ (l : List Instruction). length l) made in
     code_is
-    ∙ ap (λ (l : List Instruction). l ++ Return free ∷ []) (body_is ∙ ap (λ (l : List Instruction). l ++ items_code starts js (length l) (outside_loops free) free) begun_is)
-    ∙ ap (λ (l : Starts). items_code l js 0 (outside_loops free) free ++ Return free ∷ []) starts_is
-    ∙ ap (λ (x : Items). items_code (starts_of (types_of structs h)) x 0 (outside_loops free) free ++ Return free ∷ []) js_is
-    ∙ ap (λ (n : ℕ). items_code (starts_of (types_of structs h)) h.body 0 (outside_loops n) n ++ Return n ∷ []) free_is
+    ∙ ap (λ (l : List Instruction). l ++ blocks) (ended_is ∙ ap (λ (l : List Instruction). l ++ Return free ∷ []) body_is)
+    ∙ (λ i. (items_code (record { locals = again_is i; structs = structs; raises = known i; counters = [] }) h.body 0 (outside_loops (free_is i)) (free_is i) ++ Return (free_is i) ∷ []) ++ blocks)
+    ∙ append_assoc (body_code (types_of structs h) h) (Return (first_temporary h) ∷ []) blocks
 
 -- ---- lists that are lowered element by element
 

@@ -30,7 +30,7 @@ use Rattle.cyc_lower.specs.Slots.{with_counter, starts_of, slot_of, Starts}
 use Rattle.cyc_store.specs.declared.range.TheConstants.{HEAP}
 use Rattle.cyc_meaning.specs.Values.{kind_of, words_of_kind}
 use Rattle.cyc_lower.proofs.Widths.{kind_few, type_words}
-use Rattle.cyc_lower.specs.Lowering.{begun_code, filled_code, ended_code, elements_code, types_of, converts_there, passed_words, all_passed, source_of, source_slot, converted_by, moved_by, move_of, unary_operator, binary_operator, operand_of, operand_or, code_unless, slot_or, code_unless_slot, left_of, value_slot, next_slot, left_slot, value_operand, converted_operand, printed_operand, conversion_code, divisor_code, checked_code, operator_code, truth_code, load_code, low_byte, test_code, is_in, copy_code, expression_code, arguments_code, converted_code, converted_operand_code, printed_code, initial_code, assignment_code, operations_code, discarded_code, failing_comparison, compared_or, left_with, slot_with, first_code, second_code, pair_code, condition_code, condition_of, failing_jump, break_target, continue_target, return_code, declaration_code, statement_code, items_code, first_temporary, jump_if_zero, jump_if_nonzero, lower_function, behind_left, pointer_code, outside_loops, inside_loop, pointer_operator, index_of, first_two, pointer_instructions, stores_code, object_code, made_code, place_operand, place_offset, place_code, address_code, store_address_code}
+use Rattle.cyc_lower.specs.Lowering.{begun_code, filled_code, ended_code, elements_code, types_of, converts_there, passed_words, all_passed, source_of, source_slot, converted_by, moved_by, move_of, unary_operator, binary_operator, operand_of, operand_or, code_unless, slot_or, code_unless_slot, left_of, value_slot, next_slot, left_slot, value_operand, converted_operand, printed_operand, conversion_code, divisor_code, checked_code, operator_code, truth_code, load_code, low_byte, test_code, is_in, copy_code, expression_code, arguments_code, converted_code, converted_operand_code, printed_code, initial_code, assignment_code, operations_code, discarded_code, failing_comparison, compared_or, left_with, slot_with, first_code, second_code, pair_code, condition_code, condition_of, failing_jump, break_target, continue_target, return_code, declaration_code, statement_code, items_code, first_temporary, jump_if_zero, jump_if_nonzero, lower_function, behind_left, pointer_code, outside_loops, inside_loop, pointer_operator, index_of, first_two, pointer_instructions, stores_code, object_code, made_code, place_operand, place_offset, place_code, address_code, store_address_code, blocks}
 use Rattle.cyc_lower.specs.Lowered.{size_per_weight}
 
 abbrev code_size : List Instruction → ℕ
@@ -53,27 +53,27 @@ unless_slot_size (Some (operands.Slot n)) x = omega arith
 unless_slot_size (Some (operands.Word n)) x = omega arith
 unless_slot_size None x = omega arith
 
-conversion_size : (to : Kind) (o : Operand) (p : ℕ) → code_size (conversion_code to o p) ≤ 18
-conversion_size kinds.NonNull o p = omega arith
-conversion_size to o p = omega arith
+conversion_size : (starts : Starts) (to : Kind) (o : Operand) (p : ℕ) → code_size (conversion_code starts to o p) ≤ 18
+conversion_size starts kinds.NonNull o p = omega arith
+conversion_size starts to o p = omega arith
 
-divisor_size : (o : Operand) (p : ℕ) → code_size (divisor_code o p) ≤ 18
-divisor_size (operands.Word (suc n)) p = omega arith
-divisor_size (operands.Word zero) p = omega arith
-divisor_size (operands.Slot n) p = omega arith
+divisor_size : (starts : Starts) (o : Operand) → code_size (divisor_code starts o) ≤ 18
+divisor_size starts (operands.Word (suc n)) = omega arith
+divisor_size starts (operands.Word zero) = omega arith
+divisor_size starts (operands.Slot n) = omega arith
 
 binary_size : (o : Operator) (l r : Operand) (d : ℕ) → instruction_size (instructions.Binary (binary_operator o) d l r) ≤ 18
 binary_size operators.Divide l r d = omega arith
 binary_size operators.Remainder l r d = omega arith
 binary_size o l r d = omega arith
 
-checked_size : (o : Operator) (l r : Operand) (p d : ℕ) → code_size (checked_code o l r p d) ≤ 36
-checked_size o l r p d = omega (arith, both (divisor_code r p) (instructions.Binary (binary_operator o) d l r ∷ []), divisor_size r p, binary_size o l r d)
+checked_size : (starts : Starts) (o : Operator) (l r : Operand) (d : ℕ) → code_size (checked_code starts o l r d) ≤ 36
+checked_size starts o l r d = omega (arith, both (divisor_code starts r) (instructions.Binary (binary_operator o) d l r ∷ []), divisor_size starts r, binary_size o l r d)
 
-operator_size : (o : Operator) (l r : Operand) (p d : ℕ) → code_size (operator_code o l r p d) ≤ 36
-operator_size operators.Divide l r p d = checked_size operators.Divide l r p d
-operator_size operators.Remainder l r p d = checked_size operators.Remainder l r p d
-operator_size o l r p d = omega arith
+operator_size : (starts : Starts) (o : Operator) (l r : Operand) (d : ℕ) → code_size (operator_code starts o l r d) ≤ 36
+operator_size starts operators.Divide l r d = checked_size starts operators.Divide l r d
+operator_size starts operators.Remainder l r d = checked_size starts operators.Remainder l r d
+operator_size starts o l r d = omega arith
 
 move_size : (words d : ℕ) (o : Operand) → words ≤ 3 → code_size (move_of words d o ∷ []) ≤ 20
 move_size words d (operands.Word n) few = omega arith
@@ -114,16 +114,16 @@ address_size : (o : Operand) (bytes d : ℕ) → code_size (address_code o bytes
 address_size o zero d = omega (arith, copied_address_size o d)
 address_size o (suc bytes) d = omega arith
 
-converted_by_size : (known : Option Operand) (inner : List Instruction) (to : Kind) (o : Operand) (p bound : ℕ) → code_size inner ≤ bound → code_size (converted_by known inner to o p) ≤ bound + 18
-converted_by_size known inner to o p bound few =
+converted_by_size : (starts : Starts) (known : Option Operand) (inner : List Instruction) (to : Kind) (o : Operand) (p bound : ℕ) → code_size inner ≤ bound → code_size (converted_by starts known inner to o p) ≤ bound + 18
+converted_by_size starts known inner to o p bound few =
     let front = code_unless known inner in
-    omega (arith, both front (conversion_code to o (p + length front)), unless_size known inner, few, conversion_size to o (p + length front))
+    omega (arith, both front (conversion_code starts to o (p + length front)), unless_size known inner, few, conversion_size starts to o (p + length front))
 
-initial_by_size : (there : Bool) (known : Option Operand) (at_once inner : List Instruction) (to : Kind) (o : Operand) (p d bound : ℕ) → code_size at_once ≤ bound → code_size inner ≤ bound
-    → code_size (if there then at_once else moved_by known inner to o p d) ≤ bound + 38
-initial_by_size true known at_once inner to o p d bound few other = omega (arith, few)
-initial_by_size false known at_once inner to o p d bound few other =
-    omega (arith, both (converted_by known inner to o p) (move_of (words_of_kind to) d o ∷ []), converted_by_size known inner to o p bound other, move_size (words_of_kind to) d o (kind_few to))
+initial_by_size : (starts : Starts) (there : Bool) (known : Option Operand) (at_once inner : List Instruction) (to : Kind) (o : Operand) (p d bound : ℕ) → code_size at_once ≤ bound → code_size inner ≤ bound
+    → code_size (if there then at_once else moved_by starts known inner to o p d) ≤ bound + 38
+initial_by_size starts true known at_once inner to o p d bound few other = omega (arith, few)
+initial_by_size starts false known at_once inner to o p d bound few other =
+    omega (arith, both (converted_by starts known inner to o p) (move_of (words_of_kind to) d o ∷ []), converted_by_size starts known inner to o p bound other, move_size (words_of_kind to) d o (kind_few to))
 
 first_two_size : (l : Operand) (d : ℕ) → code_size (first_two l d) ≤ 14
 first_two_size (operands.Word n) d = omega arith
@@ -248,30 +248,30 @@ mutual
   made_size starts (Array w level n kind a) handle p d t =
       let first = expression_code starts n p t t in
       let m = p + length first in
-      let inner = expression_code (with_counter starts (t + 2)) a (m + 7 + 1) (t + 3) (t + 3) in
-      let filled = filled_code (m + 7) t in
-      let elements = elements_code inner (m + 7) d t in
-      let jump = instructions.Branch comparisons.Equal (operands.Slot (t + 2)) (operands.Slot (t + 1)) (m + 7 + 1 + length (inner ++ filled)) in
+      let inner = expression_code (with_counter starts (t + 2)) a (m + 6 + 1) (t + 3) (t + 3) in
+      let filled = filled_code (m + 6) t in
+      let elements = elements_code inner (m + 6) d t in
+      let jump = instructions.Branch comparisons.Equal (operands.Slot (t + 2)) (operands.Slot (t + 1)) (m + 6 + 1 + length (inner ++ filled)) in
       omega (
         arith,
-        both first (begun_code handle m t ++ elements),
-        both (begun_code handle m t) elements,
+        both first (begun_code starts handle t ++ elements),
+        both (begun_code starts handle t) elements,
         cons jump ((inner ++ filled) ++ ended_code d t),
         both (inner ++ filled) (ended_code d t),
         both inner filled,
         cons (instructions.Move (t + 2) (operands.Word 0)) (copy_code 3 (operands.Slot t) d),
         copied_pointer_size t d,
         expression_size starts n p t t,
-        expression_size (with_counter starts (t + 2)) a (m + 7 + 1) (t + 3) (t + 3),
+        expression_size (with_counter starts (t + 2)) a (m + 6 + 1) (t + 3) (t + 3),
       )
 
   place_size : (starts : Starts) → (x : Dereference) (p t : ℕ) → code_size (place_code starts x p t) + 18 ≤ size_per_weight * dereference_weight x
   place_size starts (Target k a ty) p t =
       let slot = value_slot starts a t in
-      omega (arith, converted_by_size (operand_of starts a) (expression_code starts a p slot t) kinds.NonNull (value_operand starts a t) p (size_per_weight * expression_weight a) (expression_size starts a p slot t))
+      omega (arith, converted_by_size starts (operand_of starts a) (expression_code starts a p slot t) kinds.NonNull (value_operand starts a t) p (size_per_weight * expression_weight a) (expression_size starts a p slot t))
   place_size starts (Member k a n f ty) p t =
       let slot = value_slot starts a t in
-      omega (arith, converted_by_size (operand_of starts a) (expression_code starts a p slot t) kinds.NonNull (value_operand starts a t) p (size_per_weight * expression_weight a) (expression_size starts a p slot t))
+      omega (arith, converted_by_size starts (operand_of starts a) (expression_code starts a p slot t) kinds.NonNull (value_operand starts a t) p (size_per_weight * expression_weight a) (expression_size starts a p slot t))
   place_size starts (Element a i ty) p t = omega (arith, some_token a)
 
   -- with the address in a slot
@@ -283,7 +283,7 @@ mutual
       omega (
         arith,
         both front (copy_code 1 o t),
-        converted_by_size (operand_of starts a) (expression_code starts a p slot t) kinds.NonNull o p (size_per_weight * expression_weight a) (expression_size starts a p slot t),
+        converted_by_size starts (operand_of starts a) (expression_code starts a p slot t) kinds.NonNull o p (size_per_weight * expression_weight a) (expression_size starts a p slot t),
         copied_address_size o t,
       )
   store_address_size starts (Member k a n f ty) p t =
@@ -294,7 +294,7 @@ mutual
       omega (
         arith,
         both front (address_code o (place_offset starts x) t),
-        converted_by_size (operand_of starts a) (expression_code starts a p slot t) kinds.NonNull o p (size_per_weight * expression_weight a) (expression_size starts a p slot t),
+        converted_by_size starts (operand_of starts a) (expression_code starts a p slot t) kinds.NonNull o p (size_per_weight * expression_weight a) (expression_size starts a p slot t),
         address_size o (place_offset starts x) t,
       )
   store_address_size starts (Element a i ty) p t =
@@ -303,18 +303,18 @@ mutual
   initial_size : (starts : Starts) → (c : Converted) (p d t : ℕ) → code_size (initial_code starts c p d t) ≤ size_per_weight * converted_weight c + 38
   initial_size starts (Convert from to a) p d t =
       let slot = source_slot starts (Convert from to a) t in
-      initial_by_size (converts_there from to) (source_of starts (Convert from to a)) (expression_code starts a p d t) (expression_code starts a p slot t) to (converted_operand starts (Convert from to a) t) p d
+      initial_by_size starts (converts_there from to) (source_of starts (Convert from to a)) (expression_code starts a p d t) (expression_code starts a p slot t) to (converted_operand starts (Convert from to a) t) p d
       (size_per_weight * expression_weight a) (expression_size starts a p d t) (expression_size starts a p slot t)
 
   converted_size : (starts : Starts) → (c : Converted) (p t : ℕ) → code_size (converted_code starts c p t) ≤ size_per_weight * converted_weight c + 18
   converted_size starts (Convert from to a) p t =
       let front = expression_code starts a p t t in
-      omega (arith, both front (conversion_code to (operands.Slot t) (p + length front)), expression_size starts a p t t, conversion_size to (operands.Slot t) (p + length front))
+      omega (arith, both front (conversion_code starts to (operands.Slot t) (p + length front)), expression_size starts a p t t, conversion_size starts to (operands.Slot t) (p + length front))
 
   converted_operand_size : (starts : Starts) → (c : Converted) (p t : ℕ) → code_size (converted_operand_code starts c p t) ≤ size_per_weight * converted_weight c + 18
   converted_operand_size starts (Convert from to a) p t =
       let slot = source_slot starts (Convert from to a) t in
-      converted_by_size (source_of starts (Convert from to a)) (expression_code starts a p slot t) to (converted_operand starts (Convert from to a) t) p
+      converted_by_size starts (source_of starts (Convert from to a)) (expression_code starts a p slot t) to (converted_operand starts (Convert from to a) t) p
       (size_per_weight * expression_weight a) (expression_size starts a p slot t)
 
   printed_size : (starts : Starts) → (cs : Arguments) (p t : ℕ) → code_size (printed_code starts cs p t) ≤ size_per_weight * arguments_weight cs + 18
@@ -355,7 +355,7 @@ mutual
       let inner = expression_code starts a p (value_slot starts a (suc t)) (suc t) in
       let operand = code_unless (operand_of starts a) inner in
       let next = next_slot os d t in
-      let operator = operator_code o l (value_operand starts a (suc t)) (p + length operand) next in
+      let operator = operator_code starts o l (value_operand starts a (suc t)) next in
       let q = p + length (operand ++ operator) in
       omega (
         arith,
@@ -363,7 +363,7 @@ mutual
         both operand operator,
         unless_size (operand_of starts a) inner,
         expression_size starts a p (value_slot starts a (suc t)) (suc t),
-        operator_size o l (value_operand starts a (suc t)) (p + length operand) next,
+        operator_size starts o l (value_operand starts a (suc t)) next,
         operations_size starts os q (operands.Slot next) d t,
       )
   operations_size starts (ThenTest o a os) p l d t =
@@ -434,8 +434,8 @@ module _ (starts : Starts) where
       let inner = expression_code starts a p t t in
       let front = code_unless_slot known inner in
       let s = slot_or known t in
-      let conversion = conversion_code to (operands.Slot s) (p + length front) in
-      omega (arith, both (front ++ conversion) (instructions.Return s ∷ []), both front conversion, unless_slot_size known inner, expression_size starts a p t t, conversion_size to (operands.Slot s) (p + length front))
+      let conversion = conversion_code starts to (operands.Slot s) (p + length front) in
+      omega (arith, both (front ++ conversion) (instructions.Return s ∷ []), both front conversion, unless_slot_size known inner, expression_size starts a p t t, conversion_size starts to (operands.Slot s) (p + length front))
 
   else_size : (t : Statement) (p : ℕ) (exits : Exits) (d : ℕ) → code_size (statement_code starts t p exits d) ≤ size_per_weight * statement_weight t → code_size (statement_code starts t p exits d) ≤ size_per_weight * else_weight t (statement_weight t)
   else_size Empty p exits d bound = omega arith
@@ -503,4 +503,4 @@ pub function_size : (structs : List StructType) (h : Function) → size (lower_f
 function_size structs h =
     let d = first_temporary h in
     let starts = starts_of (types_of structs h) in
-    omega (arith, both (items_code starts h.body 0 (outside_loops d) d) (instructions.Return d ∷ []), items_size starts h.body 0 (outside_loops d) d)
+    omega (arith, both (items_code starts h.body 0 (outside_loops d) d) (instructions.Return d ∷ blocks), items_size starts h.body 0 (outside_loops d) d)

@@ -27,7 +27,7 @@ use Rattle.cyc_meaning.specs.Operators.{array_size, null_exception, division_by_
 use Rattle.cyc_meaning.specs.Values.{is_thin, words_of_kind}
 use Rattle.cyc_lower.specs.declared.statements.Exits.{Exits}
 use Rattle.cyc_lower.specs.Slots.{counted, Types, starts_of, slot_of, field_of}
-use Rattle.cyc_lower.specs.Lowering.{most_elements, unary_operator, binary_operator, operand_of, source_of, source_slot, failing_comparison, left_with, left_of, value_slot, next_slot, slot_with, left_slot, is_in, jump_if_nonzero, move_of, test_jump, are_as_wide, converts_there, passed_words, all_passed, compared_of, low_byte, break_target, continue_target, results_of, behind_left, inside_loop, pointer_operator}
+use Rattle.cyc_lower.specs.Lowering.{most_elements, unary_operator, binary_operator, operand_of, source_of, source_slot, failing_comparison, left_with, left_of, value_slot, next_slot, slot_with, left_slot, is_in, jump_if_nonzero, move_of, test_jump, are_as_wide, converts_there, passed_words, all_passed, compared_of, low_byte, break_target, continue_target, results_of, behind_left, inside_loop, pointer_operator, raising}
 use Rattle.cyc_lower.proofs.Widths.{kind_of_result, given, passed_kind, HasRoom, HasField}
 
 -- ---- expressions
@@ -59,8 +59,12 @@ module _ (code : List Instruction) (bounds : Numbering) (types : Types) where
   OperandBy (Some known) computed slot o p q = (o ≡ known) × (p ≡ q)
   OperandBy None computed slot o p q = (o ≡ operands.Slot slot) × computed
 
+  -- where a comparison holds, a jump leads to what raises an exception
+  abbrev pub GuardAt : (tag : ℕ) → Comparison → (l r : Operand) → (p q : ℕ) → Type 0
+  GuardAt tag failing l r p q = (s : ℕ) × At code p (instructions.Branch failing l r s) × At code s (raising tag) × (p + 1 ≡ q)
+
   abbrev pub CheckAt : (tag : ℕ) → Operand → (p q : ℕ) → Type 0
-  CheckAt tag o p q = At code p (jump_if_nonzero o q) × At code (p + 1) (instructions.Uncaught tag o) × (p + 2 ≡ q)
+  CheckAt tag o p q = GuardAt tag comparisons.Equal o (operands.Word 0) p q
 
   abbrev pub ConversionBy : (to : Kind) → Operand → (p q : ℕ) → Type 0
   ConversionBy kinds.NonNull o p q = CheckAt null_exception o p q
@@ -114,11 +118,11 @@ module _ (code : List Instruction) (bounds : Numbering) (types : Types) where
   -- a new array, whose length is in slot t, begins
   abbrev pub BegunAt : (handle t p q : ℕ) → Type 0
   BegunAt handle t p q =
-      At code p (instructions.Branch comparisons.LessUnsigned (operands.Slot t) (operands.Word (most_elements + 1)) (p + 2))
-      × At code (p + 1) (instructions.Uncaught array_size (operands.Word 0)) × At code (p + 2) (instructions.Move (t + 1) (operands.Slot t))
-      × At code (p + 2 + 1) (instructions.Move (t + 2) (operands.Word 0)) × At code (p + 2 + 1 + 1) (instructions.Unary plain_unary.Not (t + 3) (operands.Slot t))
-      × At code (p + 2 + 1 + 1 + 1) (instructions.Binary plain_binary.Add (t + 3) (operands.Slot (t + 3)) (operands.Slot t))
-      × At code (p + 2 + 1 + 1 + 1 + 1) (instructions.Ask (requests.Allocate t (operands.Word handle) (operands.Slot (t + 3)))) × (p + 7 ≡ q)
+      (m : ℕ) × GuardAt array_size comparisons.GreaterOrEqualUnsigned (operands.Slot t) (operands.Word (most_elements + 1)) p m
+      × At code m (instructions.Move (t + 1) (operands.Slot t)) × At code (m + 1) (instructions.Move (t + 2) (operands.Word 0))
+      × At code (m + 1 + 1) (instructions.Unary plain_unary.Not (t + 3) (operands.Slot t))
+      × At code (m + 1 + 1 + 1) (instructions.Binary plain_binary.Add (t + 3) (operands.Slot (t + 3)) (operands.Slot t))
+      × At code (m + 1 + 1 + 1 + 1) (instructions.Ask (requests.Allocate t (operands.Word handle) (operands.Slot (t + 3)))) × (m + 5 ≡ q)
 
   -- an element is written, and the next one is evaluated
   abbrev pub FilledAt : (t head p q : ℕ) → Type 0

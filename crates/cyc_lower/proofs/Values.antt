@@ -1,5 +1,5 @@
 -- The steps that hand a value on.
-use Rattle.std.proofs.Common.{◌≡◌, ◌≢◌, ℕ, zero, suc, ◌+◌, ◌<◌, Bool, true, false, not, List, [], ◌∷◌, Option, None, Some, slice_get, refl, sym, ap, subst, ◌∙◌, arith, inl, inr, length}
+use Rattle.std.proofs.Common.{◌≡◌, ◌≢◌, ℕ, zero, suc, ◌+◌, ◌<◌, Bool, true, false, not, List, [], ◌∷◌, Option, None, Some, slice_get, refl, sym, ap, subst, ◌∙◌, arith, inl, inr, length, ◌≤◌}
 use Rattle.std.specs.Prelude.{ℤ, nat_lt, ◌==◌, ◌&&◌, ◌<ℤ◌, ◌≤ℤ◌, int_le, int_lt, if◌then◌else◌}
 use Rattle.std.proofs.lemmas.Int.{ints}
 use Rattle.std.proofs.lemmas.Bool.{eqb-true, false_from_ne_true}
@@ -38,11 +38,11 @@ use Rattle.cyc_plain.proofs.Steps.{function_known}
 use Rattle.cyc_plain.proofs.SlotLaws.{put-same}
 use Rattle.cyc_plain.specs.Straight.{At}
 use Rattle.cyc_meaning.specs.Values.{Value, Int, Null, Thin, Fat, Handle, Key, Operand as Kinded, is_kind, is_thin, words_of_kind}
-use Rattle.cyc_meaning.specs.Operators.{Result, Gives, Raises, Misfits, has_no_result, binary_word, is_zero, unary_result, truth_result, truth_of, division_by_zero, array_bounds}
+use Rattle.cyc_meaning.specs.Operators.{Result, Gives, Raises, Misfits, has_no_result, binary_word, is_zero, unary_result, truth_result, truth_of, division_by_zero, array_bounds, null_exception}
 use Rattle.cyc_meaning.specs.Pointers.{takes_kind, followed, result_kind as operator_kind}
 use Rattle.cyc_meaning.specs.Places.{arrives, member_of}
 use Rattle.cyc_meaning.specs.Conversion.{conversion}
-use Rattle.cyc_meaning.specs.State.{Region, World, Environment, with_local, made, variable, written, region_at, Awaiting, ConvertTo, Operate, Chain, Apply, ApplyPointer, Follow, Decide, Store, Pass, MakePlain, MakeFields, MakeArray, FillElement, Initialise, Choose, Test, Return, Entry, Needs, Discard, Rest, Join, Loop, Focus, Evaluating, Given, GivenPlace, Executing, Proceeding, Calling, Returning, Throwing, State, Running, cell_at, FollowMember, StoreCell}
+use Rattle.cyc_meaning.specs.State.{Region, World, Environment, with_local, made, variable, written, region_at, Awaiting, ConvertTo, Operate, Chain, Apply, ApplyPointer, Follow, Decide, Store, Pass, MakePlain, MakeFields, MakeArray, FillElement, Initialise, Choose, Test, Return, Entry, Needs, Discard, Rest, Join, Loop, Focus, Evaluating, Given, GivenPlace, Executing, Proceeding, Calling, Returning, Throwing, State, Running, cell_at, FollowMember, StoreCell, calls_in}
 use Rattle.cyc_meaning.specs.Step.{leads_to, wrong, object_of, computed, stored_at, declared, passes, tested, awaits_right, chosen, looped, step}
 use Rattle.cyc_meaning.specs.State.{status_of}
 use Rattle.cyc_meaning.specs.SourceMachine.{status_in}
@@ -52,14 +52,14 @@ use Rattle.cyc_lower.proofs.Slots.{slot-room, room-inside}
 use Rattle.cyc_lower.proofs.Widths.{kind_positive, same_kind, HasRoom, Outside, chain_kind}
 use Rattle.cyc_lower.proofs.Moves.{moved_slots, moves, put_elsewhere, moved_elsewhere, moved_is}
 use Rattle.cyc_lower.specs.Lowering.{unary_operator, binary_operator, failing_comparison, operand_of, value_slot, next_slot, is_in, jump_if_zero, jump_if_nonzero, move_of, converts_there, break_target, lower_program}
-use Rattle.cyc_lower.proofs.Stands.{OperandBy, CopyBy, CopyAt, CheckAt, CheckedAt, OperatorAt, TruthAt, ExpressionAt, OperationsAt}
+use Rattle.cyc_lower.proofs.Stands.{OperandBy, CopyBy, CopyAt, CheckAt, CheckedAt, OperatorAt, TruthAt, ExpressionAt, OperationsAt, GuardAt}
 use Rattle.cyc_objects.specs.Tables.{Tables}
 use Rattle.cyc_objects.specs.Words.{Points, Is}
 use Rattle.cyc_objects.proofs.Pointers.{not-null, part-not-null, pointer-word}
 use Rattle.cyc_objects.specs.Tables.{Variable, with_row}
 use Rattle.cyc_objects.proofs.Values.{Grows-row, Is-grows}
 use Rattle.cyc_lower.proofs.Sharing.{shared_declared, row_declared, shared_written}
-use Rattle.cyc_lower.proofs.Relation.{types_on, starts_on, IsWord, IsIn, with_kind, types_at, starts_at, Holds, held, contents, callers, in_place, by_jump, in_temporary, in_local, drops, leaves, copies, DataIn, SharedAt, StoreAt, to_slot, to_jump, ValueStack, ConditionStack, DroppedStack, AheadStack, LandsStack, HandsOnStack, AppliedStack, ReadyAt, as_operand, into_slot, as_right, in_operand, nowhere, ahead, compared, with_left, behind_statement, Related, Matches, code_of, bounds_at, base_of, top}
+use Rattle.cyc_lower.proofs.Relation.{types_on, starts_on, IsWord, IsIn, with_kind, types_at, starts_at, Holds, held, contents, callers, in_place, by_jump, in_temporary, in_local, drops, leaves, copies, DataIn, SharedAt, StoreAt, to_slot, to_jump, ValueStack, ConditionStack, DroppedStack, AheadStack, LandsStack, HandsOnStack, AppliedStack, ReadyAt, as_operand, into_slot, as_right, in_operand, nowhere, ahead, compared, with_left, behind_statement, Related, Matches, code_of, bounds_at, base_of, top, IsPlainStack}
 use Rattle.cyc_lower.proofs.Data.{in_words, IsWord-is, one_word, height-least, Holds-same, Holds-above, data_above, data_assigned, data_assigned_global, data_declared, data_grows}
 use Rattle.cyc_lower.proofs.Accesses.{IsWell, is_fitting, is_stored, written_here, written_elsewhere, written_length, is_declared, home_there, is_member}
 use Rattle.cyc_lower.proofs.PlaceWords.{stays, member_there}
@@ -281,6 +281,27 @@ module _ (source : Program) (pages calls : ℕ) where
   pub not_taken : (s : State) (c : Configuration) (b : Bool) (target : ℕ) → b ≡ false → Matches source pages calls s (plain.Running (at c (c.active.next + 1))) → Matches source pages calls s (plain_step.branches c b target)
   not_taken s c b target is m = subst (λ (x : Bool). Matches source pages calls s (plain_step.branches c x target)) (sym is) m
 
+  -- where a check fails, its exception is raised
+  pub guard_fails : {focus : Focus} {l : List Entry} (tag : ℕ) (failing : Comparison) (x y : Operand) (k : List Entry) (e : Environment) (w : World) (c : Configuration) (q : ℕ)
+      → step source (Running focus l e w) ≡ Running (Throwing tag 0) k e w → SharedAt source pages calls l e w c → SharedAt source pages calls k e w c → calls_in k ≤ calls → IsPlainStack k
+      → GuardAt (code_of source c.active.function) (bounds_at source c.active.function) (types_at source c.active.function) tag failing x y c.active.next q
+      → compares failing (operand_word c.active.slots x) (operand_word c.active.slots y) ≡ true → IsMatched source pages calls (Running focus l e w) (plain.Running c)
+  guard_fails tag failing x y k e w c q does shared shared_there fits plain_stack (s, jump, raised, end) fails =
+      by_one source pages calls does shared jump
+      (λ choice. taken (Running (Throwing tag 0) k e w) c (compares failing (operand_word c.active.slots x) (operand_word c.active.slots y)) s fails
+      (shared_there, fits, plain_stack, operands.Word 0, raised, refl))
+
+  -- where it does not fail, the run goes on behind it
+  pub guard_passes : {focus : Focus} {l : List Entry} (next : State) (tag : ℕ) (failing : Comparison) (x y : Operand) (e : Environment) (w : World) (c : Configuration) (q : ℕ)
+      → step source (Running focus l e w) ≡ next → SharedAt source pages calls l e w c
+      → GuardAt (code_of source c.active.function) (bounds_at source c.active.function) (types_at source c.active.function) tag failing x y c.active.next q
+      → compares failing (operand_word c.active.slots x) (operand_word c.active.slots y) ≡ false → Matches source pages calls next (plain.Running (at c q))
+      → IsMatched source pages calls (Running focus l e w) (plain.Running c)
+  guard_passes next tag failing x y e w c q does shared (s, jump, raised, end) passes goes =
+      by_one source pages calls does shared jump
+      (λ choice. not_taken next c (compares failing (operand_word c.active.slots x) (operand_word c.active.slots y)) s passes
+      (subst (λ n. Matches source pages calls next (plain.Running (at c n))) (sym end) goes))
+
   -- what is known of a value that stands in an operand
   abbrev pub Stands : Kinded → Operand → List Entry → Environment → World → Configuration → Type 0
   Stands v o k e w c = (shared : SharedAt source pages calls k e w c) × DataIn source shared.tables c.active.slots k e w c × IsIn shared.tables v c.active.slots o
@@ -319,23 +340,16 @@ module _ (source : Program) (pages calls : ℕ) where
   converted from kinds.Int target i (Int a) o k e w c well does wide stands (q, (same, end), stack) = kept_value from kinds.Int target i (Int a) o k e w c q refl does stands end stack
   converted from kinds.Nullable target i Null o k e w c well does wide stands (q, (same, end), stack) = kept_value from kinds.Nullable target i Null o k e w c q refl does stands end stack
   converted from kinds.Fat target i Null o k e w c well does wide stands (q, (same, end), stack) = kept_value from kinds.Fat target i Null o k e w c q refl does stands end stack
-  converted from kinds.NonNull target i Null o k e w c well does wide (shared, facts, is, holds) (q, (same, (jump, uncaught, end)), stack) =
-      let zero_word = null_is shared.tables i c.active.slots o is in
-      by_one source pages calls does shared jump
-      (λ choice. not_taken (Running (Throwing 1 0) k e w) c (not (operand_word c.active.slots o == 0)) q (ap (λ x. not (x == 0)) zero_word) (
-        shared,
-        omega (arith, value_depth source c.active.function e.locals kinds.NonNull o q c.frames k stack, shared.fits),
-        value_plain source c.active.function e.locals kinds.NonNull o q c.frames k stack,
-        o,
-        uncaught,
-        zero_word,
-      ))
+  converted from kinds.NonNull target i Null o k e w c well does wide (shared, facts, is, holds) (q, (same, check), stack) =
+      guard_fails null_exception comparisons.Equal o (operands.Word 0) k e w c q does shared shared
+      (omega (arith, value_depth source c.active.function e.locals kinds.NonNull o q c.frames k stack, shared.fits))
+      (value_plain source c.active.function e.locals kinds.NonNull o q c.frames k stack) check
+      (ap (λ x. x == 0) (null_is shared.tables i c.active.slots o is))
   converted from kinds.Nullable target i (Thin object offset) o k e w c well does wide stands (q, (same, end), stack) = kept_value from kinds.Nullable target i (Thin object offset) o k e w c q refl does stands end stack
-  converted from kinds.NonNull target i (Thin object offset) o k e w c well does wide (shared, facts, is, holds) (q, (same, (jump, uncaught, end)), stack) =
-      by_one source pages calls does shared jump
-      (λ choice. taken (Running (Given (of_kind kinds.NonNull (Thin object offset))) k e w) c (not (operand_word c.active.slots o == 0)) q
-      (ap not (not_zero shared.tables i object offset c.active.slots o is))
-      (shared, in_operand o facts (kept_in shared.tables i kinds.NonNull (Thin object offset) c.active.slots o refl is) holds stack))
+  converted from kinds.NonNull target i (Thin object offset) o k e w c well does wide (shared, facts, is, holds) (q, (same, check), stack) =
+      guard_passes (Running (Given (of_kind kinds.NonNull (Thin object offset))) k e w) null_exception comparisons.Equal o (operands.Word 0) e w c q does shared check
+      (not_zero shared.tables i object offset c.active.slots o is)
+      (shared, in_operand o facts (kept_in shared.tables i kinds.NonNull (Thin object offset) c.active.slots o refl is) holds stack)
   converted from kinds.Fat target i (Thin object offset) o k e w c well does wide (shared, facts, is, holds) stack =
       let (words, p, same, is_it) = in_words shared.tables (of_kind i (Thin object offset)) c.active.slots o is in
       absurd (not_widened shared.tables i object offset words p is_it wide)
@@ -458,16 +472,16 @@ module _ (source : Program) (pages calls : ℕ) where
       → CheckAt (code_of source c.active.function) (bounds_at source c.active.function) (types_on source c.active.function k) division_by_zero r c.active.next m
       → At (code_of source c.active.function) m (instructions.Binary (binary_operator u) d l r) → m + 1 ≡ q
       → LandsStack source c.active.function e.locals kinds.Int d q c.frames k → GoesBehind (of_kind j (Int b)) (Needs (Apply u (of_kind i (Int a))) ∷ k) e w c
-  tested_divides u i j a b true l r d k e w c m q plain_test test same zero_b shared facts is_left is holds (jump, uncaught, behind) here end lands =
-      let b_is : b ≡ 0 = eqb-true b 0 zero_b in
-      by_one source pages calls (ap (λ x. computed kinds.Int (if x then Raises 4 else Gives (Int (binary_word u a b))) k e w) (test b ∙ zero_b)) shared jump
-      (λ choice. not_taken (Running (Throwing 4 0) k e w) c (not (operand_word c.active.slots r == 0)) m (ap (λ x. not (x == 0)) (is ∙ b_is))
-      (shared, omega (arith, lands_depth source c.active.function e.locals kinds.Int d q c.frames k lands, shared.fits), lands_plain source c.active.function e.locals kinds.Int d q c.frames k lands, r, uncaught, is ∙ b_is))
-  tested_divides u i j a b false l r d k e w c m q plain_test test same zero_b shared facts is_left is holds (jump, uncaught, behind) here end lands =
+  tested_divides u i j a b true l r d k e w c m q plain_test test same zero_b shared facts is_left is holds check here end lands =
+      guard_fails division_by_zero comparisons.Equal r (operands.Word 0) k e w c m
+      (ap (λ x. computed kinds.Int (if x then Raises 4 else Gives (Int (binary_word u a b))) k e w) (test b ∙ zero_b)) shared shared
+      (omega (arith, lands_depth source c.active.function e.locals kinds.Int d q c.frames k lands, shared.fits))
+      (lands_plain source c.active.function e.locals kinds.Int d q c.frames k lands) check (ap (λ x. x == 0) is ∙ zero_b)
+  tested_divides u i j a b false l r d k e w c m q plain_test test same zero_b shared facts is_left is holds (s, jump, raised, behind) here end lands =
       let nonzero : (operand_word c.active.slots r == 0) ≡ false = ap (λ x. x == 0) is ∙ zero_b in
       by_two source pages calls (at c m)
       (ap (λ x. computed kinds.Int (if x then Raises 4 else Gives (Int (binary_word u a b))) k e w) (test b ∙ zero_b)) shared shared
-      jump (λ choice. ap (λ x. plain_step.branches c (not x) m) nonzero)
+      jump (λ choice. ap (λ x. plain_step.branches c x s) nonzero ∙ ap (λ n. plain.Running (at c n)) behind)
       here (λ equal. omega (arith, equal, behind))
       (quotient u a b l r d k e w (at c m) q plain_test same zero_b shared facts is_left is holds end lands)
 
@@ -1017,26 +1031,18 @@ module _ (source : Program) (pages calls : ℕ) where
   follows : (pointer : Kind) (target : Option Kind) (i : Kind) (v : Value) (o : Operand) (k : List Entry) (e : Environment) (w : World) (c : Configuration)
       → IsWell (step source (Running (Given (of_kind i v)) (Needs (Follow pointer target) ∷ k) e w)) → Stands (of_kind i v) o k e w c
       → ValueStack source c.active.function e.locals i o c.active.next c.frames (Needs (Follow pointer target) ∷ k) → GoesBehind (of_kind i v) (Needs (Follow pointer target) ∷ k) e w c
-  follows pointer target i Null o k e w c well (shared, facts, is, holds) (q, thin, (jump, uncaught, end), place) =
-      let zero_word = null_is shared.tables i c.active.slots o is in
+  follows pointer target i Null o k e w c well (shared, facts, is, holds) (q, thin, check, place) =
       let does : step source (Running (Given (of_kind i Null)) (Needs (Follow pointer target) ∷ k) e w) ≡ Running (Throwing 1 0) k e w
       = ap (λ (b : Bool). if b then Running (Throwing 1 0) k e w else wrong w) (is_fitting (is_kind i pointer && leads_to w target (followed Null)) (Running (Throwing 1 0) k e w) w well) in
-      by_one source pages calls does shared jump
-      (λ choice. not_taken (Running (Throwing 1 0) k e w) c (not (operand_word c.active.slots o == 0)) q (ap (λ x. not (x == 0)) zero_word) (
-        shared,
-        omega (arith, place_depth source c.active.function e.locals o 0 q c.frames k place, shared.fits),
-        place_plain source c.active.function e.locals o 0 q c.frames k place,
-        o,
-        uncaught,
-        zero_word,
-      ))
-  follows pointer target i (Thin object offset) o k e w c well (shared, facts, is, holds) (q, thin, (jump, uncaught, end), place) =
+      guard_fails null_exception comparisons.Equal o (operands.Word 0) k e w c q does shared shared
+      (omega (arith, place_depth source c.active.function e.locals o 0 q c.frames k place, shared.fits))
+      (place_plain source c.active.function e.locals o 0 q c.frames k place) check (ap (λ x. x == 0) (null_is shared.tables i c.active.slots o is))
+  follows pointer target i (Thin object offset) o k e w c well (shared, facts, is, holds) (q, thin, check, place) =
       let there = Running (GivenPlace (Thin object offset)) k e w in
       let does : step source (Running (Given (of_kind i (Thin object offset))) (Needs (Follow pointer target) ∷ k) e w) ≡ there
       = ap (λ (b : Bool). if b then there else wrong w) (is_fitting (is_kind i pointer && leads_to w target (followed (Thin object offset))) there w well) in
-      by_one source pages calls does shared jump
-      (λ choice. taken there c (not (operand_word c.active.slots o == 0)) q (ap not (not_zero shared.tables i object offset c.active.slots o is))
-      (shared, facts, (o, 0, pointer-word (points_in shared.tables i object offset c.active.slots o is), stays (points_in shared.tables i object offset c.active.slots o is), holds, place)))
+      guard_passes there null_exception comparisons.Equal o (operands.Word 0) e w c q does shared check (not_zero shared.tables i object offset c.active.slots o is)
+      (shared, facts, (o, 0, pointer-word (points_in shared.tables i object offset c.active.slots o is), stays (points_in shared.tables i object offset c.active.slots o is), holds, place))
   follows pointer target i (Fat object start many index) o k e w c well (shared, facts, is, holds) (q, thin, check, place) =
       let reach = followed (Fat object start many index) in
       let fits = is_fitting (is_kind i pointer && leads_to w target reach) (arrives reach k e w) w well in
@@ -1052,20 +1058,13 @@ module _ (source : Program) (pages calls : ℕ) where
       → IsWell (step source (Running (Given (of_kind i v)) (Needs (FollowMember pointer fields field) ∷ k) e w)) → Stands (of_kind i v) o k e w c
       → ValueStack source c.active.function e.locals i o c.active.next c.frames (Needs (FollowMember pointer fields field) ∷ k)
       → GoesBehind (of_kind i v) (Needs (FollowMember pointer fields field) ∷ k) e w c
-  follows_member pointer fields field i Null o k e w c well (shared, facts, is, holds) (offset, q, thin, (jump, uncaught, end), inside, same, place) =
-      let zero_word = null_is shared.tables i c.active.slots o is in
+  follows_member pointer fields field i Null o k e w c well (shared, facts, is, holds) (offset, q, thin, check, inside, same, place) =
       let does : step source (Running (Given (of_kind i Null)) (Needs (FollowMember pointer fields field) ∷ k) e w) ≡ Running (Throwing 1 0) k e w
       = ap (λ (b : Bool). if b then Running (Throwing 1 0) k e w else wrong w) (is_fitting (is_kind i pointer) (Running (Throwing 1 0) k e w) w well) in
-      by_one source pages calls does shared jump
-      (λ choice. not_taken (Running (Throwing 1 0) k e w) c (not (operand_word c.active.slots o == 0)) q (ap (λ x. not (x == 0)) zero_word) (
-        shared,
-        omega (arith, place_depth source c.active.function e.locals o offset q c.frames k place, shared.fits),
-        place_plain source c.active.function e.locals o offset q c.frames k place,
-        o,
-        uncaught,
-        zero_word,
-      ))
-  follows_member pointer fields field i (Thin object start) o k e w c well (shared, facts, is, holds) (offset, q, thin, (jump, uncaught, end), inside, same, place) =
+      guard_fails null_exception comparisons.Equal o (operands.Word 0) k e w c q does shared shared
+      (omega (arith, place_depth source c.active.function e.locals o offset q c.frames k place, shared.fits))
+      (place_plain source c.active.function e.locals o offset q c.frames k place) check (ap (λ x. x == 0) (null_is shared.tables i c.active.slots o is))
+  follows_member pointer fields field i (Thin object start) o k e w c well (shared, facts, is, holds) (offset, q, thin, check, inside, same, place) =
       let there = Running (GivenPlace (Thin object field)) k e w in
       let arrived = arrives (member_of w (followed (Thin object start)) fields field) k e w in
       let fits = is_fitting (is_kind i pointer) arrived w well in
@@ -1073,9 +1072,8 @@ module _ (source : Program) (pages calls : ℕ) where
       let does : step source (Running (Given (of_kind i (Thin object start))) (Needs (FollowMember pointer fields field) ∷ k) e w) ≡ there = ap (λ (b : Bool). if b then arrived else wrong w) fits ∙ found.gives in
       let points = points_in shared.tables i object start c.active.slots o is in
       let first : Points shared.tables object 0 (operand_word c.active.slots o) = subst (λ n. Points shared.tables object n (operand_word c.active.slots o)) found.first points in
-      by_one source pages calls does shared jump
-      (λ choice. taken there c (not (operand_word c.active.slots o == 0)) q (ap not (not_zero shared.tables i object start c.active.slots o is))
-      (shared, facts, (o, offset, pointer-word points, member_there shared.related first found.of_object fields field offset found.there found.same inside same, holds, place)))
+      guard_passes there null_exception comparisons.Equal o (operands.Word 0) e w c q does shared check (not_zero shared.tables i object start c.active.slots o is)
+      (shared, facts, (o, offset, pointer-word points, member_there shared.related first found.of_object fields field offset found.there found.same inside same, holds, place))
   follows_member pointer fields field i (Fat object start many index) o k e w c well (shared, facts, is, holds) (offset, q, thin, check, inside, same, place) =
       let reach = arrives (member_of w (followed (Fat object start many index)) fields field) k e w in
       let kind : i ≡ pointer = same_kind i pointer (is_fitting (is_kind i pointer) reach w well) in

@@ -17,6 +17,7 @@ use Rattle.cyc_types.specs.TypedTrees.{Counter, Load, New, OnHeap, AsUnique, ByH
 use Rattle.cyc_types.specs.typing.WellTyped.{signature_of}
 use Rattle.cyc_types.specs.Numbered.{Numbering, argument_count, signatures_of, numbering_of}
 use Rattle.cyc_plain.specs.declared.instruction.Comparison.{Comparison}
+use Rattle.cyc_plain.specs.declared.instruction.Comparison.TheVariants as comparisons
 use Rattle.cyc_plain.specs.declared.instruction.BinaryOperator.{BinaryOperator as PlainBinary}
 use Rattle.cyc_plain.specs.declared.instruction.Operand.{Operand}
 use Rattle.cyc_plain.specs.declared.instruction.Operand.TheVariants as operands
@@ -36,9 +37,10 @@ use Rattle.cyc_meaning.specs.Pointers.{result_kind as operator_kind}
 use Rattle.cyc_objects.proofs.NumberLemmas.{slice_get-there}
 use Rattle.cyc_lower.proofs.Counters.{found_last}
 use Rattle.cyc_lower.specs.Slots.{counted, starts_of, slot_of, Types}
-use Rattle.cyc_lower.specs.Lowering.{begun_code, filled_code, ended_code, elements_code, counter_operand, types_of, spare_slots, are_as_wide, converts_there, passed_words, all_passed, source_of, source_slot, moved_by, move_of, unary_operator, binary_operator, operand_of, operand_or, code_unless, slot_or, code_unless_slot, left_with, left_of, value_slot, next_slot, slot_with, left_slot, value_operand, converted_operand, printed_operand, check_code, conversion_code, divisor_code, checked_code, operator_code, truth_code, load_code, low_byte, test_code, is_in, copy_code, expression_code, arguments_code, converted_code, converted_operand_code, printed_code, initial_code, assignment_code, operations_code, discarded_code, failing_comparison, compared_or, first_operand, first_code, second_code, pair_code, condition_code, condition_of, failing_jump, break_target, continue_target, return_code, declaration_code, statement_code, items_code, first_temporary, results_of, lower_function, lower_global, lower_program, pointer_operator, left_kind, behind_left, pointer_code, outside_loops, inside_loop, index_code, pointer_instructions, stores_code, object_code, made_code, place_operand, place_offset, place_code, address_code, addressed_by, store_address_code, store_code}
+use Rattle.cyc_lower.specs.Lowering.{begun_code, filled_code, ended_code, elements_code, counter_operand, types_of, spare_slots, are_as_wide, converts_there, passed_words, all_passed, source_of, source_slot, moved_by, move_of, unary_operator, binary_operator, operand_of, operand_or, code_unless, slot_or, code_unless_slot, left_with, left_of, value_slot, next_slot, slot_with, left_slot, value_operand, converted_operand, printed_operand, check_code, conversion_code, divisor_code, checked_code, operator_code, truth_code, load_code, low_byte, test_code, is_in, copy_code, expression_code, arguments_code, converted_code, converted_operand_code, printed_code, initial_code, assignment_code, operations_code, discarded_code, failing_comparison, compared_or, first_operand, first_code, second_code, pair_code, condition_code, condition_of, failing_jump, break_target, continue_target, return_code, declaration_code, statement_code, items_code, first_temporary, results_of, lower_function, lower_global, lower_program, pointer_operator, left_kind, behind_left, pointer_code, outside_loops, inside_loop, index_code, pointer_instructions, stores_code, object_code, made_code, place_operand, place_offset, place_code, address_code, addressed_by, store_address_code, store_code, guard_code, blocks}
 use Rattle.cyc_lower.proofs.Widths.{kind_positive, kind_few, type_words, kind_of_result, result_kind, given, passed_kind, words_in, chain_kind, made_kind}
 use Rattle.cyc_lower.proofs.Fitting.{FitsPlace, FitsStored, FitsCell, Fits, FitsConverted, FitArguments, FitOperations, FitsReturn, FitsInitial, FitsStatement, FitItems, AreFitting, IsFitting, FitsObject}
+use Rattle.cyc_lower.proofs.Lengths.{body_long}
 use Rattle.cyc_lower.proofs.Values.{as_wide}
 use Rattle.cyc_lower.proofs.Slots.{words_positive, slot-room, slot_types-many, slots-few}
 
@@ -53,13 +55,13 @@ all_of P [] all k d below = absurd (omega arith)
 all_of P (x ∷ xs) (first, rest) zero d below = first
 all_of P (x ∷ xs) (first, rest) (suc k) d below = all_of P xs rest k d (omega arith)
 
-last_of : {X : Type 0} (xs : List X) (x : X) → slice_get (xs ++ x ∷ []) (length (xs ++ x ∷ []) - 1) ≡ Some x
-last_of xs x =
-    ap (slice_get (xs ++ x ∷ [])) (let e : length (xs ++ x ∷ []) - 1 ≡ length xs = omega (arith, length-append xs (x ∷ [])) in e) ∙ at_end xs
+last_behind : {X : Type 0} (xs ys : List X) → 0 < length ys → slice_get (xs ++ ys) (length (xs ++ ys) - 1) ≡ slice_get ys (length ys - 1)
+last_behind xs ys some = behind_all xs (length ys - 1) (length (xs ++ ys) - 1) (omega (arith, length-append xs ys, some))
   where
-    at_end : (ys : _) → slice_get (ys ++ x ∷ []) (length ys) ≡ Some x
-    at_end [] = refl
-    at_end (y ∷ ys) = at_end ys
+    behind_all : (zs : _) (n m : ℕ) → m ≡ length zs + n → slice_get (zs ++ ys) m ≡ slice_get ys n
+    behind_all [] n m is = ap (slice_get ys) (omega (arith, is))
+    behind_all (z ∷ zs) n zero is = absurd (omega (arith, is))
+    behind_all (z ∷ zs) n (suc m) is = behind_all zs n m (omega (arith, is))
 
 -- ---- words
 
@@ -109,7 +111,7 @@ record IsKnown (program : PlainProgram) (n : ℕ) (s : Signature) : Type 0 where
   pub parameters : (routine_at program n).parameters ≡ words_of_all s.parameters
   pub results : (routine_at program n).results ≡ results_of s.result
 
-module _ (program : PlainProgram) (r : Routine) (b : Numbering) (types : Types) (locals : (n : ℕ) → n < b.locals → slot_of (starts_of types) n + words_in types.locals n ≤ r.slots) (levels : (l slot : ℕ) → slice_get types.counters l ≡ Some slot → slot < r.slots) (globals : b.globals ≡ length program.globals) (called : (n : ℕ) (s : Signature) → slice_get b.functions n ≡ Some s → IsKnown program n s) (results : r.results ≡ results_of b.result) where
+module _ (program : PlainProgram) (r : Routine) (b : Numbering) (types : Types) (locals : (n : ℕ) → n < b.locals → slot_of (starts_of types) n + words_in types.locals n ≤ r.slots) (levels : (l slot : ℕ) → slice_get types.counters l ≡ Some slot → slot < r.slots) (globals : b.globals ≡ length program.globals) (called : (n : ℕ) (s : Signature) → slice_get b.functions n ≡ Some s → IsKnown program n s) (results : r.results ≡ results_of b.result) (behind : types.raises + 4 < length r.code) where
   abbrev AreIn : List Instruction → Type 0
   AreIn code = AllByRecursion (IsInRange program r) code
 
@@ -319,28 +321,30 @@ module _ (program : PlainProgram) (r : Routine) (b : Numbering) (types : Types) 
   left_in a (ThenCompute o c os) ty d t numbered few room = left_with_in (operand_of (starts_of types) c) a t numbered room
   left_in a os ty d t numbered few room = omega (arith, room, kind_positive (kind_at a))
 
-  check_in : (tag : ℕ) (o : Operand) (p : ℕ) → IsOperand r o → p + 2 < length r.code → AreIn (check_code tag o p)
-  check_in tag o p inside short = ((inside, tt, short), (inside, tt))
+  guard_in : (tag : ℕ) (failing : Comparison) (o m : Operand) → tag ≤ 4 → IsOperand r o → IsOperand r m → AreIn (guard_code (starts_of types) tag failing o m)
+  guard_in tag failing o m few left right = ((left, right, omega (arith, few, behind)), tt)
 
-  conversion_in : (to : Kind) (o : Operand) (p : ℕ) → IsOperand r o → p + length (conversion_code to o p) < length r.code → AreIn (conversion_code to o p)
-  conversion_in kinds.NonNull o p inside short = check_in null_exception o p inside short
+  check_in : (tag : ℕ) (o : Operand) → tag ≤ 4 → IsOperand r o → AreIn (check_code (starts_of types) tag o)
+  check_in tag o few inside = guard_in tag comparisons.Equal o (operands.Word 0) few inside tt
+
+  conversion_in : (to : Kind) (o : Operand) (p : ℕ) → IsOperand r o → p + length (conversion_code (starts_of types) to o p) < length r.code → AreIn (conversion_code (starts_of types) to o p)
+  conversion_in kinds.NonNull o p inside short = check_in null_exception o (omega arith) inside
   conversion_in to o p inside short = tt
 
-  divisor_in : (o : Operand) (p : ℕ) → IsOperand r o → p + length (divisor_code o p) < length r.code → AreIn (divisor_code o p)
-  divisor_in (operands.Word (suc n)) p inside short = tt
-  divisor_in (operands.Word zero) p inside short = check_in division_by_zero (operands.Word zero) p inside short
-  divisor_in (operands.Slot n) p inside short = check_in division_by_zero (operands.Slot n) p inside short
+  divisor_in : (o : Operand) → IsOperand r o → AreIn (divisor_code (starts_of types) o)
+  divisor_in (operands.Word (suc n)) inside = tt
+  divisor_in (operands.Word zero) inside = check_in division_by_zero (operands.Word zero) (omega arith) inside
+  divisor_in (operands.Slot n) inside = check_in division_by_zero (operands.Slot n) (omega arith) inside
 
-  checked_in : (o : Operator) (l m : Operand) (p d : ℕ) → d < r.slots → IsOperand r l → IsOperand r m → p + length (checked_code o l m p d) < length r.code → AreIn (checked_code o l m p d)
-  checked_in o l m p d few left right short =
-      let front = divisor_code m p in
-      let back = instructions.Binary (binary_operator o) d l m ∷ [] in
-      append front back (divisor_in m p right (omega (arith, short, length-append front back))) ((few, left, right), tt)
+  checked_in : (o : Operator) (l m : Operand) (d : ℕ) → d < r.slots → IsOperand r l → IsOperand r m → AreIn (checked_code (starts_of types) o l m d)
+  checked_in o l m d few left right =
+      let front = divisor_code (starts_of types) m in
+      append front (instructions.Binary (binary_operator o) d l m ∷ []) (divisor_in m right) ((few, left, right), tt)
 
-  operator_in : (o : Operator) (l m : Operand) (p d : ℕ) → d < r.slots → IsOperand r l → IsOperand r m → p + length (operator_code o l m p d) < length r.code → AreIn (operator_code o l m p d)
-  operator_in operators.Divide l m p d few left right short = checked_in operators.Divide l m p d few left right short
-  operator_in operators.Remainder l m p d few left right short = checked_in operators.Remainder l m p d few left right short
-  operator_in o l m p d few left right short = ((few, left, right), tt)
+  operator_in : (o : Operator) (l m : Operand) (d : ℕ) → d < r.slots → IsOperand r l → IsOperand r m → AreIn (operator_code (starts_of types) o l m d)
+  operator_in operators.Divide l m d few left right = checked_in operators.Divide l m d few left right
+  operator_in operators.Remainder l m d few left right = checked_in operators.Remainder l m d few left right
+  operator_in o l m d few left right = ((few, left, right), tt)
 
   load_in : (l : Lvalue) (t : Ty) (d : ℕ) → FitsPlace b types l (kind_of t) → d + words_of_kind (kind_of t) ≤ r.slots → AreIn (load_code (starts_of types) (words_of t) l d)
   load_in (Local w n) t d (within, room) few =
@@ -456,8 +460,8 @@ module _ (program : PlainProgram) (r : Routine) (b : Numbering) (types : Types) 
 
   initial_by : (there : Bool) (from to : Kind) (a : Expression) (p d t : ℕ) → from ≡ kind_at a → are_as_wide from to ≡ true → Fits b types a → d + words_of_kind to ≤ r.slots → t + converted_words (Convert from to a) ≤ r.slots → converts_there from to ≡ there
       → ((slot : ℕ) → slot + words_of_kind (kind_at a) ≤ r.slots → p + length (expression_code (starts_of types) a p slot t) < length r.code → AreIn (expression_code (starts_of types) a p slot t))
-      → p + length (if there then expression_code (starts_of types) a p d t else moved_by (source_of (starts_of types) (Convert from to a)) (expression_code (starts_of types) a p (source_slot (starts_of types) (Convert from to a) t) t) to (converted_operand (starts_of types) (Convert from to a) t) p d) < length r.code
-      → AreIn (if there then expression_code (starts_of types) a p d t else moved_by (source_of (starts_of types) (Convert from to a)) (expression_code (starts_of types) a p (source_slot (starts_of types) (Convert from to a) t) t) to (converted_operand (starts_of types) (Convert from to a) t) p d)
+      → p + length (if there then expression_code (starts_of types) a p d t else moved_by (starts_of types) (source_of (starts_of types) (Convert from to a)) (expression_code (starts_of types) a p (source_slot (starts_of types) (Convert from to a) t) t) to (converted_operand (starts_of types) (Convert from to a) t) p d) < length r.code
+      → AreIn (if there then expression_code (starts_of types) a p d t else moved_by (starts_of types) (source_of (starts_of types) (Convert from to a)) (expression_code (starts_of types) a p (source_slot (starts_of types) (Convert from to a) t) t) to (converted_operand (starts_of types) (Convert from to a) t) p d)
   initial_by true from to a p d t kind wide numbered room free lands inside short = inside d (omega (arith, room, ap words_of_kind kind, as_wide from to lands)) short
   initial_by false from to a p d t kind wide numbered room free lands inside short =
       let c = Convert from to a in
@@ -466,7 +470,7 @@ module _ (program : PlainProgram) (r : Routine) (b : Numbering) (types : Types) 
       let inner = expression_code (starts_of types) a p slot t in
       let o = converted_operand (starts_of types) c t in
       let front = code_unless known inner in
-      let conversion = conversion_code to o (p + length front) in
+      let conversion = conversion_code (starts_of types) to o (p + length front) in
       let move = move_of (words_of_kind to) d o ∷ [] in
       let long = length-append (front ++ conversion) move in
       let long_front = length-append front conversion in
@@ -476,32 +480,32 @@ module _ (program : PlainProgram) (r : Routine) (b : Numbering) (types : Types) 
 
 module _ (program : PlainProgram) (r : Routine) (b : Numbering) (globals : b.globals ≡ length program.globals) (called : (n : ℕ) (s : Signature) → slice_get b.functions n ≡ Some s → IsKnown program n s) (results : r.results ≡ results_of b.result) where
   mutual
-    expression_in : (types : Types) (locals : (n : ℕ) → n < b.locals → slot_of (starts_of types) n + words_in types.locals n ≤ r.slots) (levels : (l slot : ℕ) → slice_get types.counters l ≡ Some slot → slot < r.slots) → (a : Expression) (p d t : ℕ) → Fits b types a → d + words_of_kind (kind_at program r b types locals levels globals called results a) ≤ r.slots → t + expression_need a ≤ r.slots → p + length (expression_code (starts_of types) a p d t) < length r.code → AreIn program r b types locals levels globals called results (expression_code (starts_of types) a p d t)
-    expression_in types locals levels (Number n) p d t numbered room few short = ((omega (arith, room), tt), tt)
-    expression_in types locals levels NullPointer p d t numbered room few short = ((omega (arith, room), tt), tt)
-    expression_in types locals levels (Counter l) p d t numbered room few short =
+    expression_in : (types : Types) (locals : (n : ℕ) → n < b.locals → slot_of (starts_of types) n + words_in types.locals n ≤ r.slots) (levels : (l slot : ℕ) → slice_get types.counters l ≡ Some slot → slot < r.slots) (behind : types.raises + 4 < length r.code) → (a : Expression) (p d t : ℕ) → Fits b types a → d + words_of_kind (kind_at program r b types locals levels globals called results behind a) ≤ r.slots → t + expression_need a ≤ r.slots → p + length (expression_code (starts_of types) a p d t) < length r.code → AreIn program r b types locals levels globals called results behind (expression_code (starts_of types) a p d t)
+    expression_in types locals levels behind (Number n) p d t numbered room few short = ((omega (arith, room), tt), tt)
+    expression_in types locals levels behind NullPointer p d t numbered room few short = ((omega (arith, room), tt), tt)
+    expression_in types locals levels behind (Counter l) p d t numbered room few short =
         let (slot, there) = slice_get-there types.counters l numbered in
         ((omega (arith, room), subst (λ (s : Option ℕ). unwrap_or s 0 < r.slots) (sym there) (levels l slot there)), tt)
-    expression_in types locals levels (Copy l ty) p d t numbered room few short = load_in program r b types locals levels globals called results l ty d numbered room
-    expression_in types locals levels (Move w n ty) p d t numbered room few short = load_in program r b types locals levels globals called results (Local w n) ty d numbered room
-    expression_in types locals levels (Peek w n ty) p d t numbered room few short = load_in program r b types locals levels globals called results (Local w n) ty d numbered room
-    expression_in types locals levels (Call callees.Putchar cs ty) p d t (s, signature, many, passed, result, numbered) room few short =
+    expression_in types locals levels behind (Copy l ty) p d t numbered room few short = load_in program r b types locals levels globals called results behind l ty d numbered room
+    expression_in types locals levels behind (Move w n ty) p d t numbered room few short = load_in program r b types locals levels globals called results behind (Local w n) ty d numbered room
+    expression_in types locals levels behind (Peek w n ty) p d t numbered room few short = load_in program r b types locals levels globals called results behind (Local w n) ty d numbered room
+    expression_in types locals levels behind (Call callees.Putchar cs ty) p d t (s, signature, many, passed, result, numbered) room few short =
         let o = printed_operand (starts_of types) cs (operands.Slot t) t in
         let front = printed_code (starts_of types) cs p t in
         let back = instructions.WriteByte o ∷ low_byte o d ∷ [] in
         let gives : 1 ≤ result_words ty = omega (arith, result, ap (λ (x : Signature). results_of x.result) signature) in
-        let inside = printed_value_in program r b types locals levels globals called results cs (operands.Slot t) t numbered (omega (arith, few, gives)) (omega (arith, few)) in
-        append program r b types locals levels globals called results front back (printed_in types locals levels cs p t t 0 numbered (omega (arith, few)) (omega arith) (omega (arith, few)) (omega (arith, short, length-append front back)))
+        let inside = printed_value_in program r b types locals levels globals called results behind cs (operands.Slot t) t numbered (omega (arith, few, gives)) (omega (arith, few)) in
+        append program r b types locals levels globals called results behind front back (printed_in types locals levels behind cs p t t 0 numbered (omega (arith, few)) (omega arith) (omega (arith, few)) (omega (arith, short, length-append front back)))
         (inside, ((omega (arith, room), inside, tt), tt))
-    expression_in types locals levels (Call callees.Getchar cs ty) p d t (s, signature, many, passed, result, numbered) room few short =
+    expression_in types locals levels behind (Call callees.Getchar cs ty) p d t (s, signature, many, passed, result, numbered) room few short =
         let front = arguments_code (starts_of types) cs p t in
         let back = instructions.ReadByte d ∷ [] in
-        append program r b types locals levels globals called results front back (arguments_in types locals levels cs p t t 0 numbered (omega arith) (omega (arith, few)) (omega (arith, few)) (omega (arith, short, length-append front back))) (omega (arith, room), tt)
-    expression_in types locals levels (Call (callees.Function g) cs ty) p d t (s, signature, many, passed, result, numbered) room few short =
+        append program r b types locals levels globals called results behind front back (arguments_in types locals levels behind cs p t t 0 numbered (omega arith) (omega (arith, few)) (omega (arith, few)) (omega (arith, short, length-append front back))) (omega (arith, room), tt)
+    expression_in types locals levels behind (Call (callees.Function g) cs ty) p d t (s, signature, many, passed, result, numbered) room few short =
         let front = arguments_code (starts_of types) cs p t in
         let back = instructions.Call g t (all_passed cs) d ∷ [] in
         let f = called g s signature in
-        append program r b types locals levels globals called results front back (arguments_in types locals levels cs p t t 0 numbered (omega arith) (omega (arith, few)) (omega (arith, few)) (omega (arith, short, length-append front back))) (
+        append program r b types locals levels globals called results behind front back (arguments_in types locals levels behind cs p t t 0 numbered (omega arith) (omega (arith, few)) (omega (arith, few)) (omega (arith, short, length-append front back))) (
           record {
             function_in_range = f.there;
             takes = passed ∙ sym f.parameters;
@@ -510,80 +514,80 @@ module _ (program : PlainProgram) (r : Routine) (b : Numbering) (globals : b.glo
           },
           tt,
         )
-    expression_in types locals levels (Unary o a) p d t numbered room few short =
+    expression_in types locals levels behind (Unary o a) p d t numbered room few short =
         let inner = expression_code (starts_of types) a p (value_slot (starts_of types) a t) t in
         let front = code_unless (operand_of (starts_of types) a) inner in
         let back = instructions.Unary (unary_operator o) d (value_operand (starts_of types) a t) ∷ [] in
-        let free : t + words_of_kind (kind_at program r b types locals levels globals called results a) ≤ r.slots = omega (arith, few, given_needs program r b types locals levels globals called results a numbered) in
-        append program r b types locals levels globals called results front back
-        (unless_in program r b types locals levels globals called results (operand_of (starts_of types) a) inner p (omega (arith, short, length-append front back)) (λ less. expression_in types locals levels a p (value_slot (starts_of types) a t) t numbered (slot_fits program r b types locals levels globals called results a t numbered free) (omega (arith, few)) less))
-        ((omega (arith, room), value_in program r b types locals levels globals called results a t numbered free), tt)
-    expression_in types locals levels (Binary a os ty) p d t (numbered, rest) room few short =
+        let free : t + words_of_kind (kind_at program r b types locals levels globals called results behind a) ≤ r.slots = omega (arith, few, given_needs program r b types locals levels globals called results behind a numbered) in
+        append program r b types locals levels globals called results behind front back
+        (unless_in program r b types locals levels globals called results behind (operand_of (starts_of types) a) inner p (omega (arith, short, length-append front back)) (λ less. expression_in types locals levels behind a p (value_slot (starts_of types) a t) t numbered (slot_fits program r b types locals levels globals called results behind a t numbered free) (omega (arith, few)) less))
+        ((omega (arith, room), value_in program r b types locals levels globals called results behind a t numbered free), tt)
+    expression_in types locals levels behind (Binary a os ty) p d t (numbered, rest) room few short =
         let inner = expression_code (starts_of types) a p (left_slot (starts_of types) a os d t) t in
         let front = code_unless (left_of (starts_of types) a os) inner in
         let back = operations_code (starts_of types) os (p + length front) (operand_or (left_of (starts_of types) a os) (left_slot (starts_of types) a os d t)) d t in
         let some = operand_positive (type_of a) in
-        let free = has_room program r b types locals levels globals called results os ty t (operand_words (type_of a)) rest some (omega (arith, few)) in
-        let first = left_room program r b types locals levels globals called results os a t numbered (omega (arith, few)) free in
-        append program r b types locals levels globals called results front back
-        (unless_in program r b types locals levels globals called results (left_of (starts_of types) a os) inner p (omega (arith, short, length-append front back)) (λ less. expression_in types locals levels a p (left_slot (starts_of types) a os d t) t numbered (left_slot_in program r b types locals levels globals called results a os ty d t numbered room first) (omega (arith, few)) less))
-        (operations_in types locals levels os ty (kind_at program r b types locals levels globals called results a) (p + length front) (operand_or (left_of (starts_of types) a os) (left_slot (starts_of types) a os d t)) d t (operand_words (type_of a)) rest room (first_left_in program r b types locals levels globals called results a os ty d t (operand_words (type_of a)) rest (omega (arith, few))) (left_in program r b types locals levels globals called results a os ty d t numbered room first) some (omega (arith, few)) (omega (arith, short, length-append front back)))
-    expression_in types locals levels (Assign (Local w n) c ty) p d t ((within, own), numbered) room few short =
+        let free = has_room program r b types locals levels globals called results behind os ty t (operand_words (type_of a)) rest some (omega (arith, few)) in
+        let first = left_room program r b types locals levels globals called results behind os a t numbered (omega (arith, few)) free in
+        append program r b types locals levels globals called results behind front back
+        (unless_in program r b types locals levels globals called results behind (left_of (starts_of types) a os) inner p (omega (arith, short, length-append front back)) (λ less. expression_in types locals levels behind a p (left_slot (starts_of types) a os d t) t numbered (left_slot_in program r b types locals levels globals called results behind a os ty d t numbered room first) (omega (arith, few)) less))
+        (operations_in types locals levels behind os ty (kind_at program r b types locals levels globals called results behind a) (p + length front) (operand_or (left_of (starts_of types) a os) (left_slot (starts_of types) a os d t)) d t (operand_words (type_of a)) rest room (first_left_in program r b types locals levels globals called results behind a os ty d t (operand_words (type_of a)) rest (omega (arith, few))) (left_in program r b types locals levels globals called results behind a os ty d t numbered room first) some (omega (arith, few)) (omega (arith, short, length-append front back)))
+    expression_in types locals levels behind (Assign (Local w n) c ty) p d t ((within, own), numbered) room few short =
         let o = operands.Slot (slot_of (starts_of types) n) in
         let front = initial_code (starts_of types) c p (slot_of (starts_of types) n) t in
         let back = copy_code (passed_words c) o d in
         let there : slot_of (starts_of types) n + words_of_kind (passed_kind c) ≤ r.slots = omega (arith, locals n within, own) in
-        append program r b types locals levels globals called results front back (initial_in types locals levels c p (slot_of (starts_of types) n) t numbered there (omega (arith, few)) (omega (arith, few)) (omega (arith, short, length-append front back)))
-        (copy_in program r b types locals levels globals called results (is_in o d) c o d there (omega (arith, room, ap words_of_kind (assigned_kind program r b types locals levels globals called results (Local w n) c ty))))
-    expression_in types locals levels (Assign (Global n) c ty) p d t ((within, single), numbered) room few short =
+        append program r b types locals levels globals called results behind front back (initial_in types locals levels behind c p (slot_of (starts_of types) n) t numbered there (omega (arith, few)) (omega (arith, few)) (omega (arith, short, length-append front back)))
+        (copy_in program r b types locals levels globals called results behind (is_in o d) c o d there (omega (arith, room, ap words_of_kind (assigned_kind program r b types locals levels globals called results behind (Local w n) c ty))))
+    expression_in types locals levels behind (Assign (Global n) c ty) p d t ((within, single), numbered) room few short =
         let o = converted_operand (starts_of types) c t in
         let front = converted_operand_code (starts_of types) c p t in
         let store = instructions.StoreGlobal n o ∷ [] in
         let back = copy_code (passed_words c) o d in
-        append program r b types locals levels globals called results (front ++ store) back
-        (append program r b types locals levels globals called results front store (converted_operand_in types locals levels c p t numbered (omega (arith, few)) (omega (arith, few)) (omega (arith, short, length-append (front ++ store) back, length-append front store))) ((omega (arith, within, globals), converted_value_in program r b types locals levels globals called results c t numbered (omega (arith, few))), tt))
-        (copy_in program r b types locals levels globals called results (is_in o d) c o d (converted_room program r b types locals levels globals called results c t numbered (omega (arith, few))) (omega (arith, room, ap words_of_kind (assigned_kind program r b types locals levels globals called results (Global n) c ty))))
-    expression_in types locals levels (Load x) p d t numbered room few short =
+        append program r b types locals levels globals called results behind (front ++ store) back
+        (append program r b types locals levels globals called results behind front store (converted_operand_in types locals levels behind c p t numbered (omega (arith, few)) (omega (arith, few)) (omega (arith, short, length-append (front ++ store) back, length-append front store))) ((omega (arith, within, globals), converted_value_in program r b types locals levels globals called results behind c t numbered (omega (arith, few))), tt))
+        (copy_in program r b types locals levels globals called results behind (is_in o d) c o d (converted_room program r b types locals levels globals called results behind c t numbered (omega (arith, few))) (omega (arith, room, ap words_of_kind (assigned_kind program r b types locals levels globals called results behind (Global n) c ty))))
+    expression_in types locals levels behind (Load x) p d t numbered room few short =
         let own = words_of (type_of_place x) in
         let some = words_positive (type_of_place x) in
         let load = instructions.Load d (place_operand (starts_of types) x t) (place_offset (starts_of types) x) ∷ [] in
-        append program r b types locals levels globals called results (place_code (starts_of types) x p t) load
-        (place_in types locals levels x own p t numbered some few (omega (arith, short, length-append (place_code (starts_of types) x p t) load)))
-        ((omega (arith, room, kind_positive (kind_of (type_of_place x))), place_operand_in program r b types locals levels globals called results x own t numbered some few), tt)
-    expression_in types locals levels (AddressOfCell x ty) p d t numbered room few short =
-        addressed_in program r b types locals levels globals called results x p d t numbered (omega (arith, room)) (omega (arith, few)) short (λ less. place_in types locals levels x place_words p t numbered (omega arith) (omega (arith, few)) less)
-    expression_in types locals levels (Store x c ty) p d t (place, single, numbered) room few short =
+        append program r b types locals levels globals called results behind (place_code (starts_of types) x p t) load
+        (place_in types locals levels behind x own p t numbered some few (omega (arith, short, length-append (place_code (starts_of types) x p t) load)))
+        ((omega (arith, room, kind_positive (kind_of (type_of_place x))), place_operand_in program r b types locals levels globals called results behind x own t numbered some few), tt)
+    expression_in types locals levels behind (AddressOfCell x ty) p d t numbered room few short =
+        addressed_in program r b types locals levels globals called results behind x p d t numbered (omega (arith, room)) (omega (arith, few)) short (λ less. place_in types locals levels behind x place_words p t numbered (omega arith) (omega (arith, few)) less)
+    expression_in types locals levels behind (Store x c ty) p d t (place, single, numbered) room few short =
         let o = converted_operand (starts_of types) c (t + 1) in
         let front = store_code (starts_of types) x c p t in
         let back = copy_code (passed_words c) o d in
-        append program r b types locals levels globals called results front back
-        (stored_in program r b types locals levels globals called results x c p t numbered (omega (arith, few)) (omega (arith, short, length-append front back))
-        (λ less. addressed_in program r b types locals levels globals called results x p t t place (omega (arith, few)) (omega (arith, few)) less (λ shorter. place_in types locals levels x place_words p t place (omega arith) (omega (arith, few)) shorter))
-        (λ q less. converted_operand_in types locals levels c q (t + 1) numbered (omega (arith, few)) (omega (arith, few)) less))
-        (copy_in program r b types locals levels globals called results (is_in o d) c o d (converted_room program r b types locals levels globals called results c (t + 1) numbered (omega (arith, few))) (omega (arith, room, ap words_of_kind (stored_kind program r b types locals levels globals called results x c ty))))
-    expression_in types locals levels (New OnHeap i ty) p d t numbered room few short = made_in types locals levels i HEAP ty p d t numbered room (omega (arith, few)) short
-    expression_in types locals levels (New AsUnique i ty) p d t numbered room few short = absurd numbered
-    expression_in types locals levels (New (ByHandle h) i ty) p d t numbered room few short = absurd numbered
-    expression_in types locals levels a p d t numbered room few short = absurd numbered
+        append program r b types locals levels globals called results behind front back
+        (stored_in program r b types locals levels globals called results behind x c p t numbered (omega (arith, few)) (omega (arith, short, length-append front back))
+        (λ less. addressed_in program r b types locals levels globals called results behind x p t t place (omega (arith, few)) (omega (arith, few)) less (λ shorter. place_in types locals levels behind x place_words p t place (omega arith) (omega (arith, few)) shorter))
+        (λ q less. converted_operand_in types locals levels behind c q (t + 1) numbered (omega (arith, few)) (omega (arith, few)) less))
+        (copy_in program r b types locals levels globals called results behind (is_in o d) c o d (converted_room program r b types locals levels globals called results behind c (t + 1) numbered (omega (arith, few))) (omega (arith, room, ap words_of_kind (stored_kind program r b types locals levels globals called results behind x c ty))))
+    expression_in types locals levels behind (New OnHeap i ty) p d t numbered room few short = made_in types locals levels behind i HEAP ty p d t numbered room (omega (arith, few)) short
+    expression_in types locals levels behind (New AsUnique i ty) p d t numbered room few short = absurd numbered
+    expression_in types locals levels behind (New (ByHandle h) i ty) p d t numbered room few short = absurd numbered
+    expression_in types locals levels behind a p d t numbered room few short = absurd numbered
 
-    made_in : (types : Types) (locals : (n : ℕ) → n < b.locals → slot_of (starts_of types) n + words_in types.locals n ≤ r.slots) (levels : (l slot : ℕ) → slice_get types.counters l ≡ Some slot → slot < r.slots) → (i : Initial) (handle : ℕ) (ty : Ty) (p d t : ℕ) → FitsObject b types i → d + words_of_kind (made_kind i) ≤ r.slots → t + initial_value_need i 0 (words_of ty) ≤ r.slots → p + length (made_code (starts_of types) i handle p d t) < length r.code → AreIn program r b types locals levels globals called results (made_code (starts_of types) i handle p d t)
-    made_in types locals levels (Plain kind a) handle ty p d t (single, kind_is, numbered) room few short =
+    made_in : (types : Types) (locals : (n : ℕ) → n < b.locals → slot_of (starts_of types) n + words_in types.locals n ≤ r.slots) (levels : (l slot : ℕ) → slice_get types.counters l ≡ Some slot → slot < r.slots) (behind : types.raises + 4 < length r.code) → (i : Initial) (handle : ℕ) (ty : Ty) (p d t : ℕ) → FitsObject b types i → d + words_of_kind (made_kind i) ≤ r.slots → t + initial_value_need i 0 (words_of ty) ≤ r.slots → p + length (made_code (starts_of types) i handle p d t) < length r.code → AreIn program r b types locals levels globals called results behind (made_code (starts_of types) i handle p d t)
+    made_in types locals levels behind (Plain kind a) handle ty p d t (single, kind_is, numbered) room few short =
         let front = expression_code (starts_of types) a p t t in
         let back = object_code handle 1 d t in
-        append program r b types locals levels globals called results front back
-        (expression_in types locals levels a p t t numbered (omega (arith, few, single, ap words_of_kind kind_is, words_positive ty)) (omega (arith, few)) (omega (arith, short, length-append front back)))
-        (object_in program r b types locals levels globals called results handle 1 d t (omega (arith, room)) (omega (arith, few, single, words_positive ty)))
-    made_in types locals levels (Fields cs) handle ty p d t (single, some, many, numbered) room few short =
+        append program r b types locals levels globals called results behind front back
+        (expression_in types locals levels behind a p t t numbered (omega (arith, few, single, ap words_of_kind kind_is, words_positive ty)) (omega (arith, few)) (omega (arith, short, length-append front back)))
+        (object_in program r b types locals levels globals called results behind handle 1 d t (omega (arith, room)) (omega (arith, few, single, words_positive ty)))
+    made_in types locals levels behind (Fields cs) handle ty p d t (single, some, many, numbered) room few short =
         let front = arguments_code (starts_of types) cs p t in
         let back = object_code handle (argument_count cs) d t in
-        append program r b types locals levels globals called results front back
-        (arguments_in types locals levels cs p t t 0 numbered (omega arith) (omega (arith, few)) (omega (arith, few)) (omega (arith, short, length-append front back)))
-        (object_in program r b types locals levels globals called results handle (argument_count cs) d t (omega (arith, room)) (omega (arith, few, single, arguments_words cs, words_positive ty)))
-    made_in types locals levels (Array w level n kind a) handle ty p d t (level_is, single, kind_is, fits_n, fits_a) room few short =
+        append program r b types locals levels globals called results behind front back
+        (arguments_in types locals levels behind cs p t t 0 numbered (omega arith) (omega (arith, few)) (omega (arith, few)) (omega (arith, short, length-append front back)))
+        (object_in program r b types locals levels globals called results behind handle (argument_count cs) d t (omega (arith, room)) (omega (arith, few, single, arguments_words cs, words_positive ty)))
+    made_in types locals levels behind (Array w level n kind a) handle ty p d t (level_is, single, kind_is, fits_n, fits_a) room few short =
         let first = expression_code (starts_of types) n p t t in
         let m = p + length first in
-        let h = m + 7 in
-        let begun = begun_code handle m t in
+        let h = m + 6 in
+        let begun = begun_code (starts_of types) handle t in
         let inner = expression_code (starts_of (counted types (t + 2))) a (h + 1) (t + 3) (t + 3) in
         let filled = filled_code h t in
         let ended = ended_code d t in
@@ -591,24 +595,21 @@ module _ (program : PlainProgram) (r : Routine) (b : Numbering) (globals : b.glo
         let long = length-append first (begun ++ elements) in
         let long_elements = length-append (inner ++ filled) ended in
         let long_both = length-append inner filled in
-        append program r b types locals levels globals called results first (begun ++ elements)
-        (expression_in types locals levels n p t t fits_n (omega (arith, few, kind_few (kind_at program r b types locals levels globals called results n))) (omega (arith, few)) (omega (arith, short, long)))
-        (append program r b types locals levels globals called results begun elements
+        append program r b types locals levels globals called results behind first (begun ++ elements)
+        (expression_in types locals levels behind n p t t fits_n (omega (arith, few, kind_few (kind_at program r b types locals levels globals called results behind n))) (omega (arith, few)) (omega (arith, short, long)))
+        (append program r b types locals levels globals called results behind begun elements
         (
-          (omega (arith, few), tt, omega (arith, short, long)),
+          (omega (arith, few), tt, omega (arith, behind)),
           (
-            tt,
-            (
-              (omega (arith, few), omega (arith, few)),
-              ((omega (arith, few), tt), ((omega (arith, few), omega (arith, few)), ((omega (arith, few), omega (arith, few), omega (arith, few)), (record { answer_in_range = omega (arith, few); first_in_range = tt; second_in_range = omega (arith, few) }, tt)))),
-            ),
+            (omega (arith, few), omega (arith, few)),
+            ((omega (arith, few), tt), ((omega (arith, few), omega (arith, few)), ((omega (arith, few), omega (arith, few), omega (arith, few)), (record { answer_in_range = omega (arith, few); first_in_range = tt; second_in_range = omega (arith, few) }, tt)))),
           ),
         )
         (
           (omega (arith, few), omega (arith, few), omega (arith, short, long, long_elements, long_both)),
-          append program r b types locals levels globals called results (inner ++ filled) ended
-              (append program r b types locals levels globals called results inner filled
-              (expression_in (counted types (t + 2)) locals (levels_inside r types levels (t + 2) (omega (arith, few))) a (h + 1) (t + 3) (t + 3) (fits_a (t + 2)) (omega (arith, few, single, ap words_of_kind kind_is)) (omega (arith, few))
+          append program r b types locals levels globals called results behind (inner ++ filled) ended
+              (append program r b types locals levels globals called results behind inner filled
+              (expression_in (counted types (t + 2)) locals (levels_inside r types levels (t + 2) (omega (arith, few))) behind a (h + 1) (t + 3) (t + 3) (fits_a (t + 2)) (omega (arith, few, single, ap words_of_kind kind_is)) (omega (arith, few))
               (omega (arith, short, long, long_elements, long_both)))
               (
                 (omega (arith, few), omega (arith, few), tt),
@@ -617,96 +618,96 @@ module _ (program : PlainProgram) (r : Routine) (b : Numbering) (globals : b.glo
                   ((omega (arith, few), omega (arith, few)), ((omega (arith, few), omega (arith, few), tt), (omega (arith, short, long, long_elements, long_both), tt))),
                 ),
               ))
-              ((omega (arith, few), tt), pointer_copied program r b types locals levels globals called results d t room (omega (arith, few))),
+              ((omega (arith, few), tt), pointer_copied program r b types locals levels globals called results behind d t room (omega (arith, few))),
         ))
 
     -- a place of what has so many words
-    place_in : (types : Types) (locals : (n : ℕ) → n < b.locals → slot_of (starts_of types) n + words_in types.locals n ≤ r.slots) (levels : (l slot : ℕ) → slice_get types.counters l ≡ Some slot → slot < r.slots) → (x : Dereference) (own p t : ℕ) → FitsCell b types x → 1 ≤ own → t + dereference_need x own ≤ r.slots → p + length (place_code (starts_of types) x p t) < length r.code → AreIn program r b types locals levels globals called results (place_code (starts_of types) x p t)
-    place_in types locals levels (Target k a ty) own p t (thin, single, numbered) some few short =
+    place_in : (types : Types) (locals : (n : ℕ) → n < b.locals → slot_of (starts_of types) n + words_in types.locals n ≤ r.slots) (levels : (l slot : ℕ) → slice_get types.counters l ≡ Some slot → slot < r.slots) (behind : types.raises + 4 < length r.code) → (x : Dereference) (own p t : ℕ) → FitsCell b types x → 1 ≤ own → t + dereference_need x own ≤ r.slots → p + length (place_code (starts_of types) x p t) < length r.code → AreIn program r b types locals levels globals called results behind (place_code (starts_of types) x p t)
+    place_in types locals levels behind (Target k a ty) own p t (thin, single, numbered) some few short =
         let slot = value_slot (starts_of types) a t in
         let o = value_operand (starts_of types) a t in
         let inner = expression_code (starts_of types) a p slot t in
         let front = code_unless (operand_of (starts_of types) a) inner in
-        let check = check_code null_exception o (p + length front) in
+        let check = check_code (starts_of types) null_exception o in
         let long = length-append front check in
-        let free : t + words_of_kind (kind_at program r b types locals levels globals called results a) ≤ r.slots = omega (arith, few, given_needs program r b types locals levels globals called results a numbered, some) in
-        append program r b types locals levels globals called results front check (unless_in program r b types locals levels globals called results (operand_of (starts_of types) a) inner p (omega (arith, short, long)) (λ less. expression_in types locals levels a p slot t numbered (slot_fits program r b types locals levels globals called results a t numbered free) (omega (arith, few)) less))
-        (check_in program r b types locals levels globals called results null_exception o (p + length front) (value_in program r b types locals levels globals called results a t numbered free) (omega (arith, short, long)))
-    place_in types locals levels (Member k a s f ty) own p t (thin, single, there, numbered) some few short =
+        let free : t + words_of_kind (kind_at program r b types locals levels globals called results behind a) ≤ r.slots = omega (arith, few, given_needs program r b types locals levels globals called results behind a numbered, some) in
+        append program r b types locals levels globals called results behind front check (unless_in program r b types locals levels globals called results behind (operand_of (starts_of types) a) inner p (omega (arith, short, long)) (λ less. expression_in types locals levels behind a p slot t numbered (slot_fits program r b types locals levels globals called results behind a t numbered free) (omega (arith, few)) less))
+        (check_in program r b types locals levels globals called results behind null_exception o (omega arith) (value_in program r b types locals levels globals called results behind a t numbered free))
+    place_in types locals levels behind (Member k a s f ty) own p t (thin, single, there, numbered) some few short =
         let slot = value_slot (starts_of types) a t in
         let o = value_operand (starts_of types) a t in
         let inner = expression_code (starts_of types) a p slot t in
         let front = code_unless (operand_of (starts_of types) a) inner in
-        let check = check_code null_exception o (p + length front) in
+        let check = check_code (starts_of types) null_exception o in
         let long = length-append front check in
-        let free : t + words_of_kind (kind_at program r b types locals levels globals called results a) ≤ r.slots = omega (arith, few, given_needs program r b types locals levels globals called results a numbered, some) in
-        append program r b types locals levels globals called results front check (unless_in program r b types locals levels globals called results (operand_of (starts_of types) a) inner p (omega (arith, short, long)) (λ less. expression_in types locals levels a p slot t numbered (slot_fits program r b types locals levels globals called results a t numbered free) (omega (arith, few)) less))
-        (check_in program r b types locals levels globals called results null_exception o (p + length front) (value_in program r b types locals levels globals called results a t numbered free) (omega (arith, short, long)))
-    place_in types locals levels x own p t numbered some few short = absurd numbered
+        let free : t + words_of_kind (kind_at program r b types locals levels globals called results behind a) ≤ r.slots = omega (arith, few, given_needs program r b types locals levels globals called results behind a numbered, some) in
+        append program r b types locals levels globals called results behind front check (unless_in program r b types locals levels globals called results behind (operand_of (starts_of types) a) inner p (omega (arith, short, long)) (λ less. expression_in types locals levels behind a p slot t numbered (slot_fits program r b types locals levels globals called results behind a t numbered free) (omega (arith, few)) less))
+        (check_in program r b types locals levels globals called results behind null_exception o (omega arith) (value_in program r b types locals levels globals called results behind a t numbered free))
+    place_in types locals levels behind x own p t numbered some few short = absurd numbered
 
-    initial_in : (types : Types) (locals : (n : ℕ) → n < b.locals → slot_of (starts_of types) n + words_in types.locals n ≤ r.slots) (levels : (l slot : ℕ) → slice_get types.counters l ≡ Some slot → slot < r.slots) → (c : Converted) (p d t : ℕ) → FitsConverted b types c → d + words_of_kind (passed_kind c) ≤ r.slots → t + converted_words c ≤ r.slots → t + converted_need c ≤ r.slots → p + length (initial_code (starts_of types) c p d t) < length r.code → AreIn program r b types locals levels globals called results (initial_code (starts_of types) c p d t)
-    initial_in types locals levels (Convert from to a) p d t (kind, wide, numbered) room free few short =
-        initial_by program r b types locals levels globals called results (converts_there from to) from to a p d t kind wide numbered room free refl (λ slot fits less. expression_in types locals levels a p slot t numbered fits few less) short
+    initial_in : (types : Types) (locals : (n : ℕ) → n < b.locals → slot_of (starts_of types) n + words_in types.locals n ≤ r.slots) (levels : (l slot : ℕ) → slice_get types.counters l ≡ Some slot → slot < r.slots) (behind : types.raises + 4 < length r.code) → (c : Converted) (p d t : ℕ) → FitsConverted b types c → d + words_of_kind (passed_kind c) ≤ r.slots → t + converted_words c ≤ r.slots → t + converted_need c ≤ r.slots → p + length (initial_code (starts_of types) c p d t) < length r.code → AreIn program r b types locals levels globals called results behind (initial_code (starts_of types) c p d t)
+    initial_in types locals levels behind (Convert from to a) p d t (kind, wide, numbered) room free few short =
+        initial_by program r b types locals levels globals called results behind (converts_there from to) from to a p d t kind wide numbered room free refl (λ slot fits less. expression_in types locals levels behind a p slot t numbered fits few less) short
 
-    converted_in : (types : Types) (locals : (n : ℕ) → n < b.locals → slot_of (starts_of types) n + words_in types.locals n ≤ r.slots) (levels : (l slot : ℕ) → slice_get types.counters l ≡ Some slot → slot < r.slots) → (c : Converted) (p t : ℕ) → FitsConverted b types c → t + converted_words c ≤ r.slots → t + converted_need c ≤ r.slots → p + length (converted_code (starts_of types) c p t) < length r.code → AreIn program r b types locals levels globals called results (converted_code (starts_of types) c p t)
-    converted_in types locals levels (Convert from to a) p t (kind, wide, numbered) room few short =
+    converted_in : (types : Types) (locals : (n : ℕ) → n < b.locals → slot_of (starts_of types) n + words_in types.locals n ≤ r.slots) (levels : (l slot : ℕ) → slice_get types.counters l ≡ Some slot → slot < r.slots) (behind : types.raises + 4 < length r.code) → (c : Converted) (p t : ℕ) → FitsConverted b types c → t + converted_words c ≤ r.slots → t + converted_need c ≤ r.slots → p + length (converted_code (starts_of types) c p t) < length r.code → AreIn program r b types locals levels globals called results behind (converted_code (starts_of types) c p t)
+    converted_in types locals levels behind (Convert from to a) p t (kind, wide, numbered) room few short =
         let front = expression_code (starts_of types) a p t t in
-        let back = conversion_code to (operands.Slot t) (p + length front) in
-        append program r b types locals levels globals called results front back (expression_in types locals levels a p t t numbered (omega (arith, room, ap words_of_kind kind)) few (omega (arith, short, length-append front back)))
-        (conversion_in program r b types locals levels globals called results to (operands.Slot t) (p + length front) (omega (arith, room, kind_positive to)) (omega (arith, short, length-append front back)))
+        let back = conversion_code (starts_of types) to (operands.Slot t) (p + length front) in
+        append program r b types locals levels globals called results behind front back (expression_in types locals levels behind a p t t numbered (omega (arith, room, ap words_of_kind kind)) few (omega (arith, short, length-append front back)))
+        (conversion_in program r b types locals levels globals called results behind to (operands.Slot t) (p + length front) (omega (arith, room, kind_positive to)) (omega (arith, short, length-append front back)))
 
-    converted_operand_in : (types : Types) (locals : (n : ℕ) → n < b.locals → slot_of (starts_of types) n + words_in types.locals n ≤ r.slots) (levels : (l slot : ℕ) → slice_get types.counters l ≡ Some slot → slot < r.slots) → (c : Converted) (p t : ℕ) → FitsConverted b types c → t + converted_words c ≤ r.slots → t + converted_need c ≤ r.slots → p + length (converted_operand_code (starts_of types) c p t) < length r.code → AreIn program r b types locals levels globals called results (converted_operand_code (starts_of types) c p t)
-    converted_operand_in types locals levels (Convert from to a) p t (kind, wide, numbered) room few short =
+    converted_operand_in : (types : Types) (locals : (n : ℕ) → n < b.locals → slot_of (starts_of types) n + words_in types.locals n ≤ r.slots) (levels : (l slot : ℕ) → slice_get types.counters l ≡ Some slot → slot < r.slots) (behind : types.raises + 4 < length r.code) → (c : Converted) (p t : ℕ) → FitsConverted b types c → t + converted_words c ≤ r.slots → t + converted_need c ≤ r.slots → p + length (converted_operand_code (starts_of types) c p t) < length r.code → AreIn program r b types locals levels globals called results behind (converted_operand_code (starts_of types) c p t)
+    converted_operand_in types locals levels behind (Convert from to a) p t (kind, wide, numbered) room few short =
         let known = source_of (starts_of types) (Convert from to a) in
         let slot = source_slot (starts_of types) (Convert from to a) t in
         let o = converted_operand (starts_of types) (Convert from to a) t in
         let inner = expression_code (starts_of types) a p slot t in
         let front = code_unless known inner in
-        let back = conversion_code to o (p + length front) in
-        append program r b types locals levels globals called results front back
-        (unless_in program r b types locals levels globals called results known inner p (omega (arith, short, length-append front back)) (λ less. expression_in types locals levels a p slot t numbered (source_fits program r b types locals levels globals called results from to a t (kind, wide, numbered) room) few less))
-        (conversion_in program r b types locals levels globals called results to o (p + length front) (converted_value_in program r b types locals levels globals called results (Convert from to a) t (kind, wide, numbered) room) (omega (arith, short, length-append front back)))
+        let back = conversion_code (starts_of types) to o (p + length front) in
+        append program r b types locals levels globals called results behind front back
+        (unless_in program r b types locals levels globals called results behind known inner p (omega (arith, short, length-append front back)) (λ less. expression_in types locals levels behind a p slot t numbered (source_fits program r b types locals levels globals called results behind from to a t (kind, wide, numbered) room) few less))
+        (conversion_in program r b types locals levels globals called results behind to o (p + length front) (converted_value_in program r b types locals levels globals called results behind (Convert from to a) t (kind, wide, numbered) room) (omega (arith, short, length-append front back)))
 
     -- the arguments of `putchar`, which all are evaluated with the same temporaries
-    printed_in : (types : Types) (locals : (n : ℕ) → n < b.locals → slot_of (starts_of types) n + words_in types.locals n ≤ r.slots) (levels : (l slot : ℕ) → slice_get types.counters l ≡ Some slot → slot < r.slots) → (cs : Arguments) (p t first before : ℕ) → FitArguments b types cs → t + argument_words cs ≤ r.slots → t ≤ first + before → first + arguments_need cs before ≤ r.slots → p + length (printed_code (starts_of types) cs p t) < length r.code → AreIn program r b types locals levels globals called results (printed_code (starts_of types) cs p t)
-    printed_in types locals levels NoArguments p t first before numbered room place few short = tt
-    printed_in types locals levels (MoreArguments c cs) p t first before (numbered, rest) room place few short =
+    printed_in : (types : Types) (locals : (n : ℕ) → n < b.locals → slot_of (starts_of types) n + words_in types.locals n ≤ r.slots) (levels : (l slot : ℕ) → slice_get types.counters l ≡ Some slot → slot < r.slots) (behind : types.raises + 4 < length r.code) → (cs : Arguments) (p t first before : ℕ) → FitArguments b types cs → t + argument_words cs ≤ r.slots → t ≤ first + before → first + arguments_need cs before ≤ r.slots → p + length (printed_code (starts_of types) cs p t) < length r.code → AreIn program r b types locals levels globals called results behind (printed_code (starts_of types) cs p t)
+    printed_in types locals levels behind NoArguments p t first before numbered room place few short = tt
+    printed_in types locals levels behind (MoreArguments c cs) p t first before (numbered, rest) room place few short =
         let front = converted_operand_code (starts_of types) c p t in
         let back = printed_code (starts_of types) cs (p + length front) t in
-        append program r b types locals levels globals called results front back (converted_operand_in types locals levels c p t numbered (omega (arith, room)) (omega (arith, few, place)) (omega (arith, short, length-append front back)))
-        (printed_in types locals levels cs (p + length front) t first (before + converted_words c) rest (omega (arith, room)) (omega (arith, place)) (omega (arith, few)) (omega (arith, short, length-append front back)))
+        append program r b types locals levels globals called results behind front back (converted_operand_in types locals levels behind c p t numbered (omega (arith, room)) (omega (arith, few, place)) (omega (arith, short, length-append front back)))
+        (printed_in types locals levels behind cs (p + length front) t first (before + converted_words c) rest (omega (arith, room)) (omega (arith, place)) (omega (arith, few)) (omega (arith, short, length-append front back)))
 
     -- the arguments begin at `first`, and those before have so many words
-    arguments_in : (types : Types) (locals : (n : ℕ) → n < b.locals → slot_of (starts_of types) n + words_in types.locals n ≤ r.slots) (levels : (l slot : ℕ) → slice_get types.counters l ≡ Some slot → slot < r.slots) → (cs : Arguments) (p t first before : ℕ) → FitArguments b types cs → t ≤ first + before → first + (before + argument_words cs) ≤ r.slots → first + arguments_need cs before ≤ r.slots → p + length (arguments_code (starts_of types) cs p t) < length r.code → AreIn program r b types locals levels globals called results (arguments_code (starts_of types) cs p t)
-    arguments_in types locals levels NoArguments p t first before numbered place few needs short = tt
-    arguments_in types locals levels (MoreArguments c cs) p t first before (numbered, rest) place few needs short =
+    arguments_in : (types : Types) (locals : (n : ℕ) → n < b.locals → slot_of (starts_of types) n + words_in types.locals n ≤ r.slots) (levels : (l slot : ℕ) → slice_get types.counters l ≡ Some slot → slot < r.slots) (behind : types.raises + 4 < length r.code) → (cs : Arguments) (p t first before : ℕ) → FitArguments b types cs → t ≤ first + before → first + (before + argument_words cs) ≤ r.slots → first + arguments_need cs before ≤ r.slots → p + length (arguments_code (starts_of types) cs p t) < length r.code → AreIn program r b types locals levels globals called results behind (arguments_code (starts_of types) cs p t)
+    arguments_in types locals levels behind NoArguments p t first before numbered place few needs short = tt
+    arguments_in types locals levels behind (MoreArguments c cs) p t first before (numbered, rest) place few needs short =
         let front = converted_code (starts_of types) c p t in
         let back = arguments_code (starts_of types) cs (p + length front) (t + passed_words c) in
-        append program r b types locals levels globals called results front back
-        (converted_in types locals levels c p t numbered (omega (arith, few, place)) (omega (arith, needs, place)) (omega (arith, short, length-append front back)))
-        (arguments_in types locals levels cs (p + length front) (t + passed_words c) first (before + converted_words c) rest (omega (arith, place, passed_is c, converted_least c)) (omega (arith, few)) (omega (arith, needs)) (omega (arith, short, length-append front back)))
+        append program r b types locals levels globals called results behind front back
+        (converted_in types locals levels behind c p t numbered (omega (arith, few, place)) (omega (arith, needs, place)) (omega (arith, short, length-append front back)))
+        (arguments_in types locals levels behind cs (p + length front) (t + passed_words c) first (before + converted_words c) rest (omega (arith, place, passed_is c, converted_least c)) (omega (arith, few)) (omega (arith, needs)) (omega (arith, short, length-append front back)))
 
-    operations_in : (types : Types) (locals : (n : ℕ) → n < b.locals → slot_of (starts_of types) n + words_in types.locals n ≤ r.slots) (levels : (l slot : ℕ) → slice_get types.counters l ≡ Some slot → slot < r.slots) → (os : Operations) (ty : Ty) (kind : Kind) (p : ℕ) (l : Operand) (d t left : ℕ) → FitOperations b types left ty os → d + words_of_kind (chain_kind kind os) ≤ r.slots → LeftIn program r b types locals levels globals called results os l → IsOperand r l → 1 ≤ left → t + operations_need os ty left ≤ r.slots → p + length (operations_code (starts_of types) os p l d t) < length r.code → AreIn program r b types locals levels globals called results (operations_code (starts_of types) os p l d t)
-    operations_in types locals levels NoOperations ty kind p l d t left numbered room all inside some few short = tt
-    operations_in types locals levels (ThenCompute o a os) ty kind p l d t left (numbered, rest) room all inside some few short =
+    operations_in : (types : Types) (locals : (n : ℕ) → n < b.locals → slot_of (starts_of types) n + words_in types.locals n ≤ r.slots) (levels : (l slot : ℕ) → slice_get types.counters l ≡ Some slot → slot < r.slots) (behind : types.raises + 4 < length r.code) → (os : Operations) (ty : Ty) (kind : Kind) (p : ℕ) (l : Operand) (d t left : ℕ) → FitOperations b types left ty os → d + words_of_kind (chain_kind kind os) ≤ r.slots → LeftIn program r b types locals levels globals called results behind os l → IsOperand r l → 1 ≤ left → t + operations_need os ty left ≤ r.slots → p + length (operations_code (starts_of types) os p l d t) < length r.code → AreIn program r b types locals levels globals called results behind (operations_code (starts_of types) os p l d t)
+    operations_in types locals levels behind NoOperations ty kind p l d t left numbered room all inside some few short = tt
+    operations_in types locals levels behind (ThenCompute o a os) ty kind p l d t left (numbered, rest) room all inside some few short =
         let inner = expression_code (starts_of types) a p (value_slot (starts_of types) a (suc t)) (suc t) in
         let operand = code_unless (operand_of (starts_of types) a) inner in
         let next = next_slot os d t in
         let m = value_operand (starts_of types) a (suc t) in
-        let operator = operator_code o l m (p + length operand) next in
+        let operator = operator_code (starts_of types) o l m next in
         let front = operand ++ operator in
         let back = operations_code (starts_of types) os (p + length front) (operands.Slot next) d t in
         let long = length-append front back in
         let long_front = length-append operand operator in
-        let free : suc t + words_of_kind (kind_at program r b types locals levels globals called results a) ≤ r.slots = omega (arith, few, some, operand_positive (type_of a), words_positive ty, given_needs program r b types locals levels globals called results a numbered) in
-        let next_room = next_in program r b types locals levels globals called results os kinds.Int d t room (omega (arith, free)) in
+        let free : suc t + words_of_kind (kind_at program r b types locals levels globals called results behind a) ≤ r.slots = omega (arith, few, some, operand_positive (type_of a), words_positive ty, given_needs program r b types locals levels globals called results behind a numbered) in
+        let next_room = next_in program r b types locals levels globals called results behind os kinds.Int d t room (omega (arith, free)) in
         let next_few : next < r.slots = omega (arith, next_room) in
-        append program r b types locals levels globals called results front back
-        (append program r b types locals levels globals called results operand operator
-        (unless_in program r b types locals levels globals called results (operand_of (starts_of types) a) inner p (omega (arith, short, long, long_front)) (λ less. expression_in types locals levels a p (value_slot (starts_of types) a (suc t)) (suc t) numbered (slot_fits program r b types locals levels globals called results a (suc t) numbered free) (omega (arith, few, some)) less))
-        (operator_in program r b types locals levels globals called results o l m (p + length operand) next next_few inside (value_in program r b types locals levels globals called results a (suc t) numbered free) (omega (arith, short, long, long_front))))
-        (operations_in types locals levels os ty kinds.Int (p + length front) (operands.Slot next) d t (words_of ty) rest room (next_left_in program r b types locals levels globals called results os ty d t (words_of ty) rest (omega (arith, few))) next_few (words_positive ty) (omega (arith, few)) (omega (arith, short, long)))
-    operations_in types locals levels (ThenTest o a os) ty kind p l d t left (numbered, rest) room all inside some few short =
+        append program r b types locals levels globals called results behind front back
+        (append program r b types locals levels globals called results behind operand operator
+        (unless_in program r b types locals levels globals called results behind (operand_of (starts_of types) a) inner p (omega (arith, short, long, long_front)) (λ less. expression_in types locals levels behind a p (value_slot (starts_of types) a (suc t)) (suc t) numbered (slot_fits program r b types locals levels globals called results behind a (suc t) numbered free) (omega (arith, few, some)) less))
+        (operator_in program r b types locals levels globals called results behind o l m next next_few inside (value_in program r b types locals levels globals called results behind a (suc t) numbered free)))
+        (operations_in types locals levels behind os ty kinds.Int (p + length front) (operands.Slot next) d t (words_of ty) rest room (next_left_in program r b types locals levels globals called results behind os ty d t (words_of ty) rest (omega (arith, few))) next_few (words_positive ty) (omega (arith, few)) (omega (arith, short, long)))
+    operations_in types locals levels behind (ThenTest o a os) ty kind p l d t left (numbered, rest) room all inside some few short =
         let operand = expression_code (starts_of types) a (p + 1) t t in
         let next = next_slot os d t in
         let front = test_code o operand p next t in
@@ -714,101 +715,101 @@ module _ (program : PlainProgram) (r : Routine) (b : Numbering) (globals : b.glo
         let long = length-append front back in
         let long_front = length-append operand (truth_code t next) in
         let free : t < r.slots = omega (arith, few, some) in
-        let next_room = next_in program r b types locals levels globals called results os kinds.Int d t room (omega (arith, free)) in
+        let next_room = next_in program r b types locals levels globals called results behind os kinds.Int d t room (omega (arith, free)) in
         let next_few : next < r.slots = omega (arith, next_room) in
-        append program r b types locals levels globals called results front back
-        (test_in program r b types locals levels globals called results o operand p next t next_few free (omega (arith, short, long)) (expression_in types locals levels a (p + 1) t t numbered (omega (arith, few, free, given_needs program r b types locals levels globals called results a numbered)) (omega (arith, few)) (omega (arith, short, long, long_front))))
-        (operations_in types locals levels os ty kinds.Int (p + length front) (operands.Slot next) d t (words_of ty) rest room (next_left_in program r b types locals levels globals called results os ty d t (words_of ty) rest (omega (arith, few))) next_few (words_positive ty) (omega (arith, few)) (omega (arith, short, long)))
-    operations_in types locals levels (ThenPointer o a os) ty kind p l d t left (wide, numbered, rest) room all inside some few short =
+        append program r b types locals levels globals called results behind front back
+        (test_in program r b types locals levels globals called results behind o operand p next t next_few free (omega (arith, short, long)) (expression_in types locals levels behind a (p + 1) t t numbered (omega (arith, few, free, given_needs program r b types locals levels globals called results behind a numbered)) (omega (arith, few)) (omega (arith, short, long, long_front))))
+        (operations_in types locals levels behind os ty kinds.Int (p + length front) (operands.Slot next) d t (words_of ty) rest room (next_left_in program r b types locals levels globals called results behind os ty d t (words_of ty) rest (omega (arith, few))) next_few (words_positive ty) (omega (arith, few)) (omega (arith, short, long)))
+    operations_in types locals levels behind (ThenPointer o a os) ty kind p l d t left (wide, numbered, rest) room all inside some few short =
         let next = next_slot os d t in
         let m = value_operand (starts_of types) a (behind_left o t) in
         let operand = code_unless (operand_of (starts_of types) a) (expression_code (starts_of types) a p (value_slot (starts_of types) a (behind_left o t)) (behind_left o t)) in
         let front = pointer_code o l m operand next in
         let back = operations_code (starts_of types) os (p + length front) (operands.Slot next) d t in
         let long = length-append front back in
-        let next_room = next_in program r b types locals levels globals called results os (operator_kind o) d t room (omega (arith, few, wide, operator_few program r b types locals levels globals called results o)) in
+        let next_room = next_in program r b types locals levels globals called results behind os (operator_kind o) d t room (omega (arith, few, wide, operator_few program r b types locals levels globals called results behind o)) in
         let next_few : next < r.slots = omega (arith, next_room, kind_positive (operator_kind o)) in
-        append program r b types locals levels globals called results front back
-        (right_in program r b types locals levels globals called results o a ty p l next t left numbered wide next_room all inside (omega (arith, few)) (omega (arith, short, long)) (λ slot fits less. expression_in types locals levels a p slot (behind_left o t) numbered fits (omega (arith, few, wide)) less))
-        (operations_in types locals levels os ty (operator_kind o) (p + length front) (operands.Slot next) d t (words_of ty) rest room (next_left_in program r b types locals levels globals called results os ty d t (words_of ty) rest (omega (arith, few))) next_few (words_positive ty) (omega (arith, few)) (omega (arith, short, long)))
-    operations_in types locals levels (ThenPointerPeek n o a os) ty kind p l d t left (wide, numbered, rest) room all inside some few short =
+        append program r b types locals levels globals called results behind front back
+        (right_in program r b types locals levels globals called results behind o a ty p l next t left numbered wide next_room all inside (omega (arith, few)) (omega (arith, short, long)) (λ slot fits less. expression_in types locals levels behind a p slot (behind_left o t) numbered fits (omega (arith, few, wide)) less))
+        (operations_in types locals levels behind os ty (operator_kind o) (p + length front) (operands.Slot next) d t (words_of ty) rest room (next_left_in program r b types locals levels globals called results behind os ty d t (words_of ty) rest (omega (arith, few))) next_few (words_positive ty) (omega (arith, few)) (omega (arith, short, long)))
+    operations_in types locals levels behind (ThenPointerPeek n o a os) ty kind p l d t left (wide, numbered, rest) room all inside some few short =
         let next = next_slot os d t in
         let m = value_operand (starts_of types) a (behind_left o t) in
         let operand = code_unless (operand_of (starts_of types) a) (expression_code (starts_of types) a p (value_slot (starts_of types) a (behind_left o t)) (behind_left o t)) in
         let front = pointer_code o l m operand next in
         let back = operations_code (starts_of types) os (p + length front) (operands.Slot next) d t in
         let long = length-append front back in
-        let next_room = next_in program r b types locals levels globals called results os (operator_kind o) d t room (omega (arith, few, wide, operator_few program r b types locals levels globals called results o)) in
+        let next_room = next_in program r b types locals levels globals called results behind os (operator_kind o) d t room (omega (arith, few, wide, operator_few program r b types locals levels globals called results behind o)) in
         let next_few : next < r.slots = omega (arith, next_room, kind_positive (operator_kind o)) in
-        append program r b types locals levels globals called results front back
-        (right_in program r b types locals levels globals called results o a ty p l next t left numbered wide next_room all inside (omega (arith, few)) (omega (arith, short, long)) (λ slot fits less. expression_in types locals levels a p slot (behind_left o t) numbered fits (omega (arith, few, wide)) less))
-        (operations_in types locals levels os ty (operator_kind o) (p + length front) (operands.Slot next) d t (words_of ty) rest room (next_left_in program r b types locals levels globals called results os ty d t (words_of ty) rest (omega (arith, few))) next_few (words_positive ty) (omega (arith, few)) (omega (arith, short, long)))
+        append program r b types locals levels globals called results behind front back
+        (right_in program r b types locals levels globals called results behind o a ty p l next t left numbered wide next_room all inside (omega (arith, few)) (omega (arith, short, long)) (λ slot fits less. expression_in types locals levels behind a p slot (behind_left o t) numbered fits (omega (arith, few, wide)) less))
+        (operations_in types locals levels behind os ty (operator_kind o) (p + length front) (operands.Slot next) d t (words_of ty) rest room (next_left_in program r b types locals levels globals called results behind os ty d t (words_of ty) rest (omega (arith, few))) next_few (words_positive ty) (omega (arith, few)) (omega (arith, short, long)))
 
-module _ (program : PlainProgram) (r : Routine) (b : Numbering) (types : Types) (locals : (n : ℕ) → n < b.locals → slot_of (starts_of types) n + words_in types.locals n ≤ r.slots) (levels : (l slot : ℕ) → slice_get types.counters l ≡ Some slot → slot < r.slots) (globals : b.globals ≡ length program.globals) (called : (n : ℕ) (s : Signature) → slice_get b.functions n ≡ Some s → IsKnown program n s) (results : r.results ≡ results_of b.result) where
-  assignment_in : (l : Lvalue) (c : Converted) (p t : ℕ) → FitsStored b types l (passed_kind c) → FitsConverted b types c → t + converted_words c ≤ r.slots → t + converted_need c ≤ r.slots → p + length (assignment_code (starts_of types) l c p t) < length r.code → AreIn program r b types locals levels globals called results (assignment_code (starts_of types) l c p t)
-  assignment_in (Local w n) c p t (within, own) numbered free few short = initial_in program r b globals called results types locals levels c p (slot_of (starts_of types) n) t numbered (omega (arith, locals n within, own)) free few short
+module _ (program : PlainProgram) (r : Routine) (b : Numbering) (types : Types) (locals : (n : ℕ) → n < b.locals → slot_of (starts_of types) n + words_in types.locals n ≤ r.slots) (levels : (l slot : ℕ) → slice_get types.counters l ≡ Some slot → slot < r.slots) (globals : b.globals ≡ length program.globals) (called : (n : ℕ) (s : Signature) → slice_get b.functions n ≡ Some s → IsKnown program n s) (results : r.results ≡ results_of b.result) (behind : types.raises + 4 < length r.code) where
+  assignment_in : (l : Lvalue) (c : Converted) (p t : ℕ) → FitsStored b types l (passed_kind c) → FitsConverted b types c → t + converted_words c ≤ r.slots → t + converted_need c ≤ r.slots → p + length (assignment_code (starts_of types) l c p t) < length r.code → AreIn program r b types locals levels globals called results behind (assignment_code (starts_of types) l c p t)
+  assignment_in (Local w n) c p t (within, own) numbered free few short = initial_in program r b globals called results types locals levels behind c p (slot_of (starts_of types) n) t numbered (omega (arith, locals n within, own)) free few short
   assignment_in (Global n) c p t (within, single) numbered free few short =
       let front = converted_operand_code (starts_of types) c p t in
       let store = instructions.StoreGlobal n (converted_operand (starts_of types) c t) ∷ [] in
-      append program r b types locals levels globals called results front store (converted_operand_in program r b globals called results types locals levels c p t numbered free few (omega (arith, short, length-append front store))) ((omega (arith, within, globals), converted_value_in program r b types locals levels globals called results c t numbered free), tt)
+      append program r b types locals levels globals called results behind front store (converted_operand_in program r b globals called results types locals levels behind c p t numbered free few (omega (arith, short, length-append front store))) ((omega (arith, within, globals), converted_value_in program r b types locals levels globals called results behind c t numbered free), tt)
 
-  discarded_in : (a : Expression) (p t : ℕ) → Fits b types a → t + expression_need a + spare_slots ≤ r.slots → p + length (discarded_code (starts_of types) a p t) < length r.code → AreIn program r b types locals levels globals called results (discarded_code (starts_of types) a p t)
+  discarded_in : (a : Expression) (p t : ℕ) → Fits b types a → t + expression_need a + spare_slots ≤ r.slots → p + length (discarded_code (starts_of types) a p t) < length r.code → AreIn program r b types locals levels globals called results behind (discarded_code (starts_of types) a p t)
   discarded_in (Call callees.Putchar cs ty) p t (s, signature, many, passed, result, numbered) few short =
       let front = printed_code (starts_of types) cs p t in
       let back = instructions.WriteByte (printed_operand (starts_of types) cs (operands.Slot t) t) ∷ [] in
-      append program r b types locals levels globals called results front back (printed_in program r b globals called results types locals levels cs p t t 0 numbered (omega (arith, few)) (omega arith) (omega (arith, few)) (omega (arith, short, length-append front back)))
-      (printed_value_in program r b types locals levels globals called results cs (operands.Slot t) t numbered (omega (arith, few)) (omega (arith, few)), tt)
+      append program r b types locals levels globals called results behind front back (printed_in program r b globals called results types locals levels behind cs p t t 0 numbered (omega (arith, few)) (omega arith) (omega (arith, few)) (omega (arith, short, length-append front back)))
+      (printed_value_in program r b types locals levels globals called results behind cs (operands.Slot t) t numbered (omega (arith, few)) (omega (arith, few)), tt)
   discarded_in (Assign l c ty) p t (within, numbered) few short = assignment_in l c p t within numbered (omega (arith, few)) (omega (arith, few)) short
   discarded_in (Store x c ty) p t (place, single, numbered) few short =
-      stored_in program r b types locals levels globals called results x c p t numbered (omega (arith, few)) short
-      (λ less. addressed_in program r b types locals levels globals called results x p t t place (omega (arith, few)) (omega (arith, few)) less (λ shorter. place_in program r b globals called results types locals levels x place_words p t place (omega arith) (omega (arith, few)) shorter))
-      (λ q less. converted_operand_in program r b globals called results types locals levels c q (t + 1) numbered (omega (arith, few)) (omega (arith, few)) less)
+      stored_in program r b types locals levels globals called results behind x c p t numbered (omega (arith, few)) short
+      (λ less. addressed_in program r b types locals levels globals called results behind x p t t place (omega (arith, few)) (omega (arith, few)) less (λ shorter. place_in program r b globals called results types locals levels behind x place_words p t place (omega arith) (omega (arith, few)) shorter))
+      (λ q less. converted_operand_in program r b globals called results types locals levels behind c q (t + 1) numbered (omega (arith, few)) (omega (arith, few)) less)
   discarded_in a p t numbered few short =
-      unless_in program r b types locals levels globals called results (operand_of (starts_of types) a) (expression_code (starts_of types) a p t t) p short (λ less. expression_in program r b globals called results types locals levels a p t t numbered (omega (arith, few, kind_few (kind_at program r b types locals levels globals called results a))) (omega (arith, few)) less)
+      unless_in program r b types locals levels globals called results behind (operand_of (starts_of types) a) (expression_code (starts_of types) a p t t) p short (λ less. expression_in program r b globals called results types locals levels behind a p t t numbered (omega (arith, few, kind_few (kind_at program r b types locals levels globals called results behind a))) (omega (arith, few)) less)
 
   -- ---- statements
 
   -- two operands that are compared, by the code of the second
   pair_in : (a c : Expression) (p t : ℕ) → Fits b types a → t + expression_need a + spare_slots ≤ r.slots → p + length (pair_code (starts_of types) a c p t) < length r.code
-      → (p + length (first_code (starts_of types) a c p t) + length (second_code (starts_of types) c (p + length (first_code (starts_of types) a c p t)) t) < length r.code → AreIn program r b types locals levels globals called results (second_code (starts_of types) c (p + length (first_code (starts_of types) a c p t)) t)) → AreIn program r b types locals levels globals called results (pair_code (starts_of types) a c p t)
+      → (p + length (first_code (starts_of types) a c p t) + length (second_code (starts_of types) c (p + length (first_code (starts_of types) a c p t)) t) < length r.code → AreIn program r b types locals levels globals called results behind (second_code (starts_of types) c (p + length (first_code (starts_of types) a c p t)) t)) → AreIn program r b types locals levels globals called results behind (pair_code (starts_of types) a c p t)
   pair_in a c p t numbered few short second =
       let slot = slot_with (starts_of types) (operand_of (starts_of types) c) a t in
       let front = first_code (starts_of types) a c p t in
       let back = second_code (starts_of types) c (p + length front) t in
       let long = length-append front back in
-      append program r b types locals levels globals called results front back
-      (unless_in program r b types locals levels globals called results (left_with (operand_of (starts_of types) c) (operand_of (starts_of types) a)) (expression_code (starts_of types) a p slot t) p (omega (arith, short, long))
-      (λ less. expression_in program r b globals called results types locals levels a p slot t numbered (slot_with_in program r b types locals levels globals called results (operand_of (starts_of types) c) a t numbered (omega (arith, few, kind_few (kind_at program r b types locals levels globals called results a)))) (omega (arith, few)) less))
+      append program r b types locals levels globals called results behind front back
+      (unless_in program r b types locals levels globals called results behind (left_with (operand_of (starts_of types) c) (operand_of (starts_of types) a)) (expression_code (starts_of types) a p slot t) p (omega (arith, short, long))
+      (λ less. expression_in program r b globals called results types locals levels behind a p slot t numbered (slot_with_in program r b types locals levels globals called results behind (operand_of (starts_of types) c) a t numbered (omega (arith, few, kind_few (kind_at program r b types locals levels globals called results behind a)))) (omega (arith, few)) less))
       (second (omega (arith, short, long)))
 
-  condition_in : (a : Expression) (p t : ℕ) → Fits b types a → t + expression_need a + spare_slots ≤ r.slots → p + length (condition_code (starts_of types) a p t) < length r.code → AreIn program r b types locals levels globals called results (condition_code (starts_of types) a p t)
+  condition_in : (a : Expression) (p t : ℕ) → Fits b types a → t + expression_need a + spare_slots ≤ r.slots → p + length (condition_code (starts_of types) a p t) < length r.code → AreIn program r b types locals levels globals called results behind (condition_code (starts_of types) a p t)
   condition_in (Unary unary.Not a) p t numbered few short = pair_in a (Number 0) p t numbered (omega (arith, few)) short (λ less. tt)
   condition_in (Binary a (ThenCompute o c NoOperations) ty) p t (first, (second, none)) few short = by (failing_comparison o) short
     where
       by : (f : Option Comparison) → p + length (pair_code (starts_of types) (compared_or f a c (Binary a (ThenCompute o c NoOperations) ty)).left (compared_or f a c (Binary a (ThenCompute o c NoOperations) ty)).right p t) < length r.code
-          → AreIn program r b types locals levels globals called results (pair_code (starts_of types) (compared_or f a c (Binary a (ThenCompute o c NoOperations) ty)).left (compared_or f a c (Binary a (ThenCompute o c NoOperations) ty)).right p t)
+          → AreIn program r b types locals levels globals called results behind (pair_code (starts_of types) (compared_or f a c (Binary a (ThenCompute o c NoOperations) ty)).left (compared_or f a c (Binary a (ThenCompute o c NoOperations) ty)).right p t)
       by (Some failing) short =
           let next = p + length (first_code (starts_of types) a c p t) in
           let some = operand_positive (type_of a) in
-          let free : suc t + words_of_kind (kind_at program r b types locals levels globals called results c) ≤ r.slots = omega (arith, few, some, operand_positive (type_of c), words_positive ty, kind_few (kind_at program r b types locals levels globals called results c)) in
+          let free : suc t + words_of_kind (kind_at program r b types locals levels globals called results behind c) ≤ r.slots = omega (arith, few, some, operand_positive (type_of c), words_positive ty, kind_few (kind_at program r b types locals levels globals called results behind c)) in
           pair_in a c p t first (omega (arith, few)) short
-          (λ less. unless_in program r b types locals levels globals called results (operand_of (starts_of types) c) (expression_code (starts_of types) c next (value_slot (starts_of types) c (suc t)) (suc t)) next less
-          (λ fits. expression_in program r b globals called results types locals levels c next (value_slot (starts_of types) c (suc t)) (suc t) second (slot_fits program r b types locals levels globals called results c (suc t) second free) (omega (arith, few, some)) fits))
+          (λ less. unless_in program r b types locals levels globals called results behind (operand_of (starts_of types) c) (expression_code (starts_of types) c next (value_slot (starts_of types) c (suc t)) (suc t)) next less
+          (λ fits. expression_in program r b globals called results types locals levels behind c next (value_slot (starts_of types) c (suc t)) (suc t) second (slot_fits program r b types locals levels globals called results behind c (suc t) second free) (omega (arith, few, some)) fits))
       by None short = pair_in (Binary a (ThenCompute o c NoOperations) ty) (Number 0) p t (first, (second, none)) few short (λ less. tt)
   condition_in a p t numbered few short = pair_in a (Number 0) p t numbered few short (λ less. tt)
 
   compared_in : (a : Expression) (t : ℕ) → Fits b types a → t + expression_need a + spare_slots ≤ r.slots → IsOperand r (condition_of (starts_of types) a t).left × IsOperand r (condition_of (starts_of types) a t).right
-  compared_in (Unary unary.Not a) t numbered few = (value_in program r b types locals levels globals called results a t numbered (omega (arith, few, kind_few (kind_at program r b types locals levels globals called results a))), tt)
+  compared_in (Unary unary.Not a) t numbered few = (value_in program r b types locals levels globals called results behind a t numbered (omega (arith, few, kind_few (kind_at program r b types locals levels globals called results behind a))), tt)
   compared_in (Binary a (ThenCompute o c NoOperations) ty) t (first, (second, none)) few = by (failing_comparison o)
     where
       by : (f : Option Comparison) → IsOperand r (first_operand (starts_of types) (compared_or f a c (Binary a (ThenCompute o c NoOperations) ty)).left (compared_or f a c (Binary a (ThenCompute o c NoOperations) ty)).right t) × IsOperand r (value_operand (starts_of types) (compared_or f a c (Binary a (ThenCompute o c NoOperations) ty)).right (suc t))
       by (Some failing) =
-          let free : suc t + words_of_kind (kind_at program r b types locals levels globals called results c) ≤ r.slots = omega (arith, few, operand_positive (type_of a), operand_positive (type_of c), words_positive ty, kind_few (kind_at program r b types locals levels globals called results c)) in
-          (left_with_in program r b types locals levels globals called results (operand_of (starts_of types) c) a t first (omega (arith, few, kind_few (kind_at program r b types locals levels globals called results a))), value_in program r b types locals levels globals called results c (suc t) second free)
-      by None = (value_in program r b types locals levels globals called results (Binary a (ThenCompute o c NoOperations) ty) t (first, (second, none)) (omega (arith, few)), tt)
-  compared_in a t numbered few = (value_in program r b types locals levels globals called results a t numbered (omega (arith, few, kind_few (kind_at program r b types locals levels globals called results a))), tt)
+          let free : suc t + words_of_kind (kind_at program r b types locals levels globals called results behind c) ≤ r.slots = omega (arith, few, operand_positive (type_of a), operand_positive (type_of c), words_positive ty, kind_few (kind_at program r b types locals levels globals called results behind c)) in
+          (left_with_in program r b types locals levels globals called results behind (operand_of (starts_of types) c) a t first (omega (arith, few, kind_few (kind_at program r b types locals levels globals called results behind a))), value_in program r b types locals levels globals called results behind c (suc t) second free)
+      by None = (value_in program r b types locals levels globals called results behind (Binary a (ThenCompute o c NoOperations) ty) t (first, (second, none)) (omega (arith, few)), tt)
+  compared_in a t numbered few = (value_in program r b types locals levels globals called results behind a t numbered (omega (arith, few, kind_few (kind_at program r b types locals levels globals called results behind a))), tt)
 
-  return_in : (v : Option Converted) (p t : ℕ) → FitsReturn b types b.result v → t + initial_need v + spare_slots ≤ r.slots → p + length (return_code (starts_of types) v p t) < length r.code → AreIn program r b types locals levels globals called results (return_code (starts_of types) v p t)
+  return_in : (v : Option Converted) (p t : ℕ) → FitsReturn b types b.result v → t + initial_need v + spare_slots ≤ r.slots → p + length (return_code (starts_of types) v p t) < length r.code → AreIn program r b types locals levels globals called results behind (return_code (starts_of types) v p t)
   return_in None p t numbered few short = (omega (arith, few, results, results_few b.result), tt)
   return_in (Some (Convert from to a)) p t numbered few short =
       let c = Convert from to a in
@@ -816,43 +817,43 @@ module _ (program : PlainProgram) (r : Routine) (b : Numbering) (types : Types) 
       let s = slot_or known t in
       let inner = expression_code (starts_of types) a p t t in
       let front = code_unless_slot known inner in
-      let conversion = conversion_code to (operands.Slot s) (p + length front) in
+      let conversion = conversion_code (starts_of types) to (operands.Slot s) (p + length front) in
       let back = instructions.Return s ∷ [] in
       let long = length-append (front ++ conversion) back in
       let long_front = length-append front conversion in
       let (words, kind, is) = value_of b.result numbered in
       let there : s + words_of_kind to ≤ r.slots = returned_in (are_as_wide from to) kind is refl in
-      append program r b types locals levels globals called results (front ++ conversion) back
-      (append program r b types locals levels globals called results front conversion (unless_slot_in program r b types locals levels globals called results known inner p (omega (arith, short, long, long_front)) (λ less. expression_in program r b globals called results types locals levels a p t t is (omega (arith, few, kind_few (kind_at program r b types locals levels globals called results a))) (omega (arith, few)) less))
-      (conversion_in program r b types locals levels globals called results to (operands.Slot s) (p + length front) (omega (arith, there, kind_positive to)) (omega (arith, short, long, long_front)))) (omega (arith, there, results, words), tt)
+      append program r b types locals levels globals called results behind (front ++ conversion) back
+      (append program r b types locals levels globals called results behind front conversion (unless_slot_in program r b types locals levels globals called results behind known inner p (omega (arith, short, long, long_front)) (λ less. expression_in program r b globals called results types locals levels behind a p t t is (omega (arith, few, kind_few (kind_at program r b types locals levels globals called results behind a))) (omega (arith, few)) less))
+      (conversion_in program r b types locals levels globals called results behind to (operands.Slot s) (p + length front) (omega (arith, there, kind_positive to)) (omega (arith, short, long, long_front)))) (omega (arith, there, results, words), tt)
     where
-      value_of : (result : Option Ty) → FitsReturn b types result (Some (Convert from to a)) → (results_of result ≡ words_of_kind to) × (from ≡ kind_at program r b types locals levels globals called results a) × Fits b types a
+      value_of : (result : Option Ty) → FitsReturn b types result (Some (Convert from to a)) → (results_of result ≡ words_of_kind to) × (from ≡ kind_at program r b types locals levels globals called results behind a) × Fits b types a
       value_of None numbered = absurd numbered
       value_of (Some ty) (same, (kind, wide, numbered)) = (sym (type_words ty) ∙ ap words_of_kind (sym same), kind, numbered)
 
-      slot_there : (known : Option Operand) → HasOperand program r b types locals levels globals called results (operand_or known t) (words_of_kind to) → slot_or known t + words_of_kind to ≤ r.slots
+      slot_there : (known : Option Operand) → HasOperand program r b types locals levels globals called results behind (operand_or known t) (words_of_kind to) → slot_or known t + words_of_kind to ≤ r.slots
       slot_there (Some (operands.Slot n)) inside = inside
       slot_there (Some (operands.Word w)) inside = omega (arith, few, kind_few to)
       slot_there None inside = inside
 
-      wide_room : from ≡ kind_at program r b types locals levels globals called results a → Fits b types a → (words_of_kind from ≡ words_of_kind to) → (known : Option Operand) → operand_of (starts_of types) a ≡ known → slot_or known t + words_of_kind to ≤ r.slots
+      wide_room : from ≡ kind_at program r b types locals levels globals called results behind a → Fits b types a → (words_of_kind from ≡ words_of_kind to) → (known : Option Operand) → operand_of (starts_of types) a ≡ known → slot_or known t + words_of_kind to ≤ r.slots
       wide_room kind is wide (Some o) there =
           slot_there (Some o)
-          (subst (HasOperand program r b types locals levels globals called results o) (ap words_of_kind (sym kind) ∙ wide)
-          (subst (λ (x : Option Operand). HasOperand program r b types locals levels globals called results (operand_or x (value_slot (starts_of types) a t)) (words_of_kind (kind_at program r b types locals levels globals called results a))) there (value_room program r b types locals levels globals called results a t is (omega (arith, few, kind_few (kind_at program r b types locals levels globals called results a))))))
+          (subst (HasOperand program r b types locals levels globals called results behind o) (ap words_of_kind (sym kind) ∙ wide)
+          (subst (λ (x : Option Operand). HasOperand program r b types locals levels globals called results behind (operand_or x (value_slot (starts_of types) a t)) (words_of_kind (kind_at program r b types locals levels globals called results behind a))) there (value_room program r b types locals levels globals called results behind a t is (omega (arith, few, kind_few (kind_at program r b types locals levels globals called results behind a))))))
       wide_room kind is wide None there = omega (arith, few, kind_few to)
 
-      returned_in : (same : Bool) → from ≡ kind_at program r b types locals levels globals called results a → Fits b types a → are_as_wide from to ≡ same → slot_or (if same then operand_of (starts_of types) a else None) t + words_of_kind to ≤ r.slots
+      returned_in : (same : Bool) → from ≡ kind_at program r b types locals levels globals called results behind a → Fits b types a → are_as_wide from to ≡ same → slot_or (if same then operand_of (starts_of types) a else None) t + words_of_kind to ≤ r.slots
       returned_in true kind is wide = wide_room kind is (eqb-true (words_of_kind from) (words_of_kind to) wide) (operand_of (starts_of types) a) refl
       returned_in false kind is wide = omega (arith, few, kind_few to)
 
-  declaration_in : (n : ℕ) (v : Option Converted) (p t : ℕ) → n < b.locals → FitsInitial b types n v → t + initial_need v + spare_slots ≤ r.slots → p + length (declaration_code (starts_of types) n v p t) < length r.code → AreIn program r b types locals levels globals called results (declaration_code (starts_of types) n v p t)
+  declaration_in : (n : ℕ) (v : Option Converted) (p t : ℕ) → n < b.locals → FitsInitial b types n v → t + initial_need v + spare_slots ≤ r.slots → p + length (declaration_code (starts_of types) n v p t) < length r.code → AreIn program r b types locals levels globals called results behind (declaration_code (starts_of types) n v p t)
   declaration_in n None p t within numbered few short = tt
   declaration_in n (Some c) p t within (own, numbered) few short =
-      initial_in program r b globals called results types locals levels c p (slot_of (starts_of types) n) t numbered (omega (arith, locals n within, own)) (omega (arith, few, converted_few c)) (omega (arith, few)) short
+      initial_in program r b globals called results types locals levels behind c p (slot_of (starts_of types) n) t numbered (omega (arith, locals n within, own)) (omega (arith, few, converted_few c)) (omega (arith, few)) short
 
   mutual
-    statement_in : (s : Statement) (in_loop : Bool) (p : ℕ) (exits : Exits) (t : ℕ) → FitsStatement b types in_loop s → (in_loop ≡ true → exits.head + 2 < length r.code) → t + statement_need s + spare_slots ≤ r.slots → p + length (statement_code (starts_of types) s p exits t) < length r.code → AreIn program r b types locals levels globals called results (statement_code (starts_of types) s p exits t)
+    statement_in : (s : Statement) (in_loop : Bool) (p : ℕ) (exits : Exits) (t : ℕ) → FitsStatement b types in_loop s → (in_loop ≡ true → exits.head + 2 < length r.code) → t + statement_need s + spare_slots ≤ r.slots → p + length (statement_code (starts_of types) s p exits t) < length r.code → AreIn program r b types locals levels globals called results behind (statement_code (starts_of types) s p exits t)
     statement_in (Block n js) in_loop p exits t numbered around few short = items_in js in_loop p exits t numbered around few short
     statement_in Empty in_loop p exits t numbered around few short = tt
     statement_in (Evaluate a) in_loop p exits t numbered around few short = discarded_in a p t numbered few short
@@ -867,8 +868,8 @@ module _ (program : PlainProgram) (r : Routine) (b : Numbering) (types : Types) 
         let long = length-append (condition ++ jump_first) jump_second in
         let long_front = length-append condition jump_first in
         let (left, right) = compared_in a t numbered_a (omega (arith, few)) in
-        append program r b types locals levels globals called results (condition ++ jump_first) jump_second
-        (append program r b types locals levels globals called results condition jump_first (condition_in a p t numbered_a (omega (arith, few)) (omega (arith, short, long, long_front)))
+        append program r b types locals levels globals called results behind (condition ++ jump_first) jump_second
+        (append program r b types locals levels globals called results behind condition jump_first (condition_in a p t numbered_a (omega (arith, few)) (omega (arith, short, long, long_front)))
         ((left, right, omega (arith, short, long, long_front)), statement_in s in_loop (m + 1) exits t numbered_s around (omega (arith, few)) (omega (arith, short, long, long_front))))
         (omega (arith, short, long, long_front), statement_in u in_loop (q + 1) exits t numbered_u around (omega (arith, few)) (omega (arith, short, long, long_front)))
     statement_in (While w a s) in_loop p exits t (numbered_a, numbered_s) around few short =
@@ -883,8 +884,8 @@ module _ (program : PlainProgram) (r : Routine) (b : Numbering) (types : Types) 
           omega (arith, short, long, long_front),
           (
             omega (arith, short, long, long_front),
-            append program r b types locals levels globals called results (condition ++ test) again
-                (append program r b types locals levels globals called results condition test (condition_in a (p + 2) t numbered_a (omega (arith, few)) (omega (arith, short, long, long_front)))
+            append program r b types locals levels globals called results behind (condition ++ test) again
+                (append program r b types locals levels globals called results behind condition test (condition_in a (p + 2) t numbered_a (omega (arith, few)) (omega (arith, short, long, long_front)))
                 ((left, right, omega (arith, short, long, long_front)), statement_in s true (m + 1) (inside_loop p t exits) t numbered_s (λ inside. omega (arith, short, long, long_front)) (omega (arith, few)) (omega (arith, short, long, long_front))))
                 (omega (arith, short, long, long_front), tt),
           ),
@@ -894,19 +895,19 @@ module _ (program : PlainProgram) (r : Routine) (b : Numbering) (types : Types) 
     statement_in Continue in_loop p exits t numbered around few short = (omega (arith, around numbered), tt)
     statement_in s in_loop p exits t numbered around few short = absurd numbered
 
-    items_in : (js : Items) (in_loop : Bool) (p : ℕ) (exits : Exits) (t : ℕ) → FitItems b types in_loop js → (in_loop ≡ true → exits.head + 2 < length r.code) → t + items_need js + spare_slots ≤ r.slots → p + length (items_code (starts_of types) js p exits t) < length r.code → AreIn program r b types locals levels globals called results (items_code (starts_of types) js p exits t)
+    items_in : (js : Items) (in_loop : Bool) (p : ℕ) (exits : Exits) (t : ℕ) → FitItems b types in_loop js → (in_loop ≡ true → exits.head + 2 < length r.code) → t + items_need js + spare_slots ≤ r.slots → p + length (items_code (starts_of types) js p exits t) < length r.code → AreIn program r b types locals levels globals called results behind (items_code (starts_of types) js p exits t)
     items_in NoItems in_loop p exits t numbered around few short = tt
     items_in (MoreItems (Execute s) js) in_loop p exits t (numbered, rest) around few short =
         let front = statement_code (starts_of types) s p exits t in
         let back = items_code (starts_of types) js (p + length front) exits t in
         let long = length-append front back in
-        append program r b types locals levels globals called results front back (statement_in s in_loop p exits t numbered around (omega (arith, few)) (omega (arith, short, long)))
+        append program r b types locals levels globals called results behind front back (statement_in s in_loop p exits t numbered around (omega (arith, few)) (omega (arith, short, long)))
         (items_in js in_loop (p + length front) exits t rest around (omega (arith, few)) (omega (arith, short, long)))
     items_in (MoreItems (Declare n ty v) js) in_loop p exits t (within, numbered, rest) around few short =
         let front = declaration_code (starts_of types) n v p t in
         let back = items_code (starts_of types) js (p + length front) exits t in
         let long = length-append front back in
-        append program r b types locals levels globals called results front back (declaration_in n v p t within numbered (omega (arith, few)) (omega (arith, short, long)))
+        append program r b types locals levels globals called results behind front back (declaration_in n v p t within numbered (omega (arith, few)) (omega (arith, short, long)))
         (items_in js in_loop (p + length front) exits t rest around (omega (arith, few)) (omega (arith, short, long)))
     items_in js in_loop p exits t numbered around few short = absurd numbered
 
@@ -941,18 +942,19 @@ module _ (source : Program) (is_fitting : IsFitting source) where
       let types = types_of source.structs h in
       let starts = starts_of types in
       let body = items_code starts h.body 0 (outside_loops d) d in
-      let end = instructions.Return d ∷ [] in
+      let end = instructions.Return d ∷ blocks in
       let long = length-append body end in
+      let placed = body_long source.structs h in
       record {
         parameters = omega (arith, slots-few h);
         results = omega (arith, results_few h.result);
         frame = omega (arith, slots-few h);
         instructions = all_of (IsInRange (lower_program source) r) (body ++ end)
             (all_append (IsInRange (lower_program source) r) body end
-            (items_in (lower_program source) r b types (λ n within. omega (arith, slot-room types n (omega (arith, within, slot_types-many h)))) (λ l slot there. absurd (none-some slot there)) (globals_counted source.globals) known_functions refl
+            (items_in (lower_program source) r b types (λ n within. omega (arith, slot-room types n (omega (arith, within, slot_types-many h)))) (λ l slot there. absurd (none-some slot there)) (globals_counted source.globals) known_functions refl (omega (arith, long, placed))
             h.body false 0 (outside_loops d) d numbered_body (λ inside. absurd (let f : false ≡ true = inside in cc)) (omega arith) (omega (arith, long)))
-            (omega (arith, results_few h.result), tt));
-        last = subst (λ (o : Option Instruction). IsSomeAnd o (λ i. leaves i ≡ true)) (sym (last_of body (instructions.Return d))) refl;
+            (omega (arith, results_few h.result), (tt, (tt, (tt, (tt, tt))))));
+        last = subst (λ (o : Option Instruction). IsSomeAnd o (λ i. leaves i ≡ true)) (sym (last_behind body end (omega arith))) refl;
       }
 
   functions_well : (hs : List Function) → AreFitting source.structs (length source.globals) (signatures_of source.functions) hs → AllByRecursion (IsRoutine (lower_program source)) (map (lower_function source.structs) hs)

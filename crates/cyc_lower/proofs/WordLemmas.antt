@@ -16,6 +16,7 @@ use Rattle.cyc_types.specs.declared.typed.LogicalOperator.{LogicalOperator}
 use Rattle.cyc_types.specs.declared.typed.LogicalOperator.TheVariants as logical
 use Rattle.cyc_types.specs.TypedTrees.{Array, Counter, Load, New, OnHeap, AsUnique, ByHandle, Initial, Plain, Fields, Dereference, Target, Lvalue, Local, Global, Expression, Number, NullPointer, Copy, Call, Unary, Binary, Assign, Converted, Convert, Arguments, NoArguments, MoreArguments, Operations, NoOperations, ThenCompute, ThenTest, ThenPointer, Statement, Block, Empty, Evaluate, If, While, Return, Break, Continue, Items, NoItems, MoreItems, Execute, Declare, Constant, Word, Null, GlobalVariable, StructType, Function, Program, Move, Peek, ThenPointerPeek, AddressOfCell, Store, Member, Element}
 use Rattle.cyc_plain.specs.declared.instruction.Comparison.{Comparison}
+use Rattle.cyc_plain.specs.declared.instruction.Comparison.TheVariants as comparisons
 use Rattle.cyc_plain.specs.declared.instruction.Operand.{Operand}
 use Rattle.cyc_plain.specs.declared.instruction.Operand.TheVariants as operands
 use Rattle.cyc_plain.specs.declared.instruction.Instruction.{Instruction}
@@ -29,7 +30,7 @@ use Rattle.cyc_types.specs.Types.{words_of, Ty}
 use Rattle.cyc_types.specs.Numbered.{argument_count}
 use Rattle.cyc_store.specs.declared.range.TheConstants.{HEAP}
 use Rattle.cyc_meaning.specs.Values.{words_of_kind}
-use Rattle.cyc_lower.specs.Lowering.{begun_code, filled_code, ended_code, elements_code, counter_operand, types_of, are_as_wide, converts_there, passed_words, source_of, source_slot, converted_by, moved_by, move_of, operand_of, operand_or, code_unless, slot_or, code_unless_slot, left_with, left_of, value_slot, next_slot, left_slot, value_operand, converted_operand, printed_operand, check_code, conversion_code, divisor_code, checked_code, operator_code, truth_code, load_code, test_code, is_in, copy_code, expression_code, arguments_code, converted_code, converted_operand_code, printed_code, initial_code, assignment_code, operations_code, discarded_code, failing_comparison, compared_or, compared_of, slot_with, first_code, second_code, pair_code, condition_code, condition_of, return_code, declaration_code, statement_code, items_code, first_temporary, initial_word, lower_function, lower_global, lower_program, behind_left, pointer_code, outside_loops, inside_loop, index_of, first_two, pointer_instructions, stores_code, object_code, made_code, place_operand, place_offset, place_code, address_code, addressed_by, store_address_code, store_code}
+use Rattle.cyc_lower.specs.Lowering.{begun_code, filled_code, ended_code, elements_code, counter_operand, types_of, are_as_wide, converts_there, passed_words, source_of, source_slot, converted_by, moved_by, move_of, operand_of, operand_or, code_unless, slot_or, code_unless_slot, left_with, left_of, value_slot, next_slot, left_slot, value_operand, converted_operand, printed_operand, check_code, conversion_code, divisor_code, checked_code, operator_code, truth_code, load_code, test_code, is_in, copy_code, expression_code, arguments_code, converted_code, converted_operand_code, printed_code, initial_code, assignment_code, operations_code, discarded_code, failing_comparison, compared_or, compared_of, slot_with, first_code, second_code, pair_code, condition_code, condition_of, return_code, declaration_code, statement_code, items_code, first_temporary, initial_word, lower_function, lower_global, lower_program, behind_left, pointer_code, outside_loops, inside_loop, index_of, first_two, pointer_instructions, stores_code, object_code, made_code, place_operand, place_offset, place_code, address_code, addressed_by, store_address_code, store_code, guard_code, blocks}
 use Rattle.cyc_lower.proofs.WellFormed.{all_append, all_of}
 
 abbrev HaveWords : List Instruction → Type 0
@@ -51,25 +52,32 @@ unless_slot_words None x words = words
 
 -- ---- expressions
 
-check_words : (tag : ℕ) (o : Operand) (p : ℕ) → IsWord tag → IsOfWord o → HaveWords (check_code tag o p)
-check_words tag o p fits word = ((word, omega arith), ((fits, word), tt))
+guard_words : (starts : Starts) (tag : ℕ) (failing : Comparison) (l r : Operand) → IsOfWord l → IsOfWord r → HaveWords (guard_code starts tag failing l r)
+guard_words starts tag failing l r left right = ((left, right), tt)
 
-conversion_words : (to : Kind) (o : Operand) (p : ℕ) → IsOfWord o → HaveWords (conversion_code to o p)
-conversion_words kinds.NonNull o p word = check_words null_exception o p (omega arith) word
-conversion_words to o p word = tt
+check_words : (starts : Starts) (tag : ℕ) (o : Operand) → IsOfWord o → HaveWords (check_code starts tag o)
+check_words starts tag o word = guard_words starts tag comparisons.Equal o (operands.Word 0) word (omega arith)
 
-divisor_words : (o : Operand) (p : ℕ) → IsOfWord o → HaveWords (divisor_code o p)
-divisor_words (operands.Word (suc n)) p word = tt
-divisor_words (operands.Word zero) p word = check_words division_by_zero (operands.Word zero) p (omega arith) word
-divisor_words (operands.Slot n) p word = check_words division_by_zero (operands.Slot n) p (omega arith) word
+conversion_words : (starts : Starts) (to : Kind) (o : Operand) (p : ℕ) → IsOfWord o → HaveWords (conversion_code starts to o p)
+conversion_words starts kinds.NonNull o p word = check_words starts null_exception o word
+conversion_words starts to o p word = tt
 
-checked_words : (o : Operator) (l r : Operand) (p d : ℕ) → IsOfWord l → IsOfWord r → HaveWords (checked_code o l r p d)
-checked_words o l r p d left right = append (divisor_code r p) _ (divisor_words r p right) ((left, right), tt)
+divisor_words : (starts : Starts) (o : Operand) → IsOfWord o → HaveWords (divisor_code starts o)
+divisor_words starts (operands.Word (suc n)) word = tt
+divisor_words starts (operands.Word zero) word = check_words starts division_by_zero (operands.Word zero) word
+divisor_words starts (operands.Slot n) word = check_words starts division_by_zero (operands.Slot n) word
 
-operator_words : (o : Operator) (l r : Operand) (p d : ℕ) → IsOfWord l → IsOfWord r → HaveWords (operator_code o l r p d)
-operator_words operators.Divide l r p d left right = checked_words operators.Divide l r p d left right
-operator_words operators.Remainder l r p d left right = checked_words operators.Remainder l r p d left right
-operator_words o l r p d left right = ((left, right), tt)
+checked_words : (starts : Starts) (o : Operator) (l r : Operand) (d : ℕ) → IsOfWord l → IsOfWord r → HaveWords (checked_code starts o l r d)
+checked_words starts o l r d left right = append (divisor_code starts r) _ (divisor_words starts r right) ((left, right), tt)
+
+operator_words : (starts : Starts) (o : Operator) (l r : Operand) (d : ℕ) → IsOfWord l → IsOfWord r → HaveWords (operator_code starts o l r d)
+operator_words starts operators.Divide l r d left right = checked_words starts operators.Divide l r d left right
+operator_words starts operators.Remainder l r d left right = checked_words starts operators.Remainder l r d left right
+operator_words starts o l r d left right = ((left, right), tt)
+
+-- what raises exceptions, behind a function's body
+blocks_words : HaveWords blocks
+blocks_words = ((omega arith, omega arith), ((omega arith, omega arith), ((omega arith, omega arith), ((omega arith, omega arith), tt))))
 
 move_words : (words d : ℕ) (o : Operand) → IsOfWord o → HaveWords (move_of words d o ∷ [])
 move_words words d (operands.Word n) word = (word, tt)
@@ -96,15 +104,15 @@ field_word : (s : Option StructType) (field : ℕ) → IsWord (field_in s field)
 field_word None field = omega arith
 field_word (Some s) field = bytes_word s.fields field 0 (omega arith)
 
-converted_by_words : (known : Option Operand) (inner : List Instruction) (to : Kind) (o : Operand) (p : ℕ) → HaveWords inner → IsOfWord o → HaveWords (converted_by known inner to o p)
-converted_by_words known inner to o p all word =
+converted_by_words : (starts : Starts) (known : Option Operand) (inner : List Instruction) (to : Kind) (o : Operand) (p : ℕ) → HaveWords inner → IsOfWord o → HaveWords (converted_by starts known inner to o p)
+converted_by_words starts known inner to o p all word =
     let front = code_unless known inner in
-    append front (conversion_code to o (p + length front)) (unless_words known inner all) (conversion_words to o (p + length front) word)
+    append front (conversion_code starts to o (p + length front)) (unless_words known inner all) (conversion_words starts to o (p + length front) word)
 
-initial_by_words : (there : Bool) (known : Option Operand) (at_once inner : List Instruction) (to : Kind) (o : Operand) (p d : ℕ) → HaveWords at_once → HaveWords inner → IsOfWord o
-    → HaveWords (if there then at_once else moved_by known inner to o p d)
-initial_by_words true known at_once inner to o p d all other word = all
-initial_by_words false known at_once inner to o p d all other word = append (converted_by known inner to o p) _ (converted_by_words known inner to o p other word) (move_words (words_of_kind to) d o word)
+initial_by_words : (starts : Starts) (there : Bool) (known : Option Operand) (at_once inner : List Instruction) (to : Kind) (o : Operand) (p d : ℕ) → HaveWords at_once → HaveWords inner → IsOfWord o
+    → HaveWords (if there then at_once else moved_by starts known inner to o p d)
+initial_by_words starts true known at_once inner to o p d all other word = all
+initial_by_words starts false known at_once inner to o p d all other word = append (converted_by starts known inner to o p) _ (converted_by_words starts known inner to o p other word) (move_words (words_of_kind to) d o word)
 
 index_word : (l : Operand) → IsOfWord l → IsOfWord (index_of l)
 index_word (operands.Slot n) word = tt
@@ -243,20 +251,20 @@ mutual
   made_words starts (Array w level n kind a) handle p d t word (count, element) =
       let first = expression_code starts n p t t in
       let m = p + length first in
-      let inner = expression_code (with_counter starts (t + 2)) a (m + 7 + 1) (t + 3) (t + 3) in
-      let filled = filled_code (m + 7) t in
-      append first (begun_code handle m t ++ elements_code inner (m + 7) d t) (expression_words starts n p t t count)
-      (append (begun_code handle m t) (elements_code inner (m + 7) d t) ((tt, omega arith), ((omega arith, omega arith), (tt, (omega arith, (tt, ((tt, tt), ((word, tt), tt)))))))
-      ((tt, tt), append (inner ++ filled) (ended_code d t) (append inner filled (expression_words (with_counter starts (t + 2)) a (m + 7 + 1) (t + 3) (t + 3) element)
+      let inner = expression_code (with_counter starts (t + 2)) a (m + 6 + 1) (t + 3) (t + 3) in
+      let filled = filled_code (m + 6) t in
+      append first (begun_code starts handle t ++ elements_code inner (m + 6) d t) (expression_words starts n p t t count)
+      (append (begun_code starts handle t) (elements_code inner (m + 6) d t) ((tt, omega arith), (tt, (omega arith, (tt, ((tt, tt), ((word, tt), tt))))))
+      ((tt, tt), append (inner ++ filled) (ended_code d t) (append inner filled (expression_words (with_counter starts (t + 2)) a (m + 6 + 1) (t + 3) (t + 3) element)
       ((tt, omega arith), ((tt, tt), ((tt, omega arith, tt), ((tt, omega arith), (tt, tt)))))) (omega arith, copy_words (is_in (operands.Slot t) d) 3 (operands.Slot t) d tt)))
 
   place_words : (starts : Starts) → (x : Dereference) (p t : ℕ) → IsOfWordsCell x → HaveWords (place_code starts x p t)
   place_words starts (Target k a ty) p t words =
       let slot = value_slot starts a t in
-      converted_by_words (operand_of starts a) (expression_code starts a p slot t) kinds.NonNull (value_operand starts a t) p (expression_words starts a p slot t words) (known_word starts a slot words)
+      converted_by_words starts (operand_of starts a) (expression_code starts a p slot t) kinds.NonNull (value_operand starts a t) p (expression_words starts a p slot t words) (known_word starts a slot words)
   place_words starts (Member k a s f ty) p t words =
       let slot = value_slot starts a t in
-      converted_by_words (operand_of starts a) (expression_code starts a p slot t) kinds.NonNull (value_operand starts a t) p (expression_words starts a p slot t words) (known_word starts a slot words)
+      converted_by_words starts (operand_of starts a) (expression_code starts a p slot t) kinds.NonNull (value_operand starts a t) p (expression_words starts a p slot t words) (known_word starts a slot words)
   place_words starts x p t words = absurd words
 
   -- its address comes to a slot
@@ -265,32 +273,32 @@ mutual
       let slot = value_slot starts a t in
       let o = value_operand starts a t in
       append (place_code starts (Target k a ty) p t) _
-      (converted_by_words (operand_of starts a) (expression_code starts a p slot t) kinds.NonNull o p (expression_words starts a p slot t words) (known_word starts a slot words))
+      (converted_by_words starts (operand_of starts a) (expression_code starts a p slot t) kinds.NonNull o p (expression_words starts a p slot t words) (known_word starts a slot words))
       (address_words o 0 d (known_word starts a slot words) (omega arith))
   address_of_words starts (Member k a s f ty) p d t words =
       let slot = value_slot starts a t in
       let o = value_operand starts a t in
       let x = Member k a s f ty in
       append (place_code starts x p t) _
-      (converted_by_words (operand_of starts a) (expression_code starts a p slot t) kinds.NonNull o p (expression_words starts a p slot t words) (known_word starts a slot words))
+      (converted_by_words starts (operand_of starts a) (expression_code starts a p slot t) kinds.NonNull o p (expression_words starts a p slot t words) (known_word starts a slot words))
       (address_words o (place_offset starts x) d (known_word starts a slot words) (offset_word starts x))
   address_of_words starts x p d t words = absurd words
 
   initial_words : (starts : Starts) → (c : Converted) (p d t : ℕ) → IsOfWordsConverted c → HaveWords (initial_code starts c p d t)
   initial_words starts (Convert from to a) p d t words =
       let slot = source_slot starts (Convert from to a) t in
-      initial_by_words (converts_there from to) (source_of starts (Convert from to a)) (expression_code starts a p d t) (expression_code starts a p slot t) to (converted_operand starts (Convert from to a) t) p d
+      initial_by_words starts (converts_there from to) (source_of starts (Convert from to a)) (expression_code starts a p d t) (expression_code starts a p slot t) to (converted_operand starts (Convert from to a) t) p d
       (expression_words starts a p d t words) (expression_words starts a p slot t words) (converted_word starts (Convert from to a) t words)
 
   converted_words : (starts : Starts) → (c : Converted) (p t : ℕ) → IsOfWordsConverted c → HaveWords (converted_code starts c p t)
   converted_words starts (Convert from to a) p t words =
       let q = p + length (expression_code starts a p t t) in
-      append (expression_code starts a p t t) (conversion_code to (operands.Slot t) q) (expression_words starts a p t t words) (conversion_words to (operands.Slot t) q tt)
+      append (expression_code starts a p t t) (conversion_code starts to (operands.Slot t) q) (expression_words starts a p t t words) (conversion_words starts to (operands.Slot t) q tt)
 
   converted_operand_words : (starts : Starts) → (c : Converted) (p t : ℕ) → IsOfWordsConverted c → HaveWords (converted_operand_code starts c p t)
   converted_operand_words starts (Convert from to a) p t words =
       let slot = source_slot starts (Convert from to a) t in
-      converted_by_words (source_of starts (Convert from to a)) (expression_code starts a p slot t) to (converted_operand starts (Convert from to a) t) p (expression_words starts a p slot t words) (converted_word starts (Convert from to a) t words)
+      converted_by_words starts (source_of starts (Convert from to a)) (expression_code starts a p slot t) to (converted_operand starts (Convert from to a) t) p (expression_words starts a p slot t words) (converted_word starts (Convert from to a) t words)
 
   printed_words : (starts : Starts) → (cs : Arguments) (p t : ℕ) → AreOfWordsArguments cs → HaveWords (printed_code starts cs p t)
   printed_words starts NoArguments p t words = tt
@@ -310,11 +318,11 @@ mutual
       let inner = expression_code starts a p (value_slot starts a (suc t)) (suc t) in
       let operand = code_unless (operand_of starts a) inner in
       let next = next_slot os d t in
-      let operator = operator_code o l (value_operand starts a (suc t)) (p + length operand) next in
+      let operator = operator_code starts o l (value_operand starts a (suc t)) next in
       let q = p + length (operand ++ operator) in
       append (operand ++ operator) (operations_code starts os q (operands.Slot next) d t)
       (append operand operator (unless_words (operand_of starts a) inner (expression_words starts a p (value_slot starts a (suc t)) (suc t) first))
-      (operator_words o l (value_operand starts a (suc t)) (p + length operand) next left (known_word starts a (value_slot starts a (suc t)) first)))
+      (operator_words starts o l (value_operand starts a (suc t)) next left (known_word starts a (value_slot starts a (suc t)) first)))
       (operations_words starts os q (operands.Slot next) d t tt rest)
   operations_words starts (ThenTest o a os) p l d t left (first, rest) =
       let operand = expression_code starts a (p + 1) t t in
@@ -394,9 +402,9 @@ module _ (starts : Starts) where
       let inner = expression_code starts a p t t in
       let front = code_unless_slot known inner in
       let s = slot_or known t in
-      let conversion = conversion_code to (operands.Slot s) (p + length front) in
+      let conversion = conversion_code starts to (operands.Slot s) (p + length front) in
       append (front ++ conversion) _
-      (append front conversion (unless_slot_words known inner (expression_words starts a p t t words)) (conversion_words to (operands.Slot s) (p + length front) tt)) (tt, tt)
+      (append front conversion (unless_slot_words known inner (expression_words starts a p t t words)) (conversion_words starts to (operands.Slot s) (p + length front) tt)) (tt, tt)
 
   declaration_words : (n : ℕ) (v : Option Converted) (p t : ℕ) → IsOfWordsInitial v → HaveWords (declaration_code starts n v p t)
   declaration_words n None p t words = tt
@@ -440,7 +448,7 @@ functions_words structs (h ∷ hs) (first, rest) =
     let d = first_temporary h in
     let starts = starts_of (types_of structs h) in
     let body = items_code starts h.body 0 (outside_loops d) d in
-    (all_of HasWord (body ++ instructions.Return d ∷ []) (append body (instructions.Return d ∷ []) (items_words starts h.body 0 (outside_loops d) d first) (tt, tt)), functions_words structs hs rest)
+    (all_of HasWord (body ++ instructions.Return d ∷ blocks) (append body (instructions.Return d ∷ blocks) (items_words starts h.body 0 (outside_loops d) d first) (tt, blocks_words)), functions_words structs hs rest)
 
 constant_word : (c : Constant) → IsOfWordsConstant c → IsWord (initial_word c)
 constant_word (Word n) word = word

@@ -18,7 +18,7 @@ use Rattle.cyc_lower.specs.Lowering.{operand_of, source_of, source_slot, code_un
 use Rattle.cyc_meaning.specs.FrameCount.{operand_words, argument_words, arguments_need, expression_need, initial_need, statement_need, kept_by, frame_count}
 use Rattle.cyc_plain.specs.declared.instruction.Comparison.{Comparison}
 use Rattle.cyc_lower.specs.declared.emitter.Emitter.{Emitter}
-use Rattle.cyc_lower.specs.declared.locals.Starts.{Starts as StartsCode}
+use Rattle.cyc_lower.specs.declared.starts.Starts.{Starts as StartsCode}
 use Rattle.cyc_lower.specs.declared.operands.Condition.{Condition}
 use Rattle.cyc_lower.specs.declared.statements.Exits.{Exits}
 
@@ -32,7 +32,7 @@ Gives answer result old new code = IfOk result (λ given. (given ≡ answer) × 
 
 -- where things begin, as the code has it
 abbrev pub view_starts : StartsCode → Starts
-view_starts starts = record { locals = starts.locals.now; structs = map view_struct starts.structs.now; counters = starts.counters.now }
+view_starts starts = record { locals = starts.locals.now; structs = map view_struct starts.structs.now; raises = starts.raises; counters = starts.counters.now }
 
 -- Slots are numbers that a word holds: a function has fewer locals than this, and of its temporaries no more are in use than
 -- there are instructions before.
@@ -73,7 +73,7 @@ module _ (starts : Starts) where
   abbrev pub converted_slot_code : Converted → (p t : ℕ) → List Instruction
   converted_slot_code (Convert from to a) p t =
       code_unless_slot (source_of starts (Convert from to a)) (expression_code starts a p t t)
-      ++ conversion_code to (Slot (slot_or (source_of starts (Convert from to a)) t)) (p + length (code_unless_slot (source_of starts (Convert from to a)) (expression_code starts a p t t)))
+      ++ conversion_code starts to (Slot (slot_or (source_of starts (Convert from to a)) t)) (p + length (code_unless_slot (source_of starts (Convert from to a)) (expression_code starts a p t t)))
 
   -- what brings the left operand of a chain
   abbrev pub left_code : Expression → Operations → (p d t : ℕ) → List Instruction
@@ -100,7 +100,7 @@ module _ (starts : Starts) where
   -- one operator of a chain with its right operand, where the left one is l
   abbrev pub operation_code : Operation → (p : ℕ) → (l : Operand) → (d t : ℕ) → List Instruction
   operation_code (operation.Compute o e) p l d t =
-      compute_code o l (value_operand starts (view_expression e) (suc t)) (value_code (view_expression e) p (suc t)) p d
+      compute_code starts o l (value_operand starts (view_expression e) (suc t)) (value_code (view_expression e) p (suc t)) d
   operation_code (operation.Test o e) p l d t = test_code o (expression_code starts (view_expression e) (p + 1) t t) p d t
   operation_code (operation.Pointer o e) p l d t = pointer_operation_code o (view_expression e) p l d t
   operation_code (operation.PointerPeek n o e) p l d t = pointer_operation_code o (view_expression e) p l d t

@@ -35,7 +35,7 @@ use Rattle.cyc_plain.specs.declared.instruction.Instruction.TheVariants as instr
 use Rattle.cyc_plain.specs.Program.{Routine, Program as PlainProgram}
 use Rattle.cyc_store.specs.declared.range.TheConstants.{HEAP}
 use Rattle.cyc_meaning.specs.Values.{words_of_kind}
-use Rattle.cyc_meaning.specs.Operators.{null_exception, array_size, division_by_zero}
+use Rattle.cyc_meaning.specs.Operators.{null_exception, array_size, division_by_zero, array_bounds}
 use Rattle.cyc_meaning.specs.FrameCount.{frame_count, items_need, words_of_all}
 use Rattle.cyc_lower.specs.Slots.{Types, Starts, starts_of, slot_of, with_counter, counter_of, field_of}
 use Rattle.cyc_lower.specs.declared.operands.Condition.{Condition}
@@ -46,10 +46,6 @@ use Rattle.cyc_lower.specs.declared.statements.Exits.{Exits}
 -- the types by which a function's locals have their slots
 abbrev pub slot_types : Function → List Ty
 slot_types h = h.parameters ++ h.locals
-
--- those by which its code is made, in a program with these structs
-abbrev pub types_of : List StructType → Function → Types
-types_of structs h = record { locals = slot_types h; structs = structs; counters = [] }
 
 -- the first slot behind the locals of a function
 abbrev pub first_temporary : Function → ℕ
@@ -157,9 +153,21 @@ jump_if_zero o target = instructions.Branch comparisons.Equal o (operands.Word 0
 abbrev pub jump_if_nonzero : Operand → (target : ℕ) → Instruction
 jump_if_nonzero o target = instructions.Branch comparisons.NotEqual o (operands.Word 0) target
 
--- where a word is 0, an exception is raised, which tells that 0
-abbrev pub check_code : (tag : ℕ) → Operand → (p : ℕ) → List Instruction
-check_code tag o p = jump_if_nonzero o (p + 2) ∷ instructions.Uncaught tag o ∷ []
+-- what raises an exception, which tells 0
+abbrev pub raising : (tag : ℕ) → Instruction
+raising tag = instructions.Uncaught tag (operands.Word 0)
+
+-- Such an instruction stands behind a function's body for each exception that the language itself raises, in the order of their tags.
+abbrev pub blocks : List Instruction
+blocks = raising null_exception ∷ raising array_bounds ∷ raising array_size ∷ raising division_by_zero ∷ []
+
+-- where this comparison of two operands holds, an exception is raised
+abbrev pub guard_code : Starts → (tag : ℕ) → Comparison → (l r : Operand) → List Instruction
+guard_code starts tag failing l r = instructions.Branch failing l r (starts.raises + tag) ∷ []
+
+-- where a word is 0
+abbrev pub check_code : Starts → (tag : ℕ) → Operand → List Instruction
+check_code starts tag o = guard_code starts tag comparisons.Equal o (operands.Word 0)
 
 -- A value of so many words comes to a slot and those behind it. A number has one word: where there are more, it is that of a null
 -- pointer, whose others may be anything.
@@ -168,22 +176,22 @@ move_of words d (operands.Slot n) = if words == 1 then instructions.Move d (oper
 move_of words d (operands.Word n) = instructions.Move d (operands.Word n)
 
 -- a value that may not be null is tested
-abbrev pub conversion_code : (to : Kind) → Operand → (p : ℕ) → List Instruction
-conversion_code kinds.NonNull o p = check_code null_exception o p
-conversion_code to o p = []
+abbrev pub conversion_code : Starts → (to : Kind) → Operand → (p : ℕ) → List Instruction
+conversion_code starts kinds.NonNull o p = check_code starts null_exception o
+conversion_code starts to o p = []
 
 -- a divisor is tested, but a number other than 0
-abbrev pub divisor_code : Operand → (p : ℕ) → List Instruction
-divisor_code (operands.Word (suc n)) p = []
-divisor_code o p = check_code division_by_zero o p
+abbrev pub divisor_code : Starts → Operand → List Instruction
+divisor_code starts (operands.Word (suc n)) = []
+divisor_code starts o = check_code starts division_by_zero o
 
-abbrev pub checked_code : Operator → (l r : Operand) → (p d : ℕ) → List Instruction
-checked_code o l r p d = divisor_code r p ++ instructions.Binary (binary_operator o) d l r ∷ []
+abbrev pub checked_code : Starts → Operator → (l r : Operand) → (d : ℕ) → List Instruction
+checked_code starts o l r d = divisor_code starts r ++ instructions.Binary (binary_operator o) d l r ∷ []
 
-abbrev pub operator_code : Operator → (l r : Operand) → (p d : ℕ) → List Instruction
-operator_code operators.Divide l r p d = checked_code operators.Divide l r p d
-operator_code operators.Remainder l r p d = checked_code operators.Remainder l r p d
-operator_code o l r p d = instructions.Binary (binary_operator o) d l r ∷ []
+abbrev pub operator_code : Starts → Operator → (l r : Operand) → (d : ℕ) → List Instruction
+operator_code starts operators.Divide l r d = checked_code starts operators.Divide l r d
+operator_code starts operators.Remainder l r d = checked_code starts operators.Remainder l r d
+operator_code starts o l r d = instructions.Binary (binary_operator o) d l r ∷ []
 
 -- where the value in t decides, the next operand is jumped over
 abbrev pub test_jump : LogicalOperator → (t target : ℕ) → Instruction
@@ -219,9 +227,9 @@ truth_code t d =
 abbrev pub low_byte : Operand → (d : ℕ) → Instruction
 low_byte o d = instructions.Binary plain_binary.And d o (operands.Word 255)
 
--- an operator with its right operand, whose code stands at place p
-abbrev pub compute_code : Operator → (l r : Operand) → (operand : List Instruction) → (p d : ℕ) → List Instruction
-compute_code o l r operand p d = operand ++ operator_code o l r (p + length operand) d
+-- an operator with its right operand
+abbrev pub compute_code : Starts → Operator → (l r : Operand) → (operand : List Instruction) → (d : ℕ) → List Instruction
+compute_code starts o l r operand d = operand ++ operator_code starts o l r d
 
 -- an operator on pointers with its right operand
 abbrev pub pointer_code : PointerOperator → (l r : Operand) → (operand : List Instruction) → (d : ℕ) → List Instruction
@@ -267,12 +275,12 @@ all_passed NoArguments = 0
 all_passed (MoreArguments c cs) = passed_words c + all_passed cs
 
 -- code that brings a value, and its conversion where it is then
-abbrev pub converted_by : Option Operand → (code : List Instruction) → (to : Kind) → Operand → (p : ℕ) → List Instruction
-converted_by known code to o p = code_unless known code ++ conversion_code to o (p + length (code_unless known code))
+abbrev pub converted_by : Starts → Option Operand → (code : List Instruction) → (to : Kind) → Operand → (p : ℕ) → List Instruction
+converted_by starts known code to o p = code_unless known code ++ conversion_code starts to o (p + length (code_unless known code))
 
 -- the same, and the value comes to slot d
-abbrev pub moved_by : Option Operand → (code : List Instruction) → (to : Kind) → Operand → (p d : ℕ) → List Instruction
-moved_by known code to o p d = converted_by known code to o p ++ move_of (words_of_kind to) d o ∷ []
+abbrev pub moved_by : Starts → Option Operand → (code : List Instruction) → (to : Kind) → Operand → (p d : ℕ) → List Instruction
+moved_by starts known code to o p d = converted_by starts known code to o p ++ move_of (words_of_kind to) d o ∷ []
 
 -- ---- new objects
 
@@ -298,11 +306,10 @@ abbrev pub most_elements : ℕ
 most_elements = 1000
 
 -- The length of an array in slot t is tested, and comes to slot x, and 0, as the index, to slot y.
-abbrev pub measured_code : (p x y t : ℕ) → List Instruction
-measured_code p x y t =
-    instructions.Branch comparisons.LessUnsigned (operands.Slot t) (operands.Word (most_elements + 1)) (p + 2)
-    ∷ instructions.Uncaught array_size (operands.Word 0)
-    ∷ instructions.Move x (operands.Slot t)
+abbrev pub measured_code : Starts → (x y t : ℕ) → List Instruction
+measured_code starts x y t =
+    guard_code starts array_size comparisons.GreaterOrEqualUnsigned (operands.Slot t) (operands.Word (most_elements + 1))
+    ++ instructions.Move x (operands.Slot t)
     ∷ instructions.Move y (operands.Word 0)
     ∷ []
 
@@ -315,8 +322,8 @@ asked_code handle s t =
     ∷ []
 
 -- a new array, whose length is in slot t: its address comes there, and its length and the index behind it
-abbrev pub begun_code : (handle p t : ℕ) → List Instruction
-begun_code handle p t = measured_code p (t + 1) (t + 2) t ++ asked_code handle (t + 3) t
+abbrev pub begun_code : Starts → (handle t : ℕ) → List Instruction
+begun_code starts handle t = measured_code starts (t + 1) (t + 2) t ++ asked_code handle (t + 3) t
 
 -- The element in slot s comes to its cell of the array at the address in slot t, by the index in slot y, which goes to the next one.
 abbrev pub written_code : (head y s z t : ℕ) → List Instruction
@@ -349,9 +356,9 @@ elements_code element head d t =
     ∷ ((element ++ filled_code head t) ++ ended_code d t)
 
 -- the code of the length stands at place p, and that of an element is made for its place
-abbrev pub array_code : (count : List Instruction) → (element : ℕ → List Instruction) → (handle p d t : ℕ) → List Instruction
-array_code count element handle p d t =
-    count ++ (begun_code handle (p + length count) t ++ elements_code (element (p + length count + 7 + 1)) (p + length count + 7) d t)
+abbrev pub array_code : Starts → (count : List Instruction) → (element : ℕ → List Instruction) → (handle p d t : ℕ) → List Instruction
+array_code starts count element handle p d t =
+    count ++ (begun_code starts handle t ++ elements_code (element (p + length count + 6 + 1)) (p + length count + 6) d t)
 
 -- ---- conditions, branches and loops
 
@@ -529,8 +536,8 @@ abbrev mutual
 
   -- a place that a pointer leads to, which is tested
   pub place_code : (starts : Starts) → Dereference → (p t : ℕ) → List Instruction
-  place_code starts (Target k a ty) p t = converted_by (operand_of starts a) (expression_code starts a p (value_slot starts a t) t) kinds.NonNull (value_operand starts a t) p
-  place_code starts (Member k a s f ty) p t = converted_by (operand_of starts a) (expression_code starts a p (value_slot starts a t) t) kinds.NonNull (value_operand starts a t) p
+  place_code starts (Target k a ty) p t = converted_by starts (operand_of starts a) (expression_code starts a p (value_slot starts a t) t) kinds.NonNull (value_operand starts a t) p
+  place_code starts (Member k a s f ty) p t = converted_by starts (operand_of starts a) (expression_code starts a p (value_slot starts a t) t) kinds.NonNull (value_operand starts a t) p
   place_code starts (Element a i ty) p t = instructions.Move t (operands.Word 0) ∷ []
 
   -- A new object in the region of this handle. Each of its cells has one word yet. The elements of an array have a counter.
@@ -538,7 +545,7 @@ abbrev mutual
   made_code starts (Plain kind a) handle p d t = expression_code starts a p t t ++ object_code handle 1 d t
   made_code starts (Fields cs) handle p d t = arguments_code starts cs p t ++ object_code handle (argument_count cs) d t
   made_code starts (Array w level n kind a) handle p d t =
-      array_code (expression_code starts n p t t) (λ q. expression_code (with_counter starts (t + 2)) a q (t + 3) (t + 3)) handle p d t
+      array_code starts (expression_code starts n p t t) (λ q. expression_code (with_counter starts (t + 2)) a q (t + 3) (t + 3)) handle p d t
 
   -- each argument comes into the slots behind those of the one before
   pub arguments_code : (starts : Starts) → Arguments → (p t : ℕ) → List Instruction
@@ -548,12 +555,12 @@ abbrev mutual
   -- the value comes to slot t and is converted there
   pub converted_code : (starts : Starts) → Converted → (p t : ℕ) → List Instruction
   converted_code starts (Convert from to a) p t =
-      expression_code starts a p t t ++ conversion_code to (operands.Slot t) (p + length (expression_code starts a p t t))
+      expression_code starts a p t t ++ conversion_code starts to (operands.Slot t) (p + length (expression_code starts a p t t))
 
   -- the value is converted where it is
   pub converted_operand_code : (starts : Starts) → Converted → (p t : ℕ) → List Instruction
   converted_operand_code starts (Convert from to a) p t =
-      converted_by (source_of starts (Convert from to a)) (expression_code starts a p (source_slot starts (Convert from to a) t) t) to (converted_operand starts (Convert from to a) t) p
+      converted_by starts (source_of starts (Convert from to a)) (expression_code starts a p (source_slot starts (Convert from to a) t) t) to (converted_operand starts (Convert from to a) t) p
 
   -- the arguments of `putchar`, of which there is one
   pub printed_code : (starts : Starts) → Arguments → (p t : ℕ) → List Instruction
@@ -566,15 +573,15 @@ abbrev mutual
   initial_code starts (Convert from to a) p d t =
       if converts_there from to
       then expression_code starts a p d t
-      else moved_by (source_of starts (Convert from to a)) (expression_code starts a p (source_slot starts (Convert from to a) t) t) to (converted_operand starts (Convert from to a) t) p d
+      else moved_by starts (source_of starts (Convert from to a)) (expression_code starts a p (source_slot starts (Convert from to a) t) t) to (converted_operand starts (Convert from to a) t) p d
 
   -- The left operand is l. It is t where an operator is a test, or where the right operand has code.
   pub operations_code : (starts : Starts) → Operations → (p : ℕ) → (l : Operand) → (d t : ℕ) → List Instruction
   operations_code starts NoOperations p l d t = []
   operations_code starts (ThenCompute o b os) p l d t =
-      compute_code o l (value_operand starts b (suc t)) (code_unless (operand_of starts b) (expression_code starts b p (value_slot starts b (suc t)) (suc t))) p (next_slot os d t)
+      compute_code starts o l (value_operand starts b (suc t)) (code_unless (operand_of starts b) (expression_code starts b p (value_slot starts b (suc t)) (suc t))) (next_slot os d t)
       ++ operations_code starts os
-      (p + length (compute_code o l (value_operand starts b (suc t)) (code_unless (operand_of starts b) (expression_code starts b p (value_slot starts b (suc t)) (suc t))) p (next_slot os d t)))
+      (p + length (compute_code starts o l (value_operand starts b (suc t)) (code_unless (operand_of starts b) (expression_code starts b p (value_slot starts b (suc t)) (suc t))) (next_slot os d t)))
       (operands.Slot (next_slot os d t)) d t
   operations_code starts (ThenTest o b os) p l d t =
       test_code o (expression_code starts b (p + 1) t t) p (next_slot os d t) t
@@ -649,7 +656,7 @@ module _ (starts : Starts) where
   return_code None p t = instructions.Return t ∷ []
   return_code (Some (Convert from to a)) p t =
       code_unless_slot (source_of starts (Convert from to a)) (expression_code starts a p t t)
-      ++ conversion_code to (operands.Slot (slot_or (source_of starts (Convert from to a)) t)) (p + length (code_unless_slot (source_of starts (Convert from to a)) (expression_code starts a p t t)))
+      ++ conversion_code starts to (operands.Slot (slot_or (source_of starts (Convert from to a)) t)) (p + length (code_unless_slot (source_of starts (Convert from to a)) (expression_code starts a p t t)))
       ++ instructions.Return (slot_or (source_of starts (Convert from to a)) t)
       ∷ []
 
@@ -686,10 +693,25 @@ module _ (starts : Starts) where
 
 -- ---- programs
 
--- The code of a function ends in a return, which is the end of a void function. In any other it is never reached, and
--- stands there so that no code runs off its end.
+-- by which the code of a function is made, in a program with these structs, where blocks stand behind this place
+abbrev pub types_with : (raises : ℕ) → List StructType → Function → Types
+types_with raises structs h = record { locals = slot_types h; structs = structs; raises = raises; counters = [] }
+
+-- the code of its body
+abbrev pub body_code : Types → Function → List Instruction
+body_code types h = items_code (starts_of types) h.body 0 (outside_loops (first_temporary h)) (first_temporary h)
+
+-- Blocks stand behind the code. How long that is does not depend on where they stand: so it is made twice, and at first for any place.
+abbrev pub raises_of : List StructType → Function → ℕ
+raises_of structs h = length (body_code (types_with 0 structs h) h)
+
+abbrev pub types_of : List StructType → Function → Types
+types_of structs h = types_with (raises_of structs h) structs h
+
+-- A body's code ends in a return, which is the end of a void function. In any other it is never reached, and stands there so that no
+-- code runs off its end. The blocks stand behind it.
 abbrev pub function_code : List StructType → Function → List Instruction
-function_code structs h = items_code (starts_of (types_of structs h)) h.body 0 (outside_loops (first_temporary h)) (first_temporary h) ++ instructions.Return (first_temporary h) ∷ []
+function_code structs h = body_code (types_of structs h) h ++ instructions.Return (first_temporary h) ∷ blocks
 
 -- the words that a function returns
 abbrev pub results_of : Option Ty → ℕ

@@ -16,29 +16,31 @@ abbrev pub starts_from : (slot : ℕ) → List Ty → List ℕ
 starts_from slot [] = []
 starts_from slot (t ∷ ts) = slot ∷ starts_from (slot + words_of t) ts
 
--- the types of a function's locals, the structs of its program, and the slots of the counters of the arrays around, the outermost
--- first
+-- The types of a function's locals, and the structs of its program. Behind the place `raises` of its code stand the blocks that raise
+-- exceptions. Of the arrays around, the outermost first, the counters have these slots.
 pub record Types : Type 0 where
   pub locals : List Ty
   pub structs : List StructType
+  pub raises : ℕ
   pub counters : List ℕ
 
--- what tells where things begin: the first slots of a function's locals, the structs of its program, for their fields, and the slots
--- of counters
+-- What tells where things begin: the first slots of a function's locals, the structs of its program, for their fields, the place
+-- behind which the blocks stand that raise exceptions, and the slots of counters.
 pub record Starts : Type 0 where
   pub locals : List ℕ
   pub structs : List StructType
+  pub raises : ℕ
   pub counters : List ℕ
 
 abbrev pub starts_of : Types → Starts
-starts_of types = record { locals = starts_from 0 types.locals; structs = types.structs; counters = types.counters }
+starts_of types = record { locals = starts_from 0 types.locals; structs = types.structs; raises = types.raises; counters = types.counters }
 
 -- for the elements of an array, whose counter has this slot
 abbrev pub counted : Types → (slot : ℕ) → Types
-counted types slot = record { locals = types.locals; structs = types.structs; counters = types.counters ++ slot ∷ [] }
+counted types slot = record { locals = types.locals; structs = types.structs; raises = types.raises; counters = types.counters ++ slot ∷ [] }
 
 abbrev pub with_counter : Starts → (slot : ℕ) → Starts
-with_counter starts slot = record { locals = starts.locals; structs = starts.structs; counters = starts.counters ++ slot ∷ [] }
+with_counter starts slot = record { locals = starts.locals; structs = starts.structs; raises = starts.raises; counters = starts.counters ++ slot ∷ [] }
 
 -- Where the field of this number begins, in bytes behind what is before its struct's fields: a word, since it is wrapped. No text has as
 -- many fields as that takes.

@@ -4,9 +4,10 @@ ghost use Rattle.cyc_types.specs.TypedTreeView.{view_lvalue};
 ghost use Rattle.cyc_lower.specs.Lowering.{failing_jump, load_code};
 ghost use Rattle.cyc_lower.specs.Emission.{Appends, view_starts};
 
-use crate::locals::{Starts, slot_of};
+use crate::locals::slot_of;
 use crate::operands::Condition;
 use crate::operators::{failing_jump, move_of};
+use crate::starts::Starts;
 use cyc_plain::{Instruction, Operand};
 use cyc_types::typed::Lvalue;
 use std::alloc::{AllocError, Global};

@@ -11,17 +11,19 @@ ghost use Rattle.cyc_lower.specs.Lowering.{operand_of, operand_or, left_of, left
 ghost use Rattle.cyc_lower.specs.Slots.{with_counter};
 ghost use Rattle.cyc_lower.specs.Emission.{Appends, Gives, HasRoom, HasRoomFor, most_locals, value_code, source_code, slot_code, print_code, converted_slot, converted_slot_code, left_code, operation_code, IsChain, zero_condition, view_starts, pointer_operation_code};
 
+use crate::checks::{ARRAY_SIZE, DIVISION_BY_ZERO, NULL_EXCEPTION};
 use crate::emitter::Emitter;
 use crate::frame_count::{words_of, words_of_kind};
-use crate::locals::{Starts, counter_of, field_of, slot_of, with_counter};
+use crate::locals::{counter_of, field_of, slot_of, with_counter};
 use crate::operands::{
     Condition, are_as_wide, converts_there, index_of, is_in, operand_of, slot_behind,
     takes_operand, value_slot,
 };
 use crate::operators::{
-    binary_operator, failing_comparison, jump_if_nonzero, left_kind, move_of, pointer_operator,
-    test_jump, unary_operator,
+    binary_operator, failing_comparison, left_kind, move_of, pointer_operator, test_jump,
+    unary_operator,
 };
+use crate::starts::Starts;
 use cyc_plain::{BinaryOperator, Comparison, Instruction, Operand, Request, UnaryOperator};
 use cyc_store::HEAP;
 use cyc_types::typed;
@@ -30,13 +32,6 @@ use cyc_types::typed::{
     PointerOperator,
 };
 use std::alloc::AllocError;
-
-/// The exceptions that are raised, by their tags.
-const NULL_EXCEPTION: u32 = 1;
-
-const DIVISION_BY_ZERO: u32 = 4;
-
-const ARRAY_SIZE: u32 = 3;
 
 /// An array has at most so many elements, each of one word.
 const MOST_ELEMENTS: u32 = 1000;
@@ -66,31 +61,24 @@ fn last_element(words: usize, index: usize) -> Condition
 }
 
 impl Emitter {
-    /// Where a word is 0, an exception is raised, which tells that 0.
-    fn check(&mut self, tag: u32, value: Operand) -> Result<(), AllocError>
-        ensures { Appends result self.old self.new (check_code tag value (length self.old.code.items)) }
-    {
-        let behind = self.place() + 2;
-        self.emit(jump_if_nonzero(value, behind))?;
-        self.emit(Instruction::Uncaught { tag, value })
-    }
-
     /// A conversion of a value where it is: where it may not be null, it is tested.
-    fn convert(&mut self, to: Kind, value: Operand) -> Result<(), AllocError>
-        ensures { Appends result self.old self.new (conversion_code to value (length self.old.code.items)) }
+    fn convert(&mut self, starts: &Starts, to: Kind, value: Operand) -> Result<(), AllocError>
+        ensures { Appends result self.old self.new (conversion_code (view_starts starts.now) to value (length self.old.code.items)) }
     {
         if matches!(to, Kind::NonNull) {
-            return self.check(NULL_EXCEPTION, value);
+            return self.check(starts, NULL_EXCEPTION, value);
         }
         Ok(())
     }
 
     /// A divisor is tested, but a number other than 0.
-    fn check_divisor(&mut self, value: Operand) -> Result<(), AllocError>
-        ensures { Appends result self.old self.new (divisor_code value (length self.old.code.items)) }
+    fn check_divisor(&mut self, starts: &Starts, value: Operand) -> Result<(), AllocError>
+        ensures { Appends result self.old self.new (divisor_code (view_starts starts.now) value) }
     {
         match value {
-            Operand::Word { word: 0 } | Operand::Slot { .. } => self.check(DIVISION_BY_ZERO, value),
+            Operand::Word { word: 0 } | Operand::Slot { .. } => {
+                self.check(starts, DIVISION_BY_ZERO, value)
+            }
             Operand::Word { .. } => Ok(()),
         }
     }
@@ -98,15 +86,16 @@ impl Emitter {
     /// An operator on two operands.
     fn lower_operator(
         &mut self,
+        starts: &Starts,
         operator: Operator,
         left: Operand,
         right: Operand,
         slot: usize,
     ) -> Result<(), AllocError>
-        ensures { Appends result self.old self.new (operator_code operator left right (length self.old.code.items) slot) }
+        ensures { Appends result self.old self.new (operator_code (view_starts starts.now) operator left right slot) }
     {
         if matches!(operator, Operator::Divide | Operator::Remainder) {
-            self.check_divisor(right)?;
+            self.check_divisor(starts, right)?;
         }
         self.emit(Instruction::Binary {
             operator: binary_operator(operator),
@@ -196,34 +185,25 @@ impl Emitter {
     /// exception.
     fn measure_array(
         &mut self,
+        starts: &Starts,
         words: usize,
         index: usize,
         free: usize,
     ) -> Result<(), AllocError>
-        ensures { Appends result self.old self.new (measured_code (length self.old.code.items) words index free) }
+        ensures { Appends result self.old self.new (measured_code (view_starts starts.now) words index free) }
     {
         let count = Operand::Slot { number: free };
-        let zero = Operand::Word { word: 0 };
-        let target = self.place() + 2;
-        self.emit(Instruction::Branch {
-            comparison: Comparison::LessUnsigned,
-            left: count,
-            right: Operand::Word {
-                word: MOST_ELEMENTS + 1,
-            },
-            target,
-        })?;
-        self.emit(Instruction::Uncaught {
-            tag: ARRAY_SIZE,
-            value: zero,
-        })?;
+        let limit = Operand::Word {
+            word: MOST_ELEMENTS + 1,
+        };
+        self.guard(starts, ARRAY_SIZE, Comparison::GreaterOrEqualUnsigned, count, limit)?;
         self.emit(Instruction::Move {
             destination: words,
             source: count,
         })?;
         self.emit(Instruction::Move {
             destination: index,
-            source: zero,
+            source: Operand::Word { word: 0 },
         })
     }
 
@@ -259,11 +239,16 @@ impl Emitter {
     }
 
     /// A new array, whose length is in `free`. Its address comes there, and its length and the index to the slots behind it.
-    fn begin_array(&mut self, handle: u32, free: usize) -> Result<(), AllocError>
-        ensures { Appends result self.old self.new (begun_code handle (length self.old.code.items) free) }
+    fn begin_array(
+        &mut self,
+        starts: &Starts,
+        handle: u32,
+        free: usize,
+    ) -> Result<(), AllocError>
+        ensures { Appends result self.old self.new (begun_code (view_starts starts.now) handle free) }
     {
         let behind = slot_behind(free, Kind::Fat)?;
-        self.measure_array(behind - 2, behind - 1, free)?;
+        self.measure_array(starts, behind - 2, behind - 1, free)?;
         self.ask_for_array(handle, behind, free)
     }
 
@@ -456,7 +441,7 @@ impl Emitter {
         match place {
             Dereference::Target { pointer, .. } | Dereference::Member { pointer, .. } => {
                 let address = self.lower_operand(starts, pointer, free)?;
-                self.check(NULL_EXCEPTION, address)?;
+                self.check(starts, NULL_EXCEPTION, address)?;
                 Ok(address)
             }
             Dereference::Element { .. } => {
@@ -531,7 +516,7 @@ impl Emitter {
                 ..
             } => {
                 self.lower_expression(starts, length, free, free)?;
-                self.begin_array(handle, free)?;
+                self.begin_array(starts, handle, free)?;
                 self.lower_elements(starts, element, slot, free)
             }
         }
@@ -554,6 +539,7 @@ impl Emitter {
         let inner = Starts {
             locals: starts.locals,
             structs: starts.structs,
+            raises: starts.raises,
             counters: &counters,
             alloc: starts.alloc,
         };
@@ -657,7 +643,7 @@ impl Emitter {
         let mut slot = first;
         for argument in arguments {
             self.lower_expression(starts, &argument.value, slot, slot)?;
-            self.convert(argument.to, Operand::Slot { number: slot })?;
+            self.convert(starts, argument.to, Operand::Slot { number: slot })?;
             slot = slot_behind(slot, argument.to)?;
         }
         Ok(slot - first)
@@ -693,7 +679,7 @@ impl Emitter {
         ensures { Gives (converted_operand (view_starts starts.now) (view_converted value.now) free) result self.old self.new (converted_operand_code (view_starts starts.now) (view_converted value.now) (length self.old.code.items) free) }
     {
         let operand = self.lower_source(starts, value, free)?;
-        self.convert(value.to, operand)?;
+        self.convert(starts, value.to, operand)?;
         Ok(operand)
     }
 
@@ -783,7 +769,7 @@ impl Emitter {
         match operation {
             Operation::Compute { operator, operand } => {
                 let right = self.lower_operand(starts, operand, free + 1)?;
-                self.lower_operator(*operator, left, right, slot)
+                self.lower_operator(starts, *operator, left, right, slot)
             }
             Operation::Test { operator, operand } => {
                 let jump = self.place();
@@ -1058,7 +1044,7 @@ impl Emitter {
         ensures { Gives (converted_slot (view_starts starts.now) (view_converted value.now) free) result self.old self.new (converted_slot_code (view_starts starts.now) (view_converted value.now) (length self.old.code.items) free) }
     {
         let slot = self.lower_to_slot(starts, value, free)?;
-        self.convert(value.to, Operand::Slot { number: slot })?;
+        self.convert(starts, value.to, Operand::Slot { number: slot })?;
         Ok(slot)
     }
 }

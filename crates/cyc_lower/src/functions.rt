@@ -7,13 +7,14 @@ ghost use Rattle.cyc_types.specs.typing.WellTyped.{IsWellTypedProgram};
 ghost use Rattle.cyc_types.specs.Weight.{program_weight};
 ghost use Rattle.cyc_plain.specs.Program.{routine_of};
 ghost use Rattle.cyc_meaning.specs.FrameCount.{frame_count};
-ghost use Rattle.cyc_lower.specs.Lowering.{results_of, initial_word, lower_function, lower_global, lower_program};
-ghost use Rattle.cyc_lower.specs.Emission.{most_frame_count, HaveFewWords};
+ghost use Rattle.cyc_lower.specs.Lowering.{items_code, outside_loops, results_of, initial_word, lower_function, lower_global, lower_program};
+ghost use Rattle.cyc_lower.specs.Emission.{most_frame_count, most_locals, view_starts, HaveFewWords};
 ghost use Rattle.cyc_lower.specs.Lowered.{CanBeLowered};
 
 use crate::emitter::Emitter;
 use crate::frame_count::{frame_count, items_need, words_of, words_of_all};
-use crate::locals::{Starts, slots_of_locals};
+use crate::locals::slots_of_locals;
+use crate::starts::Starts;
 use crate::statements::Exits;
 use cyc_plain::{Function, Instruction, Plain};
 use cyc_types::typed::{self, Constant, StructType};
@@ -43,7 +44,28 @@ fn initial_word(value: Constant) -> u32
     }
 }
 
-/// A function. Its slots are its locals, and behind them the temporaries and one value more.
+/// The code of a function's body, with temporaries from a slot on.
+fn lower_body(
+    alloc: Global,
+    starts: &Starts,
+    function: &typed::Function,
+    free: usize,
+) -> Result<Emitter, AllocError>
+    requires { free ≤ most_locals }
+    ensures { IfOk result (λ made. made.code.items ≡ items_code (view_starts starts.now) (view_function function.now).body 0 (outside_loops free) free) }
+{
+    let mut emitter = Emitter::new(alloc);
+    let exits = Exits {
+        head: 0,
+        loop_record: free,
+        first_record: free,
+    };
+    emitter.lower_items(starts, &function.body, exits, free)?;
+    Ok(emitter)
+}
+
+/// A function. Its slots are its locals, and behind them the temporaries and one value more. How long its code is does not
+/// depend on where the blocks behind it stand: so that is made twice, and at first for any place.
 fn lower_function(
     alloc: Global,
     structs: &[StructType],
@@ -53,20 +75,24 @@ fn lower_function(
     ensures { IfOk result (λ f. routine_of f ≡ lower_function (map view_struct structs.now) (view_function function.now)) }
 {
     let (locals, free) = slots_of_locals(alloc, function)?;
-    let starts = Starts {
+    let anywhere = Starts {
         locals: &locals,
         structs,
+        raises: 0,
         counters: &[],
         alloc,
     };
-    let mut emitter = Emitter::new(alloc);
-    let exits = Exits {
-        head: 0,
-        loop_record: free,
-        first_record: free,
+    let raises = lower_body(alloc, &anywhere, function, free)?.place();
+    let starts = Starts {
+        locals: &locals,
+        structs,
+        raises,
+        counters: &[],
+        alloc,
     };
-    emitter.lower_items(&starts, &function.body, exits, free)?;
+    let mut emitter = lower_body(alloc, &starts, function, free)?;
     emitter.emit(Instruction::Return { value: free })?;
+    emitter.lower_blocks()?;
     Ok(Function {
         name: function.span,
         parameters: words_of_all(&function.parameters),

@@ -4,6 +4,7 @@
 pub use limits::MOST_FUNCTIONS;
 pub use program::lower;
 
+mod checks;
 mod emitter;
 mod expressions;
 mod frame_count;
@@ -14,4 +15,5 @@ mod locals;
 mod operands;
 mod operators;
 mod program;
+mod starts;
 mod statements;

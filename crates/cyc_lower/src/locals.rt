@@ -9,19 +9,10 @@ ghost use Rattle.cyc_lower.specs.Lowering.{slot_types, first_temporary};
 ghost use Rattle.cyc_lower.specs.Emission.{most_frame_count, view_starts};
 
 use crate::frame_count::words_of;
+use crate::starts::Starts;
 use cyc_types::Ty;
 use cyc_types::typed::{Function, StructType};
 use std::alloc::{AllocError, Global};
-
-/// What tells where things begin: the first slots of a function's locals, the structs of its program, for their fields, and the
-/// slots of the counters of the arrays around, the outermost first.
-#[derive(Clone, Copy)]
-pub(crate) struct Starts<'a> {
-    pub(crate) locals: &'a [usize],
-    pub(crate) structs: &'a [StructType],
-    pub(crate) counters: &'a [usize],
-    pub(crate) alloc: Global,
-}
 
 /// The first slot of the local of this number.
 pub(crate) fn slot_of(starts: &Starts, number: usize) -> usize

@@ -6,7 +6,8 @@ ghost use Rattle.cyc_lower.specs.Lowering.{operand_of, value_slot, is_in, index_
 ghost use Rattle.cyc_lower.specs.Emission.{most_locals, takes_operand, view_starts};
 
 use crate::frame_count::words_of_kind;
-use crate::locals::{Starts, slot_of};
+use crate::locals::slot_of;
+use crate::starts::Starts;
 use cyc_plain::{Comparison, Operand};
 use cyc_types::typed::{Expr, Kind, Lvalue, Operation};
 use std::alloc::AllocError;

@@ -5,8 +5,9 @@ ghost use Rattle.cyc_lower.specs.Lowering.{break_target, continue_target, inside
 ghost use Rattle.cyc_lower.specs.Emission.{Appends, most_locals, item_code, loop_code, view_starts};
 
 use crate::emitter::Emitter;
-use crate::locals::{Starts, slot_of};
+use crate::locals::slot_of;
 use crate::operators::failing_jump;
+use crate::starts::Starts;
 use cyc_plain::Instruction;
 use cyc_types::typed::{Converted, Expr, Item, Stmt};
 use std::alloc::AllocError;

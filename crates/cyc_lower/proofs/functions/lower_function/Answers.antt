@@ -8,8 +8,11 @@ use Rattle.cyc_lower.specs.Lowering.{first_temporary, function_code, span_of_pla
 use Rattle.cyc_lower.proofs.Routines.{few_locals, function_made}
 use Rattle.cyc_lower.proofs.functions.lower_function.Goals as goal
 
-pub lower_items-requires-clause-slots : goal.lower_items-requires-clause-slots
-lower_items-requires-clause-slots c = omega (arith, (few_locals c.args.function.now c.requires).1, c.in_ok-locals.ensures.1)
+pub lower_body-requires : goal.lower_body-requires
+lower_body-requires c = omega (arith, (few_locals c.args.function.now c.requires).1, c.in_ok-locals.ensures.1)
+
+pub lower_body-requires-2 : goal.lower_body-requires-2
+lower_body-requires-2 c = omega (arith, (few_locals c.args.function.now c.requires).1, c.in_ok-locals.ensures.1)
 
 pub words_of_all-requires : goal.words_of_all-requires
 words_of_all-requires c =
@@ -35,9 +38,9 @@ returns c =
     let parameters : c.words_of_all.result ≡ words_of_all h.parameters = c.words_of_all.ensures ∙ ap (λ (ts : List Ty). words_of_all (map view_ty ts)) c.deref-3.ensures.value in
     let body = ap (λ (js : List Item). items_need (items_of js)) c.deref-4.ensures.value in
     let slots : c.in_ok-locals.free + c.items_need.result + 3 ≡ first_temporary h + items_need h.body + 3 = omega (arith, c.in_ok-locals.ensures.1, c.items_need.ensures, body) in
-    let code : c.emit.new.self.code.items ≡ function_code (map view_struct c.args.structs.now) h =
-    function_made (map view_struct c.args.structs.now) h _ c.in_ok-locals.free (items_of c.deref-2.result.now) c.new-emitter.result.code.items c.lower_items.new.self.code.items c.emit.new.self.code.items
-    (ap (λ (l : List ℕ). record { locals = l; structs = map view_struct c.args.structs.now; counters = [] }) (c.deref.ensures.value ∙ c.in_ok-locals.ensures.0)) c.in_ok-locals.ensures.1 (ap (λ (js : List Item). items_of js) c.deref-2.ensures.value) c.new-emitter.ensures c.in_ok-lower_items.ensures c.in_ok-emit.ensures in
+    let code : c.lower_blocks.new.self.code.items ≡ function_code (map view_struct c.args.structs.now) h =
+    function_made (map view_struct c.args.structs.now) h c.deref.result.now c.deref-2.result.now c.in_ok-locals.free c.place-raises.result c.in_ok-lower_body.field-0.code.items c.in_ok-emitter.emitter.code.items c.emit.new.self.code.items c.lower_blocks.new.self.code.items
+    (c.deref.ensures.value ∙ c.in_ok-locals.ensures.0) (c.deref-2.ensures.value ∙ c.in_ok-locals.ensures.0) c.in_ok-locals.ensures.1 c.in_ok-lower_body.ensures c.place-raises.ensures c.in_ok-emitter.ensures c.in_ok-emit.ensures c.in_ok-lower_blocks.ensures in
     λ i. record {
       name = span_of_place h.place;
       parameters = parameters i;

@@ -27,7 +27,7 @@ lower_arguments-loop-argument-preserved t c =
     let i = c.loop-argument.argument-index in
     let x = c.argument-item.result in
     let words = passed_on c.args.arguments.now i slot c.args.first x c.loop-argument-test.true c.argument-item.is c.loop-argument.invariant.2 in
-    let added = joined code (expression_code (view_starts c.args.starts.now) (view_expression x.value) (length code) slot slot) (λ (p : ℕ). conversion_code x.to (operands.Slot slot) p) made new c.in_ok-lower_expression.ensures c.in_ok-convert.ensures in
+    let added = joined code (expression_code (view_starts c.args.starts.now) (view_expression x.value) (length code) slot slot) (λ (p : ℕ). conversion_code (view_starts c.args.starts.now) x.to (operands.Slot slot) p) made new c.in_ok-lower_expression.ensures c.in_ok-convert.ensures in
     let next = c.in_ok-slot.ensures in (
       subst (λ (n : ℕ). Remains (all_arguments (view_starts c.args.starts.now)) old c.args.arguments.now c.args.first (i + 1) new n) (sym next.0)
           (goes_on (all_arguments (view_starts c.args.starts.now)) (one_argument (view_starts c.args.starts.now)) (next_argument (view_starts c.args.starts.now)) (arguments_lower (view_starts c.args.starts.now)) old c.args.arguments.now c.args.first i code new slot x c.loop-argument-test.true c.argument-item.is added c.loop-argument.invariant.0),

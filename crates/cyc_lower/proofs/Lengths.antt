@@ -1,0 +1,290 @@
+-- How long code is does not depend on where it stands, nor on where the blocks stand that raise exceptions. So a function's code, which
+-- is made for the length that it had with them elsewhere, has its blocks where its checks lead to.
+use Rattle.std.proofs.Common.{◌≡◌, ℕ, zero, suc, ◌+◌, Bool, true, false, List, [], ◌∷◌, ◌++◌, length, Option, None, Some, refl, sym, ap, ◌∙◌, arith, length-append}
+use Rattle.std.specs.Prelude.{if◌then◌else◌}
+use Rattle.cyc_types.specs.declared.typed.Kind.{Kind}
+use Rattle.cyc_types.specs.declared.typed.Kind.TheVariants as kinds
+use Rattle.cyc_types.specs.declared.typed.Callee.TheVariants as callees
+use Rattle.cyc_types.specs.declared.typed.Operator.{Operator}
+use Rattle.cyc_types.specs.declared.typed.Operator.TheVariants as operators
+use Rattle.cyc_types.specs.declared.typed.PointerOperator.{PointerOperator}
+use Rattle.cyc_types.specs.declared.typed.PointerOperator.TheVariants as pointers
+use Rattle.cyc_types.specs.TypedTrees.{Load, New, OnHeap, Initial, Plain, Fields, Array, Dereference, Target, Member, Element, Lvalue, Local, Global, Expression, Number, NullPointer, Copy, Call, Unary, Binary, Assign, Converted, Convert, Arguments, NoArguments, MoreArguments, Operations, NoOperations, ThenCompute, ThenTest, ThenPointer, ThenPointerPeek, Statement, Block, Empty, Evaluate, If, While, Return, Break, Continue, Items, NoItems, MoreItems, Execute, Declare, StructType, Function, Move, Peek, AddressOfCell, Store}
+use Rattle.cyc_types.specs.Types.{words_of}
+use Rattle.cyc_types.specs.Numbered.{argument_count}
+use Rattle.cyc_plain.specs.declared.instruction.Operand.{Operand}
+use Rattle.cyc_plain.specs.declared.instruction.Operand.TheVariants as operands
+use Rattle.cyc_plain.specs.declared.instruction.Instruction.{Instruction}
+use Rattle.cyc_store.specs.declared.range.TheConstants.{HEAP}
+use Rattle.cyc_lower.specs.declared.statements.Exits.{Exits}
+use Rattle.cyc_lower.specs.Slots.{with_counter, Starts, starts_of, slot_of}
+use Rattle.cyc_lower.specs.Lowering.{begun_code, filled_code, elements_code, ended_code, types_with, types_of, raises_of, body_code, first_temporary, outside_loops, are_as_wide, converts_there, passed_words, operand_of, operand_or, code_unless, code_unless_slot, left_with, left_of, value_slot, slot_with, left_slot, value_operand, next_slot, source_of, source_slot, converted_operand, converted_by, moved_by, conversion_code, divisor_code, operator_code, pointer_instructions, first_two, load_code, copy_code, address_code, object_code, place_operand, place_offset, expression_code, place_code, made_code, arguments_code, converted_code, converted_operand_code, printed_code, initial_code, operations_code, assignment_code, discarded_code, first_code, second_code, pair_code, condition_code, return_code, declaration_code, statement_code, items_code, behind_left, if_code, while_code, condition_of, failing_jump, compared_of, inside_loop, checked_code}
+
+-- ---- lists
+
+joined : (a b x y : List Instruction) → length a ≡ length x → length b ≡ length y → length (a ++ b) ≡ length (x ++ y)
+joined a b x y first second = omega (arith, length-append a b, length-append x y, first, second)
+
+unless_long : (known same : Option Operand) (a x : List Instruction) → known ≡ same → length a ≡ length x → length (code_unless known a) ≡ length (code_unless same x)
+unless_long (Some o) same a x is long = ap (λ z. length (code_unless z x)) is
+unless_long None same a x is long = long ∙ ap (λ z. length (code_unless z x)) is
+
+unless_slot_long : (known same : Option Operand) (a x : List Instruction) → known ≡ same → length a ≡ length x → length (code_unless_slot known a) ≡ length (code_unless_slot same x)
+unless_slot_long (Some (operands.Slot n)) same a x is long = ap (λ z. length (code_unless_slot z x)) is
+unless_slot_long (Some (operands.Word n)) same a x is long = long ∙ ap (λ z. length (code_unless_slot z x)) is
+unless_slot_long None same a x is long = long ∙ ap (λ z. length (code_unless_slot z x)) is
+
+either_long : (there : Bool) (a b x y : List Instruction) → length a ≡ length x → length b ≡ length y → length (if there then a else b) ≡ length (if there then x else y)
+either_long true a b x y first second = first
+either_long false a b x y first second = second
+
+pointer_long : (o : PointerOperator) (l m r s : Operand) (d e : ℕ) → l ≡ m → d ≡ e → length (pointer_instructions o l r d) ≡ length (pointer_instructions o m s e)
+pointer_long pointers.AddFat l m r s d e left same = λ i. suc (length (first_two (left i) (same i)))
+pointer_long pointers.SubtractFat l m r s d e left same = λ i. suc (length (first_two (left i) (same i)))
+pointer_long pointers.ThinIsNull l m r s d e left same = refl
+pointer_long pointers.ThinIsNotNull l m r s d e left same = refl
+pointer_long pointers.FatIsNull l m r s d e left same = refl
+pointer_long pointers.FatIsNotNull l m r s d e left same = refl
+pointer_long pointers.NullIs l m r s d e left same = refl
+pointer_long pointers.NullIsNot l m r s d e left same = refl
+pointer_long pointers.EqualThin l m r s d e left same = refl
+pointer_long pointers.NotEqualThin l m r s d e left same = refl
+
+if_long : (a b c x y z : List Instruction) (jump same : ℕ → Instruction) (p q : ℕ) → length a ≡ length x → length b ≡ length y → length c ≡ length z → length (if_code a jump b c p) ≡ length (if_code x same y z q)
+if_long a b c x y z jump same p q first second third =
+    joined (a ++ _ ∷ b) (_ ∷ c) (x ++ _ ∷ y) (_ ∷ z) (joined a (_ ∷ b) x (_ ∷ y) first (ap suc second)) (ap suc third)
+
+while_long : (a b x y : List Instruction) (jump same : ℕ → Instruction) (p q : ℕ) → length a ≡ length x → length b ≡ length y → length (while_code a jump b p) ≡ length (while_code x same y q)
+while_long a b x y jump same p q first second =
+    ap (λ n. suc (suc n)) (joined (a ++ _ ∷ b) (_ ∷ []) (x ++ _ ∷ y) (_ ∷ []) (joined a (_ ∷ b) x (_ ∷ y) first (ap suc second)) refl)
+
+-- ---- code that begins at any two places, with the blocks at any two
+
+module _ (starts : Starts) (raises : ℕ) where
+  abbrev other : Starts
+  other = record starts { raises = raises }
+
+  -- values stand where they stood
+
+  same_operand : (a : Expression) → operand_of starts a ≡ operand_of other a
+  same_operand (Copy (Local w n) t) = refl
+  same_operand (Copy (Global n) t) = refl
+  same_operand a = refl
+
+  same_slot : (a : Expression) (t : ℕ) → value_slot starts a t ≡ value_slot other a t
+  same_slot (Assign (Local w n) c ty) t = refl
+  same_slot (Assign (Global n) c ty) t = refl
+  same_slot a t = refl
+
+  same_value : (a : Expression) (t : ℕ) → value_operand starts a t ≡ value_operand other a t
+  same_value a t = λ i. operand_or (same_operand a i) (same_slot a t i)
+
+  same_left : (a : Expression) (os : Operations) → left_of starts a os ≡ left_of other a os
+  same_left a (ThenCompute o b os) = λ i. left_with (same_operand b i) (same_operand a i)
+  same_left a os = refl
+
+  same_with : (known same : Option Operand) (a : Expression) (t : ℕ) → known ≡ same → slot_with starts known a t ≡ slot_with other same a t
+  same_with (Some o) same a t is = same_slot a t ∙ ap (λ z. slot_with other z a t) is
+  same_with None same a t is = ap (λ z. slot_with other z a t) is
+
+  same_left_slot : (a : Expression) (os : Operations) (d e t : ℕ) → d ≡ e → left_slot starts a os d t ≡ left_slot other a os e t
+  same_left_slot a NoOperations d e t same = same
+  same_left_slot a (ThenCompute o b os) d e t same = same_with (operand_of starts b) (operand_of other b) a t (same_operand b)
+  same_left_slot a os d e t same = refl
+
+  same_source : (c : Converted) → source_of starts c ≡ source_of other c
+  same_source (Convert from to a) = λ i. if are_as_wide from to then same_operand a i else None
+
+  same_source_slot : (c : Converted) (t : ℕ) → source_slot starts c t ≡ source_slot other c t
+  same_source_slot (Convert from to a) t = λ i. if are_as_wide from to then same_slot a t i else t
+
+  same_converted : (c : Converted) (t : ℕ) → converted_operand starts c t ≡ converted_operand other c t
+  same_converted c t = λ i. operand_or (same_source c i) (same_source_slot c t i)
+
+  same_place : (x : Dereference) (t : ℕ) → place_operand starts x t ≡ place_operand other x t
+  same_place (Target k a ty) t = same_value a t
+  same_place (Member k a s f ty) t = same_value a t
+  same_place (Element a i ty) t = refl
+
+  same_offset : (x : Dereference) → place_offset starts x ≡ place_offset other x
+  same_offset (Target k a ty) = refl
+  same_offset (Member k a s f ty) = refl
+  same_offset (Element a i ty) = refl
+
+  -- so code is as long as it was
+
+  load_long : (words : ℕ) (l : Lvalue) (d e : ℕ) → length (load_code starts words l d) ≡ length (load_code other words l e)
+  load_long words (Local w n) d e = refl
+  load_long words (Global n) d e = refl
+
+  conversion_long : (to : Kind) (o r : Operand) (p q : ℕ) → length (conversion_code starts to o p) ≡ length (conversion_code other to r q)
+  conversion_long kinds.NonNull o r p q = refl
+  conversion_long to o r p q = refl
+
+  divisor_long : (o r : Operand) → o ≡ r → length (divisor_code starts o) ≡ length (divisor_code other r)
+  divisor_long (operands.Word (suc n)) r same = ap (λ x. length (divisor_code other x)) same
+  divisor_long (operands.Word zero) r same = ap (λ x. length (divisor_code other x)) same
+  divisor_long (operands.Slot n) r same = ap (λ x. length (divisor_code other x)) same
+
+  checked_long : (o : Operator) (l m r s : Operand) (d e : ℕ) → l ≡ m → r ≡ s → length (checked_code starts o l r d) ≡ length (checked_code other o m s e)
+  checked_long o l m r s d e left right = joined _ _ _ _ (divisor_long r s right) refl
+
+  operator_long : (o : Operator) (l m r s : Operand) (d e : ℕ) → l ≡ m → r ≡ s → length (operator_code starts o l r d) ≡ length (operator_code other o m s e)
+  operator_long operators.Divide l m r s d e left right = checked_long operators.Divide l m r s d e left right
+  operator_long operators.Remainder l m r s d e left right = checked_long operators.Remainder l m r s d e left right
+  operator_long o l m r s d e left right = refl
+
+  converted_by_long : (known same : Option Operand) (a x : List Instruction) (to : Kind) (o r : Operand) (p q : ℕ) → known ≡ same → length a ≡ length x
+      → length (converted_by starts known a to o p) ≡ length (converted_by other same x to r q)
+  converted_by_long known same a x to o r p q is long = joined _ _ _ _ (unless_long known same a x is long) (conversion_long to o r _ _)
+
+  -- an expression that is an operand
+  operand_by : (a : Expression) (p q t : ℕ) → length (expression_code starts a p (value_slot starts a t) t) ≡ length (expression_code other a q (value_slot other a t) t)
+      → length (code_unless (operand_of starts a) (expression_code starts a p (value_slot starts a t) t)) ≡ length (code_unless (operand_of other a) (expression_code other a q (value_slot other a t) t))
+  operand_by a p q t long = unless_long _ _ _ _ (same_operand a) long
+
+module _ (raises : ℕ) where
+  mutual
+    expression_long : (starts : Starts) → (a : Expression) (p q d e t : ℕ) → d ≡ e → length (expression_code starts a p d t) ≡ length (expression_code (other starts raises) a q e t)
+    expression_long starts (Copy l ty) p q d e t same = load_long starts raises (words_of ty) l d e
+    expression_long starts (Move w n ty) p q d e t same = refl
+    expression_long starts (Peek w n ty) p q d e t same = refl
+    expression_long starts (Call callees.Putchar cs ty) p q d e t same = joined _ _ _ _ (printed_long starts cs p q t) refl
+    expression_long starts (Call callees.Getchar cs ty) p q d e t same = joined _ _ _ _ (arguments_long starts cs p q t) refl
+    expression_long starts (Call (callees.Function n) cs ty) p q d e t same = joined _ _ _ _ (arguments_long starts cs p q t) refl
+    expression_long starts (Unary o a) p q d e t same = joined _ _ _ _ (operand_by starts raises a p q t (expression_long starts a p q _ _ t (same_slot starts raises a t))) refl
+    expression_long starts (Binary a os ty) p q d e t same =
+        joined _ _ _ _ (unless_long _ _ _ _ (same_left starts raises a os) (expression_long starts a p q _ _ t (same_left_slot starts raises a os d e t same)))
+        (operations_long starts os _ _ _ _ d e t (λ i. operand_or (same_left starts raises a os i) (same_left_slot starts raises a os d e t same i)) same)
+    expression_long starts (Assign (Local w n) c ty) p q d e t same =
+        joined _ _ _ _ (initial_long starts c p q (slot_of starts n) (slot_of starts n) t refl) (λ i. length (copy_code (passed_words c) (operands.Slot (slot_of starts n)) (same i)))
+    expression_long starts (Assign (Global n) c ty) p q d e t same =
+        joined _ _ _ _ (joined _ _ _ _ (converted_operand_long starts c p q t) refl) (λ i. length (copy_code (passed_words c) (same_converted starts raises c t i) (same i)))
+    expression_long starts (Load x) p q d e t same = joined _ _ _ _ (place_long starts x p q t) refl
+    expression_long starts (AddressOfCell x ty) p q d e t same = joined _ _ _ _ (place_long starts x p q t) (λ i. length (address_code (same_place starts raises x t i) (same_offset starts raises x i) (same i)))
+    expression_long starts (Store x c ty) p q d e t same =
+        joined _ _ _ _
+        (joined _ _ _ _ (joined _ _ _ _ (place_long starts x p q t) (λ i. length (address_code (same_place starts raises x t i) (same_offset starts raises x i) t))) (joined _ _ _ _ (converted_operand_long starts c _ _ (t + 1)) refl))
+        (λ i. length (copy_code (passed_words c) (same_converted starts raises c (t + 1) i) (same i)))
+    expression_long starts (New OnHeap x ty) p q d e t same = made_long starts x HEAP p q d e t same
+    expression_long starts a p q d e t same = refl
+
+    place_long : (starts : Starts) → (x : Dereference) (p q t : ℕ) → length (place_code starts x p t) ≡ length (place_code (other starts raises) x q t)
+    place_long starts (Target k a ty) p q t = joined _ _ _ _ (operand_by starts raises a p q t (expression_long starts a p q _ _ t (same_slot starts raises a t))) refl
+    place_long starts (Member k a s f ty) p q t = joined _ _ _ _ (operand_by starts raises a p q t (expression_long starts a p q _ _ t (same_slot starts raises a t))) refl
+    place_long starts (Element a x ty) p q t = refl
+
+    made_long : (starts : Starts) → (x : Initial) (handle p q d e t : ℕ) → d ≡ e → length (made_code starts x handle p d t) ≡ length (made_code (other starts raises) x handle q e t)
+    made_long starts (Plain kind a) handle p q d e t same = joined _ _ _ _ (expression_long starts a p q t t t refl) (λ i. length (object_code handle 1 (same i) t))
+    made_long starts (Fields cs) handle p q d e t same = joined _ _ _ _ (arguments_long starts cs p q t) (λ i. length (object_code handle (argument_count cs) (same i) t))
+    made_long starts (Array w level n kind a) handle p q d e t same =
+        let first = expression_code starts n p t t in
+        let second = expression_code (other starts raises) n q t t in
+        let h = p + length first + 6 in
+        let i = q + length second + 6 in
+        let inner = expression_code (with_counter starts (t + 2)) a (h + 1) (t + 3) (t + 3) in
+        let alike = expression_code (with_counter (other starts raises) (t + 2)) a (i + 1) (t + 3) (t + 3) in
+        joined first (begun_code starts handle t ++ elements_code inner h d t) second (begun_code (other starts raises) handle t ++ elements_code alike i e t) (expression_long starts n p q t t t refl)
+        (joined (begun_code starts handle t) (elements_code inner h d t) (begun_code (other starts raises) handle t) (elements_code alike i e t) refl
+        (ap suc
+        (joined (inner ++ filled_code h t) (ended_code d t) (alike ++ filled_code i t) (ended_code e t)
+        (joined inner (filled_code h t) alike (filled_code i t) (expression_long (with_counter starts (t + 2)) a (h + 1) (i + 1) (t + 3) (t + 3) (t + 3) refl) refl)
+        (λ z. length (ended_code (same z) t)))))
+
+    arguments_long : (starts : Starts) → (cs : Arguments) (p q t : ℕ) → length (arguments_code starts cs p t) ≡ length (arguments_code (other starts raises) cs q t)
+    arguments_long starts NoArguments p q t = refl
+    arguments_long starts (MoreArguments c cs) p q t = joined _ _ _ _ (converted_long starts c p q t) (arguments_long starts cs _ _ (t + passed_words c))
+
+    converted_long : (starts : Starts) → (c : Converted) (p q t : ℕ) → length (converted_code starts c p t) ≡ length (converted_code (other starts raises) c q t)
+    converted_long starts (Convert from to a) p q t = joined _ _ _ _ (expression_long starts a p q t t t refl) (conversion_long starts raises to _ _ _ _)
+
+    converted_operand_long : (starts : Starts) → (c : Converted) (p q t : ℕ) → length (converted_operand_code starts c p t) ≡ length (converted_operand_code (other starts raises) c q t)
+    converted_operand_long starts (Convert from to a) p q t =
+        converted_by_long starts raises _ _ _ _ to _ _ p q (same_source starts raises (Convert from to a)) (expression_long starts a p q _ _ t (same_source_slot starts raises (Convert from to a) t))
+
+    printed_long : (starts : Starts) → (cs : Arguments) (p q t : ℕ) → length (printed_code starts cs p t) ≡ length (printed_code (other starts raises) cs q t)
+    printed_long starts NoArguments p q t = refl
+    printed_long starts (MoreArguments c cs) p q t = joined _ _ _ _ (converted_operand_long starts c p q t) (printed_long starts cs _ _ t)
+
+    initial_long : (starts : Starts) → (c : Converted) (p q d e t : ℕ) → d ≡ e → length (initial_code starts c p d t) ≡ length (initial_code (other starts raises) c q e t)
+    initial_long starts (Convert from to a) p q d e t same =
+        either_long (converts_there from to) _ _ _ _ (expression_long starts a p q d e t same)
+        (joined _ _ _ _ (converted_by_long starts raises _ _ _ _ to _ _ p q (same_source starts raises (Convert from to a)) (expression_long starts a p q _ _ t (same_source_slot starts raises (Convert from to a) t))) refl)
+
+    operations_long : (starts : Starts) → (os : Operations) (p q : ℕ) (l m : Operand) (d e t : ℕ) → l ≡ m → d ≡ e → length (operations_code starts os p l d t) ≡ length (operations_code (other starts raises) os q m e t)
+    operations_long starts NoOperations p q l m d e t left same = refl
+    operations_long starts (ThenCompute o a os) p q l m d e t left same =
+        joined _ _ _ _ (joined _ _ _ _ (operand_by starts raises a p q (suc t) (expression_long starts a p q _ _ (suc t) (same_slot starts raises a (suc t)))) (operator_long starts raises o l m _ _ _ _ left (same_value starts raises a (suc t))))
+        (operations_long starts os _ _ _ _ d e t (λ i. operands.Slot (next_slot os (same i) t)) same)
+    operations_long starts (ThenTest o a os) p q l m d e t left same =
+        ap suc
+        (joined _ _ _ _ (joined _ _ _ _ (expression_long starts a (p + 1) (q + 1) t t t refl) refl)
+        (operations_long starts os _ _ _ _ d e t (λ i. operands.Slot (next_slot os (same i) t)) same))
+    operations_long starts (ThenPointer o a os) p q l m d e t left same =
+        joined _ _ _ _ (joined _ _ _ _ (operand_by starts raises a p q (behind_left o t) (expression_long starts a p q _ _ (behind_left o t) (same_slot starts raises a (behind_left o t)))) (pointer_long o l m _ _ _ _ left (λ i. next_slot os (same i) t)))
+        (operations_long starts os _ _ _ _ d e t (λ i. operands.Slot (next_slot os (same i) t)) same)
+    operations_long starts (ThenPointerPeek n o a os) p q l m d e t left same =
+        joined _ _ _ _ (joined _ _ _ _ (operand_by starts raises a p q (behind_left o t) (expression_long starts a p q _ _ (behind_left o t) (same_slot starts raises a (behind_left o t)))) (pointer_long o l m _ _ _ _ left (λ i. next_slot os (same i) t)))
+        (operations_long starts os _ _ _ _ d e t (λ i. operands.Slot (next_slot os (same i) t)) same)
+
+module _ (starts : Starts) (raises : ℕ) where
+  assignment_long : (l : Lvalue) (c : Converted) (p q t : ℕ) → length (assignment_code starts l c p t) ≡ length (assignment_code (other starts raises) l c q t)
+  assignment_long (Local w n) c p q t = initial_long raises starts c p q (slot_of starts n) (slot_of starts n) t refl
+  assignment_long (Global n) c p q t = joined _ _ _ _ (converted_operand_long raises starts c p q t) refl
+
+  discarded_long : (a : Expression) (p q t : ℕ) → length (discarded_code starts a p t) ≡ length (discarded_code (other starts raises) a q t)
+  discarded_long (Call callees.Putchar cs ty) p q t = joined _ _ _ _ (printed_long raises starts cs p q t) refl
+  discarded_long (Assign l c ty) p q t = assignment_long l c p q t
+  discarded_long (Store x c ty) p q t =
+      joined _ _ _ _ (joined _ _ _ _ (place_long raises starts x p q t) (λ i. length (address_code (same_place starts raises x t i) (same_offset starts raises x i) t))) (joined _ _ _ _ (converted_operand_long raises starts c _ _ (t + 1)) refl)
+  discarded_long a p q t = unless_long (operand_of starts a) (operand_of (other starts raises) a) (expression_code starts a p t t) (expression_code (other starts raises) a q t t) (same_operand starts raises a) (expression_long raises starts a p q t t t refl)
+
+  condition_long : (a b : Expression) (p q t : ℕ) → length (pair_code starts a b p t) ≡ length (pair_code (other starts raises) a b q t)
+  condition_long a b p q t =
+      joined _ _ _ _
+      (unless_long _ _ _ _ (λ i. left_with (same_operand starts raises b i) (same_operand starts raises a i)) (expression_long raises starts a p q _ _ t (same_with starts raises (operand_of starts b) (operand_of (other starts raises) b) a t (same_operand starts raises b))))
+      (operand_by starts raises b _ _ (suc t) (expression_long raises starts b _ _ _ _ (suc t) (same_slot starts raises b (suc t))))
+
+  return_long : (v : Option Converted) (p q t : ℕ) → length (return_code starts v p t) ≡ length (return_code (other starts raises) v q t)
+  return_long None p q t = refl
+  return_long (Some (Convert from to a)) p q t =
+      joined _ _ _ _ (joined _ _ _ _ (unless_slot_long _ _ _ _ (same_source starts raises (Convert from to a)) (expression_long raises starts a p q t t t refl)) (conversion_long starts raises to _ _ _ _)) refl
+
+  declaration_long : (n : ℕ) (v : Option Converted) (p q t : ℕ) → length (declaration_code starts n v p t) ≡ length (declaration_code (other starts raises) n v q t)
+  declaration_long n None p q t = refl
+  declaration_long n (Some c) p q t = initial_long raises starts c p q (slot_of starts n) (slot_of starts n) t refl
+
+  -- with loops that begin at any places
+  mutual
+    statement_long : (s : Statement) (p q head : ℕ) (exits : Exits) (t : ℕ) → length (statement_code starts s p exits t) ≡ length (statement_code (other starts raises) s q (record exits { head = head }) t)
+    statement_long (Block r js) p q head exits t = items_long js p q head exits t
+    statement_long (Evaluate a) p q head exits t = discarded_long a p q t
+    statement_long (If a s u) p q head exits t =
+        let others = record exits { head = head } in
+        let m = p + length (condition_code starts a p t) in
+        let n = q + length (condition_code (other starts raises) a q t) in
+        let first = statement_code starts s (m + 1) exits t in
+        let same_first = statement_code (other starts raises) s (n + 1) others t in
+        let second = statement_code starts u (m + 1 + length first + 1) exits t in
+        let same_second = statement_code (other starts raises) u (n + 1 + length same_first + 1) others t in
+        if_long (condition_code starts a p t) first second (condition_code (other starts raises) a q t) same_first same_second (failing_jump (condition_of starts a t)) (failing_jump (condition_of (other starts raises) a t)) p q
+        (condition_long (compared_of a).left (compared_of a).right p q t) (statement_long s (m + 1) (n + 1) head exits t) (statement_long u (m + 1 + length first + 1) (n + 1 + length same_first + 1) head exits t)
+    statement_long (While w a s) p q head exits t =
+        let m = p + 2 + length (condition_code starts a (p + 2) t) in
+        let n = q + 2 + length (condition_code (other starts raises) a (q + 2) t) in
+        let around = inside_loop p t exits in
+        while_long (condition_code starts a (p + 2) t) (statement_code starts s (m + 1) around t) (condition_code (other starts raises) a (q + 2) t) (statement_code (other starts raises) s (n + 1) (record around { head = q }) t)
+        (failing_jump (condition_of starts a t)) (failing_jump (condition_of (other starts raises) a t)) p q
+        (condition_long (compared_of a).left (compared_of a).right (p + 2) (q + 2) t) (statement_long s (m + 1) (n + 1) q around t)
+    statement_long (Return v) p q head exits t = return_long v p q t
+    statement_long s p q head exits t = refl
+
+    items_long : (js : Items) (p q head : ℕ) (exits : Exits) (t : ℕ) → length (items_code starts js p exits t) ≡ length (items_code (other starts raises) js q (record exits { head = head }) t)
+    items_long NoItems p q head exits t = refl
+    items_long (MoreItems (Execute s) js) p q head exits t = joined _ _ _ _ (statement_long s p q head exits t) (items_long js _ _ head exits t)
+    items_long (MoreItems (Declare n ty v) js) p q head exits t = joined _ _ _ _ (declaration_long n v p q t) (items_long js _ _ head exits t)
+    items_long (MoreItems j js) p q head exits t = items_long js p q head exits t
+
+-- so the blocks stand behind the place that the checks are told
+pub body_long : (structs : List StructType) (h : Function) → length (body_code (types_of structs h) h) ≡ raises_of structs h
+body_long structs h = sym (items_long (starts_of (types_with 0 structs h)) (raises_of structs h) h.body 0 0 0 (outside_loops (first_temporary h)) (first_temporary h))

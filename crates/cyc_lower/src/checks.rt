@@ -1,0 +1,72 @@
+//! Checks, and the blocks that raise an exception where one fails.
+ghost use Rattle.std.specs.Prelude.{◌≡◌};
+ghost use Rattle.cyc_lower.specs.Lowering.{raising, blocks, guard_code, check_code};
+ghost use Rattle.cyc_lower.specs.Emission.{Appends, view_starts};
+
+use crate::emitter::Emitter;
+use crate::starts::Starts;
+use cyc_plain::{Comparison, Instruction, Operand};
+use std::alloc::AllocError;
+
+/// The exceptions that the language itself raises, by their tags.
+pub(crate) const NULL_EXCEPTION: u32 = 1;
+
+const ARRAY_BOUNDS: u32 = 2;
+
+pub(crate) const ARRAY_SIZE: u32 = 3;
+
+pub(crate) const DIVISION_BY_ZERO: u32 = 4;
+
+/// What raises an exception, which tells 0.
+fn raising(tag: u32) -> Instruction
+    ensures { result ≡ raising tag }
+{
+    Instruction::Uncaught {
+        tag,
+        value: Operand::Word { word: 0 },
+    }
+}
+
+impl Emitter {
+    /// The blocks that stand behind a function's body, one for each of these exceptions in the order of their tags.
+    pub(crate) fn lower_blocks(&mut self) -> Result<(), AllocError>
+        ensures { Appends result self.old self.new blocks }
+    {
+        self.emit(raising(NULL_EXCEPTION))?;
+        self.emit(raising(ARRAY_BOUNDS))?;
+        self.emit(raising(ARRAY_SIZE))?;
+        self.emit(raising(DIVISION_BY_ZERO))
+    }
+
+    /// Where this comparison of two operands holds, an exception is raised.
+    pub(crate) fn guard(
+        &mut self,
+        starts: &Starts,
+        tag: u32,
+        failing: Comparison,
+        left: Operand,
+        right: Operand,
+    ) -> Result<(), AllocError>
+        ensures { Appends result self.old self.new (guard_code (view_starts starts.now) tag failing left right) }
+    {
+        self.emit(Instruction::Branch {
+            comparison: failing,
+            left,
+            right,
+            target: starts.raises + tag as usize,
+        })
+    }
+
+    /// Where a word is 0, an exception is raised.
+    pub(crate) fn check(
+        &mut self,
+        starts: &Starts,
+        tag: u32,
+        value: Operand,
+    ) -> Result<(), AllocError>
+        ensures { Appends result self.old self.new (check_code (view_starts starts.now) tag value) }
+    {
+        let zero = Operand::Word { word: 0 };
+        self.guard(starts, tag, Comparison::Equal, value, zero)
+    }
+}
