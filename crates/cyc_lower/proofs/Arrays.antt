@@ -156,11 +156,28 @@ module _ (source : Program) (pages calls : ℕ) where
         let matches : Matches source pages calls next (plain.Running c4) = (
           shared,
           data_above shared.tables source g w.objects e.locals (callers k) slots s4 c.globals c.frames (t + 1) 3 (omega (arith, height-least base (held k))) kept facts,
-          (handle, d, h, r, s, q, owned, ask, omega (arith, end), few, long, start, block, level_is, single, elements,
-            Holds-same shared.tables slots s4 base (held k) (λ m short. kept m (inl (omega (arith, short)))) holds, lands),
+          (
+            handle,
+            d,
+            h,
+            r,
+            s,
+            q,
+            owned,
+            ask,
+            omega (arith, end),
+            few,
+            long,
+            start,
+            block,
+            level_is,
+            single,
+            elements,
+            Holds-same shared.tables slots s4 base (held k) (λ m short. kept m (inl (omega (arith, short)))) holds,
+            lands,
+          ),
         ) in
-        by_places source pages calls now next (place_in source pages calls c) (place_in source pages calls c0 ∷ place_in source pages calls c1 ∷ place_in source pages calls c2 ∷ place_in source pages calls c3 ∷ []) (plain.Running c) does
-        (
+        by_places source pages calls now next (place_in source pages calls c) (place_in source pages calls c0 ∷ place_in source pages calls c1 ∷ place_in source pages calls c2 ∷ place_in source pages calls c3 ∷ []) (plain.Running c) does (
           (apart source pages calls c c0 (λ same. omega (arith, same, passed)), (apart source pages calls c c1 (λ same. omega (arith, same, passed)), (apart source pages calls c c2 (λ same. omega (arith, same, passed)), (apart source pages calls c c3 (λ same. omega (arith, same, passed)), tt)))),
           (
             (apart source pages calls c0 c1 (λ same. omega (arith, same)), (apart source pages calls c0 c2 (λ same. omega (arith, same)), (apart source pages calls c0 c3 (λ same. omega (arith, same)), tt))),
@@ -462,9 +479,12 @@ module _ (source : Program) (pages calls : ℕ) where
           by_one source pages calls
           (ap (λ (b : Bool). if b then gives kinds.Fat (Fat object 0 count 0) k e w else Running (Evaluating element) stack inner w) told) shared branch
           (λ choice. subst (λ b. Matches source pages calls (Running (Evaluating element) stack inner w) (plain_step.branches c b s))
-          (sym (ap (λ x. x == c.active.slots (top source g k + 1)) now ∙ ap (λ x. index == x) long ∙ told))
-          (counted, facts, into_slot (top source g k + 3) r at_element ((part, long, now), holds)
-          (in_temporary (omega arith) (d, c.active.next, s, q, refl, more, few, level_is, single, (branch, before, at_element, filled, restart, copy), lands))))
+          (sym (ap (λ x. x == c.active.slots (top source g k + 1)) now ∙ ap (λ x. index == x) long ∙ told)) (
+            counted,
+            facts,
+            into_slot (top source g k + 3) r at_element ((part, long, now), holds)
+                (in_temporary (omega arith) (d, c.active.next, s, q, refl, more, few, level_is, single, (branch, before, at_element, filled, restart, copy), lands)),
+          ))
         where
           not_equal : index ≢ count
           not_equal same = let f : false ≡ true = sym told ∙ eq-eqb index count same in cc
@@ -550,8 +570,7 @@ module _ (source : Program) (pages calls : ℕ) where
         ),
       ) in
       let now_at = Running focus k₀ e w in
-      by_places source pages calls now_at next (place_in source pages calls c) (place_in source pages calls c1 ∷ place_in source pages calls c2 ∷ place_in source pages calls c3 ∷ place_in source pages calls c4 ∷ []) (plain.Running c) (does ∙ goes)
-      (
+      by_places source pages calls now_at next (place_in source pages calls c) (place_in source pages calls c1 ∷ place_in source pages calls c2 ∷ place_in source pages calls c3 ∷ place_in source pages calls c4 ∷ []) (plain.Running c) (does ∙ goes) (
         (apart source pages calls c c1 (λ e. omega (arith, e)), (apart source pages calls c c2 (λ e. omega (arith, e)), (apart source pages calls c c3 (λ e. omega (arith, e)), (apart source pages calls c c4 (λ e. omega (arith, e)), tt)))),
         (
           (apart source pages calls c1 c2 (λ e. omega (arith, e)), (apart source pages calls c1 c3 (λ e. omega (arith, e)), (apart source pages calls c1 c4 (λ e. omega (arith, e)), tt))),

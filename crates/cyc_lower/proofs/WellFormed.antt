@@ -597,21 +597,18 @@ module _ (program : PlainProgram) (r : Routine) (b : Numbering) (globals : b.glo
         let long_both = length-append inner filled in
         append program r b types locals levels globals called results behind first (begun ++ elements)
         (expression_in types locals levels behind n p t t fits_n (omega (arith, few, kind_few (kind_at program r b types locals levels globals called results behind n))) (omega (arith, few)) (omega (arith, short, long)))
-        (append program r b types locals levels globals called results behind begun elements
-        (
+        (append program r b types locals levels globals called results behind begun elements (
           (omega (arith, few), tt, omega (arith, behind)),
           (
             (omega (arith, few), omega (arith, few)),
             ((omega (arith, few), tt), ((omega (arith, few), omega (arith, few)), ((omega (arith, few), omega (arith, few), omega (arith, few)), (record { answer_in_range = omega (arith, few); first_in_range = tt; second_in_range = omega (arith, few) }, tt)))),
           ),
-        )
-        (
+        ) (
           (omega (arith, few), omega (arith, few), omega (arith, short, long, long_elements, long_both)),
           append program r b types locals levels globals called results behind (inner ++ filled) ended
               (append program r b types locals levels globals called results behind inner filled
               (expression_in (counted types (t + 2)) locals (levels_inside r types levels (t + 2) (omega (arith, few))) behind a (h + 1) (t + 3) (t + 3) (fits_a (t + 2)) (omega (arith, few, single, ap words_of_kind kind_is)) (omega (arith, few))
-              (omega (arith, short, long, long_elements, long_both)))
-              (
+              (omega (arith, short, long, long_elements, long_both))) (
                 (omega (arith, few), omega (arith, few), tt),
                 (
                   (omega (arith, few), omega (arith, few), omega (arith, few)),

@@ -254,9 +254,11 @@ mutual
       let inner = expression_code (with_counter starts (t + 2)) a (m + 6 + 1) (t + 3) (t + 3) in
       let filled = filled_code (m + 6) t in
       append first (begun_code starts handle t ++ elements_code inner (m + 6) d t) (expression_words starts n p t t count)
-      (append (begun_code starts handle t) (elements_code inner (m + 6) d t) ((tt, omega arith), (tt, (omega arith, (tt, ((tt, tt), ((word, tt), tt))))))
-      ((tt, tt), append (inner ++ filled) (ended_code d t) (append inner filled (expression_words (with_counter starts (t + 2)) a (m + 6 + 1) (t + 3) (t + 3) element)
-      ((tt, omega arith), ((tt, tt), ((tt, omega arith, tt), ((tt, omega arith), (tt, tt)))))) (omega arith, copy_words (is_in (operands.Slot t) d) 3 (operands.Slot t) d tt)))
+      (append (begun_code starts handle t) (elements_code inner (m + 6) d t) ((tt, omega arith), (tt, (omega arith, (tt, ((tt, tt), ((word, tt), tt)))))) (
+        (tt, tt),
+        append (inner ++ filled) (ended_code d t) (append inner filled (expression_words (with_counter starts (t + 2)) a (m + 6 + 1) (t + 3) (t + 3) element)
+            ((tt, omega arith), ((tt, tt), ((tt, omega arith, tt), ((tt, omega arith), (tt, tt)))))) (omega arith, copy_words (is_in (operands.Slot t) d) 3 (operands.Slot t) d tt),
+      ))
 
   place_words : (starts : Starts) → (x : Dereference) (p t : ℕ) → IsOfWordsCell x → HaveWords (place_code starts x p t)
   place_words starts (Target k a ty) p t words =

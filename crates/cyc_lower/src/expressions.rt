@@ -193,27 +193,29 @@ impl Emitter {
         ensures { Appends result self.old self.new (measured_code (view_starts starts.now) words index free) }
     {
         let count = Operand::Slot { number: free };
+        let first = Operand::Word { word: 0 };
         let limit = Operand::Word {
             word: MOST_ELEMENTS + 1,
         };
-        self.guard(starts, ARRAY_SIZE, Comparison::GreaterOrEqualUnsigned, count, limit)?;
+        self.guard(
+            starts,
+            ARRAY_SIZE,
+            Comparison::GreaterOrEqualUnsigned,
+            count,
+            limit,
+        )?;
         self.emit(Instruction::Move {
             destination: words,
             source: count,
         })?;
         self.emit(Instruction::Move {
             destination: index,
-            source: Operand::Word { word: 0 },
+            source: first,
         })
     }
 
     /// A block is asked for of as many words as the slot `free` tells, or of one where that is 0. Its address comes there.
-    fn ask_for_array(
-        &mut self,
-        handle: u32,
-        size: usize,
-        free: usize,
-    ) -> Result<(), AllocError>
+    fn ask_for_array(&mut self, handle: u32, size: usize, free: usize) -> Result<(), AllocError>
         ensures { Appends result self.old self.new (asked_code handle size free) }
     {
         let count = Operand::Slot { number: free };
@@ -239,12 +241,7 @@ impl Emitter {
     }
 
     /// A new array, whose length is in `free`. Its address comes there, and its length and the index to the slots behind it.
-    fn begin_array(
-        &mut self,
-        starts: &Starts,
-        handle: u32,
-        free: usize,
-    ) -> Result<(), AllocError>
+    fn begin_array(&mut self, starts: &Starts, handle: u32, free: usize) -> Result<(), AllocError>
         ensures { Appends result self.old self.new (begun_code (view_starts starts.now) handle free) }
     {
         let behind = slot_behind(free, Kind::Fat)?;
