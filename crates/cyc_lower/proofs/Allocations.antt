@@ -12,8 +12,8 @@ use Rattle.cyc_types.specs.declared.typed.Kind.TheVariants as kinds
 use Rattle.cyc_types.specs.TypedTrees.{Arguments, NoArguments, MoreArguments, Convert, Program}
 use Rattle.cyc_store.specs.State.{StoreState, demand}
 use Rattle.cyc_store.specs.Services as services
-use Rattle.cyc_store.specs.Services.{Allocate, refusal, full_at, is_size}
-use Rattle.cyc_store.specs.declared.range.TheConstants.{HEAP, MOST_BLOCK_WORDS}
+use Rattle.cyc_store.specs.Services.{Allocate, IsAllowed, served, refusal, full_at, is_size}
+use Rattle.cyc_store.specs.declared.range.TheConstants.{HEAP, UNIQUE, MOST_BLOCK_WORDS}
 use Rattle.cyc_store.proofs.ServiceLemmas.{served-sound}
 use Rattle.cyc_plain.specs.declared.instruction.Operand.{Operand}
 use Rattle.cyc_plain.specs.declared.instruction.Operand.TheVariants as operands
@@ -30,7 +30,7 @@ use Rattle.cyc_plain.proofs.Steps.{step_serves, step_full}
 use Rattle.cyc_plain.proofs.SlotLaws.{put-same, put-other}
 use Rattle.cyc_meaning.specs.Values.{Thin, Operand as Kinded, Cell, kinds_of, is_kind, words_of_kind, words_of_cells, block_size}
 use Rattle.cyc_meaning.specs.Allocation.{writes_from, blanks_of, filled, makes_of}
-use Rattle.cyc_meaning.specs.Objects.{made_in, created_in}
+use Rattle.cyc_meaning.specs.Objects.{made_in, made_unique, created, created_in}
 use Rattle.cyc_meaning.specs.Effects.{pages_of}
 use Rattle.cyc_meaning.specs.State.{Region, Owner, InRegion, Unique, World, Access, Found, Closed, Missing, heap_number, region_at, counted, cell_at, written, Environment, MakePlain, MakeFields, ConvertTo, Write, Entry, Needs, Focus, Evaluating, Given, Writing, State, Running, Ended}
 use Rattle.cyc_meaning.specs.Step.{wrong, stored, target_by, step}
@@ -42,12 +42,12 @@ use Rattle.cyc_objects.specs.Related.{has_home}
 use Rattle.cyc_objects.proofs.Values.{Grows-row}
 use Rattle.cyc_objects.proofs.RegionLemmas.{counted-same}
 use Rattle.cyc_objects.proofs.NumberLemmas.{slice_get-below}
-use Rattle.cyc_objects.proofs.Making.{open-home, allocated, refusal-allocate, operands-blank, row-made, placed-range, room-fits}
+use Rattle.cyc_objects.proofs.Making.{open-home, allocated, allocated-unique, refusal-allocate, refusal-unique, operands-blank, row-made, placed-range, room-fits}
 use Rattle.cyc_lower.specs.Lowering.{lower_program}
 use Rattle.cyc_lower.proofs.Widths.{kind_positive, Outside}
 use Rattle.cyc_lower.proofs.Stands.{StoresAt, ObjectAt}
-use Rattle.cyc_lower.proofs.Relation.{types_on, starts_on, IsWord, IsIn, IsObject, words_held, height, Holds, HoldsFrom, held, callers, homes, silent, DataIn, SharedAt, in_temporary, into_slot, LandsStack, ValueStack, Matches, code_of, bounds_at, types_at, base_of, top}
-use Rattle.cyc_lower.proofs.Data.{Is-same, height-least, one_word, Holds-same, Holds-rest, Holds-grows, HoldsFrom-grows, in_order, words-reverse, data_above, data_grows, variables_grow, contents_made}
+use Rattle.cyc_lower.proofs.Relation.{types_on, starts_on, IsWord, IsIn, IsObject, words_held, height, Holds, HoldsFrom, held, callers, homes, silent, DataIn, SharedAt, in_temporary, into_slot, LandsStack, ValueStack, Matches, code_of, bounds_at, types_at, base_of, top, IsHandleOf, contents, floor}
+use Rattle.cyc_lower.proofs.Data.{Is-same, height-least, one_word, Holds-same, Holds-rest, Holds-grows, HoldsFrom-grows, in_order, words-reverse, data_above, data_grows, variables_grow, contents_made, data_written}
 use Rattle.cyc_lower.proofs.Accesses.{IsWell, is_fitting}
 use Rattle.cyc_lower.proofs.CellWrites.{SameVariables, data_beside, cell_is_there, saves_there, shared_saved, data_saved}
 use Rattle.cyc_lower.proofs.Matched.{IsMatched, below, silently, by_places, by_one, shared_way, shared_within, place_in, known, Executes}
@@ -102,14 +102,64 @@ is_sized : (vs : List Kinded) → 1 ≤ words_held vs → words_held vs ≤ MOST
 is_sized vs some few =
     and_from _ _ (le-leb 1 (block_size (blanks_of vs)) (le-max_left 1 (words_of_cells (blanks_of vs)))) (le-leb (block_size (blanks_of vs)) MOST_BLOCK_WORDS (size_fits vs some few))
 
--- ---- what is made in a region
+-- ---- what is made for an owner
 
--- the region is open
+-- A new object of these cells is made for an owner, and the world is this one then. The store is full exactly where the source is, and
+-- what it holds is related.
+pub record Makes (t : Tables) (w : World) (s : StoreState) (owner : Owner) (handle : ℕ) (cells : List Cell) (new : World) : Type 0 where
+  pub creates : created w owner cells ≡ Found new
+  pub joined : new.objects ≡ w.objects ++ record { owner = owner; cells = cells } ∷ []
+  pub output : new.output ≡ w.output
+  pub input : new.input ≡ w.input
+  pub pages : (choice : services.Choice) → (served s (Allocate handle (block_size cells)) choice).pages ≡ s.pages
+  pub refuses : refusal s (Allocate handle (block_size cells)) ≡ full_at (nat_lt s.pages (pages_of new))
+  pub related : (choice : services.Choice) → refusal s (Allocate handle (block_size cells)) ≡ None → IsAllowed s (Allocate handle (block_size cells)) choice
+      → objects.Related (with_row t (Placed choice.address (kinds_of cells))) (silent new) (served s (Allocate handle (block_size cells)) choice)
+
+-- a region where something is made is open
 region_there : (a : Access Region) (region object : ℕ) (vs : List Kinded) (k : List Entry) (e : Environment) (w : World) → IsWell (filled (created_in w region a (blanks_of vs)) object vs k e w)
     → (r : Region) × (a ≡ Found r)
 region_there (Found r) region object vs k e w well = (r, refl)
 region_there Closed region object vs k e w well = absurd (well refl)
 region_there Missing region object vs k e w well = absurd (well refl)
+
+module _ {t : Tables} {w : World} {s : StoreState} (related : objects.Related t (silent w) s) (vs : List Kinded) (some : 1 ≤ words_held vs) (few : words_held vs ≤ MOST_BLOCK_WORDS) (k : List Entry) (e : Environment) where
+  -- in the heap
+  made_there : IsWell (makes_of (InRegion heap_number) vs k e w) → (new : World) × Makes t w s (InRegion heap_number) HEAP (blanks_of vs) new
+  made_there well =
+      let cells = blanks_of vs in
+      let (r, found) = region_there (region_at w heap_number) heap_number (length w.objects) vs k e w well in
+      let (there, kept) = open-home related heap_number HEAP r found related.heap in (
+        made_in w heap_number r cells,
+        record {
+          creates = ap (λ a. created_in w heap_number a cells) found;
+          joined = refl;
+          output = refl;
+          input = refl;
+          pages = λ choice. refl;
+          refuses = refusal-allocate related heap_number HEAP r cells there kept related.heap (is_sized vs some few);
+          related = λ choice free allowed. allocated related heap_number HEAP r cells there kept related.heap choice (operands-blank vs) free allowed;
+        },
+      )
+
+  -- an object with a pointer of its own
+  made_alone : Makes t w s (Unique true) UNIQUE (blanks_of vs) (made_unique w (blanks_of vs))
+  made_alone = record {
+    creates = refl;
+    joined = refl;
+    output = refl;
+    input = refl;
+    pages = λ choice. refl;
+    refuses = refusal-unique related (blanks_of vs) (is_sized vs some few);
+    related = λ choice free allowed. allocated-unique related (blanks_of vs) choice (operands-blank vs) (omega (arith, size_fits vs some few)) free allowed;
+  }
+
+  made_for : (owner : Owner) (handle : ℕ) → IsHandleOf owner handle → IsWell (makes_of owner vs k e w) → (new : World) × Makes t w s owner handle (blanks_of vs) new
+  made_for (InRegion region) handle (region_is, handle_is) well =
+      let (new, makes) = made_there (subst (λ n. IsWell (makes_of (InRegion n) vs k e w)) region_is well) in
+      (new, subst (λ h. Makes t w s (InRegion region) h (blanks_of vs) new) (sym handle_is) (subst (λ n. Makes t w s (InRegion n) HEAP (blanks_of vs) new) (sym region_is) makes))
+  made_for (Unique true) handle handle_is well = (made_unique w (blanks_of vs), subst (λ h. Makes t w s (Unique true) h (blanks_of vs) (made_unique w (blanks_of vs))) (sym handle_is) made_alone)
+  made_for (Unique false) handle owned well = absurd owned
 
 -- the store asks for as many pages as the source
 demand_is : {t : Tables} {w : World} {s : StoreState} → objects.Related t w s → demand s ≡ pages_of w
@@ -168,15 +218,12 @@ module _ (source : Program) (pages calls : ℕ) where
   -- ---- an object is made
 
   module _ (k : List Entry) (e : Environment) (w : World) (c : Configuration) (shared : SharedAt source pages calls k e w c) (facts : DataIn source shared.tables c.active.slots k e w c)
-      (holds : Holds shared.tables c.active.slots (base_of source c.active.function) (held k)) (vs : List Kinded) (r : Region) (there : slice_get w.regions heap_number ≡ Some r) (kept : has_home r ≡ true)
+      (holds : Holds shared.tables c.active.slots (floor source c.active.function k) (held k)) (vs : List Kinded) (owner : Owner) (handle : ℕ) (new : World) (makes : Makes shared.tables w c.store owner handle (blanks_of vs) new)
       (some : 1 ≤ words_held vs) (few : words_held vs ≤ MOST_BLOCK_WORDS) (choice : services.Choice)
-      (free : refusal c.store (Allocate HEAP (block_size (blanks_of vs))) ≡ None)
-      (served : plain_step.IsServed c.store (Allocate HEAP (block_size (blanks_of vs))) choice) where
+      (free : refusal c.store (Allocate handle (block_size (blanks_of vs))) ≡ None)
+      (served : plain_step.IsServed c.store (Allocate handle (block_size (blanks_of vs))) choice) where
     abbrev cells : List Cell
     cells = blanks_of vs
-
-    abbrev new : World
-    new = made_in w heap_number r cells
 
     abbrev t : ℕ
     t = top source c.active.function k
@@ -185,20 +232,20 @@ module _ (source : Program) (pages calls : ℕ) where
     grown = with_row shared.tables (Placed choice.address (kinds_of cells))
 
     abbrev after : Configuration
-    after = served_to choice c (t + words_held vs) (Allocate HEAP (block_size cells))
+    after = served_to choice c (t + words_held vs) (Allocate handle (block_size cells))
 
     grows : Grows shared.tables grown
     grows = Grows-row shared.tables (Placed choice.address (kinds_of cells))
 
     related_made : objects.Related grown (silent new) after.store
-    related_made = allocated shared.related heap_number HEAP r cells there kept shared.related.heap choice (operands-blank vs) free served.allowed
+    related_made = makes.related choice free served.allowed
 
     abbrev shared_made : SharedAt source pages calls k e new after
     shared_made = record {
       tables = grown;
-      same_output = shared.same_output;
-      same_input = shared.same_input;
-      same_pages = shared.same_pages;
+      same_output = shared.same_output ∙ sym makes.output;
+      same_input = shared.same_input ∙ sym makes.input;
+      same_pages = makes.pages choice ∙ shared.same_pages;
       related = related_made;
       globals = shared.globals;
       variables = variables_grow shared.tables grown grows (e.home ∷ homes k) shared.variables;
@@ -208,7 +255,7 @@ module _ (source : Program) (pages calls : ℕ) where
     }
       where
         within_pages : demand after.store ≤ pages
-        within_pages = omega (arith, (served-sound c.store (Allocate HEAP (block_size cells)) choice shared.related.sound free served.allowed).demand, shared.same_pages)
+        within_pages = omega (arith, (served-sound c.store (Allocate handle (block_size cells)) choice shared.related.sound free served.allowed).demand, makes.pages choice, shared.same_pages)
 
     -- the slots differ behind the values alone
     same_slots : (m : ℕ) → Outside (t + words_held vs) 1 m → after.active.slots m ≡ c.active.slots m
@@ -218,18 +265,20 @@ module _ (source : Program) (pages calls : ℕ) where
     data_made : DataIn source grown after.active.slots k e new after
     data_made =
         let g = c.active.function in
-        let many : length new.objects ≡ length w.objects + 1 = length-append w.objects (record { owner = InRegion heap_number; cells = cells } ∷ []) in
-        data_above grown source g new.objects e.locals (callers k) c.active.slots after.active.slots c.globals c.frames (t + words_held vs) 1 (omega (arith, height-least (base_of source g) (held k))) same_slots
-        (data_grows shared.tables grown grows source g new.objects e.locals (callers k) c.active.slots c.globals c.frames
-        (data_beside shared.tables source g w.objects new.objects e.locals (callers k) c.active.slots c.globals c.frames (omega (arith, many)) beside facts))
+        let many : length new.objects ≡ length w.objects + 1 = ap length makes.joined ∙ length-append w.objects (record { owner = owner; cells = cells } ∷ []) in
+        data_written source grown g new.objects e.locals k c.active.slots after.active.slots c.active.handlers c.globals c.frames (t + words_held vs) 1 (omega (arith, height-least (floor source g k) (held k))) same_slots (
+          data_grows shared.tables grown grows source g new.objects e.locals (callers k) c.active.slots c.globals c.frames
+              (data_beside shared.tables source g w.objects new.objects e.locals (callers k) c.active.slots c.globals c.frames (omega (arith, many)) beside facts.0),
+          facts.1,
+        )
       where
         beside : SameVariables shared.tables w.objects new.objects
-        beside o row = contents_made w.objects (record { owner = InRegion heap_number; cells = cells }) o (omega (arith, slice_get-below shared.tables.rows o Variable row, shared.related.rows))
+        beside o row = ap (λ l. contents l o) makes.joined ∙ contents_made w.objects (record { owner = owner; cells = cells }) o (omega (arith, slice_get-below shared.tables.rows o Variable row, shared.related.rows))
 
-    holds_made : Holds grown after.active.slots (base_of source c.active.function) (held k)
+    holds_made : Holds grown after.active.slots (floor source c.active.function k) (held k)
     holds_made =
-        Holds-same grown c.active.slots after.active.slots (base_of source c.active.function) (held k) (λ n short. same_slots n (inl (omega (arith, short))))
-        (Holds-grows shared.tables grown grows c.active.slots (base_of source c.active.function) (held k) holds)
+        Holds-same grown c.active.slots after.active.slots (floor source c.active.function k) (held k) (λ n short. same_slots n (inl (omega (arith, short))))
+        (Holds-grows shared.tables grown grows c.active.slots (floor source c.active.function k) (held k) holds)
 
     values_made : HoldsFrom shared.tables c.active.slots t vs → HoldsFrom grown after.active.slots t vs
     values_made values =
@@ -241,7 +290,7 @@ module _ (source : Program) (pages calls : ℕ) where
         subst (λ a. IsObject grown (length w.objects) a (kinds_of cells)) (sym (put-same c.active.slots (t + words_held vs) choice.address))
         (record {
           row = row-made shared.related (Placed choice.address (kinds_of cells));
-          range = placed-range c.store.pages (services.block_of HEAP (block_size cells) choice) (kinds_of cells) served.allowed.may.0 shared.related.few (room-fits HEAP cells (omega (arith, size_fits vs some few)));
+          range = placed-range c.store.pages (services.block_of handle (block_size cells) choice) (kinds_of cells) served.allowed.may.0 shared.related.few (room-fits handle cells (omega (arith, size_fits vs some few)));
           some = some_cells vs some;
         })
       where
@@ -249,37 +298,36 @@ module _ (source : Program) (pages calls : ℕ) where
         some_cells [] none = absurd (omega (arith, none))
         some_cells (u ∷ us) one = omega arith
 
-  -- an object in the heap, of values that stand in slots
-  pub heap_object : (focus : Focus) (k₀ k : List Entry) (e : Environment) (w : World) (c : Configuration) (vs : List Kinded) (d q : ℕ) → step source (Running focus k₀ e w) ≡ makes_of (InRegion heap_number) vs k e w
-      → IsWell (makes_of (InRegion heap_number) vs k e w) → SharedAt source pages calls k₀ e w c → (shared : SharedAt source pages calls k e w c) → DataIn source shared.tables c.active.slots k e w c
-      → Holds shared.tables c.active.slots (base_of source c.active.function) (held k) → HoldsFrom shared.tables c.active.slots (top source c.active.function k) vs
-      → ObjectAt (code_of source c.active.function) (bounds_at source c.active.function) (types_on source c.active.function k) HEAP (length vs) (words_held vs) (top source c.active.function k) d c.active.next q
+  -- an object of values that stand in slots
+  pub made_object : (owner : Owner) (handle : ℕ) → IsHandleOf owner handle → (focus : Focus) (k₀ k : List Entry) (e : Environment) (w : World) (c : Configuration) (vs : List Kinded) (d q : ℕ)
+      → step source (Running focus k₀ e w) ≡ makes_of owner vs k e w
+      → IsWell (makes_of owner vs k e w) → SharedAt source pages calls k₀ e w c → (shared : SharedAt source pages calls k e w c) → DataIn source shared.tables c.active.slots k e w c
+      → Holds shared.tables c.active.slots (floor source c.active.function k) (held k) → HoldsFrom shared.tables c.active.slots (top source c.active.function k) vs
+      → ObjectAt (code_of source c.active.function) (bounds_at source c.active.function) (types_on source c.active.function k) handle (length vs) (words_held vs) (top source c.active.function k) d c.active.next q
       → LandsStack source c.active.function e.locals kinds.NonNull d q c.frames k → IsMatched source pages calls (Running focus k₀ e w) (plain.Running c)
-  heap_object focus k₀ k e w c vs d q does well shared₀ shared facts holds values (m, single, some, few, ask, stores, move, end) lands =
+  made_object owner handle owned focus k₀ k e w c vs d q does well shared₀ shared facts holds values (m, single, some, few, ask, stores, move, end) lands =
       let t = top source c.active.function k in
       let cells = blanks_of vs in
-      let (r, found) = region_there (region_at w heap_number) heap_number (length w.objects) vs k e w well in
-      let (there, kept) = open-home shared.related heap_number HEAP r found shared.related.heap in
+      let (new, makes) = made_for shared.related vs some few k e owner handle owned well in
       let pointer : Kinded = record { kind = kinds.NonNull; value = Thin (length w.objects) 0 } in
-      let next = Running (Writing (writes_from (length w.objects) 0 vs) (Some pointer)) k e (made_in w heap_number r cells) in
-      let is_next : step source (Running focus k₀ e w) ≡ next = does ∙ ap (λ a. filled (created_in w heap_number a cells) (length w.objects) vs k e w) found in
-      let request = requests.Allocate (t + words_held vs) (operands.Word HEAP) (operands.Word (block_size cells)) in
+      let next = Running (Writing (writes_from (length w.objects) 0 vs) (Some pointer)) k e new in
+      let is_next : step source (Running focus k₀ e w) ≡ next = does ∙ ap (λ a. filled a (length w.objects) vs k e w) makes.creates in
+      let request = requests.Allocate (t + words_held vs) (operands.Word handle) (operands.Word (block_size cells)) in
       let here : At (code_of source c.active.function) c.active.next (instructions.Ask request)
-      = subst (λ n. At (code_of source c.active.function) c.active.next (instructions.Ask (requests.Allocate (t + words_held vs) (operands.Word HEAP) (operands.Word n)))) (sized vs some few) ask in
-      let refuses = refusal-allocate shared.related heap_number HEAP r cells there kept shared.related.heap (is_sized vs some few) in
-      elim (cases_Bool (nat_lt c.store.pages (pages_of (made_in w heap_number r cells)))) [
+      = subst (λ n. At (code_of source c.active.function) c.active.next (instructions.Ask (requests.Allocate (t + words_held vs) (operands.Word handle) (operands.Word n)))) (sized vs some few) ask in
+      elim (cases_Bool (nat_lt c.store.pages (pages_of new))) [
         | inl over ↦
             by_full focus k₀ e w c next request is_next
-            (past_pages pages (pages_of (made_in w heap_number r cells)) _ (subst (λ p. nat_lt p (pages_of (made_in w heap_number r cells)) ≡ true) shared.same_pages over))
-            shared₀ here (refuses ∙ ap full_at over)
+            (past_pages pages (pages_of new) _ (subst (λ p. nat_lt p (pages_of new) ≡ true) shared.same_pages over))
+            shared₀ here (makes.refuses ∙ ap full_at over)
         | inr room ↦
-            let free = refuses ∙ ap full_at room in
+            let free = makes.refuses ∙ ap full_at room in
             by_asking focus k₀ e w c next request is_next shared₀ here free
             (λ choice served.
-            let made = shared_made k e w c shared facts holds vs r there kept some few choice free served in (
+            let made = shared_made k e w c shared facts holds vs owner handle new makes some few choice free served in (
               (
                 made,
-                data_made k e w c shared facts holds vs r there kept some few choice free served,
+                data_made k e w c shared facts holds vs owner handle new makes some few choice free served,
                 (
                   length w.objects,
                   [],
@@ -291,17 +339,17 @@ module _ (source : Program) (pages calls : ℕ) where
                   q,
                   refl,
                   refl,
-                  object_there k e w c shared facts holds vs r there kept some few choice free served,
+                  object_there k e w c shared facts holds vs owner handle new makes some few choice free served,
                   sym single,
-                  values_made k e w c shared facts holds vs r there kept some few choice free served values,
+                  values_made k e w c shared facts holds vs owner handle new makes some few choice free served values,
                   stores,
                   move,
                   end,
-                  holds_made k e w c shared facts holds vs r there kept some few choice free served,
+                  holds_made k e w c shared facts holds vs owner handle new makes some few choice free served,
                   lands,
                 ),
               ),
-              shared_within source pages calls k e (made_in w heap_number r cells) (served_to choice c (t + words_held vs) (Allocate HEAP (block_size cells))) made,
+              shared_within source pages calls k e new (served_to choice c (t + words_held vs) (Allocate handle (block_size cells))) made,
             ))
       ]
 
@@ -310,44 +358,39 @@ module _ (source : Program) (pages calls : ℕ) where
   -- the value of its only cell
   pub plain_made : (owner : Owner) (kind : Kind) (v : Kinded) (o : Operand) (k : List Entry) (e : Environment) (w : World) (c : Configuration)
       → IsWell (step source (Running (Given v) (Needs (MakePlain owner kind) ∷ k) e w)) → (shared : SharedAt source pages calls k e w c) → DataIn source shared.tables c.active.slots k e w c
-      → IsIn shared.tables v c.active.slots o → Holds shared.tables c.active.slots (base_of source c.active.function) (held k)
+      → IsIn shared.tables v c.active.slots o → Holds shared.tables c.active.slots (floor source c.active.function k) (held k)
       → ValueStack source c.active.function e.locals v.kind o c.active.next c.frames (Needs (MakePlain owner kind) ∷ k)
       → IsMatched source pages calls (Running (Given v) (Needs (MakePlain owner kind) ∷ k) e w) (plain.Running c)
-  plain_made (InRegion region) kind v o k e w c well shared facts is holds (handle, d, q, (region_is, handle_is), there, (m, single, some, few, ask, stores, move, end), lands) =
+  plain_made owner kind v o k e w c well shared facts is holds (handle, d, q, owned, there, (m, single, some, few, ask, stores, move, end), lands) =
       let g = c.active.function in
       let t = top source g k in
-      let makes = makes_of (InRegion region) (v ∷ []) k e w in
-      let does : step source (Running (Given v) (Needs (MakePlain (InRegion region) kind) ∷ k) e w) ≡ makes = ap (λ (b : Bool). if b then makes else wrong w) (is_fitting (is_kind v.kind kind) makes w well) in
-      let at_heap : makes ≡ makes_of (InRegion heap_number) (v ∷ []) k e w = ap (λ r. makes_of (InRegion r) (v ∷ []) k e w) region_is in
+      let makes = makes_of owner (v ∷ []) k e w in
+      let does : step source (Running (Given v) (Needs (MakePlain owner kind) ∷ k) e w) ≡ makes = ap (λ (b : Bool). if b then makes else wrong w) (is_fitting (is_kind v.kind kind) makes w well) in
       let words : words_of_kind v.kind ≡ words_held (v ∷ []) = omega arith in
-      heap_object (Given v) (Needs (MakePlain (InRegion region) kind) ∷ k) k e w c (v ∷ []) d q (does ∙ at_heap) (subst IsWell (does ∙ at_heap) well) shared shared facts holds
+      made_object owner handle owned (Given v) (Needs (MakePlain owner kind) ∷ k) k e w c (v ∷ []) d q does (subst IsWell does well) shared shared facts holds
       (subst (IsIn shared.tables v c.active.slots) there is, tt)
-      (subst (λ n. ObjectAt (code_of source g) (bounds_at source g) (types_on source g k) HEAP 1 n t d c.active.next q) words
-      (subst (λ h. ObjectAt (code_of source g) (bounds_at source g) (types_on source g k) h 1 (words_of_kind v.kind) t d c.active.next q) handle_is (m, single, some, few, ask, stores, move, end)))
+      (subst (λ n. ObjectAt (code_of source g) (bounds_at source g) (types_on source g k) handle 1 n t d c.active.next q) words (m, single, some, few, ask, stores, move, end))
       lands
-  plain_made (Unique live) kind v o k e w c well shared facts is holds (handle, d, q, owned, there, at, lands) = absurd owned
 
   -- the next of its fields is evaluated, or it is made of all
   pub fields_made : (owner : Owner) (earlier : List Kinded) (cs : Arguments) (v : Kinded) (o : Operand) (k : List Entry) (e : Environment) (w : World) (c : Configuration)
       → IsWell (step source (Running (Given v) (Needs (MakeFields owner earlier cs) ∷ k) e w)) → (shared : SharedAt source pages calls k e w c) → DataIn source shared.tables c.active.slots k e w c
-      → IsIn shared.tables v c.active.slots o → Holds shared.tables c.active.slots (base_of source c.active.function) (earlier ++ held k)
+      → IsIn shared.tables v c.active.slots o → Holds shared.tables c.active.slots (floor source c.active.function k) (earlier ++ held k)
       → ValueStack source c.active.function e.locals v.kind o c.active.next c.frames (Needs (MakeFields owner earlier cs) ∷ k)
       → IsMatched source pages calls (Running (Given v) (Needs (MakeFields owner earlier cs) ∷ k) e w) (plain.Running c)
-  fields_made (InRegion region) earlier NoArguments v o k e w c well shared facts is holds (handle, d, p, q, all, (region_is, handle_is), there, none, (m, single, some, few, ask, stores, move, end), long, lands) =
+  fields_made owner earlier NoArguments v o k e w c well shared facts is holds (handle, d, p, q, all, owned, there, none, (m, single, some, few, ask, stores, move, end), long, lands) =
       let g = c.active.function in
-      let base = base_of source g in
+      let base = floor source g k in
       let t = top source g k in
       let values = reverse (v ∷ earlier) in
       let held_all : Holds shared.tables c.active.slots base ((v ∷ earlier) ++ held k) = (subst (IsIn shared.tables v c.active.slots) there is, holds) in
-      let at_heap : step source (Running (Given v) (Needs (MakeFields (InRegion region) earlier NoArguments) ∷ k) e w) ≡ makes_of (InRegion heap_number) values k e w = ap (λ r. makes_of (InRegion r) values k e w) region_is in
       let words : all ≡ words_held values = omega (arith, long, words-reverse (v ∷ earlier)) in
       let count : length earlier + suc 0 ≡ length values = omega (arith, length-reverse (v ∷ earlier)) in
-      heap_object (Given v) (Needs (MakeFields (InRegion region) earlier NoArguments) ∷ k) k e w c values d q at_heap (subst IsWell at_heap well) shared shared facts (Holds-rest shared.tables c.active.slots base (v ∷ earlier) (held k) held_all)
+      made_object owner handle owned (Given v) (Needs (MakeFields owner earlier NoArguments) ∷ k) k e w c values d q refl well shared shared facts (Holds-rest shared.tables c.active.slots base (v ∷ earlier) (held k) held_all)
       (in_order shared.tables c.active.slots base (v ∷ earlier) (held k) held_all)
-      (subst (λ n. ObjectAt (code_of source g) (bounds_at source g) (types_on source g k) HEAP n (words_held values) t d c.active.next q) count
-      (subst (λ n. ObjectAt (code_of source g) (bounds_at source g) (types_on source g k) HEAP (length earlier + suc 0) n t d c.active.next q) words
-      (subst (λ h. ObjectAt (code_of source g) (bounds_at source g) (types_on source g k) h (length earlier + suc 0) all t d c.active.next q) handle_is
-      (subst (λ x. ObjectAt (code_of source g) (bounds_at source g) (types_on source g k) handle (length earlier + suc 0) all t d x q) (sym none) (m, single, some, few, ask, stores, move, end)))))
+      (subst (λ n. ObjectAt (code_of source g) (bounds_at source g) (types_on source g k) handle n (words_held values) t d c.active.next q) count
+      (subst (λ n. ObjectAt (code_of source g) (bounds_at source g) (types_on source g k) handle (length earlier + suc 0) n t d c.active.next q) words
+      (subst (λ x. ObjectAt (code_of source g) (bounds_at source g) (types_on source g k) handle (length earlier + suc 0) all t d x q) (sym none) (m, single, some, few, ask, stores, move, end))))
       lands
   fields_made owner earlier (MoreArguments (Convert from to a) cs) v o k e w c well shared facts is holds (handle, d, p, q, all, owned, there, (r, (s, at_a, at_to), at_cs), (m, single, some, few, ask, stores, move, end), long, lands) =
       let g = c.active.function in
@@ -355,11 +398,10 @@ module _ (source : Program) (pages calls : ℕ) where
       (Running (Evaluating a) (Needs (ConvertTo from to (target_by a)) ∷ Needs (MakeFields owner (v ∷ earlier) cs) ∷ k) e w) (plain.Running c) refl (
         shared,
         facts,
-        into_slot (height (base_of source g) (v ∷ earlier ++ held k)) s at_a (subst (IsIn shared.tables v c.active.slots) there is, holds)
+        into_slot (height (floor source g k) (v ∷ earlier ++ held k)) s at_a (subst (IsIn shared.tables v c.active.slots) there is, holds)
             (in_temporary (omega arith) (r, at_to, (handle, d, p, q, all, owned, refl, at_cs, (m, omega (arith, single), some, few, ask, stores, move, end), omega (arith, long), lands))),
       )
       (omega arith)
-  fields_made (Unique live) earlier NoArguments v o k e w c well shared facts is holds (handle, d, p, q, all, owned, there, none, at, long, lands) = absurd owned
 
   -- ---- its cells are written
 
@@ -377,10 +419,9 @@ module _ (source : Program) (pages calls : ℕ) where
   }
 
   -- a cell of a new object is written, and behind the last the pointer to it comes to its slot
-  pub writing : (writes : List Write) (result : Option Kinded) (k : List Entry) (e : Environment) (w : World) (c : Configuration) → plain.HoldsWords (plain.Running c)
-      → IsStep source pages calls (Writing writes result) k e w c
-  writing writes None k e w c words well (shared, facts, at) = absurd at
-  writing [] (Some pointer) k e w c words well (shared, facts, (object, done, [], address, slot, d, m, q, are, is, there, single, held_in, at, move, end, holds, lands)) =
+  pub writing : (writes : List Write) (pointer : Kinded) (k : List Entry) (e : Environment) (w : World) (c : Configuration) → plain.HoldsWords (plain.Running c)
+      → IsStep source pages calls (Writing writes (Some pointer)) k e w c
+  writing [] pointer k e w c words well (shared, facts, (object, done, [], address, slot, d, m, q, are, is, there, single, held_in, at, move, end, holds, lands)) =
       let points : Points shared.tables object 0 (c.active.slots address) = first_cell shared.tables object (c.active.slots address) (done ++ []) there in
       let v : Kinded = record { kind = kinds.NonNull; value = Thin object 0 } in
       by_one source pages calls (ap (λ (x : Kinded). Running (Given x) k e w) is) shared (subst (λ p. At (code_of source c.active.function) p (instructions.Move d (operands.Slot address))) (sym at) move)
@@ -388,9 +429,9 @@ module _ (source : Program) (pages calls : ℕ) where
     where
       first_cell : (t : Tables) (object address : ℕ) (kinds : List Kind) → IsObject t object address kinds → Points t object 0 address
       first_cell t object address kinds is = record { address = address; kinds = kinds; row = is.row; range = is.range; inside = is.some; at = omega arith }
-  writing [] (Some pointer) k e w c words well (shared, facts, (object, done, u ∷ us, address, slot, d, m, q, are, is, there, single, held_in, at, move, end, holds, lands)) = absurd (let f : [] ≡ writes_from object (length done) (u ∷ us) = are in cc)
-  writing (x ∷ writes) (Some pointer) k e w c words well (shared, facts, (object, done, [], address, slot, d, m, q, are, is, there, single, held_in, at, move, end, holds, lands)) = absurd (let f : x ∷ writes ≡ [] = are in cc)
-  writing (x ∷ writes) (Some pointer) k e w c words well (shared, facts, (object, done, u ∷ us, address, slot, d, m, q, are, is, there, single, (is_u, held_in), at, move, end, holds, lands)) =
+  writing [] pointer k e w c words well (shared, facts, (object, done, u ∷ us, address, slot, d, m, q, are, is, there, single, held_in, at, move, end, holds, lands)) = absurd (let f : [] ≡ writes_from object (length done) (u ∷ us) = are in cc)
+  writing (x ∷ writes) pointer k e w c words well (shared, facts, (object, done, [], address, slot, d, m, q, are, is, there, single, held_in, at, move, end, holds, lands)) = absurd (let f : x ∷ writes ≡ [] = are in cc)
+  writing (x ∷ writes) pointer k e w c words well (shared, facts, (object, done, u ∷ us, address, slot, d, m, q, are, is, there, single, (is_u, held_in), at, move, end, holds, lands)) =
       let g = c.active.function in
       let tables = shared.tables in
       let slots = c.active.slots in

@@ -52,16 +52,17 @@ use Rattle.cyc_objects.proofs.Making.{open-home, allocated, refusal-allocate, bl
 use Rattle.cyc_lower.specs.Lowering.{is_in, most_elements, lower_program}
 use Rattle.cyc_lower.proofs.Widths.{Outside, same_kind}
 use Rattle.cyc_lower.proofs.Stands.{CopyBy, BegunAt, ElementsAt}
-use Rattle.cyc_lower.proofs.Relation.{IsWord, IsIn, height, Holds, held, callers, counters_of, arrays_in, IsHandleOf, homes, silent, DataIn, SharedAt, in_temporary, into_slot, LandsStack, ValueStack, Related, Matches, code_of, bounds_at, types_on, base_of, top}
-use Rattle.cyc_lower.proofs.Data.{height-least, one_word, Holds-same, Holds-grows, data_above, data_grows, variables_grow, contents_made}
+use Rattle.cyc_lower.proofs.Relation.{IsWord, IsIn, height, Holds, held, callers, counters_of, arrays_in, IsInHeap, homes, silent, DataIn, SharedAt, in_temporary, into_slot, LandsStack, ValueStack, Related, Matches, code_of, bounds_at, types_on, base_of, floor, top}
+use Rattle.cyc_lower.proofs.Data.{height-least, one_word, Holds-same, Holds-grows, data_written, data_grows, variables_grow, contents_made}
 use Rattle.cyc_lower.proofs.Accesses.{IsWell, is_fitting}
 use Rattle.cyc_lower.proofs.Counters.{counters-many, counter_same, counted_before}
 use Rattle.cyc_lower.proofs.Sharing.{shared_less}
 use Rattle.cyc_lower.proofs.PlaceWords.{add_is, shifted_is, stays}
 use Rattle.cyc_lower.proofs.CellWrites.{SameVariables, data_beside, cell_is_there, saves_there, shared_saved, data_saved}
 use Rattle.cyc_lower.proofs.Levels.{lands_arrays}
-use Rattle.cyc_lower.proofs.Matched.{IsMatched, above, below, Executes, executes, by_places, by_one, by_two, by_three, shared_way, shared_within, output_way, place_in, apart, known, lands_depth, lands_plain}
+use Rattle.cyc_lower.proofs.Matched.{IsMatched, above, below, Executes, executes, by_places, by_one, by_two, by_three, shared_way, shared_within, output_way, place_in, apart, known}
 use Rattle.cyc_lower.proofs.Evaluations.{IsStep, landed, landed_moved}
+use Rattle.cyc_lower.proofs.Handling.{raised}
 use Rattle.cyc_lower.proofs.Allocations.{past_pages, by_asking, by_full}
 use Rattle.cyc_words.specs.Simulation.{IsOnTheWay}
 
@@ -108,25 +109,25 @@ module _ (source : Program) (pages calls : ℕ) where
   -- ---- the length
 
   module _ (owner : Owner) (level : ℕ) (wanted : Kind) (element : Expression) (k : List Entry) (e : Environment) (w : World) (c : Configuration) (shared : SharedAt source pages calls k e w c)
-      (facts : DataIn source shared.tables c.active.slots k e w c) (holds : Holds shared.tables c.active.slots (base_of source c.active.function) (held k)) where
+      (facts : DataIn source shared.tables c.active.slots k e w c) (holds : Holds shared.tables c.active.slots (floor source c.active.function k) (held k)) where
     abbrev t : ℕ
     t = top source c.active.function k
 
     -- what stands behind the length
     abbrev Waits : (p : ℕ) → Type 0
     Waits p =
-        (handle : ℕ) × (d : ℕ) × (h : ℕ) × (r : ℕ) × (s : ℕ) × (q : ℕ) × IsHandleOf owner handle
+        (handle : ℕ) × (d : ℕ) × (h : ℕ) × (r : ℕ) × (s : ℕ) × (q : ℕ) × IsInHeap owner handle
         × BegunAt (code_of source c.active.function) (bounds_at source c.active.function) (types_on source c.active.function k) handle t p h
-        × (level ≡ length (counters_of (base_of source c.active.function) k)) × (words_of_kind wanted ≡ 1)
+        × (level ≡ length (counters_of (floor source c.active.function k) k)) × (words_of_kind wanted ≡ 1)
         × ElementsAt (code_of source c.active.function) (bounds_at source c.active.function) (types_on source c.active.function k) element t d h r s q
         × LandsStack source c.active.function e.locals kinds.Fat d q c.frames k
 
     -- it is not too long: all that the store is asked for comes to slots
     begins : (focus : Focus) (k₀ : List Entry) (n : ℕ) → step source (Running focus k₀ e w) ≡ Running (Beginning owner n level wanted element) k e w → SharedAt source pages calls k₀ e w c
         → c.active.slots t ≡ n → n ≤ most_elements → Waits c.active.next → IsMatched source pages calls (Running focus k₀ e w) (plain.Running c)
-    begins focus k₀ n does shared₀ is few (handle, d, h, r, s, q, owned, (m, (block_at, branch, raised, passed), count, index, none, size, ask, end), level_is, single, elements, lands) =
+    begins focus k₀ n does shared₀ is few (handle, d, h, r, s, q, owned, (m, (block_at, branch, raising_it, passed), count, index, none, size, ask, end), level_is, single, elements, lands) =
         let slots = c.active.slots in
-        let base = base_of source c.active.function in
+        let base = floor source c.active.function k in
         let next = Running (Beginning owner n level wanted element) k e w in
         let now = Running focus k₀ e w in
         let s1 = put slots (t + 1) (slots t) in
@@ -155,7 +156,7 @@ module _ (source : Program) (pages calls : ℕ) where
         ∙ put-other s1 (t + 2) m 0 (apart_from m (t + 1) 3 (t + 2) out (omega arith) (omega arith)) ∙ put-other slots (t + 1) m (slots t) (apart_from m (t + 1) 3 (t + 1) out (omega arith) (omega arith)) in
         let matches : Matches source pages calls next (plain.Running c4) = (
           shared,
-          data_above shared.tables source g w.objects e.locals (callers k) slots s4 c.globals c.frames (t + 1) 3 (omega (arith, height-least base (held k))) kept facts,
+          data_written source shared.tables g w.objects e.locals k slots s4 c.active.handlers c.globals c.frames (t + 1) 3 (omega (arith, height-least base (held k))) kept facts,
           (
             handle,
             d,
@@ -202,12 +203,12 @@ module _ (source : Program) (pages calls : ℕ) where
     -- it is too long
     raises : (focus : Focus) (k₀ : List Entry) (n : ℕ) → step source (Running focus k₀ e w) ≡ Running (Throwing array_size 0) k e w → SharedAt source pages calls k₀ e w c
         → c.active.slots t ≡ n → (n ≤ most_elements → ⊥) → Waits c.active.next → IsMatched source pages calls (Running focus k₀ e w) (plain.Running c)
-    raises focus k₀ n does shared₀ is long (handle, d, h, r, s, q, owned, (m, (block_at, branch, raised, passed), count, index, none, size, ask, end), level_is, single, elements, lands) =
+    raises focus k₀ n does shared₀ is long (handle, d, h, r, s, q, owned, (m, (block_at, branch, raising_it, passed), count, index, none, size, ask, end), level_is, single, elements, lands) =
         let g = c.active.function in
         by_one source pages calls does shared₀ branch
         (λ choice. subst (λ b. Matches source pages calls (Running (Throwing array_size 0) k e w) (plain_step.branches c b block_at))
         (sym (ap (nat_le (most_elements + 1)) is ∙ too_long))
-        (shared, omega (arith, lands_depth source g e.locals kinds.Fat d q c.frames k lands, shared.fits), lands_plain source g e.locals kinds.Fat d q c.frames k lands, operands.Word 0, raised, refl))
+        (raised source pages calls array_size 0 k e w (at c block_at) (operands.Word array_size) (operands.Word 0) (omega arith) shared facts raising_it refl refl))
       where
         few_by : (x : ℕ) → nat_le (most_elements + 1) x ≡ false → x ≤ most_elements
         few_by x less = omega (arith, leb-false (most_elements + 1) x less)
@@ -244,7 +245,7 @@ module _ (source : Program) (pages calls : ℕ) where
   -- the length of an array
   pub array_sized : (owner : Owner) (level : ℕ) (wanted : Kind) (element : Expression) (v : Kinded) (o : Operand) (k : List Entry) (e : Environment) (w : World) (c : Configuration)
       → IsWell (step source (Running (Given v) (Needs (MakeArray owner level wanted element) ∷ k) e w)) → (shared : SharedAt source pages calls k e w c) → DataIn source shared.tables c.active.slots k e w c
-      → IsIn shared.tables v c.active.slots o → Holds shared.tables c.active.slots (base_of source c.active.function) (held k)
+      → IsIn shared.tables v c.active.slots o → Holds shared.tables c.active.slots (floor source c.active.function k) (held k)
       → ValueStack source c.active.function e.locals v.kind o c.active.next c.frames (Needs (MakeArray owner level wanted element) ∷ k)
       → IsMatched source pages calls (Running (Given v) (Needs (MakeArray owner level wanted element) ∷ k) e w) (plain.Running c)
   array_sized owner level wanted element v o k e w c well shared facts is holds (handle, d, h, r, s, q, owned, there, begun_at, level_is, single, elements, lands) =
@@ -253,7 +254,7 @@ module _ (source : Program) (pages calls : ℕ) where
   -- ---- the block
 
   module _ (k : List Entry) (e : Environment) (w : World) (c : Configuration) (shared : SharedAt source pages calls k e w c) (facts : DataIn source shared.tables c.active.slots k e w c)
-      (holds : Holds shared.tables c.active.slots (base_of source c.active.function) (held k)) (count : ℕ) (wanted : Kind) (r : Region) (there : slice_get w.regions heap_number ≡ Some r) (kept : has_home r ≡ true)
+      (holds : Holds shared.tables c.active.slots (floor source c.active.function k) (held k)) (count : ℕ) (wanted : Kind) (r : Region) (there : slice_get w.regions heap_number ≡ Some r) (kept : has_home r ≡ true)
       (choice : services.Choice) (free : refusal c.store (Allocate HEAP (block_size (blanks count wanted))) ≡ None) (served : plain_step.IsServed c.store (Allocate HEAP (block_size (blanks count wanted))) choice) where
     abbrev cells : List Cell
     cells = blanks count wanted
@@ -299,17 +300,19 @@ module _ (source : Program) (pages calls : ℕ) where
     data_made =
         let g = c.active.function in
         let many : length new.objects ≡ length w.objects + 1 = length-append w.objects (record { owner = InRegion heap_number; cells = cells } ∷ []) in
-        data_above grown source g new.objects e.locals (callers k) c.active.slots after.active.slots c.globals c.frames first 1 (omega (arith, height-least (base_of source g) (held k))) same_slots
-        (data_grows shared.tables grown grows source g new.objects e.locals (callers k) c.active.slots c.globals c.frames
-        (data_beside shared.tables source g w.objects new.objects e.locals (callers k) c.active.slots c.globals c.frames (omega (arith, many)) beside facts))
+        data_written source grown g new.objects e.locals k c.active.slots after.active.slots c.active.handlers c.globals c.frames first 1 (omega (arith, height-least (floor source g k) (held k))) same_slots (
+          data_grows shared.tables grown grows source g new.objects e.locals (callers k) c.active.slots c.globals c.frames
+              (data_beside shared.tables source g w.objects new.objects e.locals (callers k) c.active.slots c.globals c.frames (omega (arith, many)) beside facts.0),
+          facts.1,
+        )
       where
         beside : SameVariables shared.tables w.objects new.objects
         beside o row = contents_made w.objects (record { owner = InRegion heap_number; cells = cells }) o (omega (arith, slice_get-below shared.tables.rows o Variable row, shared.related.rows))
 
-    holds_made : Holds grown after.active.slots (base_of source c.active.function) (held k)
+    holds_made : Holds grown after.active.slots (floor source c.active.function k) (held k)
     holds_made =
-        Holds-same grown c.active.slots after.active.slots (base_of source c.active.function) (held k) (λ n short. same_slots n (inl (omega (arith, short))))
-        (Holds-grows shared.tables grown grows c.active.slots (base_of source c.active.function) (held k) holds)
+        Holds-same grown c.active.slots after.active.slots (floor source c.active.function k) (held k) (λ n short. same_slots n (inl (omega (arith, short))))
+        (Holds-grows shared.tables grown grows c.active.slots (floor source c.active.function k) (held k) holds)
 
     -- the pointer to it stands in slots
     array_there : block_size cells ≤ MOST_BLOCK_WORDS → c.active.slots (first + 1) ≡ count → c.active.slots (first + 2) ≡ 0 → Is grown kinds.Fat (Fat (length w.objects) 0 count 0) after.active.slots first
@@ -385,7 +388,7 @@ module _ (source : Program) (pages calls : ℕ) where
   ends : (object count index level : ℕ) (wanted : Kind) (element : Expression) (k : List Entry) (e : Environment) (w : World) (c : Configuration) (d s q : ℕ) (there : Bool)
       → step source (Running (Repeating object count index level wanted element) k e w) ≡ gives kinds.Fat (Fat object 0 count 0) k e w → index ≡ count
       → (shared : SharedAt source pages calls k e w c) → DataIn source shared.tables c.active.slots k e w c → Is shared.tables kinds.Fat (Fat object 0 count index) c.active.slots (top source c.active.function k)
-      → Holds shared.tables c.active.slots (base_of source c.active.function) (held k)
+      → Holds shared.tables c.active.slots (floor source c.active.function k) (held k)
       → At (code_of source c.active.function) c.active.next (instructions.Branch comparisons.Equal (operands.Slot (top source c.active.function k + 2)) (operands.Slot (top source c.active.function k + 1)) s)
       → c.active.next < s → At (code_of source c.active.function) s (instructions.Move (top source c.active.function k + 2) (operands.Word 0)) → is_in (operands.Slot (top source c.active.function k)) d ≡ there
       → CopyBy (code_of source c.active.function) there 3 (operands.Slot (top source c.active.function k)) d (s + 1) q → LandsStack source c.active.function e.locals kinds.Fat d q c.frames k
@@ -437,8 +440,8 @@ module _ (source : Program) (pages calls : ℕ) where
           (shared_within source pages calls k e w c1 shared) (shared_way source pages calls (Repeating object count index level wanted element) k e w c1 shared)
           branch jumps restart (λ choice. refl) move (λ same. omega (arith, same, before)) (λ same. omega (arith, same, before)) (λ same. omega (arith, same))
           (λ choice. landed_moved source pages calls v (operands.Slot t) d k e w c1 q choice shared pointer
-          (data_above shared.tables source g w.objects e.locals (callers k) c.active.slots s1 c.globals c.frames t 3 (omega (arith, height-least (base_of source g) (held k))) elsewhere facts)
-          (Holds-same shared.tables c.active.slots s1 (base_of source g) (held k) (λ m short. elsewhere m (inl (omega (arith, short)))) holds) end lands)
+          (data_written source shared.tables g w.objects e.locals k c.active.slots s1 c.active.handlers c.globals c.frames t 3 (omega (arith, height-least (floor source g k) (held k))) elsewhere facts)
+          (Holds-same shared.tables c.active.slots s1 (floor source g k) (held k) (λ m short. elsewhere m (inl (omega (arith, short)))) holds) end lands)
 
   -- the next one is evaluated, or all are written
   pub repeating : (object count index level : ℕ) (wanted : Kind) (element : Expression) (k : List Entry) (e : Environment) (w : World) (c : Configuration)
@@ -462,7 +465,7 @@ module _ (source : Program) (pages calls : ℕ) where
           (eqb-true index count told) shared facts (part, long, now) holds branch before restart refl copy lands
       by false told =
           let more : index < count = omega (arith, inside, not_equal) in
-          let levels : level ≡ length (counters_of 0 k) = level_is ∙ counters-many (base_of source g) k in
+          let levels : level ≡ length (counters_of 0 k) = level_is ∙ counters-many (floor source g k) k in
           let nested : level ≡ arrays_in k = levels ∙ sym (lands_arrays source g e.locals kinds.Fat d q c.frames k lands) in
           let counted : SharedAt source pages calls stack inner w (at c (c.active.next + 1)) = record {
             tables = shared.tables;
@@ -495,13 +498,13 @@ module _ (source : Program) (pages calls : ℕ) where
   pub array_filled : (object count index level : ℕ) (wanted : Kind) (element : Expression) (v : Kinded) (o : Operand) (k : List Entry) (e : Environment) (w : World) (c : Configuration) → plain.HoldsWords (plain.Running c)
       → IsWell (step source (Running (Given v) (Needs (FillElement object count index level wanted element) ∷ k) e w))
       → (shared : SharedAt source pages calls (Needs (FillElement object count index level wanted element) ∷ k) e w c) → DataIn source shared.tables c.active.slots k e w c
-      → IsIn shared.tables v c.active.slots o → Holds shared.tables c.active.slots (base_of source c.active.function) (held (Needs (FillElement object count index level wanted element) ∷ k))
+      → IsIn shared.tables v c.active.slots o → Holds shared.tables c.active.slots (floor source c.active.function k) (held (Needs (FillElement object count index level wanted element) ∷ k))
       → ValueStack source c.active.function e.locals v.kind o c.active.next c.frames (Needs (FillElement object count index level wanted element) ∷ k)
       → IsMatched source pages calls (Running (Given v) (Needs (FillElement object count index level wanted element) ∷ k) e w) (plain.Running c)
   array_filled object count index level wanted element v o k e w c words well shared₀ facts is ((part, long, now), holds) (d, h, s, q, there, inside, few, level_is, single, (branch, before, at_element, (scale, sum, store, count_up, jump, end), restart, copy), lands) =
       let g = c.active.function in
       let t = top source g k in
-      let base = base_of source g in
+      let base = floor source g k in
       let slots = c.active.slots in
       let focus : Focus = Given v in
       let k₀ : List Entry = Needs (FillElement object count index level wanted element) ∷ k in
@@ -544,12 +547,12 @@ module _ (source : Program) (pages calls : ℕ) where
       let new = written w object index cell v.value in
       let later = shared_saved source pages calls k e w c2 shared object index address word cell v.value found here cell_one value machine in
       let stays_data = data_saved source pages calls k e w c2 shared object index address word cell v.value found here cell_one value machine
-      (data_above shared.tables source g w.objects e.locals (callers k) slots s2 c.globals c.frames (t + 4) 1 (omega (arith, height-least base (held k))) (λ m out. outside_both slots (t + 4) m _ _ out) facts) in
+      (data_written source shared.tables g w.objects e.locals k slots s2 c.active.handlers c.globals c.frames (t + 4) 1 (omega (arith, height-least base (held k))) (λ m out. outside_both slots (t + 4) m _ _ out) facts) in
       let up : (m : ℕ) → Outside (t + 2) 1 m → s3 m ≡ s2 m = λ m out. outside_one s2 (t + 2) m _ out in
       let index_is : s3 (t + 2) ≡ suc index = put-same s2 (t + 2) (add_of (s2 (t + 2)) 1) ∙ ap (λ n. add_of n 1) (early (t + 2) (omega arith) ∙ now) ∙ add_is index 1 (omega (arith, inside, few)) ∙ one_more index in
       let matches : Matches source pages calls next (plain.Running c5) = (
         later,
-        data_above shared.tables source g new.objects e.locals (callers k) s2 s3 c.globals c.frames (t + 2) 1 (omega (arith, height-least base (held k))) up stays_data,
+        data_written source shared.tables g new.objects e.locals k s2 s3 c.active.handlers c.globals c.frames (t + 2) 1 (omega (arith, height-least base (held k))) up stays_data,
         (
           d,
           c.active.next,

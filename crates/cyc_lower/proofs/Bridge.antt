@@ -12,11 +12,12 @@ use Rattle.cyc_types.specs.declared.typed.Operator.TheVariants as operators
 use Rattle.cyc_types.specs.declared.typed.PointerOperator.{PointerOperator}
 use Rattle.cyc_types.specs.declared.typed.PointerOperator.TheVariants as pointers
 use Rattle.cyc_types.specs.Types.{Ty, words_of}
-use Rattle.cyc_types.specs.TypedTrees.{Array, Counter, Load, New, OnHeap, AsUnique, ByHandle, Initial, Plain, Fields, Dereference, Target, Lvalue, Local, Global, Expression, Number, NullPointer, Copy, Call, Unary, Binary, Assign, Converted, Convert, Arguments, NoArguments, MoreArguments, Operations, NoOperations, ThenCompute, ThenTest, ThenPointer, Statement, Block, Empty, Evaluate, If, While, Return, Break, Continue, Items, NoItems, MoreItems, Execute, Declare, Signature, StructType, Function, Program, Move, Peek, ThenPointerPeek, type_of, AddressOfCell, Store, Member, type_of_place}
+use Rattle.cyc_types.specs.TypedTrees.{Array, Counter, Load, New, OnHeap, AsUnique, ByHandle, Initial, Plain, Fields, Dereference, Target, Lvalue, Local, Global, Expression, Number, NullPointer, Copy, Call, Unary, Binary, Assign, Converted, Convert, Arguments, NoArguments, MoreArguments, Operations, NoOperations, ThenCompute, ThenTest, ThenPointer, Statement, Block, Empty, Evaluate, If, While, Return, Break, Continue, Items, NoItems, MoreItems, Execute, Declare, Signature, StructType, Function, Program, Move, Peek, ThenPointerPeek, type_of, AddressOfCell, Store, Member, type_of_place, FreeUnique, Side, VariableSide, CellSide, Swap, Throw, Try, Clauses, NoClauses, Default, Case}
 use Rattle.cyc_types.specs.Numbered.{Numbering, argument_count, numbering_of, signatures_of}
 use Rattle.cyc_plain.specs.declared.instruction.UnaryOperator.TheVariants as plain_unary
 use Rattle.cyc_plain.specs.declared.instruction.BinaryOperator.TheVariants as plain_binary
 use Rattle.cyc_plain.specs.declared.instruction.Request.TheVariants as requests
+use Rattle.cyc_plain.specs.declared.limits.TheConstants.{RECORD_WORDS}
 use Rattle.cyc_plain.specs.declared.instruction.Comparison.{Comparison}
 use Rattle.cyc_plain.specs.declared.instruction.Comparison.TheVariants as comparisons
 use Rattle.cyc_plain.specs.declared.instruction.Operand.{Operand}
@@ -26,17 +27,19 @@ use Rattle.cyc_plain.specs.declared.instruction.Instruction.TheVariants as instr
 use Rattle.cyc_plain.specs.Program.{Routine, no_routine, routine_at}
 use Rattle.cyc_plain.specs.Straight.{At, HasAt}
 use Rattle.cyc_plain.proofs.Straight.{has_front, has_back, has_whole}
-use Rattle.cyc_store.specs.declared.range.TheConstants.{MOST_BLOCK_WORDS, HEAP}
+use Rattle.cyc_store.specs.declared.range.TheConstants.{MOST_BLOCK_WORDS, HEAP, UNIQUE}
 use Rattle.cyc_meaning.specs.Values.{kind_of, words_of_kind}
 use Rattle.cyc_meaning.specs.FrameCount.{words_of_all, operand_words}
 use Rattle.cyc_objects.proofs.NumberLemmas.{slice_get-there}
 use Rattle.cyc_lower.specs.Slots.{counted, Types, starts_of, slot_of}
-use Rattle.cyc_lower.specs.Lowering.{most_elements, begun_code, filled_code, ended_code, elements_code, array_code, types_of, are_as_wide, converts_there, passed_words, source_of, source_slot, moved_by, move_of, operand_of, operand_or, code_unless, slot_or, code_unless_slot, left_with, left_of, value_slot, next_slot, slot_with, left_slot, value_operand, converted_operand, printed_operand, jump_if_nonzero, check_code, conversion_code, divisor_code, checked_code, operator_code, truth_code, load_code, low_byte, test_code, is_in, copy_code, expression_code, arguments_code, converted_code, converted_operand_code, printed_code, initial_code, assignment_code, assigned_operand, operations_code, discarded_code, failing_comparison, compared_or, compared_of, first_operand, first_code, second_code, pair_code, condition_code, condition_of, failing_jump, break_target, continue_target, return_code, declaration_code, statement_code, items_code, function_code, first_temporary, results_of, lower_function, lower_program, behind_left, pointer_code, outside_loops, inside_loop, pointer_operator, index_code, pointer_instructions, stores_code, object_code, made_code, place_operand, place_offset, place_code, address_code, raising, blocks, guard_code, body_code}
+use Rattle.cyc_lower.specs.Lowering.{most_elements, begun_code, filled_code, ended_code, elements_code, array_code, types_of, are_as_wide, converts_there, passed_words, source_of, source_slot, moved_by, move_of, operand_of, operand_or, code_unless, slot_or, code_unless_slot, left_with, left_of, value_slot, next_slot, slot_with, left_slot, value_operand, converted_operand, printed_operand, jump_if_nonzero, check_code, conversion_code, divisor_code, checked_code, operator_code, truth_code, load_code, low_byte, test_code, is_in, copy_code, expression_code, arguments_code, converted_code, converted_operand_code, printed_code, initial_code, assignment_code, assigned_operand, operations_code, discarded_code, failing_comparison, compared_or, compared_of, first_operand, first_code, second_code, pair_code, condition_code, condition_of, failing_jump, break_target, continue_target, return_code, declaration_code, statement_code, items_code, function_code, first_temporary, results_of, lower_function, lower_program, behind_left, pointer_code, outside_loops, inside_loop, pointer_operator, index_code, pointer_instructions, stores_code, object_code, made_code, place_operand, place_offset, place_code, address_code, raising, blocks, guard_code, body_code, free_code, jump_if_zero, right_slot, side_code, read_side, write_side, exchange_code, swap_code, leave_code, tag_operand, other_jump, goes_on, clause_code, thrown_code, thrown_operand, caught_code, clauses_code}
 use Rattle.cyc_lower.specs.declared.statements.Exits.{Exits}
-use Rattle.cyc_lower.proofs.Stands.{BegunAt, FilledAt, OperandBy, CheckAt, ConversionBy, ConversionAt, DivisorAt, CheckedAt, OperatorAt, LoadAt, CopyBy, ExpressionAt, InitialAt, InitialBy, ConvertedAt, ConvertedOperandAt, PrintedAt, ArgumentsAt, OperationsAt, PairAt, ConditionAt, AssignmentAt, DiscardedAt, ReturnedAt, ReturnAt, DeclarationAt, StatementAt, ItemsAt, FirstTwoAt, IndexAt, PointerAt, StoresAt, ObjectAt, MadeAt, AddressAt, PlaceAt, GuardAt}
+use Rattle.cyc_lower.proofs.Stands.{BegunAt, FilledAt, OperandBy, CheckAt, ConversionBy, ConversionAt, DivisorAt, CheckedAt, OperatorAt, LoadAt, CopyBy, ExpressionAt, InitialAt, InitialBy, ConvertedAt, ConvertedOperandAt, PrintedAt, ArgumentsAt, OperationsAt, PairAt, ConditionAt, AssignmentAt, DiscardedAt, ReturnedAt, ReturnAt, DeclarationAt, StatementAt, ItemsAt, FirstTwoAt, IndexAt, PointerAt, StoresAt, ObjectAt, MadeAt, AddressAt, PlaceAt, GuardAt, FreedAt, HasSide, SideAt, ReadAt, WriteAt, SwapAt, LeaveBy, LeaveAt, ThrownAt, CaughtAt, ClausesAt}
 use Rattle.cyc_lower.proofs.Lengths.{body_long}
+use Rattle.cyc_types.specs.typing.Expressions.{type_of_side}
+use Rattle.cyc_lower.specs.Lowerable.{may_wait}
 use Rattle.cyc_lower.proofs.Widths.{kind_of_result, given, passed_kind, type_words}
-use Rattle.cyc_lower.proofs.Fitting.{FitsPlace, FitsStored, FitsCell, FitsObject, Fits, FitsConverted, FitArguments, FitOperations, FitsReturn, FitsInitial, FitsStatement, FitItems, AreFitting, IsFitting}
+use Rattle.cyc_lower.proofs.Fitting.{FitsPlace, FitsStored, FitsCell, FitsObject, Fits, FitsConverted, FitArguments, FitOperations, FitsReturn, FitsInitial, FitsStatement, FitItems, AreFitting, IsFitting, FitsSide, FitsThrown, FitsCaught, FitClauses}
 use Rattle.cyc_lower.proofs.Values.{as_wide}
 use Rattle.cyc_lower.proofs.Relation.{bounds_in, types_in}
 use Rattle.cyc_lower.proofs.Calls.{FunctionsStand}
@@ -110,6 +113,9 @@ module _ (code : List Instruction) (b : Numbering) (types : Types) (raised : Blo
 
   guard_stands : (tag : ℕ) (failing : Comparison) (l r : Operand) (p q : ℕ) → 1 ≤ tag → tag ≤ 4 → p + 1 ≡ q → HasAt code p (guard_code (starts_of types) tag failing l r) → GuardAt code b types tag failing l r p q
   guard_stands tag failing l r p q some few end (jump, none) = (types.raises + tag, jump, raised tag some few, end)
+
+  freed_stands : (o : Operand) (p q : ℕ) → p + 2 ≡ q → HasAt code p (free_code o p) → FreedAt code b types o p q
+  freed_stands o p q end (jump, (ask, none)) = (subst (λ t. At code p (jump_if_zero o t)) end jump, ask, omega (arith, end))
 
   check_stands : (tag : ℕ) (o : Operand) (p q : ℕ) → 1 ≤ tag → tag ≤ 4 → p + 1 ≡ q → HasAt code p (check_code (starts_of types) tag o) → CheckAt code b types tag o p q
   check_stands tag o p q some few end has = guard_stands tag comparisons.Equal o (operands.Word 0) p q some few end has
@@ -322,8 +328,49 @@ module _ (code : List Instruction) (b : Numbering) where
           ),
           copy_by code b types raised (is_in o d) (passed_words c) o d m q (cut p q both back end) (has_back code p both back has),
         )
+    expression_stands types raised (FreeUnique a) d t p q numbered end has =
+        let o = value_operand (starts_of types) a t in
+        let inner = expression_code (starts_of types) a p (value_slot (starts_of types) a t) t in
+        let front = code_unless (operand_of (starts_of types) a) inner in
+        let m = p + length front in
+        let back = free_code o m in
+        (o, m, operand_by code b types raised (operand_of (starts_of types) a) _ inner (value_slot (starts_of types) a t) p m refl (has_front code p front back has) (λ e h. expression_stands types raised a (value_slot (starts_of types) a t) t p m numbered e h), freed_stands code b types raised o m q (cut p q front back end) (has_back code p front back has))
+    expression_stands types raised (New OnHeap (Array w level n kind a) ty) d t p q (level_is, single, kind_is, fits_n, fits_a) end has =
+        let count = expression_code (starts_of types) n p t t in
+        let m = p + length count in
+        let h = m + 6 in
+        let begun = begun_code (starts_of types) HEAP t in
+        let element = expression_code (starts_of (counted types (t + 2))) a (h + 1) (t + 3) (t + 3) in
+        let filled = filled_code h t in
+        let ended = ended_code d t in
+        let both = element ++ filled in
+        let elements = elements_code element h d t in
+        let has_rest = has_back code p count (begun ++ elements) has in
+        let (branch, has_behind) = has_back code m begun elements has_rest in
+        let has_both = has_front code (h + 1) both ended has_behind in
+        let s = h + 1 + length both in
+        let (first_index, has_copy) = has_back code (h + 1) both ended has_behind in
+        let r = h + 1 + length element in (
+          m,
+          h,
+          r,
+          s,
+          expression_stands types raised n t t p m fits_n refl (has_front code p count (begun ++ elements) has),
+          begun_stands code b types raised HEAP t m h refl (has_front code m begun elements has_rest),
+          level_is,
+          single,
+          (
+            branch,
+            omega arith,
+            expression_stands (counted types (t + 2)) raised a (t + 3) (t + 3) (h + 1) r (fits_a (t + 2)) refl (has_front code (h + 1) element filled has_both),
+            filled_stands code b types raised t h r s (omega (arith, length-append element filled)) (has_back code (h + 1) element filled has_both),
+            first_index,
+            copy_by code b types raised (is_in (operands.Slot t) d) 3 (operands.Slot t) d (s + 1) q
+                (omega (arith, cut m q begun elements (cut p q count (begun ++ elements) end), length-append both ended)) has_copy,
+          ),
+        )
     expression_stands types raised (New OnHeap i ty) d t p q numbered end has = made_stands types raised i HEAP d t p q numbered end has
-    expression_stands types raised (New AsUnique i ty) d t p q numbered end has = absurd numbered
+    expression_stands types raised (New AsUnique i ty) d t p q numbered end has = made_stands types raised i UNIQUE d t p q numbered end has
     expression_stands types raised (New (ByHandle h) i ty) d t p q numbered end has = absurd numbered
     expression_stands types raised a d t p q numbered end has = absurd numbered
 
@@ -376,40 +423,7 @@ module _ (code : List Instruction) (b : Numbering) where
           arguments_stand types raised cs t p m numbered refl (has_front code p front back has),
           subst (λ n. ObjectAt code b types handle (argument_count cs) n t d m q) single (object_stands code b types raised handle (argument_count cs) d t m q some few (cut p q front back end) (has_back code p front back has)),
         )
-    made_stands types raised (Array w level n kind a) handle d t p q (level_is, single, kind_is, fits_n, fits_a) end has =
-        let count = expression_code (starts_of types) n p t t in
-        let m = p + length count in
-        let h = m + 6 in
-        let begun = begun_code (starts_of types) handle t in
-        let element = expression_code (starts_of (counted types (t + 2))) a (h + 1) (t + 3) (t + 3) in
-        let filled = filled_code h t in
-        let ended = ended_code d t in
-        let both = element ++ filled in
-        let elements = elements_code element h d t in
-        let has_rest = has_back code p count (begun ++ elements) has in
-        let (branch, has_behind) = has_back code m begun elements has_rest in
-        let has_both = has_front code (h + 1) both ended has_behind in
-        let s = h + 1 + length both in
-        let (first_index, has_copy) = has_back code (h + 1) both ended has_behind in
-        let r = h + 1 + length element in (
-          m,
-          h,
-          r,
-          s,
-          expression_stands types raised n t t p m fits_n refl (has_front code p count (begun ++ elements) has),
-          begun_stands code b types raised handle t m h refl (has_front code m begun elements has_rest),
-          level_is,
-          single,
-          (
-            branch,
-            omega arith,
-            expression_stands (counted types (t + 2)) raised a (t + 3) (t + 3) (h + 1) r (fits_a (t + 2)) refl (has_front code (h + 1) element filled has_both),
-            filled_stands code b types raised t h r s (omega (arith, length-append element filled)) (has_back code (h + 1) element filled has_both),
-            first_index,
-            copy_by code b types raised (is_in (operands.Slot t) d) 3 (operands.Slot t) d (s + 1) q
-                (omega (arith, cut m q begun elements (cut p q count (begun ++ elements) end), length-append both ended)) has_copy,
-          ),
-        )
+    made_stands types raised i handle d t p q numbered end has = absurd numbered
 
     initial_stands : (types : Types) (raised : BlocksStand code types.raises) → (c : Converted) (d t p q : ℕ) → FitsConverted b types c → p + length (initial_code (starts_of types) c p d t) ≡ q → HasAt code p (initial_code (starts_of types) c p d t) → InitialAt code b types c d t p q
     initial_stands types raised (Convert from to a) d t p q (kind, wide, numbered) end has =
@@ -605,9 +619,20 @@ module _ (code : List Instruction) (b : Numbering) (types : Types) (raised : Blo
   returns_numbered None c numbered = absurd numbered
   returns_numbered (Some t) c (kind, numbered) = numbered
 
-  return_stands : (v : Option Converted) (t p q : ℕ) → FitsReturn b types b.result v → p + length (return_code (starts_of types) v p t) ≡ q → HasAt code p (return_code (starts_of types) v p t) → ReturnAt code b types v t p
-  return_stands None t p q numbered end (here, none) = (t, here)
-  return_stands (Some (Convert from to a)) t p q numbered end has =
+  leave_by : (none : Bool) (first p q : ℕ) → p + length (if none then [] else instructions.Leave first ∷ []) ≡ q → HasAt code p (if none then [] else instructions.Leave first ∷ []) → LeaveBy code b types none first p q
+  leave_by true first p q end has = omega (arith, end)
+  leave_by false first p q end (here, none) = (here, end)
+
+  leave_stands : (first t p q : ℕ) → p + length (leave_code first t) ≡ q → HasAt code p (leave_code first t) → LeaveAt code b types first t p q
+  leave_stands first t p q end has = leave_by (first == t) first p q end has
+
+  return_stands : (v : Option Converted) (exits : Exits) (t p q : ℕ) → FitsReturn b types b.result v → p + length (return_code (starts_of types) v p exits t) ≡ q → HasAt code p (return_code (starts_of types) v p exits t)
+      → ReturnAt code b types v exits t p
+  return_stands None exits t p q numbered end has =
+      let leave = leave_code exits.first_record t in
+      let (here, none) = has_back code p leave _ has in
+      (t, p + length leave, leave_stands exits.first_record t p (p + length leave) refl (has_front code p leave _ has), here)
+  return_stands (Some (Convert from to a)) exits t p q numbered end has =
       let known = source_of (starts_of types) (Convert from to a) in
       let inner = expression_code (starts_of types) a p t t in
       let front = code_unless_slot known inner in
@@ -616,15 +641,20 @@ module _ (code : List Instruction) (b : Numbering) (types : Types) (raised : Blo
       let conversion = conversion_code (starts_of types) to (operands.Slot s) m in
       let both = front ++ conversion in
       let r = p + length both in
-      let has_both = has_front code p both _ has in
-      let (here, none) = has_back code p both _ has in
+      let leave = leave_code exits.first_record t in
+      let u = p + length (both ++ leave) in
+      let has_left = has_front code p (both ++ leave) _ has in
+      let has_both = has_front code p both leave has_left in
+      let (here, none) = has_back code p (both ++ leave) _ has in
       let (from_is, wide, fitting) = returns_numbered b.result (Convert from to a) numbered in
       let (words, kind) = returns_kind b.result (Convert from to a) numbered in (
         s,
         m,
         r,
+        u,
         returned_by code b types raised known _ inner t p m refl (has_front code p front conversion has_both) (λ e h. expression_stands code b types raised a t t p m fitting e h),
         conversion_stands code b types raised from to (operands.Slot s) m r wide (cut p r front conversion refl) (has_back code p front conversion has_both),
+        leave_stands exits.first_record t r u (cut p u both leave refl) (has_back code p both leave has_left),
         here,
         words,
         kind,
@@ -634,11 +664,78 @@ module _ (code : List Instruction) (b : Numbering) (types : Types) (raised : Blo
   declaration_stands n None t p q few numbered end has = (few, omega (arith, end))
   declaration_stands n (Some c) t p q few (room, numbered) end has = (few, room, initial_stands code b types raised c (slot_of (starts_of types) n) t p q numbered end has)
 
+  -- ---- swaps
+
+  has_side : (a : Side) (kind : Kind) → FitsSide b types a kind → HasSide code b types a kind
+  has_side (VariableSide (Local w n) ty) kind (within, room) = room
+  has_side (VariableSide (Global n) ty) kind within = within
+  has_side (CellSide x) kind numbered = tt
+
+  side_stands : (a : Side) (kind : Kind) (t p q : ℕ) → FitsSide b types a kind → p + length (side_code (starts_of types) a p t) ≡ q → HasAt code p (side_code (starts_of types) a p t) → SideAt code b types a t p q
+  side_stands (VariableSide l ty) kind t p q numbered end has = omega (arith, end)
+  side_stands (CellSide x) kind t p q numbered end has =
+      let front = place_code (starts_of types) x p t in
+      let o = place_operand (starts_of types) x t in
+      let bytes = place_offset (starts_of types) x in
+      let back = address_code o bytes t in
+      let r = p + length front in
+      (o, bytes, r, place_stands code b types raised x t p r numbered refl (has_front code p front back has), address_stands code b types raised o bytes t r q (cut p q front back end) (has_back code p front back has))
+
+  read_stands : (a : Side) (s d p : ℕ) → At code p (read_side (starts_of types) a s d) → ReadAt code b types a s d p
+  read_stands (VariableSide (Local w n) ty) s d p here = here
+  read_stands (VariableSide (Global n) ty) s d p here = here
+  read_stands (CellSide x) s d p here = here
+
+  write_stands : (a : Side) (s v p : ℕ) → At code p (write_side (starts_of types) a s v) → WriteAt code b types a s v p
+  write_stands (VariableSide (Local w n) ty) s v p here = here
+  write_stands (VariableSide (Global n) ty) s v p here = here
+  write_stands (CellSide x) s v p here = here
+
+  swap_stands : (x y : Side) (t p q : ℕ) → words_of (type_of_side x) ≡ 1 → FitsSide b types x (kind_of (type_of_side x)) → FitsSide b types y (kind_of (type_of_side x)) → may_wait x y ≡ true
+      → p + length (swap_code (starts_of types) x y p t) ≡ q → HasAt code p (swap_code (starts_of types) x y p t) → SwapAt code b types x y t p q
+  swap_stands x y t p q single fits_x fits_y waits end has =
+      let kind = kind_of (type_of_side x) in
+      let front = side_code (starts_of types) x p t in
+      let m = p + length front in
+      let middle = side_code (starts_of types) y m (right_slot x t) in
+      let r = m + length middle in
+      let back = exchange_code (starts_of types) x y t in
+      let has_rest = has_back code p front (middle ++ back) has in
+      let (first, (second, (third, (fourth, none)))) = has_back code m middle back has_rest in (
+        m,
+        r,
+        single,
+        has_side x kind fits_x,
+        has_side y kind fits_y,
+        waits,
+        side_stands x kind t p m fits_x refl (has_front code p front (middle ++ back) has),
+        side_stands y kind (right_slot x t) m r fits_y refl (has_front code m middle back has_rest),
+        (
+          read_stands x t (t + 2) r first,
+          read_stands y (right_slot x t) (t + 3) (r + 1) second,
+          write_stands x t (t + 3) (r + 1 + 1) third,
+          write_stands y (right_slot x t) (t + 2) (r + 1 + 1 + 1) fourth,
+          omega (arith, cut m q middle back (cut p q front (middle ++ back) end)),
+        ),
+      )
+
+  thrown_stands : (v : Option Expression) (t p q : ℕ) → FitsThrown b types v → p + length (thrown_code (starts_of types) v p t) ≡ q → HasAt code p (thrown_code (starts_of types) v p t)
+      → ThrownAt code b types v (thrown_operand (starts_of types) v t) t p q
+  thrown_stands None t p q numbered end has = (refl, omega (arith, end))
+  thrown_stands (Some a) t p q numbered end has =
+      let slot = value_slot (starts_of types) a t in
+      operand_by code b types raised (operand_of (starts_of types) a) _ (expression_code (starts_of types) a p slot t) slot p q end has (λ e h. expression_stands code b types raised a slot t p q numbered e h)
+
+  caught_stands : (x : Option ℕ) (t p q : ℕ) → FitsCaught b types x → p + length (caught_code (starts_of types) x t) ≡ q → HasAt code p (caught_code (starts_of types) x t) → CaughtAt code b types x t p q
+  caught_stands None t p q numbered end has = omega (arith, end)
+  caught_stands (Some n) t p q (few, room) end (here, none) = (few, room, here, end)
+
   mutual
     statement_stands : (s : Statement) (in_loop : Bool) (exits : Exits) (d p q : ℕ) → FitsStatement b types in_loop s → p + length (statement_code (starts_of types) s p exits d) ≡ q → HasAt code p (statement_code (starts_of types) s p exits d) → StatementAt code b types s exits d p q
     statement_stands (Block r js) in_loop exits d p q numbered end has = items_stand js in_loop exits d p q numbered end has
     statement_stands Empty in_loop exits d p q numbered end has = omega (arith, end)
     statement_stands (Evaluate a) in_loop exits t p q numbered end has = discarded_stands a t p q numbered end has
+    statement_stands (Swap x y) in_loop exits t p q (single, fits_x, fits_y, waits) end has = swap_stands x y t p q single fits_x fits_y waits end has
     statement_stands (If a s u) in_loop exits t p q (numbered_a, numbered_s, numbered_u) end has =
         let condition = condition_code (starts_of types) a p t in
         let m = p + length condition in
@@ -690,10 +787,40 @@ module _ (code : List Instruction) (b : Numbering) (types : Types) (raised : Blo
           end_is,
           omega (arith, end_is),
         )
-    statement_stands (Return v) in_loop exits d p q numbered end has = return_stands v d p q numbered end has
-    statement_stands Break in_loop exits d p q numbered end (here, none) = here
-    statement_stands Continue in_loop exits d p q numbered end (here, none) = here
-    statement_stands s in_loop exits d p q numbered end has = absurd numbered
+    statement_stands (Return v) in_loop exits d p q numbered end has = return_stands v exits d p q numbered end has
+    statement_stands Break in_loop exits d p q numbered end has =
+        let leave = leave_code exits.loop_record d in
+        let (here, none) = has_back code p leave (instructions.Jump (break_target exits.head) ∷ []) has in
+        (p + length leave, leave_stands exits.loop_record d p (p + length leave) refl (has_front code p leave (instructions.Jump (break_target exits.head) ∷ []) has), here)
+    statement_stands Continue in_loop exits d p q numbered end has =
+        let leave = leave_code exits.loop_record d in
+        let (here, none) = has_back code p leave (instructions.Jump (continue_target exits.head) ∷ []) has in
+        (p + length leave, leave_stands exits.loop_record d p (p + length leave) refl (has_front code p leave (instructions.Jump (continue_target exits.head) ∷ []) has), here)
+    statement_stands (Throw tag v) in_loop exits t p q (word, numbered) end has =
+        let front = thrown_code (starts_of types) v p t in
+        let (here, none) = has_back code p front _ has in
+        (word, thrown_operand (starts_of types) v t, p + length front, thrown_stands v t p (p + length front) numbered refl (has_front code p front _ has), here)
+    statement_stands (Try s cs) in_loop exits t p q (numbered_s, numbered) end (opening, has) =
+        let body = statement_code (starts_of types) s (p + 1) exits (t + RECORD_WORDS) in
+        let close = instructions.Leave t ∷ [] in
+        let m = p + 1 + length body in
+        let out = p + 1 + length (body ++ close) in
+        let long : length (body ++ close) ≡ length body + 1 = length-append body close in
+        let out_is : out ≡ m + 1 = omega (arith, long) in
+        let clauses = clauses_code (starts_of types) cs (out + 1) out exits t in
+        let over = instructions.Jump (out + 1 + length clauses) in
+        let all : length ((body ++ close) ++ over ∷ clauses) ≡ length (body ++ close) + suc (length clauses) = length-append (body ++ close) (over ∷ clauses) in
+        let end_is : out + 1 + length clauses ≡ q = omega (arith, end, all) in
+        let has_front_part = has_front code (p + 1) (body ++ close) (over ∷ clauses) has in
+        let (jump, has_clauses) = has_back code (p + 1) (body ++ close) (over ∷ clauses) has in
+        let (leave, none) = has_back code (p + 1) body close has_front_part in (
+          m,
+          subst (λ n. At code p (instructions.Try t (n + 1))) out_is opening,
+          statement_stands s in_loop exits (t + RECORD_WORDS) (p + 1) m numbered_s refl (has_front code (p + 1) body close has_front_part),
+          leave,
+          subst (λ n. At code n (instructions.Jump q)) out_is (subst (λ n. At code out (instructions.Jump n)) end_is jump),
+          subst (λ n. ClausesAt code b types cs n exits t (n + 1) q) out_is (clauses_stand cs in_loop out exits t (out + 1) q (omega arith) numbered end_is has_clauses),
+        )
 
     items_stand : (js : Items) (in_loop : Bool) (exits : Exits) (d p q : ℕ) → FitItems b types in_loop js → p + length (items_code (starts_of types) js p exits d) ≡ q → HasAt code p (items_code (starts_of types) js p exits d) → ItemsAt code b types js exits d p q
     items_stand NoItems in_loop exits d p q numbered end has = omega (arith, end)
@@ -706,6 +833,38 @@ module _ (code : List Instruction) (b : Numbering) (types : Types) (raised : Blo
         let back = items_code (starts_of types) js (p + length front) exits d in
         (p + length front, declaration_stands n v d p (p + length front) few numbered refl (has_front code p front back has), items_stand js in_loop exits d (p + length front) q rest (cut p q front back end) (has_back code p front back has))
     items_stand js in_loop exits d p q numbered end has = absurd numbered
+
+    clauses_stand : (cs : Clauses) (in_loop : Bool) (out : ℕ) (exits : Exits) (t p q : ℕ) → out < p → FitClauses b types in_loop cs → p + length (clauses_code (starts_of types) cs p out exits t) ≡ q
+        → HasAt code p (clauses_code (starts_of types) cs p out exits t) → ClausesAt code b types cs out exits t p q
+    clauses_stand NoClauses in_loop out exits t p q behind numbered end (here, none) = here
+    clauses_stand (Default r js) in_loop out exits t p q behind numbered end has = items_stand js in_loop exits t p q numbered end has
+    clauses_stand (Case tag x r js cs) in_loop out exits t p q behind (word, caught_fits, numbered, rest) end has =
+        let caught = caught_code (starts_of types) x t in
+        let m = p + 1 + length caught in
+        let items = items_code (starts_of types) js m exits t in
+        let u = m + length items in
+        let leave = instructions.Jump out ∷ [] in
+        let clause = clause_code tag t (caught ++ items) p out in
+        let later = clauses_code (starts_of types) cs (p + length clause) out exits t in
+        let inner : length (caught ++ items) ≡ length caught + length items = length-append caught items in
+        let long : length ((caught ++ items) ++ leave) ≡ length (caught ++ items) + 1 = length-append (caught ++ items) leave in
+        let next : p + length clause ≡ u + 1 = omega (arith, inner, long) in
+        let over : p + 1 + length (caught ++ items) + 1 ≡ u + 1 = omega (arith, inner) in
+        let (jump, has_clause) = has_front code p clause later has in
+        let has_inner = has_front code (p + 1) (caught ++ items) leave has_clause in
+        let (out_jump, none) = has_back code (p + 1) (caught ++ items) leave has_clause in (
+          m,
+          u,
+          word,
+          subst (λ n. At code p (other_jump tag t n)) over jump,
+          caught_stands x t (p + 1) m caught_fits refl (has_front code (p + 1) caught items has_inner),
+          items_stand js in_loop exits t m u numbered refl (has_back code (p + 1) caught items has_inner),
+          subst (λ n. At code n (instructions.Jump out)) (let e : p + 1 + length (caught ++ items) ≡ u = omega (arith, inner) in e) out_jump,
+          omega (arith, behind),
+          clauses_stand cs in_loop out exits t (u + 1) q (omega (arith, behind)) rest
+              (subst (λ n. n + length (clauses_code (starts_of types) cs n out exits t) ≡ q) next (cut p q clause later end))
+              (subst (λ n. HasAt code n (clauses_code (starts_of types) cs n out exits t)) next (has_back code p clause later has)),
+        )
 
 -- ---- functions
 
@@ -725,14 +884,14 @@ module _ (source : Program) where
   abbrev BodyStands : Function → List Instruction → Option Function → Type 0
   BodyStands h code o =
       (m : ℕ) × ItemsAt code (bounds_in source o) (types_in source o) h.body (outside_loops (words_of_all (types_in source o).locals)) (words_of_all (types_in source o).locals) 0 m
-      × At code m (instructions.Return (words_of_all (types_in source o).locals))
+      × At code m (instructions.Finish (words_of_all (types_in source o).locals))
 
   body_stands : (h : Function) → FitItems (bounds_in source (Some h)) (types_of source.structs h) false h.body → BodyStands h (function_code source.structs h) (Some h)
   body_stands h numbered =
       let d = first_temporary h in
       let types = types_of source.structs h in
       let body = body_code types h in
-      let end = instructions.Return d ∷ blocks in
+      let end = instructions.Finish d ∷ blocks in
       let code = body ++ end in
       let has = has_whole code in
       let (here, raising_all) = has_back code 0 body end has in

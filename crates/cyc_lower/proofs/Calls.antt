@@ -38,10 +38,10 @@ use Rattle.cyc_lower.proofs.Values.{of_kind, int_is}
 use Rattle.cyc_objects.specs.Tables.{Variable, with_row, with_handle}
 use Rattle.cyc_objects.specs.Words.{Is}
 use Rattle.cyc_objects.proofs.Values.{Grows-row, Grows-handle, Is-grows}
-use Rattle.cyc_lower.proofs.Relation.{AreCounted, IsIn, words_held, Holds, HoldsFrom, held, callers, homes, Shared, DataAt, DataIn, SharedAt, prints_only, gives_byte, StatementStack, LandsStack, PrintsStack, nowhere, behind_statement, Related, Matches, code_of, types_in, types_at, starts_at, parameters_in, parameters_at, bounds_in, bounds_at, called_at, returned_at, base_of, top}
-use Rattle.cyc_lower.proofs.Data.{words-reverse, Holds-rest, in_order, arguments_copied, data_declared, data_called, data_grows, HoldsFrom-grows}
+use Rattle.cyc_lower.proofs.Relation.{AreCounted, IsIn, words_held, Holds, HoldsFrom, held, callers, homes, Shared, DataAt, DataIn, SharedAt, prints_only, gives_byte, StatementStack, LandsStack, PrintsStack, nowhere, behind_statement, Related, Matches, code_of, types_in, types_at, starts_at, parameters_in, parameters_at, bounds_in, bounds_at, called_at, returned_at, base_of, top, behind_records, in_place, floor, HandlersStand}
+use Rattle.cyc_lower.proofs.Data.{words-reverse, Holds-rest, in_order, arguments_copied, data_declared, data_called, data_grows, HoldsFrom-grows, calls_counted}
 use Rattle.cyc_lower.proofs.Accesses.{IsWell, is_fitting, is_declared, home_there}
-use Rattle.cyc_lower.proofs.Matched.{IsMatched, above, below, matching, silently, by_one, by_two_known, shared_within, shared_way, steps_to, place_in, known, lands_depth}
+use Rattle.cyc_lower.proofs.Matched.{IsMatched, above, below, matching, silently, by_one, by_two_known, shared_within, shared_way, steps_to, place_in, known}
 use Rattle.cyc_lower.proofs.Evaluations.{IsStep, landed_word, lands_at}
 use Rattle.cyc_lower.proofs.Sharing.{shared_declared, row_declared, shared_opened}
 
@@ -90,7 +90,7 @@ module _ (source : Program) (pages calls : ℕ) where
 
   -- the byte is printed, and then its value is dropped, or comes to a slot
   prints : (i : Kind) (a : ℕ) (o : Operand) (k : List Entry) (e : Environment) (w : World) (c : Configuration)
-      → (shared : SharedAt source pages calls k e w c) → DataIn source shared.tables c.active.slots k e w c → operand_word c.active.slots o ≡ a → Holds shared.tables c.active.slots (base_of source c.active.function) (held k)
+      → (shared : SharedAt source pages calls k e w c) → DataIn source shared.tables c.active.slots k e w c → operand_word c.active.slots o ≡ a → Holds shared.tables c.active.slots (floor source c.active.function k) (held k)
       → PrintsStack source c.active.function e.locals o c.active.next c.frames k
       → IsMatched source pages calls (Running (Calling callees.Putchar (record { kind = i; value = Int a } ∷ [])) k e w) (plain.Running c)
   prints i a o k e w c shared facts is holds (write, prints_only stack) =
@@ -124,8 +124,8 @@ module _ (source : Program) (pages calls : ℕ) where
   entering h arguments k e w c well (shared, facts, (m, items, stack, holds, own)) =
       silently source pages calls (Running (Entering h arguments) k e w) (Running (Binding 0 h.parameters arguments h.body) (region_end e w ∷ k) (inside e w) (opened w)) (plain.Running c) refl (
         shared_opened source pages calls k e w c shared,
-        data_grows shared.tables (with_handle shared.tables None) (Grows-handle shared.tables None) source c.active.function w.objects e.locals (callers k) c.active.slots c.globals c.frames facts,
-        (m, [], items, stack, HoldsFrom-grows shared.tables (with_handle shared.tables None) (Grows-handle shared.tables None) c.active.slots 0 arguments holds, own, refl),
+        (data_grows shared.tables (with_handle shared.tables None) (Grows-handle shared.tables None) source c.active.function w.objects e.locals (callers k) c.active.slots c.globals c.frames facts.0, facts.1),
+        (m, [], items, (m, in_place refl, stack), HoldsFrom-grows shared.tables (with_handle shared.tables None) (Grows-handle shared.tables None) c.active.slots 0 arguments holds, own, refl),
       )
       (omega arith)
 
@@ -156,7 +156,7 @@ module _ (source : Program) (pages calls : ℕ) where
       let (r, home) = home_there (Binding (suc n) types arguments body) n (kind_of t) (Some v.value) k e w (subst IsWell does well) in
       let grown = with_row shared.tables Variable in
       let grows = Grows-row shared.tables Variable in
-      let more = data_grows shared.tables grown grows source g w.objects e.locals (callers k) c.active.slots c.globals c.frames facts in
+      let more = data_grows shared.tables grown grows source g w.objects e.locals (callers k) c.active.slots c.globals c.frames facts.0 in
       let is_now = Is-grows grows v.kind v.value c.active.slots (words_of_all first) is in
       let kind_is : v.kind ≡ kind_of t = same_kind v.kind (kind_of t) fits in
       let wide : words_of_kind v.kind ≡ words_of t = ap words_of_kind kind_is ∙ type_words t in
@@ -167,10 +167,13 @@ module _ (source : Program) (pages calls : ℕ) where
       (Running (Binding (suc n) types arguments body) k (with_local e n (length w.objects)) (made w x)) (plain.Running c)
       (does ∙ is_declared (region_at w e.home) (Binding (suc n) types arguments body) n (kind_of t) (Some v.value) k e w (subst IsWell does well)) (
         shared_declared source pages calls k e w c shared n r (kind_of t) (Some v.value) home,
-        data_declared grown source g w.objects e (callers k) c.active.slots c.active.slots c.globals c.frames n 0 x (omega (arith, local, count)) (omega arith) (row_declared source pages calls k e w c shared) (λ i out. refl)
-            (λ u has.
-            let u_is : v ≡ u = ap (λ i. of_kind i v.value) kind_is ∙ same_Some (of_kind (kind_of t) v.value) u has in
-            subst (λ (y : Kinded). Is grown y.kind y.value c.active.slots (slot_of (starts_at source g) n) × HasRoom (types_at source g) n y.kind) u_is (subst (Is grown v.kind v.value c.active.slots) (sym there) is_now, room)) more,
+        (
+          data_declared grown source g w.objects e (callers k) c.active.slots c.active.slots c.globals c.frames n 0 x (omega (arith, local, count)) (omega arith) (row_declared source pages calls k e w c shared) (λ i out. refl)
+              (λ u has.
+              let u_is : v ≡ u = ap (λ i. of_kind i v.value) kind_is ∙ same_Some (of_kind (kind_of t) v.value) u has in
+              subst (λ (y : Kinded). Is grown y.kind y.value c.active.slots (slot_of (starts_at source g) n) × HasRoom (types_at source g) n y.kind) u_is (subst (Is grown v.kind v.value c.active.slots) (sym there) is_now, room)) more,
+          facts.1,
+        ),
         (
           m,
           first ++ t ∷ [],
@@ -189,7 +192,7 @@ module _ (source : Program) (pages calls : ℕ) where
   abbrev pub FunctionsStand : Type 0
   FunctionsStand = (n : ℕ) (h : Function) → slice_get source.functions n ≡ Some h
       → (m : ℕ) × ItemsAt (code_of source n) (bounds_at source n) (types_at source n) h.body (outside_loops (base_of source n)) (base_of source n) 0 m
-      × At (code_of source n) m (instructions.Return (base_of source n))
+      × At (code_of source n) m (instructions.Finish (base_of source n))
 
   parameters_fit : (n : ℕ) (h : Function) → slice_get source.functions n ≡ Some h → parameters_at source n ≡ h.parameters
   parameters_fit n h there = ap (parameters_in source) there
@@ -214,13 +217,18 @@ module _ (source : Program) (pages calls : ℕ) where
   pub entered : FunctionsStand → (n : ℕ) (h : Function) (arguments : List Kinded) (k : List Entry) (w : World) (slots globals : Words) (handlers : List Handler) (frames : List Frame) (store : StoreState) (output input : List ℕ)
       → slice_get source.functions n ≡ Some h
       → (shared : Shared pages calls w (no_locals.home ∷ homes k) (AreCounted no_locals.counters k) output input store (length frames))
-      → DataAt source shared.tables n w.objects (λ (number : ℕ). None) (callers k) slots globals frames
-      → HoldsFrom shared.tables slots 0 arguments → ((m : ℕ) → At (code_of source n) m (instructions.Return (base_of source n)) → StatementStack source n (outside_loops (base_of source n)) m frames k)
+      → DataAt source shared.tables n w.objects (λ (number : ℕ). None) (callers k) slots globals frames × HandlersStand source n slots handlers frames k → floor source n k ≡ base_of source n
+      → HoldsFrom shared.tables slots 0 arguments → ((m : ℕ) → At (code_of source n) m (instructions.Finish (base_of source n)) → StatementStack source n (outside_loops (base_of source n)) m frames k)
       → Related source pages calls (Entering h arguments) k no_locals w
       (record { active = record { function = n; next = 0; slots = slots; handlers = handlers }; frames = frames; globals = globals; store = store; output = output; input = input })
-  entered stand n h arguments k w slots globals handlers frames store output input there shared facts holds stack =
+  entered stand n h arguments k w slots globals handlers frames store output input there shared facts least holds stack =
       let (m, items, end) = stand n h there in
-      (shared, facts, (m, items, stack m end, holds, parameters_fit n h there))
+      let g = code_of source n in
+      (
+        shared,
+        facts,
+        (m, subst (λ t. ItemsAt g (bounds_at source n) (types_at source n) h.body (outside_loops (base_of source n)) t 0 m) (sym least) items, stack m end, holds, parameters_fit n h there),
+      )
 
   -- no more calls fit: both runs are full
   full : (k : List Entry) (e : Environment) (w : World) (c : Configuration) (focus : Focus) (next : State) (n first many into : ℕ)
@@ -268,13 +276,13 @@ module _ (source : Program) (pages calls : ℕ) where
       taken true fits =
           let (shared, facts, (into, q, (here, end), holds, lands)) = related in
           let g = c.active.function in
-          let base = base_of source g in
+          let base = floor source g k in
           let d = top source g k in
           let next = Running (Entering h (reverse before)) (Caller e ∷ k) no_locals w in
           let does : step source (Running (Calling (callees.Function n) before) k e w) ≡ next =
           ap (λ (f : Option Function). called f (reverse before) (Caller e ∷ k) w) there
           ∙ ap (λ (b : Bool). if b then Running (Entering h (reverse before)) (Caller e ∷ k) no_locals w else wrong w) fits in
-          let waiting = lands_depth source g e.locals (called_at source g (callees.Function n)) into q c.frames k lands in
+          let waiting = calls_counted source g c.active.slots c.active.handlers c.frames k facts.1 in
           elim (cases_lt calls (suc (suc (length c.frames)))) [
             | inl past ↦
                 full k e w c (Calling (callees.Function n) before) next n d (words_held before) into does
@@ -301,10 +309,14 @@ module _ (source : Program) (pages calls : ℕ) where
                   fits = fine;
                   counters = shared.counters;
                 })
-                (data_called shared.tables source g n w.objects e (held k) (callers k) c.active.slots slots c.globals frame c.frames refl refl (Holds-rest shared.tables c.active.slots base before (held k) holds) facts)
+                (
+                  data_called shared.tables source g n w.objects e (behind_records k) (held k) (callers k) c.active.slots slots c.globals frame c.frames refl refl (Holds-rest shared.tables c.active.slots base before (held k) holds) facts.0,
+                  (refl, facts.1),
+                )
+                refl
                 (arguments_copied shared.tables c.active.slots choice.contents d 0 (words_held before) (reverse before) (omega (arith, words-reverse before))
                 (subst (λ (i : ℕ). HoldsFrom shared.tables c.active.slots i (reverse before)) (let z : d ≡ d + 0 = omega arith in z) (in_order shared.tables c.active.slots base before (held k) holds)))
-                (λ m at_end. (base_of source n, at_end, back)))
+                (λ m at_end. (base_of source n, at_end, (refl, refl), back)))
           ]
 
   -- one argument too many

@@ -123,10 +123,12 @@ module _ (source : Program) (pages calls : ℕ) (k : List Entry) (e : Environmen
 
   -- and so do the data of all calls, whose objects are variables
   pub data_saved : DataIn source shared.tables c.active.slots k e w c → DataIn source shared.tables c.active.slots k e (written w object offset at v) (advanced (with_memory c address word))
-  data_saved facts =
-      let more : length w.objects ≡ length (written w object offset at v).objects = sym (objects_many) in
-      data_beside shared.tables source c.active.function w.objects (written w object offset at v).objects e.locals (callers k) c.active.slots c.globals c.frames
-      (omega (arith, more)) beside facts
+  data_saved (facts, handlers) =
+      let more : length w.objects ≡ length (written w object offset at v).objects = sym (objects_many) in (
+        data_beside shared.tables source c.active.function w.objects (written w object offset at v).objects e.locals (callers k) c.active.slots c.globals c.frames
+            (omega (arith, more)) beside facts,
+        handlers,
+      )
     where
       now : Object
       now = record at.object { cells = set at.object.cells offset (record at.cell { content = Some v }) }

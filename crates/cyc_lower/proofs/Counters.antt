@@ -5,7 +5,7 @@ use Rattle.std.proofs.lemmas.Bool.{eqb-true, eq-eqb, false_from_ne_true}
 use Rattle.std.proofs.lemmas.Option.{same_Some, none-some}
 use Rattle.cyc_plain.specs.State.{Words}
 use Rattle.cyc_meaning.specs.Values.{Operand as Kinded}
-use Rattle.cyc_meaning.specs.State.{Awaiting, ConvertTo, Operate, Chain, Apply, ApplyPointer, Follow, FollowMember, Decide, Store, StoreCell, Pass, MakePlain, MakeFields, MakeArray, FillElement, Entry, Needs, NeedsPlace, Caller}
+use Rattle.cyc_meaning.specs.State.{FreeObject, LoadFrom, TakeAddress, StoreTo, Awaiting, ConvertTo, Operate, Chain, Apply, ApplyPointer, Follow, FollowMember, Decide, Store, StoreCell, Pass, MakePlain, MakeFields, MakeArray, FillElement, Entry, Needs, NeedsPlace, Caller}
 use Rattle.cyc_objects.specs.Tables.{Tables}
 use Rattle.cyc_lower.proofs.Relation.{height, Holds, held, counters_of, arrays_in, AreCounted}
 use Rattle.cyc_lower.proofs.Data.{Holds-rest}
@@ -39,7 +39,10 @@ counters-many base (Needs (FillElement object count index level kind a) ∷ k) =
     omega (arith, length-append (counters_of base k) ((height base (held k) + 2) ∷ []), length-append (counters_of 0 k) ((height 0 (held k) + 2) ∷ []), counters-many base k)
 counters-many base (Needs (Follow pointer target) ∷ k) = counters-many base k
 counters-many base (Needs (FollowMember pointer fields field) ∷ k) = counters-many base k
-counters-many base (NeedsPlace a ∷ k) = counters-many base k
+counters-many base (Needs FreeObject ∷ k) = counters-many base k
+counters-many base (NeedsPlace (LoadFrom cell) ∷ k) = counters-many base k
+counters-many base (NeedsPlace TakeAddress ∷ k) = counters-many base k
+counters-many base (NeedsPlace (StoreTo peek c) ∷ k) = counters-many base k
 counters-many base (entry ∷ k) = refl
 
 -- each counter is in its slot
@@ -68,7 +71,10 @@ counters_hold t counters slots base (Needs (FillElement object count index inner
     ]
 counters_hold t counters slots base (Needs (Follow pointer target) ∷ k) count holds level slot found = counters_hold t counters slots base k count holds level slot found
 counters_hold t counters slots base (Needs (FollowMember pointer fields field) ∷ k) count holds level slot found = counters_hold t counters slots base k count holds level slot found
-counters_hold t counters slots base (NeedsPlace a ∷ k) count holds level slot found = counters_hold t counters slots base k count holds level slot found
+counters_hold t counters slots base (Needs FreeObject ∷ k) count holds level slot found = counters_hold t counters slots base k count holds level slot found
+counters_hold t counters slots base (NeedsPlace (LoadFrom cell) ∷ k) count holds level slot found = counters_hold t counters slots base k count holds level slot found
+counters_hold t counters slots base (NeedsPlace TakeAddress ∷ k) count holds level slot found = counters_hold t counters slots base k count holds level slot found
+counters_hold t counters slots base (NeedsPlace (StoreTo peek c) ∷ k) count holds level slot found = counters_hold t counters slots base k count holds level slot found
 counters_hold t counters slots base (entry ∷ k) count holds level slot found = absurd (none-some slot found)
 
 -- a counter that none of these arrays has changes

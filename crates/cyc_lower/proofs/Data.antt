@@ -1,17 +1,18 @@
 -- What stays of the data in slots, variables and globals while a step changes some of it.
-use Rattle.std.proofs.Common.{◌≡◌, ◌≢◌, ℕ, zero, suc, ◌+◌, ◌≤◌, ◌<◌, Bool, List, [], ◌∷◌, ◌++◌, length, reverse, set, Option, None, Some, slice_get, refl, sym, ap, subst, ◌∙◌, arith, inl, inr, length-append}
+use Rattle.std.proofs.Common.{◌≡◌, ◌≢◌, ℕ, zero, suc, ◌+◌, ◌≤◌, ◌<◌, Bool, true, false, List, [], ◌∷◌, ◌++◌, length, reverse, set, Option, None, Some, slice_get, refl, sym, ap, subst, ◌∙◌, arith, inl, inr, length-append}
 use Rattle.std.specs.Prelude.{◌==◌, if◌then◌else◌}
 use Rattle.std.proofs.lemmas.Bool.{cases_eq, eq-eqb, eqb-true, false_from_ne_true}
 use Rattle.std.proofs.lemmas.List.{reverse-append}
 use Rattle.std.proofs.lemmas.Option.{same_Some, none-some}
 use Rattle.cyc_types.specs.TypedTrees.{Program}
+use Rattle.cyc_plain.specs.State as plain
 use Rattle.cyc_plain.specs.State.{Words, put, copied, Frame}
 use Rattle.cyc_plain.specs.Step.{operand_word}
 use Rattle.cyc_plain.proofs.SlotLaws.{put-same, put-other, copied-inside}
 use Rattle.cyc_types.specs.declared.typed.Kind.{Kind}
 use Rattle.cyc_types.specs.declared.typed.Kind.TheVariants as kinds
 use Rattle.cyc_meaning.specs.Values.{Value, Int, Null, Thin, Handle, Key, Operand, words_of_kind}
-use Rattle.cyc_meaning.specs.State.{Object, Environment, with_local}
+use Rattle.cyc_meaning.specs.State.{Object, Environment, with_local, Entry, Handler, Caller, Main, calls_in, CloseLexical, EndLoan, Loop}
 use Rattle.cyc_meaning.specs.FrameCount.{words_of_all}
 use Rattle.cyc_lower.specs.Slots.{starts_of, slot_of, Types}
 use Rattle.cyc_lower.proofs.Widths.{words_in, HasRoom, Outside}
@@ -21,7 +22,7 @@ use Rattle.cyc_plain.specs.declared.instruction.Operand.TheVariants as operands
 use Rattle.cyc_objects.specs.Tables.{Variable, Tables, Grows}
 use Rattle.cyc_objects.specs.Words.{Points, Is}
 use Rattle.cyc_objects.proofs.Values.{Is-grows, Is-same as words_same}
-use Rattle.cyc_lower.proofs.Relation.{IsWord, IsIn, Waiting, AreOfVariables, words_held, height, Holds, HoldsFrom, content_of, contents, LocalsHold, GlobalsHold, FramesHold, DataAt, types_at, starts_at, base_of}
+use Rattle.cyc_lower.proofs.Relation.{behind_records, floor, HandlersStand, callers, IsWord, IsIn, Waiting, AreOfVariables, words_held, height, Holds, HoldsFrom, content_of, contents, LocalsHold, GlobalsHold, FramesHold, DataAt, types_at, starts_at, base_of, left_by}
 
 -- ---- values in slots
 
@@ -113,6 +114,28 @@ module _ (t : Tables) where
   pub in_words : (v : Operand) (slots : Words) (o : Place) → IsIn t v slots o → (words : Words) × (p : ℕ) × (words p ≡ operand_word slots o) × Is t v.kind v.value words p
   in_words v slots (operands.Slot n) is = (slots, n, refl, is)
   in_words v slots (operands.Word w) is = ((λ (i : ℕ). w), 0, refl, IsWord-is v.kind v.value w (λ (i : ℕ). w) 0 refl is)
+
+  -- null is 0
+  pub null_at : (kind : Kind) (words : Words) (p : ℕ) → Is t kind Null words p → words p ≡ 0
+  null_at kinds.Nullable words p is = is
+  null_at kinds.Fat words p is = is
+  null_at kind words p is = absurd is
+
+  pub null_is : (kind : Kind) (slots : Words) (o : Place) → IsIn t (record { kind = kind; value = Null }) slots o → operand_word slots o ≡ 0
+  null_is kind slots o is =
+      let (words, p, same, is_it) = in_words (record { kind = kind; value = Null }) slots o is in
+      sym same ∙ null_at kind words p is_it
+
+  -- a thin pointer is the address of a cell
+  pub points_at : (kind : Kind) (object offset : ℕ) (words : Words) (p : ℕ) → Is t kind (Thin object offset) words p → Points t object offset (words p)
+  points_at kinds.Nullable object offset words p is = is
+  points_at kinds.NonNull object offset words p is = is
+  points_at kind object offset words p is = absurd is
+
+  pub points_in : (kind : Kind) (object offset : ℕ) (slots : Words) (o : Place) → IsIn t (record { kind = kind; value = Thin object offset }) slots o → Points t object offset (operand_word slots o)
+  points_in kind object offset slots o is =
+      let (words, p, same, is_it) = in_words (record { kind = kind; value = Thin object offset }) slots o is in
+      subst (Points t object offset) same (points_at kind object offset words p is_it)
 
   -- a value of one word is told by it
   pub one_word : (kind : Kind) (v : Value) (words : Words) (p : ℕ) → words_of_kind kind ≡ 1 → Is t kind v words p → IsWord t kind v (words p)
@@ -403,9 +426,10 @@ module _ (t : Tables) where
         )
 
     -- the callee has no locals yet, and its caller waits
-    pub data_called : (g callee : ℕ) (objects : List Object) (e : Environment) (values : List Operand) (outer : List Waiting) (slots other globals : Words) (f : Frame) (frames : List Frame)
-        → f.caller.function ≡ g → f.caller.slots ≡ slots → Holds t slots (base_of source g) values → DataAt source t g objects e.locals outer slots globals frames → DataAt source t callee objects (λ (number : ℕ). None) (record { locals = e.locals; values = values } ∷ outer) other globals (f ∷ frames)
-    data_called g callee objects e values outer slots other globals f frames function_is slots_are holds (low, below, hold, waiting, words) = (
+    pub data_called : (g callee : ℕ) (objects : List Object) (e : Environment) (temporaries : ℕ → ℕ) (values : List Operand) (outer : List Waiting) (slots other globals : Words) (f : Frame) (frames : List Frame)
+        → f.caller.function ≡ g → f.caller.slots ≡ slots → Holds t slots (temporaries (base_of source g)) values → DataAt source t g objects e.locals outer slots globals frames
+        → DataAt source t callee objects (λ (number : ℕ). None) (record { locals = e.locals; temporaries = temporaries; values = values } ∷ outer) other globals (f ∷ frames)
+    data_called g callee objects e temporaries values outer slots other globals f frames function_is slots_are holds (low, below, hold, waiting, words) = (
       length objects,
       omega arith,
       no_locals_hold (types_at source callee) objects (length objects) (length objects) other,
@@ -415,7 +439,7 @@ module _ (t : Tables) where
         (
           subst (λ n. LocalsHold t (types_at source n) objects e.locals low (length objects) f.caller.slots) (sym function_is)
               (subst (λ (s : Words). LocalsHold t (types_at source g) objects e.locals low (length objects) s) (sym slots_are) hold),
-          subst (λ n. Holds t f.caller.slots (base_of source n) values) (sym function_is) (subst (λ (s : Words). Holds t s (base_of source g) values) (sym slots_are) holds),
+          subst (λ n. Holds t f.caller.slots (temporaries (base_of source n)) values) (sym function_is) (subst (λ (s : Words). Holds t s (temporaries (base_of source g)) values) (sym slots_are) holds),
         ),
         waiting,
       ),
@@ -437,8 +461,83 @@ module _ (t : Tables) where
 
     -- what the caller holds
     pub held_by_caller : (g : ℕ) (objects : List Object) (locals : ℕ → Option ℕ) (e : Waiting) (outer : List Waiting) (slots globals : Words) (f : Frame) (frames : List Frame)
-        → DataAt source t g objects locals (e ∷ outer) slots globals (f ∷ frames) → Holds t f.caller.slots (base_of source f.caller.function) e.values
+        → DataAt source t g objects locals (e ∷ outer) slots globals (f ∷ frames) → Holds t f.caller.slots (e.temporaries (base_of source f.caller.function)) e.values
     held_by_caller g objects locals e outer slots globals f frames (low, below, hold, (under, less, (waits, values), waiting), words) = values
+
+-- ---- records of handlers
+
+-- temporaries begin behind the locals
+pub behind-least : (k : List Entry) (slot : ℕ) → slot ≤ behind_records k slot
+behind-least [] slot = omega arith
+behind-least (Handler handler ∷ k) slot = omega (arith, behind-least k slot)
+behind-least (Caller e ∷ k) slot = omega arith
+behind-least (Main ∷ k) slot = omega arith
+behind-least (entry ∷ k) slot = behind-least k slot
+
+module _ (source : Program) where
+  -- slots that are equal between the locals and the temporaries have the same records
+  pub handlers_same : (g : ℕ) (slots other : Words) (handlers : List plain.Handler) (frames : List Frame) (k : List Entry)
+      → ((n : ℕ) → base_of source g ≤ n → n < floor source g k → other n ≡ slots n) → HandlersStand source g slots handlers frames k → HandlersStand source g other handlers frames k
+  handlers_same g slots other handlers frames [] same stand = absurd stand
+  handlers_same g slots other [] frames (Handler handler ∷ k) same stand = absurd stand
+  handlers_same g slots other (plain.Caught ∷ handlers) frames (Handler handler ∷ k) same stand = absurd stand
+  handlers_same g slots other (plain.Open index first contents ∷ handlers) frames (Handler handler ∷ k) same (is, (zeroth, second, third, fourth), catches, rest) =
+      let least = behind-least k (base_of source g) in (
+        is,
+        (
+          same first (omega (arith, is, least)) (omega (arith, is)) ∙ zeroth,
+          same (first + 1) (omega (arith, is, least)) (omega (arith, is)) ∙ second,
+          same (first + 2) (omega (arith, is, least)) (omega (arith, is)) ∙ third,
+          same (first + 3) (omega (arith, is, least)) (omega (arith, is)) ∙ fourth,
+        ),
+        catches,
+        handlers_same g slots other handlers frames k (λ n from to. same n from (omega (arith, to))) rest,
+      )
+  handlers_same g slots other handlers frames (Caller e ∷ k) same stand = stand
+  handlers_same g slots other handlers frames (Main ∷ k) same stand = stand
+  handlers_same g slots other handlers frames (CloseLexical region ∷ k) same stand = absurd stand
+  handlers_same g slots other handlers frames (EndLoan lent ∷ k) same stand = absurd stand
+  handlers_same g slots other handlers frames (entry ∷ k) same stand = handlers_same g slots other handlers frames k same stand
+
+  -- a local is written
+  pub handlers_beside : (g : ℕ) (slots after : Words) (handlers : List plain.Handler) (frames : List Frame) (k : List Entry) (n many : ℕ) → n + many ≤ base_of source g
+      → ((m : ℕ) → Outside n many m → after m ≡ slots m) → HandlersStand source g slots handlers frames k → HandlersStand source g after handlers frames k
+  handlers_beside g slots after handlers frames k n many below same stand =
+      handlers_same g slots after handlers frames k (λ m from to. same m (inr (omega (arith, below, from)))) stand
+
+  -- words are written behind the records
+  pub data_written : (t : Tables) (g : ℕ) (objects : List Object) (locals : ℕ → Option ℕ) (k : List Entry) (slots after : Words) (handlers : List plain.Handler) (globals : Words) (frames : List Frame) (n many : ℕ)
+      → floor source g k ≤ n → ((m : ℕ) → Outside n many m → after m ≡ slots m)
+      → DataAt source t g objects locals (callers k) slots globals frames × HandlersStand source g slots handlers frames k
+      → DataAt source t g objects locals (callers k) after globals frames × HandlersStand source g after handlers frames k
+  data_written t g objects locals k slots after handlers globals frames n many above same (facts, stand) = (
+    data_above t source g objects locals (callers k) slots after globals frames n many (omega (arith, above, behind-least k (base_of source g))) same facts,
+    handlers_same g slots after handlers frames k (λ m from to. same m (inl (omega (arith, to, above)))) stand,
+  )
+
+  -- each frame is a call, and the running one is one more
+  pub calls_counted : (g : ℕ) (slots : Words) (handlers : List plain.Handler) (frames : List Frame) (k : List Entry) → HandlersStand source g slots handlers frames k → calls_in k ≡ suc (length frames)
+  calls_counted g slots handlers frames [] stand = absurd stand
+  calls_counted g slots [] frames (Handler handler ∷ k) stand = absurd stand
+  calls_counted g slots (plain.Caught ∷ handlers) frames (Handler handler ∷ k) stand = absurd stand
+  calls_counted g slots (plain.Open index first contents ∷ handlers) frames (Handler handler ∷ k) (is, intact, catches, rest) = calls_counted g slots handlers frames k rest
+  calls_counted g slots handlers [] (Caller e ∷ k) (none, rest) = absurd rest
+  calls_counted g slots handlers (f ∷ frames) (Caller e ∷ k) (none, rest) = ap suc (calls_counted f.caller.function f.caller.slots f.caller.handlers frames k rest)
+  calls_counted g slots handlers [] (Main ∷ []) (none, last) = refl
+  calls_counted g slots handlers [] (Main ∷ entry ∷ k) (none, last) = absurd last
+  calls_counted g slots handlers (f ∷ frames) (Main ∷ k) (none, last) = absurd last
+  calls_counted g slots handlers frames (CloseLexical region ∷ k) stand = absurd stand
+  calls_counted g slots handlers frames (EndLoan lent ∷ k) stand = absurd stand
+  calls_counted g slots handlers frames (entry ∷ k) stand = calls_counted g slots handlers frames k stand
+
+-- as many calls are under way where entries of one are left
+pub calls_left : (loop : Bool) (k : List Entry) → calls_in (left_by loop k) ≡ calls_in k
+calls_left loop [] = refl
+calls_left true (Loop condition body ∷ k) = refl
+calls_left false (Loop condition body ∷ k) = calls_left false k
+calls_left loop (Caller e ∷ k) = refl
+calls_left loop (Main ∷ k) = refl
+calls_left loop (entry ∷ k) = calls_left loop k
 
 -- ---- tables that grow
 
@@ -482,7 +581,7 @@ module _ (t u : Tables) (grows : Grows t u) where
     below,
     (
       locals_grow (types_at source f.caller.function) objects x.locals low high f.caller.slots hold,
-      Holds-grows f.caller.slots (base_of source f.caller.function) x.values values,
+      Holds-grows f.caller.slots (x.temporaries (base_of source f.caller.function)) x.values values,
     ),
     frames_grow source objects low frames outer rest,
   )

@@ -26,10 +26,10 @@ use Rattle.cyc_types.specs.declared.typed.Converted.{Converted as ConvertedCode}
 use Rattle.cyc_types.specs.declared.typed.Operation.{Operation}
 use Rattle.cyc_types.specs.declared.typed.Operation.TheVariants as operation
 use Rattle.cyc_types.specs.Numbered.{argument_count}
-use Rattle.cyc_store.specs.declared.range.TheConstants.{HEAP}
+use Rattle.cyc_store.specs.declared.range.TheConstants.{HEAP, UNIQUE}
 use Rattle.cyc_types.specs.Types.{ValueType, Void, words_of}
 use Rattle.cyc_types.specs.TypeView.{view_ty, view_value_type}
-use Rattle.cyc_types.specs.TypedTrees.{Load, New, OnHeap, AsUnique, ByHandle, Initial, Plain, Fields, Array, Dereference, Target, Lvalue, Local, Global, Expression, Number, Copy, Call, Unary, Binary, Assign, Converted, Convert, Arguments, Operations, NoOperations, ThenCompute, ThenTest, Move, Peek, AddressOfCell, Store, Member, Element}
+use Rattle.cyc_types.specs.TypedTrees.{Load, New, OnHeap, AsUnique, ByHandle, Initial, Plain, Fields, Array, Dereference, Target, Lvalue, Local, Global, Expression, Number, Copy, Call, Unary, Binary, Assign, Converted, Convert, Arguments, Operations, NoOperations, ThenCompute, ThenTest, Move, Peek, AddressOfCell, Store, Member, Element, FreeUnique}
 use Rattle.cyc_types.specs.TypedTreeView.{view_lvalue, view_initial, view_expression, view_converted, arguments_of, operations_of, view_dereference}
 use Rattle.cyc_types.specs.declared.typed.Kind.{Kind}
 use Rattle.cyc_meaning.specs.Values.{words_of_kind}
@@ -70,10 +70,10 @@ pub record Lowers {X S : Type 0} (all : List X → ℕ → S → List Instructio
 abbrev pub Remains : {X S : Type 0} → (all : List X → ℕ → S → List Instruction) → (old : List Instruction) → (xs : List X) → (first : S) → (i : ℕ) → (code : List Instruction) → S → Type 0
 Remains all old xs first i code s = code ++ all (drop i xs) (length code) s ≡ old ++ all xs (length old) first
 
-module _ {X S : Type 0} (all : List X → ℕ → S → List Instruction) (one : X → List X → ℕ → S → List Instruction) (next : X → List X → S → S) (lowers : Lowers all one next) where
-  pub goes_on : (old : List Instruction) (xs : List X) (first : S) (i : ℕ) (code new : List Instruction) (s : S) (x : X) → i < length xs → x ≡ get_or xs i x
+module _ {X S : Type 0} (all : List X → ℕ → S → List Instruction) (one : X → List X → ℕ → S → List Instruction) (next : X → List X → S → S) (more : (x : X) (xs : List X) (p : ℕ) (s : S) → all (x ∷ xs) p s ≡ one x xs p s ++ all xs (p + length (one x xs p s)) (next x xs s)) where
+  pub goes_on_by : (old : List Instruction) (xs : List X) (first : S) (i : ℕ) (code new : List Instruction) (s : S) (x : X) → i < length xs → x ≡ get_or xs i x
       → new ≡ code ++ one x (drop (i + 1) xs) (length code) s → Remains all old xs first i code s → Remains all old xs first (i + 1) new (next x (drop (i + 1) xs) s)
-  goes_on old xs first i code new s x inside at is r =
+  goes_on_by old xs first i code new s x inside at is r =
       let rest = drop (i + 1) xs in
       let here : drop i xs ≡ x ∷ rest = drop_more xs i x inside ∙ ap (λ (y : X). y ∷ rest) (sym at) in
       let added = one x rest (length code) s in
@@ -82,9 +82,14 @@ module _ {X S : Type 0} (all : List X → ℕ → S → List Instruction) (one :
       ap (λ (n : ℕ). new ++ all rest n after) long
       ∙ ap (λ (l : List Instruction). l ++ all rest (length code + length added) after) is
       ∙ append_assoc code added (all rest (length code + length added) after)
-      ∙ ap (λ (l : List Instruction). code ++ l) (sym (lowers.more x rest (length code) s))
+      ∙ ap (λ (l : List Instruction). code ++ l) (sym (more x rest (length code) s))
       ∙ ap (λ (ys : List X). code ++ all ys (length code) s) (sym here)
       ∙ r
+
+module _ {X S : Type 0} (all : List X → ℕ → S → List Instruction) (one : X → List X → ℕ → S → List Instruction) (next : X → List X → S → S) (lowers : Lowers all one next) where
+  pub goes_on : (old : List Instruction) (xs : List X) (first : S) (i : ℕ) (code new : List Instruction) (s : S) (x : X) → i < length xs → x ≡ get_or xs i x
+      → new ≡ code ++ one x (drop (i + 1) xs) (length code) s → Remains all old xs first i code s → Remains all old xs first (i + 1) new (next x (drop (i + 1) xs) s)
+  goes_on = goes_on_by all one next lowers.more
 
   pub all_made : (old : List Instruction) (xs : List X) (first : S) (i : ℕ) (code : List Instruction) (s : S) → length xs ≤ i → Remains all old xs first i code s → code ≡ old ++ all xs (length old) first
   all_made old xs first i code s done r =
@@ -303,8 +308,9 @@ module _ (starts : Starts) where
     expression_some (Load x) p d t = behind (place_code starts x p t) _ (omega arith)
     expression_some (AddressOfCell x ty) p d t = before (place_code starts x p t) _ (place_some x p t)
     expression_some (Store x c ty) p d t = before (store_code starts x c p t) _ (before (store_address_code starts x p t) _ (before (place_code starts x p t) _ (place_some x p t)))
+    expression_some (FreeUnique a) p d t = behind (value_code starts a p t) _ (omega arith)
     expression_some (New OnHeap i ty) p d t = made_some i HEAP p d t
-    expression_some (New AsUnique i ty) p d t = omega arith
+    expression_some (New AsUnique i ty) p d t = made_some i UNIQUE p d t
     expression_some (New (ByHandle h) i ty) p d t = omega arith
     expression_some a p d t = omega arith
 

@@ -11,7 +11,7 @@ use Rattle.cyc_types.specs.declared.typed.Kind.TheVariants as kinds
 use Rattle.cyc_types.specs.declared.typed.UnaryOperator.TheVariants as unary
 use Rattle.cyc_types.specs.declared.typed.Operator.{Operator}
 use Rattle.cyc_types.specs.Types.{Ty, ValueType, words_of}
-use Rattle.cyc_types.specs.TypedTrees.{type_of_place, Dereference, Target, Lvalue, Local, Global, Expression, Number, Copy, Call, Unary, Binary, Assign, Converted, Convert, Arguments, NoArguments, MoreArguments, Operations, NoOperations, ThenCompute, ThenTest, ThenPointer, Function, Program, ThenPointerPeek, peeked, Member}
+use Rattle.cyc_types.specs.TypedTrees.{type_of_place, Dereference, Placement, Initial, Target, Lvalue, Local, Global, Expression, Number, Copy, Call, Unary, Binary, Assign, Converted, Convert, Arguments, NoArguments, MoreArguments, Operations, NoOperations, ThenCompute, ThenTest, ThenPointer, Function, Program, ThenPointerPeek, peeked, Member}
 use Rattle.cyc_types.specs.TypedTrees as typed
 use Rattle.cyc_plain.specs.declared.instruction.Comparison.{Comparison}
 use Rattle.cyc_plain.specs.declared.instruction.Comparison.TheVariants as comparisons
@@ -24,24 +24,25 @@ use Rattle.cyc_plain.specs.Straight.{At as CodeAt}
 use Rattle.cyc_plain.specs.Step.{Choice, with_slots, advanced, performed}
 use Rattle.cyc_plain.proofs.SlotLaws.{put-same}
 use Rattle.cyc_meaning.specs.Values.{Int, Null, Thin, Operand as Kinded, kind_of, words_of_kind}
-use Rattle.cyc_store.specs.declared.range.TheConstants.{HEAP}
+use Rattle.cyc_store.specs.declared.range.TheConstants.{HEAP, UNIQUE}
 use Rattle.cyc_meaning.specs.SourceMachine.{status_in}
-use Rattle.cyc_meaning.specs.State.{status_of, InRegion, World, heap_number, Environment, ConvertTo, Operate, Chain, Apply, Store, Pass, MakePlain, MakeFields, MakeArray, Choose, Test, Follow, LoadFrom, Entry, Needs, NeedsPlace, Discard, Focus, Evaluating, Locating, Given, Running, FollowMember, TakeAddress, StoreTo}
+use Rattle.cyc_meaning.specs.State.{status_of, InRegion, World, heap_number, Environment, ConvertTo, Operate, Chain, Apply, Store, Pass, MakePlain, MakeFields, MakeArray, Choose, Test, Follow, LoadFrom, Entry, Needs, NeedsPlace, Discard, Focus, Evaluating, Locating, Given, Running, FollowMember, TakeAddress, StoreTo, Owner, Unique, FreeObject}
 use Rattle.cyc_lower.proofs.Counters.{CountersHold, counters_hold}
 use Rattle.cyc_meaning.specs.Step.{counts, target_of, target_by, object_of, assigned, passes, step, loaded_from}
+use Rattle.cyc_meaning.specs.Allocation.{makes, allocates}
 use Rattle.cyc_lower.specs.Slots.{slot_of, field_in}
 use Rattle.cyc_meaning.specs.Places.{locates_member}
 use Rattle.cyc_lower.proofs.PlaceWords.{field_bytes}
 use Rattle.cyc_lower.proofs.Slots.{slot-room}
-use Rattle.cyc_lower.proofs.Widths.{kind_positive, type_words, HasRoom, Outside}
+use Rattle.cyc_lower.proofs.Widths.{kind_positive, type_words, made_kind, HasRoom, Outside}
 use Rattle.cyc_lower.proofs.Moves.{moved_slots, moves, put_elsewhere, moved_elsewhere, moved_is}
 use Rattle.cyc_lower.specs.Lowering.{counter_operand, failing_comparison, operand_of, value_slot, source_of, source_slot, are_as_wide, converts_there, all_passed, move_of, left_with, slot_with, compared_or, compared_of, lower_program}
 use Rattle.cyc_lower.proofs.Weights.{weight, stack_weight, expression_weight, arguments_weight}
-use Rattle.cyc_lower.proofs.Stands.{CopyBy, CopyAt, OperandBy, InitialBy, ExpressionAt, ArgumentsAt, ObjectAt, ValueAt, PairAt, ConditionAt, AssignmentAt, PrintedAt, DiscardedAt, StoredAt}
+use Rattle.cyc_lower.proofs.Stands.{CopyBy, CopyAt, OperandBy, InitialBy, ExpressionAt, ArgumentsAt, ObjectAt, MadeAt, ValueAt, PairAt, ConditionAt, AssignmentAt, PrintedAt, DiscardedAt, StoredAt}
 use Rattle.cyc_objects.specs.Tables.{Tables}
 use Rattle.cyc_objects.specs.Words.{Is}
-use Rattle.cyc_lower.proofs.Relation.{counters_of, types_on, starts_on, IsIn, types_at, starts_at, given_at, called_at, words_held, height, Holds, held, contents, callers, in_temporary, in_local, drops, leaves, copies, prints_only, gives_byte, DataIn, SharedAt, CallAt, to_slot, to_jump, ValueStack, PlaceStack, ConditionStack, DroppedStack, AheadStack, LandsStack, HandsOnStack, PrintsStack, RightAt, EvaluatingAt, as_operand, into_slot, for_effect, as_right, as_condition, in_operand, ahead, with_left, Related, Matches, code_of, bounds_in, bounds_at, base_of, top}
-use Rattle.cyc_lower.proofs.Data.{IsWord-is, height-least, Holds-same, Holds-above, data_above}
+use Rattle.cyc_lower.proofs.Relation.{counters_of, types_on, starts_on, IsIn, types_at, starts_at, given_at, called_at, words_held, height, Holds, held, contents, callers, in_temporary, in_local, drops, leaves, copies, prints_only, gives_byte, DataIn, SharedAt, CallAt, to_slot, to_jump, ValueStack, PlaceStack, ConditionStack, DroppedStack, AheadStack, LandsStack, HandsOnStack, PrintsStack, RightAt, EvaluatingAt, as_operand, into_slot, for_effect, as_right, as_condition, in_operand, ahead, with_left, Related, Matches, code_of, bounds_in, bounds_at, base_of, top, IsHandleOf, floor}
+use Rattle.cyc_lower.proofs.Data.{IsWord-is, height-least, Holds-same, Holds-above, data_above, behind-least, data_written}
 use Rattle.cyc_lower.proofs.Accesses.{IsWell, is_loaded}
 use Rattle.cyc_lower.proofs.Matched.{IsMatched, silently, by_one}
 
@@ -58,30 +59,30 @@ module _ (source : Program) (pages calls : ℕ) where
   -- a value comes to a slot and those behind it, and the next instruction is the one behind
   pub landed : (v : Kinded) (after : Words) (d : ℕ) (k : List Entry) (e : Environment) (w : World) (c : Configuration) (q : ℕ) (shared : SharedAt source pages calls k e w c) → Is shared.tables v.kind v.value after d
       → ((m : ℕ) → Outside d (words_of_kind v.kind) m → after m ≡ c.active.slots m)
-      → DataIn source shared.tables c.active.slots k e w c → Holds shared.tables c.active.slots (base_of source c.active.function) (held k)
+      → DataIn source shared.tables c.active.slots k e w c → Holds shared.tables c.active.slots (floor source c.active.function k) (held k)
       → c.active.next + 1 ≡ q → LandsStack source c.active.function e.locals v.kind d q c.frames k
       → Related source pages calls (Given v) k e w (advanced (with_slots c after))
   landed v after d k e w c q shared is same facts holds end (in_temporary least stack) =
-      let base = base_of source c.active.function in (
+      let base = floor source c.active.function k in (
         shared,
         in_operand (operands.Slot d)
-            (data_above shared.tables source c.active.function w.objects e.locals (callers k) c.active.slots after c.globals c.frames d (words_of_kind v.kind) (omega (arith, least, height-least base (held k))) same facts)
+            (data_written source shared.tables c.active.function w.objects e.locals k c.active.slots after c.active.handlers c.globals c.frames d (words_of_kind v.kind) (omega (arith, least, height-least base (held k))) same facts)
             is
             (Holds-same shared.tables c.active.slots after base (held k) (λ m below. same m (inl (omega (arith, below, least)))) holds)
             (subst (λ r. ValueStack source c.active.function e.locals v.kind (operands.Slot d) r c.frames k) (sym end) stack),
       )
   landed v after d k e w c q shared is same facts holds end (in_local below stack) =
-      let base = base_of source c.active.function in (
+      let base = floor source c.active.function k in (
         shared,
         ahead d (c.active.slots, λ m out. sym (same m out), facts)
             is
-            (Holds-above shared.tables c.active.slots after base (held k) (λ m above. same m (inr (omega (arith, below, above)))) holds)
+            (Holds-above shared.tables c.active.slots after base (held k) (λ m above. same m (inr (omega (arith, below, above, behind-least k (base_of source c.active.function))))) holds)
             (subst (λ r. AheadStack source c.active.function e.locals v.kind d r c.frames k) (sym end) stack),
       )
 
   -- the same for an int
   pub landed_word : (a word d : ℕ) (k : List Entry) (e : Environment) (w : World) (c : Configuration) (q : ℕ) → word ≡ a
-      → (shared : SharedAt source pages calls k e w c) → DataIn source shared.tables c.active.slots k e w c → Holds shared.tables c.active.slots (base_of source c.active.function) (held k)
+      → (shared : SharedAt source pages calls k e w c) → DataIn source shared.tables c.active.slots k e w c → Holds shared.tables c.active.slots (floor source c.active.function k) (held k)
       → c.active.next + 1 ≡ q → LandsStack source c.active.function e.locals kinds.Int d q c.frames k
       → Related source pages calls (Given (record { kind = kinds.Int; value = Int a })) k e w (advanced (with_slots c (put c.active.slots d word)))
   landed_word a word d k e w c q is shared facts holds end lands =
@@ -90,7 +91,7 @@ module _ (source : Program) (pages calls : ℕ) where
 
   -- a value that is moved from an operand
   pub landed_moved : (v : Kinded) (o : Operand) (d : ℕ) (k : List Entry) (e : Environment) (w : World) (c : Configuration) (q : ℕ) (choice : Choice) (shared : SharedAt source pages calls k e w c) → IsIn shared.tables v c.active.slots o
-      → DataIn source shared.tables c.active.slots k e w c → Holds shared.tables c.active.slots (base_of source c.active.function) (held k)
+      → DataIn source shared.tables c.active.slots k e w c → Holds shared.tables c.active.slots (floor source c.active.function k) (held k)
       → c.active.next + 1 ≡ q → LandsStack source c.active.function e.locals v.kind d q c.frames k
       → Matches source pages calls (Running (Given v) k e w) (performed (lower_program source) choice c (move_of (words_of_kind v.kind) d o))
   landed_moved v o d k e w c q choice shared is facts holds end lands =
@@ -124,7 +125,7 @@ module _ (source : Program) (pages calls : ℕ) where
       → step source (Running (Evaluating a) k e w) ≡ loaded_from (kind_of t) (e.locals n) k e w → kind_of t ≡ given_at source c.active.function a → expression_weight a ≡ 1
       → Some (operands.Slot (slot_of (starts_on source c.active.function k) n)) ≡ Some o → IsWell (loaded_from (kind_of t) (e.locals n) k e w)
       → DataIn source tables c.active.slots k e w c → IsRead tables a o k e w c
-  reads_local tables a n t o k e w c does same some known well (low, below, hold, waiting, words) =
+  reads_local tables a n t o k e w c does same some known well ((low, below, hold, waiting, words), handlers) =
       let found = is_loaded (kind_of t) (e.locals n) k e w well in
       let v : Kinded = record { kind = kind_of t; value = found.value } in
       record {
@@ -136,7 +137,7 @@ module _ (source : Program) (pages calls : ℕ) where
       }
 
   pub reads : (tables : Tables) (a : Expression) (o : Operand) (k : List Entry) (e : Environment) (w : World) (c : Configuration) → operand_of (starts_on source c.active.function k) a ≡ Some o → IsWell (step source (Running (Evaluating a) k e w))
-      → CountersHold e.counters c.active.slots (base_of source c.active.function) k → DataIn source tables c.active.slots k e w c → IsRead tables a o k e w c
+      → CountersHold e.counters c.active.slots (floor source c.active.function k) k → DataIn source tables c.active.slots k e w c → IsRead tables a o k e w c
   reads tables (Number n) o k e w c known well count facts =
       record {
         value = record { kind = kinds.Int; value = Int n };
@@ -156,9 +157,9 @@ module _ (source : Program) (pages calls : ℕ) where
   reads tables (Copy (Local p n) t) o k e w c known well count facts = reads_local tables (Copy (Local p n) t) n t o k e w c refl refl refl known well facts
   reads tables (typed.Move p n t) o k e w c known well count facts = reads_local tables (typed.Move p n t) n t o k e w c refl refl refl known well facts
   reads tables (typed.Peek p n t) o k e w c known well count facts = reads_local tables (typed.Peek p n t) n t o k e w c refl refl refl known well facts
-  reads tables (typed.Counter l) o k e w c known well count facts = read_counter (slice_get (counters_of (base_of source c.active.function) k) l) refl known
+  reads tables (typed.Counter l) o k e w c known well count facts = read_counter (slice_get (counters_of (floor source c.active.function k) k) l) refl known
     where
-      read_counter : (slot : Option ℕ) → slice_get (counters_of (base_of source c.active.function) k) l ≡ slot → counter_operand slot ≡ Some o → IsRead tables (typed.Counter l) o k e w c
+      read_counter : (slot : Option ℕ) → slice_get (counters_of (floor source c.active.function k) k) l ≡ slot → counter_operand slot ≡ Some o → IsRead tables (typed.Counter l) o k e w c
       read_counter None none known = absurd (none-some o known)
       read_counter (Some slot) there known =
           let (index, counts_now, is) = count l slot there in
@@ -176,10 +177,10 @@ module _ (source : Program) (pages calls : ℕ) where
   -- the next argument is evaluated, or the call is made
   pub passes_related : (f : Callee) (before : List Kinded) (cs : Arguments) (k : List Entry) (e : Environment) (w : World) (c : Configuration) (d m q all : ℕ)
       → (shared : SharedAt source pages calls k e w c) → DataIn source shared.tables c.active.slots k e w c
-      → ArgumentsAt (code_of source c.active.function) (bounds_at source c.active.function) (types_on source c.active.function k) cs (height (base_of source c.active.function) (before ++ held k)) c.active.next m
+      → ArgumentsAt (code_of source c.active.function) (bounds_at source c.active.function) (types_on source c.active.function k) cs (height (floor source c.active.function k) (before ++ held k)) c.active.next m
       → CallAt source c.active.function f all (top source c.active.function k) d m q
       → words_held before + all_passed cs ≡ all
-      → Holds shared.tables c.active.slots (base_of source c.active.function) (before ++ held k) → LandsStack source c.active.function e.locals (called_at source c.active.function f) d q c.frames k
+      → Holds shared.tables c.active.slots (floor source c.active.function k) (before ++ held k) → LandsStack source c.active.function e.locals (called_at source c.active.function f) d q c.frames k
       → Matches source pages calls (passes f before cs k e w) (plain.Running c)
   passes_related callees.Putchar before cs k e w c d m q all shared facts at call long holds lands = absurd call
   passes_related callees.Getchar before NoArguments k e w c d m q all shared facts at (here, end) long holds lands =
@@ -198,9 +199,9 @@ module _ (source : Program) (pages calls : ℕ) where
         ),
       )
   passes_related callees.Getchar before (MoreArguments (Convert from to a) cs) k e w c d m q all shared facts (r, (s, at_a, at_to), at) call long holds lands =
-      (shared, facts, into_slot (height (base_of source c.active.function) (before ++ held k)) s at_a holds (in_temporary (omega arith) (r, at_to, (d, m, q, all, refl, at, call, long, lands))))
+      (shared, facts, into_slot (height (floor source c.active.function k) (before ++ held k)) s at_a holds (in_temporary (omega arith) (r, at_to, (d, m, q, all, refl, at, call, long, lands))))
   passes_related (callees.Function n) before (MoreArguments (Convert from to a) cs) k e w c d m q all shared facts (r, (s, at_a, at_to), at) call long holds lands =
-      (shared, facts, into_slot (height (base_of source c.active.function) (before ++ held k)) s at_a holds (in_temporary (omega arith) (r, at_to, (d, m, q, all, refl, at, call, long, lands))))
+      (shared, facts, into_slot (height (floor source c.active.function k) (before ++ held k)) s at_a holds (in_temporary (omega arith) (r, at_to, (d, m, q, all, refl, at, call, long, lands))))
 
   pub passes_weight : (f : Callee) (before : List Kinded) (cs : Arguments) (k : List Entry) (e : Environment) (w : World) → weight (passes f before cs k e w) ≤ arguments_weight cs + stack_weight k
   passes_weight f before NoArguments k e w = omega arith
@@ -221,7 +222,7 @@ module _ (source : Program) (pages calls : ℕ) where
   -- what is known at each such step
   abbrev At_step : Expression → List Entry → Environment → World → Configuration → Type 0
   At_step a k e w c = IsWell (step source (Running (Evaluating a) k e w)) × (shared : SharedAt source pages calls k e w c) × DataIn source shared.tables c.active.slots k e w c
-      × Holds shared.tables c.active.slots (base_of source c.active.function) (held k)
+      × Holds shared.tables c.active.slots (floor source c.active.function k) (held k)
 
   abbrev IsBegun : Expression → List Entry → Environment → World → Configuration → Type 0
   IsBegun a k e w c = IsMatched source pages calls (Running (Evaluating a) k e w) (plain.Running c)
@@ -229,7 +230,7 @@ module _ (source : Program) (pages calls : ℕ) where
   known_operand : (a : Expression) (o : Operand) (k : List Entry) (e : Environment) (w : World) (c : Configuration) (q : ℕ) → operand_of (starts_on source c.active.function k) a ≡ Some o → c.active.next ≡ q → At_step a k e w c
       → ValueStack source c.active.function e.locals (given_at source c.active.function a) o q c.frames k → IsBegun a k e w c
   known_operand a o k e w c q known end (well, shared, facts, holds) stack =
-      let found = reads shared.tables a o k e w c known well (counters_hold shared.tables e.counters c.active.slots (base_of source c.active.function) k shared.counters holds) facts in
+      let found = reads shared.tables a o k e w c known well (counters_hold shared.tables e.counters c.active.slots (floor source c.active.function k) k shared.counters holds) facts in
       silently source pages calls (Running (Evaluating a) k e w) (Running (Given found.value) k e w) (plain.Running c) found.gives (
         shared,
         in_operand o facts found.is holds
@@ -243,7 +244,7 @@ module _ (source : Program) (pages calls : ℕ) where
       → OperandBy (code_of source c.active.function) (bounds_at source c.active.function) (types_on source c.active.function k) (source_of (starts_on source c.active.function k) (Convert from to a))
       (ExpressionAt (code_of source c.active.function) (bounds_at source c.active.function) (types_on source c.active.function k) a (source_slot (starts_on source c.active.function k) (Convert from to a) (top source c.active.function k)) (top source c.active.function k) c.active.next m)
       (source_slot (starts_on source c.active.function k) (Convert from to a) (top source c.active.function k)) o c.active.next m
-      → Holds t c.active.slots (base_of source c.active.function) (held k) → ValueStack source c.active.function e.locals (given_at source c.active.function a) o m c.frames k
+      → Holds t c.active.slots (floor source c.active.function k) (held k) → ValueStack source c.active.function e.locals (given_at source c.active.function a) o m c.frames k
       → EvaluatingAt source t a e.locals c.active.function c.active.next c.active.slots c.frames k
   sources t from to a k e w c o m at holds stack = by (are_as_wide from to) at
     where
@@ -258,14 +259,14 @@ module _ (source : Program) (pages calls : ℕ) where
   -- what is assigned to a local comes to its slots at once, or is moved there once it is converted
   assigns_local : (there : Bool) (n : ℕ) (from to : Kind) (a : Expression) (k : List Entry) (e : Environment) (w : World) (c : Configuration) (object : ℕ) (o : Operand) (m : ℕ)
       → converts_there from to ≡ there → e.locals n ≡ Some object → (shared : SharedAt source pages calls k e w c) → DataIn source shared.tables c.active.slots k e w c
-      → Holds shared.tables c.active.slots (base_of source c.active.function) (held k)
+      → Holds shared.tables c.active.slots (floor source c.active.function k) (held k)
       → o ≡ operands.Slot (slot_of (starts_at source c.active.function) n) → HasRoom (types_at source c.active.function) n to
       → InitialBy (code_of source c.active.function) (bounds_at source c.active.function) (types_on source c.active.function k) there from to a (slot_of (starts_on source c.active.function k) n) (top source c.active.function k) c.active.next m
       → HandsOnStack source c.active.function e.locals to o m c.frames k
       → Related source pages calls (Evaluating a) (Needs (ConvertTo from to (target_by a)) ∷ Needs (Store (Thin object 0)) ∷ k) e w c
   assigns_local true n from to a k e w c object o m lands found shared facts holds there room (wide, at_a) hands =
       let g = c.active.function in
-      let inside = slot-room (types_on source g k) n (facts.2.within n object found).0 in (
+      let inside = slot-room (types_on source g k) n (facts.0.2.within n object found).0 in (
         shared,
         facts,
         into_slot (slot_of (starts_on source g k) n) m at_a holds
@@ -345,7 +346,7 @@ module _ (source : Program) (pages calls : ℕ) where
   -- the value of a local is moved
   comes_from : (a : Expression) (n : ℕ) (t : Ty) (k : List Entry) (e : Environment) (w : World) (c : Configuration) (d q : ℕ)
       → step source (Running (Evaluating a) k e w) ≡ loaded_from (kind_of t) (e.locals n) k e w → IsWell (loaded_from (kind_of t) (e.locals n) k e w)
-      → (shared : SharedAt source pages calls k e w c) → DataIn source shared.tables c.active.slots k e w c → Holds shared.tables c.active.slots (base_of source c.active.function) (held k)
+      → (shared : SharedAt source pages calls k e w c) → DataIn source shared.tables c.active.slots k e w c → Holds shared.tables c.active.slots (floor source c.active.function k) (held k)
       → CodeAt (code_of source c.active.function) c.active.next (move_of (words_of t) d (operands.Slot (slot_of (starts_on source c.active.function k) n))) → c.active.next + 1 ≡ q
       → LandsStack source c.active.function e.locals (kind_of t) d q c.frames k → IsBegun a k e w c
   comes_from a n t k e w c d q does well shared facts holds at end lands =
@@ -354,7 +355,33 @@ module _ (source : Program) (pages calls : ℕ) where
       let v : Kinded = record { kind = kind_of t; value = found.value } in
       let o = operands.Slot (slot_of (starts_on source g k) n) in
       by_one source pages calls (does ∙ found.gives) shared (subst (λ x. CodeAt (code_of source g) c.active.next (move_of x d o)) (sym (type_words t)) at)
-      (λ choice. landed_moved v o d k e w c q choice shared (facts.2.holds n found.number v found.there found.has).0 facts holds end lands)
+      (λ choice. landed_moved v o d k e w c q choice shared (facts.0.2.holds n found.number v found.there found.has).0 facts holds end lands)
+
+  -- the values of a new object come to slots, in the region of this handle
+  made_of : (placement : Placement) (owner : Owner) (handle : ℕ) (i : Initial) (t : Ty) (k : List Entry) (e : Environment) (w : World) (c : Configuration) (d q : ℕ) → allocates placement i k e w ≡ makes owner i k e w
+      → IsHandleOf owner handle → At_step (typed.New placement i t) k e w c
+      → MadeAt (code_of source c.active.function) (bounds_at source c.active.function) (types_on source c.active.function k) i handle d (top source c.active.function k) c.active.next q
+      → LandsStack source c.active.function e.locals (made_kind i) d q c.frames k → IsBegun (typed.New placement i t) k e w c
+  made_of placement owner handle (typed.Plain kind a) t k e w c d q does owned (well, shared, facts, holds) (m, at_a, wide, object) lands =
+      let g = c.active.function in
+      silently source pages calls (Running (Evaluating (typed.New placement (typed.Plain kind a) t)) k e w) (Running (Evaluating a) (Needs (MakePlain owner kind) ∷ k) e w) (plain.Running c) does (
+        shared,
+        facts,
+        into_slot (top source g k) m at_a holds
+            (in_temporary (omega arith) (handle, d, q, owned, refl, subst (λ n. ObjectAt (code_of source g) (bounds_at source g) (types_on source g k) handle 1 n (top source g k) d m q) (sym wide) object, lands)),
+      )
+      (omega arith)
+  made_of placement owner handle (typed.Fields NoArguments) t k e w c d q does owned known (p, at_cs, (m, single, some, few, ask, stores, move, there)) lands = absurd (omega (arith, some))
+  made_of placement owner handle (typed.Fields (MoreArguments (Convert from to a) cs)) t k e w c d q does owned (well, shared, facts, holds) (p, (r, (s, at_a, at_to), at_cs), (m, single, some, few, ask, stores, move, there)) lands =
+      silently source pages calls (Running (Evaluating (typed.New placement (typed.Fields (MoreArguments (Convert from to a) cs)) t)) k e w)
+      (Running (Evaluating a) (Needs (ConvertTo from to (target_by a)) ∷ Needs (MakeFields owner [] cs) ∷ k) e w) (plain.Running c) does (
+        shared,
+        facts,
+        into_slot (top source c.active.function k) s at_a holds
+            (in_temporary (omega arith) (r, at_to, (handle, d, p, q, words_of_kind to + all_passed cs, owned, refl, at_cs, (m, omega (arith, single), some, few, ask, stores, move, there), omega arith, lands))),
+      )
+      (omega arith)
+  made_of placement owner handle (typed.Array p level n kind a) t k e w c d q does owned known at lands = absurd at
 
   comes : (a : Expression) (k : List Entry) (e : Environment) (w : World) (c : Configuration) (d q : ℕ) → At_step a k e w c
       → ExpressionAt (code_of source c.active.function) (bounds_at source c.active.function) (types_on source c.active.function k) a d (top source c.active.function k) c.active.next q
@@ -365,7 +392,7 @@ module _ (source : Program) (pages calls : ℕ) where
       let v : Kinded = record { kind = kinds.Nullable; value = Null } in
       by_one source pages calls refl shared at (λ choice. landed_moved v (operands.Word 0) d k e w c q choice shared refl facts holds end lands)
   comes (typed.Counter l) k e w c d q (well, shared, facts, holds) (slot, there, at, end) lands =
-      let (index, now, is) = counters_hold shared.tables e.counters c.active.slots (base_of source c.active.function) k shared.counters holds l slot there in
+      let (index, now, is) = counters_hold shared.tables e.counters c.active.slots (floor source c.active.function k) k shared.counters holds l slot there in
       by_one source pages calls (ap (λ (i : Option ℕ). counts i k e w) now) shared at
       (λ choice. landed_word index (c.active.slots slot) d k e w c q is shared facts holds end lands)
   comes (Copy (Local p n) t) k e w c d q (well, shared, facts, holds) (at, end) lands = comes_from (Copy (Local p n) t) n t k e w c d q refl well shared facts holds at end lands
@@ -376,7 +403,7 @@ module _ (source : Program) (pages calls : ℕ) where
       let v : Kinded = record { kind = kind_of t; value = found.value } in
       let word = c.globals n in
       let same : n ≡ found.number = same_Some n found.number found.there in
-      let is = (facts.4 n (global_there c.active.function n few)).1 v (ap (contents w.objects) same ∙ found.has) in
+      let is = (facts.0.4 n (global_there c.active.function n few)).1 v (ap (contents w.objects) same ∙ found.has) in
       by_one source pages calls found.gives shared at
       (λ choice. landed v (put c.active.slots d word) d k e w c q shared (IsWord-is shared.tables v.kind v.value word (put c.active.slots d word) d (put-same c.active.slots d word) is)
       (λ m out. put_elsewhere c.active.slots d word (words_of_kind v.kind) m (kind_positive v.kind) out) facts holds end lands)
@@ -411,31 +438,17 @@ module _ (source : Program) (pages calls : ℕ) where
       (shared, facts, (o, offset, r, at, holds, (d, q, address, lands)))
       (omega arith)
   comes (typed.Store x (Convert from to a) t) k e w c d q known (o, m, at, copy) lands = cell_begins x from to a t k e w c o m known at (copies d q copy lands)
-  comes (typed.New typed.OnHeap (typed.Plain kind a) t) k e w c d q (well, shared, facts, holds) (m, at_a, wide, object) lands =
-      let g = c.active.function in
-      silently source pages calls (Running (Evaluating (typed.New typed.OnHeap (typed.Plain kind a) t)) k e w) (Running (Evaluating a) (Needs (MakePlain (InRegion heap_number) kind) ∷ k) e w) (plain.Running c) refl (
-        shared,
-        facts,
-        into_slot (top source g k) m at_a holds
-            (in_temporary (omega arith) (HEAP, d, q, (refl, refl), refl, subst (λ n. ObjectAt (code_of source g) (bounds_at source g) (types_on source g k) HEAP 1 n (top source g k) d m q) (sym wide) object, lands)),
-      )
-      (omega arith)
-  comes (typed.New typed.OnHeap (typed.Fields NoArguments) t) k e w c d q known (p, at_cs, (m, single, some, few, ask, stores, move, there)) lands = absurd (omega (arith, some))
-  comes (typed.New typed.OnHeap (typed.Fields (MoreArguments (Convert from to a) cs)) t) k e w c d q (well, shared, facts, holds) (p, (r, (s, at_a, at_to), at_cs), (m, single, some, few, ask, stores, move, there)) lands =
-      silently source pages calls (Running (Evaluating (typed.New typed.OnHeap (typed.Fields (MoreArguments (Convert from to a) cs)) t)) k e w)
-      (Running (Evaluating a) (Needs (ConvertTo from to (target_by a)) ∷ Needs (MakeFields (InRegion heap_number) [] cs) ∷ k) e w) (plain.Running c) refl (
-        shared,
-        facts,
-        into_slot (top source c.active.function k) s at_a holds
-            (in_temporary (omega arith) (r, at_to, (HEAP, d, p, q, words_of_kind to + all_passed cs, (refl, refl), refl, at_cs, (m, omega (arith, single), some, few, ask, stores, move, there), omega arith, lands))),
-      )
+  comes (typed.FreeUnique a) k e w c d q (well, shared, facts, holds) (o, m, at_a, (jump, ask, end)) lands =
+      silently source pages calls (Running (Evaluating (typed.FreeUnique a)) k e w) (Running (Evaluating a) (Needs FreeObject ∷ k) e w) (plain.Running c) refl
+      (shared, facts, as_operand o m at_a holds (d, q, (jump, ask, end), lands))
       (omega arith)
   comes (typed.New typed.OnHeap (typed.Array p level n kind a) t) k e w c d q (well, shared, facts, holds) (m, h, r, s, at_n, begun, level_is, single, at_a) lands =
       let g = c.active.function in
       silently source pages calls (Running (Evaluating (typed.New typed.OnHeap (typed.Array p level n kind a) t)) k e w) (Running (Evaluating n) (Needs (MakeArray (InRegion heap_number) level kind a) ∷ k) e w) (plain.Running c) refl
       (shared, facts, into_slot (top source g k) m at_n holds (in_temporary (omega arith) (HEAP, d, h, r, s, q, (refl, refl), refl, begun, level_is, single, at_a, lands)))
       (omega arith)
-  comes (typed.New typed.AsUnique i t) k e w c d q known at lands = absurd at
+  comes (typed.New typed.OnHeap i t) k e w c d q known at lands = made_of typed.OnHeap (InRegion heap_number) HEAP i t k e w c d q refl (refl, refl) known at lands
+  comes (typed.New typed.AsUnique i t) k e w c d q known at lands = made_of typed.AsUnique (Unique true) UNIQUE i t k e w c d q refl refl known at lands
   comes (typed.New (typed.ByHandle h) i t) k e w c d q known at lands = absurd at
   comes a k e w c d q known at lands = absurd at
 
@@ -454,9 +467,9 @@ module _ (source : Program) (pages calls : ℕ) where
       → ValueAt (code_of source c.active.function) (bounds_at source c.active.function) (types_on source c.active.function k) a (top source c.active.function k) o c.active.next q
       → ValueStack source c.active.function e.locals (given_at source c.active.function a) o q c.frames k → IsBegun a k e w c
   operand (Number n) k e w c o q known (is, end) stack = known_operand (Number n) o k e w c q (ap Some (sym is)) end known stack
-  operand (typed.Counter l) k e w c o q known at stack = in_counter (slice_get (counters_of (base_of source c.active.function) k) l) refl at
+  operand (typed.Counter l) k e w c o q known at stack = in_counter (slice_get (counters_of (floor source c.active.function k) k) l) refl at
     where
-      in_counter : (slot : Option ℕ) → slice_get (counters_of (base_of source c.active.function) k) l ≡ slot
+      in_counter : (slot : Option ℕ) → slice_get (counters_of (floor source c.active.function k) k) l ≡ slot
           → OperandBy (code_of source c.active.function) (bounds_at source c.active.function) (types_on source c.active.function k) (counter_operand slot)
           (ExpressionAt (code_of source c.active.function) (bounds_at source c.active.function) (types_on source c.active.function k) (typed.Counter l) (top source c.active.function k) (top source c.active.function k) c.active.next q)
           (top source c.active.function k) o c.active.next q
@@ -479,6 +492,7 @@ module _ (source : Program) (pages calls : ℕ) where
       (leaves (subst (λ x. ValueStack source g e.locals to x m c.frames k) (is ∙ sym is_there) (subst (λ r. ValueStack source g e.locals to o r c.frames k) (sym end) stack)))
   operand (Assign (Global n) c' t) k e w c o q known at stack = in_top (Assign (Global n) c' t) k e w c o q known at stack
   operand (typed.Load x) k e w c o q known at stack = in_top (typed.Load x) k e w c o q known at stack
+  operand (typed.FreeUnique a) k e w c o q known at stack = in_top (typed.FreeUnique a) k e w c o q known at stack
   operand (typed.New x i t) k e w c o q known at stack = in_top (typed.New x i t) k e w c o q known at stack
   operand (typed.AddressOfCell x t) k e w c o q known at stack = in_top (typed.AddressOfCell x t) k e w c o q known at stack
   operand (typed.Store x v t) k e w c o q known at stack = in_top (typed.Store x v t) k e w c o q known at stack
@@ -506,7 +520,7 @@ module _ (source : Program) (pages calls : ℕ) where
   for_its_effect (typed.AddressOf l t) k e w c q known (o, (is, at)) stack = absurd at
   for_its_effect (typed.AddressOfCell x t) k e w c q known (o, at) stack = in_top (typed.AddressOfCell x t) k e w c o q known at (dropped_value c.active.function e.locals (given_at source c.active.function (typed.AddressOfCell x t)) o q c.frames k stack)
   for_its_effect (typed.NumberOfElements a) k e w c q known (o, (is, at)) stack = absurd at
-  for_its_effect (typed.FreeUnique a) k e w c q known (o, (is, at)) stack = absurd at
+  for_its_effect (typed.FreeUnique a) k e w c q known (o, at) stack = in_top (typed.FreeUnique a) k e w c o q known at (dropped_value c.active.function e.locals (given_at source c.active.function (typed.FreeUnique a)) o q c.frames k stack)
   for_its_effect (typed.FreeKey a) k e w c q known (o, (is, at)) stack = absurd at
   for_its_effect (typed.Store x (Convert from to a) t) k e w c q known (o, at) stack = cell_begins x from to a t k e w c o q known at (drops stack)
   for_its_effect (typed.New x i t) k e w c q known (o, at) stack = in_top (typed.New x i t) k e w c o q known at (dropped_value c.active.function e.locals (given_at source c.active.function (typed.New x i t)) o q c.frames k stack)
@@ -515,7 +529,7 @@ module _ (source : Program) (pages calls : ℕ) where
   beside_left : (a : Expression) (k : List Entry) (e : Environment) (w : World) (c : Configuration) → IsWell (step source (Running (Evaluating a) k e w)) → (shared : SharedAt source pages calls k e w c) → DataIn source shared.tables c.active.slots k e w c
       → RightAt source shared.tables a e.locals c.active.function c.active.next c.active.slots c.frames k → IsBegun a k e w c
   beside_left a (Needs (Apply u left) ∷ k) e w c well shared facts (l, r, known, is_left, holds, applied) =
-      let found = reads shared.tables a r (Needs (Apply u left) ∷ k) e w c known well (counters_hold shared.tables e.counters c.active.slots (base_of source c.active.function) k shared.counters holds) facts in
+      let found = reads shared.tables a r (Needs (Apply u left) ∷ k) e w c known well (counters_hold shared.tables e.counters c.active.slots (floor source c.active.function k) k shared.counters holds) facts in
       silently source pages calls (Running (Evaluating a) (Needs (Apply u left) ∷ k) e w) (Running (Given found.value) (Needs (Apply u left) ∷ k) e w) (plain.Running c) found.gives
       (shared, with_left facts (l, r, is_left, found.is, holds, applied))
       (omega (arith, found.some))

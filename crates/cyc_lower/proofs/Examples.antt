@@ -10,7 +10,7 @@ use Rattle.cyc_types.specs.declared.typed.UnaryOperator.TheVariants as unary
 use Rattle.cyc_types.specs.declared.typed.Operator.TheVariants.{Equal, NotEqual, Less, Greater, Add, Subtract, Multiply, Divide, Remainder}
 use Rattle.cyc_types.specs.declared.typed.LogicalOperator.TheVariants.{AndThen, OrElse}
 use Rattle.cyc_types.specs.Types.{Ty, Int, Pointer, Value}
-use Rattle.cyc_types.specs.TypedTrees.{Local, Global, Expression, Number, Copy, Call, Unary, Binary, Assign, Converted, Convert, Arguments, NoArguments, MoreArguments, Operations, NoOperations, ThenCompute, ThenTest, Statement, Block, Empty, Evaluate, If, While, Return, Break, Continue, Items, NoItems, MoreItems, Execute, Declare, Word, Null, Function, Program}
+use Rattle.cyc_types.specs.TypedTrees.{Local, Global, Expression, Number, Copy, Call, Unary, Binary, Assign, Converted, Convert, Arguments, NoArguments, MoreArguments, Operations, NoOperations, ThenCompute, ThenTest, Statement, Block, Empty, Evaluate, If, While, Return, Break, Continue, Items, NoItems, MoreItems, Execute, Declare, Word, Null, Function, Program, Throw, Try, Case, Default, NoClauses}
 use Rattle.cyc_types.specs.declared.region.Region.TheVariants.{Heap}
 use Rattle.cyc_syntax.specs.declared.tree.PointerKind.TheVariants.{Nullable, NonNull, Fat}
 use Rattle.cyc_plain.specs.declared.instruction.Instruction.{Instruction}
@@ -240,6 +240,58 @@ source_copies = refl
 stops_at_line_feed : ends 100 (program copying []) (72 ∷ 10 ∷ 73 ∷ []) ≡ Ended (Returned (pos 1))
 stops_at_line_feed = refl
 
+-- ---- exceptions
+
+abbrev thrower : Function
+thrower = function (Int ∷ []) [] (all (Throw 5 (Some (local 0)) ∷ []))
+
+-- what a callee throws comes to the clause of its number, and a local there tells its int
+abbrev catching : Program
+catching =
+    program (all (
+    Try (returns (call (Calls 1) (Number 3 ∷ [])))
+    (Case 6 None 1 (all (returns (Number 1) ∷ []))
+    (Case 5 (Some 0) 2 (all (returns (two (local 0) (ThenCompute Add (Number 4) NoOperations)) ∷ [])) NoClauses))
+    ∷ [])) (thrower ∷ [])
+
+catches : ends 40 catching [] ≡ Ended (Returned (pos 7))
+catches = refl
+
+source_catches : source_ends 80 catching [] ≡ Ended (Returned (pos 7))
+source_catches = refl
+
+-- a loop whose body is a `try` is gone on with twice and then left, and no handler of it is open when the next exception comes
+abbrev leaving : Items
+leaving =
+    MoreItems (Declare 0 Int (Some (int (Number 0))))
+    (all (
+    Try (Block 1 (all (
+    While nowhere (Number 1) (Try (Block 2 (all (
+    Evaluate (sets 0 (two (local 0) (ThenCompute Add (Number 1) NoOperations)))
+    ∷ If (two (local 0) (ThenCompute Equal (Number 3) NoOperations)) Break Continue
+    ∷ []))) (Default 3 (all (returns (Number 9) ∷ []))))
+    ∷ Throw 5 None
+    ∷ [])))
+    (Case 5 None 4 NoItems NoClauses)
+    ∷ returns (local 0)
+    ∷ []))
+
+leaves : ends 90 (program leaving []) [] ≡ Ended (Returned (pos 3))
+leaves = refl
+
+source_leaves : source_ends 250 (program leaving []) [] ≡ Ended (Returned (pos 3))
+source_leaves = refl
+
+-- a division by zero is caught, and an exception that no clause catches ends the run
+division_is_caught : ends 20 (program (all (Try (returns (two (Number 9) (ThenCompute Divide (local 0) NoOperations))) (Case 4 None 1 (all (returns (Number 65) ∷ [])) NoClauses) ∷ [])) []) [] ≡ Ended (Returned (pos 65))
+division_is_caught = refl
+
+goes_on : ends 20 (program (all (Try (Throw 5 (Some (Number 8))) (Case 6 None 1 NoItems NoClauses) ∷ [])) []) [] ≡ Ended (Uncaught 5 (pos 8))
+goes_on = refl
+
+source_goes_on : source_ends 20 (program (all (Try (Throw 5 (Some (Number 8))) (Case 6 None 1 NoItems NoClauses) ∷ [])) []) [] ≡ Ended (Uncaught 5 (pos 8))
+source_goes_on = refl
+
 -- a null pointer that is converted to one that is never null
 abbrev converting : Program
 converting = record {
@@ -264,8 +316,8 @@ code_of_body body = function_code [] (function [] ints body)
 -- a loop, with its two jumps in front
 loop_code : code_of_body (all (While nowhere (local 0) Break ∷ returns (local 1) ∷ [])) ≡
     Jump 2 ∷ Jump 5 ∷ jump_if_zero (Slot 0) 1 ∷ Jump 1 ∷ Jump 2
-    ∷ instructions.Return 1
-    ∷ instructions.Return 2 ∷ blocks
+    ∷ instructions.Finish 1
+    ∷ instructions.Finish 2 ∷ blocks
 loop_code = refl
 
 -- a branch, and a division with its test, which leads to the last block where it fails
@@ -273,27 +325,27 @@ branch_code : code_of_body (all (If (local 0) (Evaluate (two (local 0) (ThenComp
     jump_if_zero (Slot 0) 4
     ∷ jump_if_zero (Slot 1) 8 ∷ instructions.Binary plain_binary.Divide 2 (Slot 0) (Slot 1)
     ∷ Jump 4
-    ∷ instructions.Return 2 ∷ blocks
+    ∷ instructions.Finish 2 ∷ blocks
 branch_code = refl
 
 -- a condition that compares is one jump, and so is one that negates
 compared_code : code_of_body (all (If (two (local 0) (ThenCompute Less (local 1) NoOperations)) (returns (local 0)) Empty ∷ [])) ≡
     instructions.Branch comparisons.GreaterOrEqual (Slot 0) (Slot 1) 3
-    ∷ instructions.Return 0
+    ∷ instructions.Finish 0
     ∷ Jump 3
-    ∷ instructions.Return 2 ∷ blocks
+    ∷ instructions.Finish 2 ∷ blocks
 compared_code = refl
 
 negated_code : code_of_body (all (While nowhere (Unary unary.Not (local 0)) Break ∷ [])) ≡
     Jump 2 ∷ Jump 5 ∷ instructions.Branch comparisons.NotEqual (Slot 0) (Constant 0) 1 ∷ Jump 1 ∷ Jump 2
-    ∷ instructions.Return 2 ∷ blocks
+    ∷ instructions.Finish 2 ∷ blocks
 negated_code = refl
 
 -- a local gets a sum by one instruction, and a byte is printed by one
 direct_code : code_of_body (all (Evaluate (sets 0 (two (local 0) (ThenCompute Add (Number 1) NoOperations))) ∷ Evaluate (call Putchar (local 1 ∷ [])) ∷ [])) ≡
     instructions.Binary plain_binary.Add 0 (Slot 0) (Constant 1)
     ∷ instructions.WriteByte (Slot 1)
-    ∷ instructions.Return 2 ∷ blocks
+    ∷ instructions.Finish 2 ∷ blocks
 direct_code = refl
 
 -- a chain that ends in the local that it reads has its values before in a temporary
@@ -301,13 +353,13 @@ chain_code : code_of_body (all (Evaluate (sets 0 (two (local 1) (ThenCompute Sub
     instructions.Binary plain_binary.Subtract 2 (Slot 1) (Constant 3)
     ∷ jump_if_zero (Slot 0) 8 ∷ instructions.Binary plain_binary.Divide 2 (Slot 2) (Slot 0)
     ∷ instructions.Binary plain_binary.Remainder 0 (Slot 2) (Constant 7)
-    ∷ instructions.Return 2 ∷ blocks
+    ∷ instructions.Finish 2 ∷ blocks
 chain_code = refl
 
 -- a local behind a fat pointer has the slot behind its three words, and temporaries stand behind both
 wide_code : function_code [] (function [] (Pointer Fat Int Heap ∷ Int ∷ []) (all (Evaluate (sets 1 (two (local 1) (ThenCompute Add (Number 1) NoOperations))) ∷ []))) ≡
     instructions.Binary plain_binary.Add 3 (Slot 3) (Constant 1)
-    ∷ instructions.Return 4 ∷ blocks
+    ∷ instructions.Finish 4 ∷ blocks
 wide_code = refl
 
 -- ---- frame counts

@@ -3,6 +3,7 @@
 use Rattle.std.proofs.Common.{◌≡◌, ◌⊎◌, ℕ, ◌≤◌, ◌<◌, Bool, true, false, List, [], ◌∷◌, length, map, Option, None, Some, slice_get, refl, sym, ap, subst, ◌∙◌, arith, inl, inr, suc, length-append}
 use Rattle.std.specs.Prelude.{option_map, if◌then◌else◌, not, ◌&&◌}
 use Rattle.std.proofs.lemmas.Option.{same_Some}
+use Rattle.cyc_words.specs.Word.{IsWord}
 use Rattle.cyc_syntax.specs.declared.tree.PointerKind.{PointerKind}
 use Rattle.cyc_syntax.specs.declared.tree.PointerKind.TheVariants as marks
 use Rattle.cyc_types.specs.declared.region.Region.{Region}
@@ -15,14 +16,14 @@ use Rattle.cyc_types.specs.declared.typed.PointerOperator.{PointerOperator}
 use Rattle.cyc_types.specs.declared.typed.PointerOperator.TheVariants as pointers
 use Rattle.cyc_types.specs.Types.{Ty, words_of, words_of_mark, substituted_ty, ValueType, Void, Value, result_type}
 use Rattle.cyc_types.specs.Types as type_forms
-use Rattle.cyc_types.specs.TypedTrees.{Load, New, OnHeap, AsUnique, ByHandle, Initial, Plain, Fields, Array, Dereference, Target, Lvalue, Local, Global, Expression, Number, NullPointer, Copy, Peek, Call, Unary, Binary, Assign, Converted, Convert, Arguments, NoArguments, MoreArguments, Operations, NoOperations, ThenCompute, ThenTest, ThenPointer, Statement, Block, Empty, Evaluate, If, While, Return, Break, Continue, Items, NoItems, MoreItems, Execute, Declare, Signature, StructType, Function, Program, Store, Member, Element, type_of_place, type_of, HeapRegion, Counter, Move, AddressOf, AddressOfCell, NumberOfElements, FreeUnique, FreeKey, ThenPointerPeek}
+use Rattle.cyc_types.specs.TypedTrees.{Load, New, OnHeap, AsUnique, ByHandle, Initial, Plain, Fields, Array, Dereference, Target, Lvalue, Local, Global, Expression, Number, NullPointer, Copy, Peek, Call, Unary, Binary, Assign, Converted, Convert, Arguments, NoArguments, MoreArguments, Operations, NoOperations, ThenCompute, ThenTest, ThenPointer, Statement, Block, Empty, Evaluate, If, While, Return, Break, Continue, Items, NoItems, MoreItems, Execute, Declare, Signature, StructType, Function, Program, Store, Member, Element, type_of_place, type_of, HeapRegion, Counter, Move, AddressOf, AddressOfCell, NumberOfElements, FreeUnique, FreeKey, ThenPointerPeek, Side, VariableSide, CellSide, Swap, Throw, Try, Clauses, NoClauses, Default, Case}
 use Rattle.cyc_types.specs.typing.Scopes.{signature_of_ints}
 use Rattle.cyc_types.specs.typing.Tests as tests
-use Rattle.cyc_types.specs.typing.Expressions.{instantiated}
-use Rattle.cyc_types.specs.typing.WellTyped.{with_counter, Context, PointerOperation, adds, subtracts, equals, differs, thin_null, thin_there, fat_null, fat_there, null_is, null_is_not, IsCallee, Converts, IsPeek, WellTyped, IsCell, IsConverted, ArePassed, IsChain, IsCondition, IsReturned, IsInitial, WellTypedStatement, WellTypedItems, behind, in_block, in_body, with_local, body_context, AreWellTypedFunctions, AreWellTypedGlobals, IsWellTypedProgram, IsLeft}
+use Rattle.cyc_types.specs.typing.Expressions.{instantiated, type_of_side}
+use Rattle.cyc_types.specs.typing.WellTyped.{with_counter, Context, PointerOperation, adds, subtracts, equals, differs, thin_null, thin_there, fat_null, fat_there, null_is, null_is_not, IsCallee, Converts, IsPeek, WellTyped, IsCell, IsConverted, ArePassed, IsChain, IsCondition, IsReturned, IsInitial, WellTypedStatement, WellTypedItems, behind, in_block, in_body, with_local, body_context, AreWellTypedFunctions, AreWellTypedGlobals, IsWellTypedProgram, IsLeft, IsMade, IsSide, IsThrown, IsCaught, WellTypedClauses, with_caught, behind_clause}
 use Rattle.cyc_types.specs.Numbered.{Numbering, signatures_of, IsSignature, argument_count, numbering_of}
 use Rattle.cyc_meaning.specs.Pointers.{result_kind as operator_kind}
-use Rattle.cyc_lower.specs.Lowerable.{IsLowerable, IsLowerableConverted, AreLowerableArguments, AreLowerableOperations, IsLowerableReturn, IsLowerableInitial, IsLowerableStatement, AreLowerableItems, AreLowerableFunctions, IsLowerableProgram, is_comparison, are_sums, stands_alone, IsLowerableCell}
+use Rattle.cyc_lower.specs.Lowerable.{IsLowerable, IsLowerableConverted, AreLowerableArguments, AreLowerableOperations, IsLowerableReturn, IsLowerableInitial, IsLowerableStatement, AreLowerableItems, AreLowerableFunctions, IsLowerableProgram, is_comparison, are_sums, stands_alone, IsLowerableCell, IsLowerableObject, IsLowerableSide, may_wait, IsLowerableThrown, IsLowerableCaught, AreLowerableClauses}
 use Rattle.cyc_store.specs.declared.range.TheConstants.{MOST_BLOCK_WORDS}
 use Rattle.cyc_meaning.specs.Values.{kind_of, is_thin, words_of_kind}
 use Rattle.cyc_meaning.specs.FrameCount.{result_words, words_of_all, operand_words}
@@ -60,7 +61,11 @@ module _ (b : Numbering) where
     Fits types (Binary a os t) = Fits types a × FitOperations types (operand_words (type_of a)) t os
     Fits types (Assign l c t) = FitsStored b types l (passed_kind c) × FitsConverted types c
     Fits types (Load x) = FitsCell types x
+    Fits types (FreeUnique a) = Fits types a
+    Fits types (New OnHeap (Array w level n kind a) t) =
+        (level ≡ length types.counters) × (words_of_kind kind ≡ 1) × (kind ≡ given b.functions a) × Fits types n × ((slot : ℕ) → Fits (counted types slot) a)
     Fits types (New OnHeap i t) = FitsObject types i
+    Fits types (New AsUnique i t) = FitsObject types i
     Fits types (AddressOfCell x t) = FitsCell types x
     Fits types (Store x c t) = FitsCell types x × (words_of_kind (passed_kind c) ≡ 1) × FitsConverted types c
     Fits types a = ⊥
@@ -74,8 +79,7 @@ module _ (b : Numbering) where
     pub FitsObject : (types : Types) → Initial → Type 0
     FitsObject types (Plain kind a) = (words_of_kind kind ≡ 1) × (kind ≡ given b.functions a) × Fits types a
     FitsObject types (Fields cs) = (argument_count cs ≡ all_passed cs) × (1 ≤ argument_count cs) × (argument_count cs ≤ MOST_BLOCK_WORDS) × FitArguments types cs
-    FitsObject types (Array w level n kind a) =
-        (level ≡ length types.counters) × (words_of_kind kind ≡ 1) × (kind ≡ given b.functions a) × Fits types n × ((slot : ℕ) → Fits (counted types slot) a)
+    FitsObject types i = ⊥
 
     pub FitsConverted : (types : Types) → Converted → Type 0
     FitsConverted types (Convert from to a) = (from ≡ given b.functions a) × (are_as_wide from to ≡ true) × Fits types a
@@ -93,6 +97,11 @@ module _ (b : Numbering) where
     FitOperations types left t (ThenPointerPeek n o a os) = (words_of_kind (left_kind o) ≤ left) × Fits types a × FitOperations types (words_of t) t os
 
 module _ (b : Numbering) (types : Types) where
+  -- a side of a swap of values of this kind
+  abbrev pub FitsSide : Side → Kind → Type 0
+  FitsSide (VariableSide l t) kind = FitsPlace b types l kind
+  FitsSide (CellSide x) kind = FitsCell b types x
+
   abbrev pub FitsReturn : Option Ty → Option Converted → Type 0
   FitsReturn None None = Unit {0}
   FitsReturn None (Some c) = ⊥
@@ -103,23 +112,39 @@ module _ (b : Numbering) (types : Types) where
   FitsInitial n None = Unit {0}
   FitsInitial n (Some c) = HasRoom types n (passed_kind c) × FitsConverted b types c
 
+  abbrev pub FitsThrown : Option Expression → Type 0
+  FitsThrown None = Unit {0}
+  FitsThrown (Some a) = Fits b types a
+
+  abbrev pub FitsCaught : (number : Option ℕ) → Type 0
+  FitsCaught None = Unit {0}
+  FitsCaught (Some n) = (n < b.locals) × HasRoom types n kinds.Int
+
   abbrev mutual
     pub FitsStatement : (in_loop : Bool) → Statement → Type 0
     FitsStatement l (Block r js) = FitItems l js
     FitsStatement l Empty = Unit {0}
     FitsStatement l (Evaluate a) = Fits b types a
+    FitsStatement l (Swap x y) =
+        (words_of (type_of_side x) ≡ 1) × FitsSide x (kind_of (type_of_side x)) × FitsSide y (kind_of (type_of_side x)) × (may_wait x y ≡ true)
     FitsStatement l (If a s t) = Fits b types a × FitsStatement l s × FitsStatement l t
     FitsStatement l (While p a s) = Fits b types a × FitsStatement true s
     FitsStatement l (Return v) = FitsReturn b.result v
     FitsStatement l Break = l ≡ true
     FitsStatement l Continue = l ≡ true
-    FitsStatement l s = ⊥
+    FitsStatement l (Throw tag v) = IsWord tag × FitsThrown v
+    FitsStatement l (Try s cs) = FitsStatement l s × FitClauses l cs
 
     pub FitItems : Bool → Items → Type 0
     FitItems l NoItems = Unit {0}
     FitItems l (MoreItems (Execute s) js) = FitsStatement l s × FitItems l js
     FitItems l (MoreItems (Declare n t v) js) = (n < b.locals) × FitsInitial n v × FitItems l js
     FitItems l js = ⊥
+
+    pub FitClauses : Bool → Clauses → Type 0
+    FitClauses l NoClauses = Unit {0}
+    FitClauses l (Default r js) = FitItems l js
+    FitClauses l (Case tag x r js cs) = IsWord tag × FitsCaught x × FitItems l js × FitClauses l cs
 
 abbrev pub AreFitting : List StructType → ℕ → List Signature → List Function → Type 0
 AreFitting structs globals functions [] = Unit {0}
@@ -402,17 +427,29 @@ module _ (b : Numbering) where
         let (kind, fitting) = fits_converted types d c t suits numbered converted in
         let single = ap words_of_kind kind ∙ type_words t ∙ ap words_of same ∙ cell_single b types x place in
         (stored_given b types x d u t v kind (is ∙ u_is), (fits_place, single, fitting))
-    fits types (New OnHeap (Plain kind a) t) c v suits (single, numbered) (mark, u, r, place, (well, unlocked, kind_is, mark_is), t_is, is) =
-        let (given_is, fitting) = fits types a c (Value u) suits numbered well in
-        (pointer_given b types mark u r t v mark_is t_is is, (single, kind_is ∙ sym (kinds_same u) ∙ sym given_is, fitting))
-    fits types (New OnHeap (Fields cs) t) c v suits (single, some, few, numbered) (mark, u, r, place, (n, rs, s, there, many, passed, u_is, mark_is), t_is, is) =
-        (pointer_given b types mark u r t v mark_is t_is is, (single, some, few, (fit_arguments types cs c (map (substituted_ty rs) s.fields) suits numbered passed).1))
+    fits types (FreeUnique a) c v suits numbered (k, u, well, is) = (subst (IsGiven kinds.Int) (sym is) tt, (fits types a c _ suits numbered well).1)
+    fits types (New OnHeap (Plain kind a) t) c v suits numbered (mark, u, r, place, made, t_is, is) =
+        (pointer_given b types mark u r t v made.3 t_is is, fits_object types (Plain kind a) c mark u suits numbered made)
+    fits types (New OnHeap (Fields cs) t) c v suits numbered (mark, u, r, place, (n, rs, s, there, many, passed, u_is, mark_is), t_is, is) =
+        (pointer_given b types mark u r t v mark_is t_is is, fits_object types (Fields cs) c mark u suits numbered (n, rs, s, there, many, passed, u_is, mark_is))
     fits types (New OnHeap (Array p level n kind a) t) c v suits (single, count, numbered) (mark, u, r, place, (level_is, length, well, unlocked, kind_is, mark_is), t_is, is) =
         let inside = λ (slot : ℕ). fits (counted types slot) a (with_counter c) (Value u) (suits_inside types c slot suits) numbered well in
         (array_given b types mark u r t v mark_is t_is is, (level_is ∙ suits.counters, single, kind_is ∙ sym (kinds_same u) ∙ sym (inside 0).0, (fits types n c (Value type_forms.Int) suits count length).1, λ slot. (inside slot).1))
-    fits types (New AsUnique i t) c v suits numbered well = absurd numbered
+    fits types (New AsUnique (Plain kind a) t) c v suits numbered (mark, u, r, place, made, t_is, is) =
+        (pointer_given b types mark u r t v made.3 t_is is, fits_object types (Plain kind a) c mark u suits numbered made)
+    fits types (New AsUnique (Fields cs) t) c v suits numbered (mark, u, r, place, (n, rs, s, there, many, passed, u_is, mark_is), t_is, is) =
+        (pointer_given b types mark u r t v mark_is t_is is, fits_object types (Fields cs) c mark u suits numbered (n, rs, s, there, many, passed, u_is, mark_is))
+    fits types (New AsUnique (Array p level n kind a) t) c v suits numbered well = absurd numbered
     fits types (New (ByHandle h) i t) c v suits numbered well = absurd numbered
     fits types a c v suits numbered well = absurd numbered
+
+    fits_object : (types : Types) → (i : Initial) (c : Context) (mark : PointerKind) (u : Ty) → Suits b types c → IsLowerableObject b i → IsMade c i mark u → FitsObject b types i
+    fits_object types (Plain kind a) c mark u suits (single, numbered) (well, unlocked, kind_is, mark_is) =
+        let (given_is, fitting) = fits types a c (Value u) suits numbered well in
+        (single, kind_is ∙ sym (kinds_same u) ∙ sym given_is, fitting)
+    fits_object types (Fields cs) c mark u suits (single, some, few, numbered) (n, rs, s, there, many, passed, u_is, mark_is) =
+        (single, some, few, (fit_arguments types cs c (map (substituted_ty rs) s.fields) suits numbered passed).1)
+    fits_object types (Array p level n kind a) c mark u suits numbered made = absurd numbered
 
     fits_cell : (types : Types) → (x : Dereference) (c : Context) (t : Ty) (r : Region) → Suits b types c → IsLowerableCell b x → IsCell c x t r → (t ≡ type_of_place x) × FitsCell b types x
     fits_cell types (Target k a u) c t r suits (thin, single, numbered) (m, well, live, kind, same) =
@@ -485,12 +522,37 @@ module _ (b : Numbering) (types : Types) where
   suits_behind : (s : Statement) (c : Context) → Suits b types c → Suits b types (behind c s)
   suits_behind s c suits = record { functions = suits.functions; structs = suits.structs; variables = suits.variables; counters = suits.counters; result = suits.result }
 
+  fits_side : (x : Side) (c : Context) (t : Ty) → Suits b types c → IsLowerableSide b x → IsSide c x t → (t ≡ type_of_side x) × (words_of (type_of_side x) ≡ 1) × FitsSide b types x (kind_of t)
+  fits_side (VariableSide (Local p n) u) c t suits (single, within) (r, (m, place, home, there), is) = (is, single, (within, room_in b types c n u (kind_of t) suits there (ap kind_of is)))
+  fits_side (VariableSide (Global n) u) c t suits (single, within) (r, place, is) = (is, single, within)
+  fits_side (CellSide x) c t suits numbered (r, cell) =
+      let (same, fitting) = fits_cell b types x c t r suits numbered cell in
+      (same, cell_single b types x numbered, fitting)
+
+  suits_caught : (x : Option ℕ) (c : Context) → Suits b types c → Suits b types (with_caught x (in_block c))
+  suits_caught None c suits = record { functions = suits.functions; structs = suits.structs; variables = suits.variables; counters = suits.counters; result = suits.result }
+  suits_caught (Some n) c suits = record { functions = suits.functions; structs = suits.structs; variables = suits.variables; counters = suits.counters; result = suits.result }
+
+  fits_thrown : (v : Option Expression) (has : Bool) (c : Context) → Suits b types c → IsLowerableThrown b v → IsThrown c has v → FitsThrown b types v
+  fits_thrown None has c suits numbered well = tt
+  fits_thrown (Some a) true c suits numbered well = (fits b types a c (Value type_forms.Int) suits numbered well).1
+  fits_thrown (Some a) false c suits numbered well = absurd well
+
+  fits_caught : (x : Option ℕ) (has : Bool) (c : Context) → Suits b types c → IsLowerableCaught b x → IsCaught c has x → FitsCaught b types x
+  fits_caught None has c suits numbered well = tt
+  fits_caught (Some n) true c suits numbered (next, there) = (numbered, room_in b types c n type_forms.Int kinds.Int suits there refl)
+  fits_caught (Some n) false c suits numbered well = absurd well
+
   mutual
     fits_statement : (s : Statement) (l : Bool) (c : Context) → Suits b types c → IsLowerableStatement b l s → WellTypedStatement c s → FitsStatement b types l s
     fits_statement (Block r js) l c suits numbered (next, well) =
         fit_items js l (in_block c) (record { functions = suits.functions; structs = suits.structs; variables = suits.variables; counters = suits.counters; result = suits.result }) numbered well
     fits_statement Empty l c suits numbered well = tt
     fits_statement (Evaluate a) l c suits numbered (t, well) = (fits b types a c t suits numbered well).1
+    fits_statement (Swap x y) l c suits (low_x, low_y, waits) (t, side_x, side_y, flat) =
+        let (same, single, fits_x) = fits_side x c t suits low_x side_x in
+        let (same_y, single_y, fits_y) = fits_side y c t suits low_y side_y in
+        (single, subst (λ u. FitsSide b types x (kind_of u)) same fits_x, subst (λ u. FitsSide b types y (kind_of u)) same fits_y, waits)
     fits_statement (If a s t) l c suits (numbered_a, numbered_s, numbered_t) (well_a, well_s, well_t) =
         (fits_condition a c suits numbered_a well_a, fits_statement s l c suits numbered_s well_s, fits_statement t l (behind c s) (suits_behind s c suits) numbered_t well_t)
     fits_statement (While p a s) l c suits (numbered_a, numbered_s) (well_a, well_s) = (
@@ -500,7 +562,8 @@ module _ (b : Numbering) (types : Types) where
     fits_statement (Return v) l c suits numbered well = fits_return b.result v c suits numbered (subst (λ (r : Option Ty). IsReturned c r v) suits.result well)
     fits_statement Break l c suits numbered well = numbered
     fits_statement Continue l c suits numbered well = numbered
-    fits_statement s l c suits numbered well = absurd numbered
+    fits_statement (Throw tag v) l c suits (word, numbered) (has, known, well) = (word, fits_thrown v has c suits numbered well)
+    fits_statement (Try s cs) l c suits (numbered_s, numbered) (well_s, well) = (fits_statement s l c suits numbered_s well_s, fit_clauses cs l (behind c s) (suits_behind s c suits) numbered well)
 
     fit_items : (js : Items) (l : Bool) (c : Context) → Suits b types c → AreLowerableItems b l js → WellTypedItems c js → FitItems b types l js
     fit_items NoItems l c suits numbered well = tt
@@ -512,6 +575,17 @@ module _ (b : Numbering) (types : Types) where
       fit_items js l (with_local true t c) (record { functions = suits.functions; structs = suits.structs; variables = suits.variables; counters = suits.counters; result = suits.result }) all rest,
     )
     fit_items js l c suits numbered well = absurd numbered
+
+    fit_clauses : (cs : Clauses) (l : Bool) (c : Context) → Suits b types c → AreLowerableClauses b l cs → WellTypedClauses c cs → FitClauses b types l cs
+    fit_clauses NoClauses l c suits numbered well = tt
+    fit_clauses (Default r js) l c suits numbered (next, well) =
+        fit_items js l (in_block c) (record { functions = suits.functions; structs = suits.structs; variables = suits.variables; counters = suits.counters; result = suits.result }) numbered well
+    fit_clauses (Case tag x r js cs) l c suits (word, few, one, all) (has, known, caught, next, well, rest) = (
+      word,
+      fits_caught x has c suits few caught,
+      fit_items js l (with_caught x (in_block c)) (suits_caught x c suits) one well,
+      fit_clauses cs l (behind_clause c x js) (record { functions = suits.functions; structs = suits.structs; variables = suits.variables; counters = suits.counters; result = suits.result }) all rest,
+    )
 
   pub body_fits : (js : Items) (c : Context) → c.functions ≡ b.functions → c.structs ≡ types.structs → c.variables ≡ types.locals → c.counters ≡ length types.counters → c.result ≡ b.result → AreLowerableItems b false js → WellTypedItems c js → FitItems b types false js
   body_fits js c functions structs variables counters result numbered well = fit_items js false c (record { functions = functions; structs = structs; variables = variables; counters = counters; result = result }) numbered well

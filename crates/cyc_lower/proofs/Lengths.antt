@@ -9,16 +9,18 @@ use Rattle.cyc_types.specs.declared.typed.Operator.{Operator}
 use Rattle.cyc_types.specs.declared.typed.Operator.TheVariants as operators
 use Rattle.cyc_types.specs.declared.typed.PointerOperator.{PointerOperator}
 use Rattle.cyc_types.specs.declared.typed.PointerOperator.TheVariants as pointers
-use Rattle.cyc_types.specs.TypedTrees.{Load, New, OnHeap, Initial, Plain, Fields, Array, Dereference, Target, Member, Element, Lvalue, Local, Global, Expression, Number, NullPointer, Copy, Call, Unary, Binary, Assign, Converted, Convert, Arguments, NoArguments, MoreArguments, Operations, NoOperations, ThenCompute, ThenTest, ThenPointer, ThenPointerPeek, Statement, Block, Empty, Evaluate, If, While, Return, Break, Continue, Items, NoItems, MoreItems, Execute, Declare, StructType, Function, Move, Peek, AddressOfCell, Store}
+use Rattle.cyc_types.specs.TypedTrees.{Load, New, OnHeap, Initial, Plain, Fields, Array, Dereference, Target, Member, Element, Lvalue, Local, Global, Expression, Number, NullPointer, Copy, Call, Unary, Binary, Assign, Converted, Convert, Arguments, NoArguments, MoreArguments, Operations, NoOperations, ThenCompute, ThenTest, ThenPointer, ThenPointerPeek, Statement, Block, Empty, Evaluate, If, While, Return, Break, Continue, Items, NoItems, MoreItems, Execute, Declare, StructType, Function, Move, Peek, AddressOfCell, Store, AsUnique, FreeUnique, Side, VariableSide, CellSide, Swap, Throw, Try, Clauses, NoClauses, Default, Case}
 use Rattle.cyc_types.specs.Types.{words_of}
 use Rattle.cyc_types.specs.Numbered.{argument_count}
 use Rattle.cyc_plain.specs.declared.instruction.Operand.{Operand}
 use Rattle.cyc_plain.specs.declared.instruction.Operand.TheVariants as operands
 use Rattle.cyc_plain.specs.declared.instruction.Instruction.{Instruction}
-use Rattle.cyc_store.specs.declared.range.TheConstants.{HEAP}
+use Rattle.cyc_store.specs.declared.range.TheConstants.{HEAP, UNIQUE}
 use Rattle.cyc_lower.specs.declared.statements.Exits.{Exits}
 use Rattle.cyc_lower.specs.Slots.{with_counter, Starts, starts_of, slot_of}
-use Rattle.cyc_lower.specs.Lowering.{begun_code, filled_code, elements_code, ended_code, types_with, types_of, raises_of, body_code, first_temporary, outside_loops, are_as_wide, converts_there, passed_words, operand_of, operand_or, code_unless, code_unless_slot, left_with, left_of, value_slot, slot_with, left_slot, value_operand, next_slot, source_of, source_slot, converted_operand, converted_by, moved_by, conversion_code, divisor_code, operator_code, pointer_instructions, first_two, load_code, copy_code, address_code, object_code, place_operand, place_offset, expression_code, place_code, made_code, arguments_code, converted_code, converted_operand_code, printed_code, initial_code, operations_code, assignment_code, discarded_code, first_code, second_code, pair_code, condition_code, return_code, declaration_code, statement_code, items_code, behind_left, if_code, while_code, condition_of, failing_jump, compared_of, inside_loop, checked_code}
+use Rattle.cyc_lower.specs.Lowering.{begun_code, filled_code, elements_code, ended_code, types_with, types_of, raises_of, body_code, first_temporary, outside_loops, are_as_wide, converts_there, passed_words, operand_of, operand_or, code_unless, code_unless_slot, left_with, left_of, value_slot, slot_with, left_slot, value_operand, next_slot, source_of, source_slot, converted_operand, converted_by, moved_by, conversion_code, divisor_code, operator_code, pointer_instructions, first_two, load_code, copy_code, address_code, object_code, place_operand, place_offset, expression_code, place_code, made_code, arguments_code, converted_code, converted_operand_code, printed_code, initial_code, operations_code, assignment_code, discarded_code, first_code, second_code, pair_code, condition_code, return_code, declaration_code, statement_code, items_code, behind_left, if_code, while_code, condition_of, failing_jump, compared_of, inside_loop, checked_code, right_slot, side_code, swap_code, thrown_code, caught_code, clauses_code, leave_code, try_code, clause_code, break_target, continue_target}
+use Rattle.cyc_plain.specs.declared.instruction.Instruction.TheVariants as instructions
+use Rattle.cyc_plain.specs.declared.limits.TheConstants.{RECORD_WORDS}
 
 -- ---- lists
 
@@ -57,6 +59,12 @@ if_long a b c x y z jump same p q first second third =
 while_long : (a b x y : List Instruction) (jump same : ℕ → Instruction) (p q : ℕ) → length a ≡ length x → length b ≡ length y → length (while_code a jump b p) ≡ length (while_code x same y q)
 while_long a b x y jump same p q first second =
     ap (λ n. suc (suc n)) (joined (a ++ _ ∷ b) (_ ∷ []) (x ++ _ ∷ y) (_ ∷ []) (joined a (_ ∷ b) x (_ ∷ y) first (ap suc second)) refl)
+
+try_long : (a b x y : List Instruction) (t p q : ℕ) → length a ≡ length x → length b ≡ length y → length (try_code t a b p) ≡ length (try_code t x y q)
+try_long a b x y t p q first second = ap suc (joined a (_ ∷ b) x (_ ∷ y) first (ap suc second))
+
+clause_long : (a x : List Instruction) (tag t p q out aim : ℕ) → length a ≡ length x → length (clause_code tag t a p out) ≡ length (clause_code tag t x q aim)
+clause_long a x tag t p q out aim same = ap suc (joined a (_ ∷ []) x (_ ∷ []) same refl)
 
 -- ---- code that begins at any two places, with the blocks at any two
 
@@ -167,6 +175,8 @@ module _ (raises : ℕ) where
         (joined _ _ _ _ (joined _ _ _ _ (place_long starts x p q t) (λ i. length (address_code (same_place starts raises x t i) (same_offset starts raises x i) t))) (joined _ _ _ _ (converted_operand_long starts c _ _ (t + 1)) refl))
         (λ i. length (copy_code (passed_words c) (same_converted starts raises c (t + 1) i) (same i)))
     expression_long starts (New OnHeap x ty) p q d e t same = made_long starts x HEAP p q d e t same
+    expression_long starts (New AsUnique x ty) p q d e t same = made_long starts x UNIQUE p q d e t same
+    expression_long starts (FreeUnique a) p q d e t same = joined _ _ _ _ (operand_by starts raises a p q t (expression_long starts a p q _ _ t (same_slot starts raises a t))) refl
     expression_long starts a p q d e t same = refl
 
     place_long : (starts : Starts) → (x : Dereference) (p q t : ℕ) → length (place_code starts x p t) ≡ length (place_code (other starts raises) x q t)
@@ -245,19 +255,35 @@ module _ (starts : Starts) (raises : ℕ) where
       (unless_long _ _ _ _ (λ i. left_with (same_operand starts raises b i) (same_operand starts raises a i)) (expression_long raises starts a p q _ _ t (same_with starts raises (operand_of starts b) (operand_of (other starts raises) b) a t (same_operand starts raises b))))
       (operand_by starts raises b _ _ (suc t) (expression_long raises starts b _ _ _ _ (suc t) (same_slot starts raises b (suc t))))
 
-  return_long : (v : Option Converted) (p q t : ℕ) → length (return_code starts v p t) ≡ length (return_code (other starts raises) v q t)
-  return_long None p q t = refl
-  return_long (Some (Convert from to a)) p q t =
-      joined _ _ _ _ (joined _ _ _ _ (unless_slot_long _ _ _ _ (same_source starts raises (Convert from to a)) (expression_long raises starts a p q t t t refl)) (conversion_long starts raises to _ _ _ _)) refl
+  return_long : (v : Option Converted) (p q head : ℕ) (exits : Exits) (t : ℕ) → length (return_code starts v p exits t) ≡ length (return_code (other starts raises) v q (record exits { head = head }) t)
+  return_long None p q head exits t = refl
+  return_long (Some (Convert from to a)) p q head exits t =
+      joined _ _ _ _ (joined _ _ _ _ (joined _ _ _ _ (unless_slot_long _ _ _ _ (same_source starts raises (Convert from to a)) (expression_long raises starts a p q t t t refl)) (conversion_long starts raises to _ _ _ _)) refl) refl
 
   declaration_long : (n : ℕ) (v : Option Converted) (p q t : ℕ) → length (declaration_code starts n v p t) ≡ length (declaration_code (other starts raises) n v q t)
   declaration_long n None p q t = refl
   declaration_long n (Some c) p q t = initial_long raises starts c p q (slot_of starts n) (slot_of starts n) t refl
 
+  side_long : (x : Side) (p q t : ℕ) → length (side_code starts x p t) ≡ length (side_code (other starts raises) x q t)
+  side_long (VariableSide l ty) p q t = refl
+  side_long (CellSide x) p q t = joined _ _ _ _ (place_long raises starts x p q t) (λ i. length (address_code (same_place starts raises x t i) (same_offset starts raises x i) t))
+
+  swap_long : (x y : Side) (p q t : ℕ) → length (swap_code starts x y p t) ≡ length (swap_code (other starts raises) x y q t)
+  swap_long x y p q t = joined _ _ _ _ (side_long x p q t) (joined _ _ _ _ (side_long y _ _ (right_slot x t)) refl)
+
+  thrown_long : (v : Option Expression) (p q t : ℕ) → length (thrown_code starts v p t) ≡ length (thrown_code (other starts raises) v q t)
+  thrown_long None p q t = refl
+  thrown_long (Some a) p q t = operand_by starts raises a p q t (expression_long raises starts a p q _ _ t (same_slot starts raises a t))
+
+  caught_long : (x : Option ℕ) (t : ℕ) → length (caught_code starts x t) ≡ length (caught_code (other starts raises) x t)
+  caught_long None t = refl
+  caught_long (Some n) t = refl
+
   -- with loops that begin at any places
   mutual
     statement_long : (s : Statement) (p q head : ℕ) (exits : Exits) (t : ℕ) → length (statement_code starts s p exits t) ≡ length (statement_code (other starts raises) s q (record exits { head = head }) t)
     statement_long (Block r js) p q head exits t = items_long js p q head exits t
+    statement_long Empty p q head exits t = refl
     statement_long (Evaluate a) p q head exits t = discarded_long a p q t
     statement_long (If a s u) p q head exits t =
         let others = record exits { head = head } in
@@ -276,14 +302,42 @@ module _ (starts : Starts) (raises : ℕ) where
         while_long (condition_code starts a (p + 2) t) (statement_code starts s (m + 1) around t) (condition_code (other starts raises) a (q + 2) t) (statement_code (other starts raises) s (n + 1) (record around { head = q }) t)
         (failing_jump (condition_of starts a t)) (failing_jump (condition_of (other starts raises) a t)) p q
         (condition_long (compared_of a).left (compared_of a).right (p + 2) (q + 2) t) (statement_long s (m + 1) (n + 1) q around t)
-    statement_long (Return v) p q head exits t = return_long v p q t
-    statement_long s p q head exits t = refl
+    statement_long (Return v) p q head exits t = return_long v p q head exits t
+    statement_long Break p q head exits t =
+        joined (leave_code exits.loop_record t) (instructions.Jump (break_target exits.head) ∷ []) (leave_code exits.loop_record t) (instructions.Jump (break_target head) ∷ []) refl refl
+    statement_long Continue p q head exits t =
+        joined (leave_code exits.loop_record t) (instructions.Jump (continue_target exits.head) ∷ []) (leave_code exits.loop_record t) (instructions.Jump (continue_target head) ∷ []) refl refl
+    statement_long (Throw tag v) p q head exits t = joined _ _ _ _ (thrown_long v p q t) refl
+    statement_long (Try s cs) p q head exits t =
+        let close = instructions.Leave t ∷ [] in
+        let a = statement_code starts s (p + 1) exits (t + RECORD_WORDS) in
+        let x = statement_code (other starts raises) s (q + 1) (record exits { head = head }) (t + RECORD_WORDS) in
+        let out = p + 1 + length (a ++ close) in
+        let aim = q + 1 + length (x ++ close) in
+        try_long (a ++ close) (clauses_code starts cs (out + 1) out exits t) (x ++ close) (clauses_code (other starts raises) cs (aim + 1) aim (record exits { head = head }) t) t p q
+        (joined a close x close (statement_long s (p + 1) (q + 1) head exits (t + RECORD_WORDS)) refl) (clauses_long cs (out + 1) (aim + 1) out aim head exits t)
+    statement_long (Swap x y) p q head exits t = swap_long x y p q t
 
     items_long : (js : Items) (p q head : ℕ) (exits : Exits) (t : ℕ) → length (items_code starts js p exits t) ≡ length (items_code (other starts raises) js q (record exits { head = head }) t)
     items_long NoItems p q head exits t = refl
     items_long (MoreItems (Execute s) js) p q head exits t = joined _ _ _ _ (statement_long s p q head exits t) (items_long js _ _ head exits t)
     items_long (MoreItems (Declare n ty v) js) p q head exits t = joined _ _ _ _ (declaration_long n v p q t) (items_long js _ _ head exits t)
     items_long (MoreItems j js) p q head exits t = items_long js p q head exits t
+
+    clauses_long : (cs : Clauses) (p q out aim head : ℕ) (exits : Exits) (t : ℕ) → length (clauses_code starts cs p out exits t) ≡ length (clauses_code (other starts raises) cs q aim (record exits { head = head }) t)
+    clauses_long NoClauses p q out aim head exits t = refl
+    clauses_long (Default r js) p q out aim head exits t = items_long js p q head exits t
+    clauses_long (Case tag x r js cs) p q out aim head exits t =
+        let others = record exits { head = head } in
+        let a = caught_code starts x t ++ items_code starts js (p + 1 + length (caught_code starts x t)) exits t in
+        let b = caught_code (other starts raises) x t ++ items_code (other starts raises) js (q + 1 + length (caught_code (other starts raises) x t)) others t in
+        let m = p + length (clause_code tag t a p out) in
+        let n = q + length (clause_code tag t b q aim) in
+        joined (clause_code tag t a p out) (clauses_code starts cs m out exits t) (clause_code tag t b q aim) (clauses_code (other starts raises) cs n aim others t)
+        (clause_long a b tag t p q out aim
+        (joined (caught_code starts x t) (items_code starts js (p + 1 + length (caught_code starts x t)) exits t) (caught_code (other starts raises) x t) (items_code (other starts raises) js (q + 1 + length (caught_code (other starts raises) x t)) others t)
+        (caught_long x t) (items_long js (p + 1 + length (caught_code starts x t)) (q + 1 + length (caught_code (other starts raises) x t)) head exits t)))
+        (clauses_long cs m n out aim head exits t)
 
 -- so the blocks stand behind the place that the checks are told
 pub body_long : (structs : List StructType) (h : Function) → length (body_code (types_of structs h) h) ≡ raises_of structs h

@@ -28,7 +28,7 @@ use Rattle.cyc_words.proofs.Matching.{by_none, way_before}
 use Rattle.cyc_plain.proofs.Steps.{step_performs, place_known}
 use Rattle.cyc_plain.specs.Straight.{At}
 use Rattle.cyc_words.specs.Demand.{demand_of}
-use Rattle.cyc_meaning.specs.State.{World, Environment, ConvertTo, Operate, Chain, Apply, ApplyPointer, Follow, LoadFrom, Decide, Store, Pass, MakePlain, MakeFields, MakeArray, FillElement, Initialise, Choose, Test, Return, Entry, Needs, NeedsPlace, Discard, Rest, Join, Loop, CloseRegion, Caller, Main, counted, calls_in, Focus, Evaluating, Locating, Given, Executing, Proceeding, Calling, Entering, Binding, Writing, Beginning, Repeating, Breaking, Continuing, Returning, Throwing, State, Running, Ended, Dead, Wrong, output_of, input_of, status_of, GivenPlace, FollowMember, TakeAddress, StoreTo, StoreCell}
+use Rattle.cyc_meaning.specs.State.{FreeObject, ThrowWith, SwapLeft, SwapRight, Handler, World, Environment, ConvertTo, Operate, Chain, Apply, ApplyPointer, Follow, LoadFrom, Decide, Store, Pass, MakePlain, MakeFields, MakeArray, FillElement, Initialise, Choose, Test, Return, Entry, Needs, NeedsPlace, Discard, Rest, Join, Loop, CloseRegion, Caller, Main, counted, calls_in, Focus, Evaluating, Locating, Given, Executing, Proceeding, Calling, Entering, Binding, Writing, Beginning, Repeating, Breaking, Continuing, Returning, Throwing, State, Running, Ended, Dead, Wrong, output_of, input_of, status_of, GivenPlace, FollowMember, TakeAddress, StoreTo, StoreCell}
 use Rattle.cyc_meaning.specs.Step.{step}
 use Rattle.cyc_meaning.specs.Run.{is_within, limited_step}
 use Rattle.cyc_objects.specs.Tables.{Tables}
@@ -39,7 +39,7 @@ use Rattle.cyc_meaning.specs.Pointers.{result_kind as operator_kind}
 use Rattle.cyc_lower.proofs.Widths.{chain_kind}
 use Rattle.cyc_meaning.specs.SourceMachine.{status_in, source_machine}
 use Rattle.cyc_lower.proofs.Weights.{weight}
-use Rattle.cyc_lower.proofs.Relation.{base_of, IsPlainStack, Lands, in_temporary, in_local, HandsOn, drops, leaves, copies, Prints, prints_only, gives_byte, SharedAt, to_slot, to_jump, ValueStack, PlaceStack, ConditionStack, DroppedStack, AheadStack, StatementStack, LandsStack, PrintsStack, AppliedStack, RightAt, ReadyAt, EvaluatingAt, as_operand, into_slot, for_effect, as_right, as_condition, FocusAt, GivenAt, in_operand, nowhere, ahead, compared, with_left, ProceedingAt, behind_statement, behind_call, behind_wrong, Related, Matches, code_of, given_at, called_at, returned_at, top}
+use Rattle.cyc_lower.proofs.Relation.{base_of, Lands, in_temporary, in_local, HandsOn, drops, leaves, copies, Prints, prints_only, gives_byte, SharedAt, to_slot, to_jump, ValueStack, PlaceStack, ConditionStack, DroppedStack, AheadStack, StatementStack, LandsStack, PrintsStack, AppliedStack, RightAt, ReadyAt, EvaluatingAt, as_operand, into_slot, for_effect, as_right, as_condition, FocusAt, GivenAt, in_operand, nowhere, ahead, compared, with_left, ProceedingAt, behind_statement, behind_call, behind_wrong, Related, Matches, code_of, given_at, called_at, returned_at, top}
 use Rattle.cyc_lower.proofs.Relation.{held, height, counters_of, arrays_in}
 use Rattle.cyc_lower.proofs.Matched.{by_lands, by_hands, by_prints}
 
@@ -92,10 +92,13 @@ module _ (source : Program) where
     value_arrays g locals kind o p frames (Needs (Initialise n wanted items) ∷ k) (exits, q, at, below, items_at, stack) = statement_arrays g exits q frames k stack
     value_arrays g locals kind o p frames (Needs (Choose s t) ∷ k) (exits, r, q, at, at_s, jump, at_t, stack) = statement_arrays g exits q frames k stack
     value_arrays g locals kind o p frames (Needs (Test a s) ∷ k) (exits, outer, q, at, r, jump, body, back, stack) = statement_arrays g outer q frames k stack
-    value_arrays g locals kind o p frames (Needs Return ∷ k) (exits, q, s, is, at, one, stack) = statement_arrays g exits q frames k stack
+    value_arrays g locals kind o p frames (Needs Return ∷ k) (exits, q, s, r, is, leave, at, one, stack) = statement_arrays g exits q frames k stack
     value_arrays g locals kind o p frames (Needs (Follow pointer target) ∷ k) (q, thin, check, place) = place_arrays g locals o 0 q frames k place
     value_arrays g locals kind o p frames (Needs (FollowMember pointer fields field) ∷ k) (c, q, thin, check, inside, is, place) = place_arrays g locals o c q frames k place
     value_arrays g locals kind o p frames (Discard ∷ k) (exits, stack) = statement_arrays g exits p frames k stack
+    value_arrays g locals kind o p frames (Needs FreeObject ∷ k) (d, q, freed, lands) =
+        by_lands source lands (λ stack. value_arrays g locals kinds.Int (operands.Slot d) q frames k stack) (λ stack. ahead_arrays g locals kinds.Int d q frames k stack)
+    value_arrays g locals kind o p frames (Needs (ThrowWith tag) ∷ k) (exits, q, small, at, stack) = statement_arrays g exits q frames k stack
     value_arrays g locals kind o p frames (entry ∷ k) stack = absurd stack
 
     place_arrays : (g : ℕ) (locals : ℕ → Option ℕ) (o : Operand) (c p : ℕ) (frames : List Frame) (k : List Entry) → PlaceStack source g locals o c p frames k → AllCount k
@@ -106,6 +109,8 @@ module _ (source : Program) where
     place_arrays g locals o c p frames (NeedsPlace (StoreTo peek (Convert from to a)) ∷ k) (x, s, u, at, at_a, store, single, hands) =
         by_hands source hands (λ stack. dropped_arrays g (u + 1) frames k stack) (λ stack. value_arrays g locals to x (u + 1) frames k stack)
         (λ d r lands. by_lands source lands (λ stack. value_arrays g locals to (operands.Slot d) r frames k stack) (λ stack. ahead_arrays g locals to d r frames k stack))
+    place_arrays g locals o c p frames (NeedsPlace (SwapLeft kind peek right) ∷ k) (exits, x, m, r, q, single, has, waits, address, side, exchange, stack) = statement_arrays g exits q frames k stack
+    place_arrays g locals o c p frames (NeedsPlace (SwapRight kind peek left) ∷ k) (exits, a, y, m, q, single, has, is, address, exchange, stack) = statement_arrays g exits q frames k stack
     place_arrays g locals o c p frames k place = absurd place
 
     condition_arrays : (g : ℕ) (failing : Comparison) (l r : Operand) (p : ℕ) (frames : List Frame) (k : List Entry) → ConditionStack source g failing l r p frames k → AllCount k
@@ -131,11 +136,12 @@ module _ (source : Program) where
     statement_arrays g exits p frames (Rest js ∷ k) (q, at, stack) = statement_arrays g exits q frames k stack
     statement_arrays g exits p frames (Join ∷ k) (q, at, stack) = statement_arrays g exits q frames k stack
     statement_arrays g exits p frames (Loop a s ∷ k) (outer, q, at, jump, stack) = statement_arrays g outer q frames k stack
-    statement_arrays g exits p frames (CloseRegion r h ∷ k) stack = statement_arrays g exits p frames k stack
+    statement_arrays g exits p frames (CloseRegion r h ∷ k) (q, at, stack) = statement_arrays g exits q frames k stack
+    statement_arrays g exits p frames (Handler handler ∷ k) (q, leave, jump, stack) = statement_arrays g exits q frames k stack
     statement_arrays g exits p frames (Caller e ∷ k) stack = refl
-    statement_arrays g exits p [] (Main ∷ []) (s, at, last) = refl
-    statement_arrays g exits p (f ∷ frames) (Main ∷ k) (s, at, last) = absurd last
-    statement_arrays g exits p [] (Main ∷ entry ∷ k) (s, at, last) = absurd last
+    statement_arrays g exits p [] (Main ∷ []) (s, at, outside, last) = refl
+    statement_arrays g exits p (f ∷ frames) (Main ∷ k) (s, at, outside, last) = absurd last
+    statement_arrays g exits p [] (Main ∷ entry ∷ k) (s, at, outside, last) = absurd last
     statement_arrays g exits p frames k stack = absurd stack
 
   pub lands_arrays : (g : ℕ) (locals : ℕ → Option ℕ) (kind : Kind) (d p : ℕ) (frames : List Frame) (k : List Entry) → LandsStack source g locals kind d p frames k → arrays_in k ≡ length (counters_of 0 k)

@@ -10,6 +10,7 @@ pub mod Lengths
 -- a run of the plain program is one of the source
 pub mod Relation
 pub mod Matched
+pub mod Handling
 pub mod Stands
 pub mod Fitting
 pub mod Bridge
@@ -18,16 +19,22 @@ pub mod Sharing
 pub mod CellWrites
 pub mod Allocations
 pub mod Arrays
+pub mod UniqueBlocks
 pub mod PlaceWords
+pub mod CellReads
+pub mod AddressSteps
+pub mod SwapSteps
 pub mod PlaceSteps
 pub mod Values
 pub mod PointerSteps
 pub mod Evaluations
 pub mod Accesses
 pub mod Branching
+pub mod Handlers
 pub mod Conditions
 pub mod Counters
 pub mod Calls
+pub mod ExceptionSteps
 pub mod StatementSteps
 pub mod Keeping
 pub mod Levels

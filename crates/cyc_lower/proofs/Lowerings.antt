@@ -30,7 +30,7 @@ functions_lowered structs (h ∷ hs) = (record { name = refl; frame = refl; smal
 
 pub is_lowered : (source : Program) → IsWellTypedProgram source → CanBeLowered source → IsLowered source (lower_program source)
 is_lowered source well fit = record {
-  well_formed = well_formed source (is_fitting_program source fit.lowerable well) fit.few_globals;
+  well_formed = well_formed source (is_fitting_program source fit.lowerable well) fit.of_words fit.few_globals;
   words = has_words source fit.of_words;
   functions = functions_lowered source.structs source.functions;
   globals = sym (globals_counted source.globals);
@@ -45,7 +45,7 @@ functions_small structs (h ∷ hs) = omega (arith, sum_by-cons size (lower_funct
 -- what is true of every plain program is true of this one
 pub is_plain : (source : Program) → IsWellTypedProgram source → CanBeLowered source → program_weight source ≤ max_tokens → IsPlain (lower_program source)
 is_plain source well fit light = record {
-  well_formed = well_formed source (is_fitting_program source fit.lowerable well) fit.few_globals;
+  well_formed = well_formed source (is_fitting_program source fit.lowerable well) fit.of_words fit.few_globals;
   words = has_words source fit.of_words;
   small = omega (arith, functions_small source.structs source.functions, light);
 }

@@ -20,14 +20,14 @@ use Rattle.cyc_words.specs.Simulation.{Status, Failed, Machine, Matching, Comes,
 use Rattle.cyc_plain.specs.Program.{CodePlace, places_of}
 use Rattle.cyc_store.specs.State.{demand}
 use Rattle.cyc_plain.specs.State as plain
-use Rattle.cyc_plain.specs.State.{Frame, Configuration}
+use Rattle.cyc_plain.specs.State.{Words, Frame, Configuration}
 use Rattle.cyc_plain.specs.Step.{Choice, performed, machine}
 use Rattle.cyc_plain.specs.Step as plain_step
 use Rattle.cyc_words.proofs.Matching.{by_none, way_before}
 use Rattle.cyc_plain.proofs.Steps.{step_performs, place_known}
 use Rattle.cyc_plain.specs.Straight.{At}
 use Rattle.cyc_words.specs.Demand.{demand_of}
-use Rattle.cyc_meaning.specs.State.{World, Environment, ConvertTo, Operate, Chain, Apply, ApplyPointer, Follow, LoadFrom, Decide, Store, Pass, MakePlain, MakeFields, MakeArray, FillElement, Initialise, Choose, Test, Return, Entry, Needs, NeedsPlace, Discard, Rest, Join, Loop, CloseRegion, Caller, Main, counted, calls_in, Focus, Evaluating, Locating, Given, Executing, Proceeding, Calling, Entering, Binding, Writing, Beginning, Repeating, Breaking, Continuing, Returning, Throwing, State, Running, Ended, Dead, Wrong, output_of, input_of, status_of, GivenPlace, FollowMember, TakeAddress, StoreTo, StoreCell}
+use Rattle.cyc_meaning.specs.State.{World, Environment, ConvertTo, Operate, Chain, Apply, ApplyPointer, Follow, LoadFrom, Decide, Store, Pass, MakePlain, MakeFields, MakeArray, FillElement, Initialise, Choose, Test, Return, Entry, Needs, NeedsPlace, Discard, Rest, Join, Loop, CloseRegion, Caller, Main, counted, calls_in, Focus, Evaluating, Locating, Given, Executing, Proceeding, Calling, Entering, Binding, Writing, Beginning, Repeating, Breaking, Continuing, Returning, Throwing, State, Running, Ended, Dead, Wrong, output_of, input_of, status_of, GivenPlace, FollowMember, TakeAddress, StoreTo, StoreCell, FreeObject, SwapLeft, SwapRight, Swapping}
 use Rattle.cyc_meaning.specs.Step.{step}
 use Rattle.cyc_meaning.specs.Run.{is_within, limited_step}
 use Rattle.cyc_objects.specs.Tables.{Tables}
@@ -38,7 +38,8 @@ use Rattle.cyc_meaning.specs.Pointers.{result_kind as operator_kind}
 use Rattle.cyc_lower.proofs.Widths.{chain_kind}
 use Rattle.cyc_meaning.specs.SourceMachine.{status_in, source_machine}
 use Rattle.cyc_lower.proofs.Weights.{weight}
-use Rattle.cyc_lower.proofs.Relation.{base_of, IsPlainStack, Lands, in_temporary, in_local, HandsOn, drops, leaves, copies, Prints, prints_only, gives_byte, SharedAt, to_slot, to_jump, ValueStack, PlaceStack, ConditionStack, DroppedStack, AheadStack, StatementStack, LandsStack, PrintsStack, AppliedStack, RightAt, ReadyAt, EvaluatingAt, as_operand, into_slot, for_effect, as_right, as_condition, FocusAt, GivenAt, in_operand, nowhere, ahead, compared, with_left, ProceedingAt, behind_statement, behind_call, behind_wrong, Related, Matches, code_of, given_at, called_at, returned_at, top}
+use Rattle.cyc_lower.proofs.Data.{calls_counted, calls_left}
+use Rattle.cyc_lower.proofs.Relation.{base_of, Lands, in_temporary, in_local, HandsOn, drops, leaves, copies, Prints, prints_only, gives_byte, SharedAt, to_slot, to_jump, ValueStack, PlaceStack, ConditionStack, DroppedStack, AheadStack, StatementStack, LandsStack, PrintsStack, AppliedStack, RightAt, ReadyAt, EvaluatingAt, as_operand, into_slot, for_effect, as_right, as_condition, FocusAt, GivenAt, in_operand, nowhere, ahead, compared, with_left, ProceedingAt, behind_statement, behind_call, behind_wrong, Related, Matches, code_of, given_at, called_at, returned_at, top, DataFor, handling}
 
 module _ (source : Program) where
   -- ---- where a value goes
@@ -58,221 +59,6 @@ module _ (source : Program) where
   by_prints (prints_only stack) first second = first stack
   by_prints (gives_byte d at stack) first second = second d stack
 
-  -- ---- calls under way
-
-  -- each frame is a call, and the running one is one more
-  abbrev HasDepth : List Frame → List Entry → Type 0
-  HasDepth frames k = calls_in k ≡ suc (length frames)
-
-  mutual
-    pub value_depth : (g : ℕ) (locals : ℕ → Option ℕ) (kind : Kind) (o : Operand) (p : ℕ) (frames : List Frame) (k : List Entry) → ValueStack source g locals kind o p frames k → HasDepth frames k
-    value_depth g locals kind o p frames [] stack = absurd stack
-    value_depth g locals kind o p frames (Needs (ConvertTo from to target) ∷ k) (q, at, stack) = value_depth g locals to o q frames k stack
-    value_depth g locals kind o p frames (Needs (Operate u) ∷ k) (to_slot (d, at, lands)) =
-        by_lands lands (λ stack. value_depth g locals kinds.Int (operands.Slot d) (p + 1) frames k stack) (λ stack. ahead_depth g locals kinds.Int d (p + 1) frames k stack)
-    value_depth g locals kind o p frames (Needs (Operate u) ∷ k) (to_jump (is, stack)) = condition_depth g comparisons.NotEqual o (operands.Word 0) p frames k stack
-    value_depth g locals kind o p frames (Needs (Chain NoOperations) ∷ k) stack = value_depth g locals kind o p frames k stack
-    value_depth g locals kind o p frames (Needs (Chain os) ∷ k) (to_slot (d, q, at, lands)) =
-        by_lands lands (λ stack. value_depth g locals (chain_kind kind os) (operands.Slot d) q frames k stack) (λ stack. ahead_depth g locals (chain_kind kind os) d q frames k stack)
-    value_depth g locals kind o p frames (Needs (Chain os) ∷ k) (to_jump (failing, r, q, at, stack)) = condition_depth g failing o r q frames k stack
-    value_depth g locals kind o p frames (Needs (Apply u left) ∷ k) (to_slot (d, q, at, lands)) =
-        by_lands lands (λ stack. value_depth g locals kinds.Int (operands.Slot d) q frames k stack) (λ stack. ahead_depth g locals kinds.Int d q frames k stack)
-    value_depth g locals kind o p frames (Needs (Apply u left) ∷ k) (to_jump (failing, is, stack)) = condition_depth g failing (operands.Slot (top source g k)) o p frames k stack
-    value_depth g locals kind o p frames (Needs (ApplyPointer peek u left) ∷ k) (d, q, at, lands) =
-        by_lands lands (λ stack. value_depth g locals (operator_kind u) (operands.Slot d) q frames k stack) (λ stack. ahead_depth g locals (operator_kind u) d q frames k stack)
-    value_depth g locals kind o p frames (Needs Decide ∷ k) (d, q, is, at, lands) =
-        by_lands lands (λ stack. value_depth g locals kinds.Int (operands.Slot d) q frames k stack) (λ stack. ahead_depth g locals kinds.Int d q frames k stack)
-    value_depth g locals kind o p frames (Needs (Store place) ∷ k) (l, to, q, at, is, hands) =
-        by_hands hands (λ stack. dropped_depth g q frames k stack) (λ stack. value_depth g locals kind to q frames k stack)
-        (λ d r lands. by_lands lands (λ stack. value_depth g locals kind (operands.Slot d) r frames k stack) (λ stack. ahead_depth g locals kind d r frames k stack))
-    value_depth g locals kind o p frames (Needs (StoreCell peek place) ∷ k) (at, single, hands) =
-        by_hands hands (λ stack. dropped_depth g (p + 1) frames k stack) (λ stack. value_depth g locals kind o (p + 1) frames k stack)
-        (λ d r lands. by_lands lands (λ stack. value_depth g locals kind (operands.Slot d) r frames k stack) (λ stack. ahead_depth g locals kind d r frames k stack))
-    value_depth g locals kind o p frames (Needs (Pass callees.Putchar before cs) ∷ k) (none, single, at, prints) =
-        by_prints prints (λ stack. dropped_depth g (p + 1) frames k stack)
-        (λ d lands. by_lands lands (λ stack. value_depth g locals kinds.Int (operands.Slot d) (p + 1 + 1) frames k stack) (λ stack. ahead_depth g locals kinds.Int d (p + 1 + 1) frames k stack))
-    value_depth g locals kind o p frames (Needs (Pass callees.Getchar before cs) ∷ k) (d, m, q, all, is, at, call, long, lands) =
-        by_lands lands (λ stack. value_depth g locals kinds.Int (operands.Slot d) q frames k stack) (λ stack. ahead_depth g locals kinds.Int d q frames k stack)
-    value_depth g locals kind o p frames (Needs (Pass (callees.Function n) before cs) ∷ k) (d, m, q, all, is, at, call, long, lands) =
-        by_lands lands (λ stack. value_depth g locals (called_at source g (callees.Function n)) (operands.Slot d) q frames k stack) (λ stack. ahead_depth g locals (called_at source g (callees.Function n)) d q frames k stack)
-    value_depth g locals kind o p frames (Needs (MakePlain owner wanted) ∷ k) (handle, d, q, owned, is, at, lands) =
-        by_lands lands (λ stack. value_depth g locals kinds.NonNull (operands.Slot d) q frames k stack) (λ stack. ahead_depth g locals kinds.NonNull d q frames k stack)
-    value_depth g locals kind o p frames (Needs (MakeFields owner before cs) ∷ k) (handle, d, m, q, all, owned, is, at_cs, at, long, lands) =
-        by_lands lands (λ stack. value_depth g locals kinds.NonNull (operands.Slot d) q frames k stack) (λ stack. ahead_depth g locals kinds.NonNull d q frames k stack)
-    value_depth g locals kind o p frames (Needs (MakeArray owner level wanted a) ∷ k) (handle, d, h, r, s, q, owned, is, begun, level_is, single, at, lands) =
-        by_lands lands (λ stack. value_depth g locals kinds.Fat (operands.Slot d) q frames k stack) (λ stack. ahead_depth g locals kinds.Fat d q frames k stack)
-    value_depth g locals kind o p frames (Needs (FillElement object count index level wanted a) ∷ k) (d, h, s, q, is, inside, few, level_is, single, at, lands) =
-        by_lands lands (λ stack. value_depth g locals kinds.Fat (operands.Slot d) q frames k stack) (λ stack. ahead_depth g locals kinds.Fat d q frames k stack)
-    value_depth g locals kind o p frames (Needs (Initialise n wanted items) ∷ k) (exits, q, at, below, items_at, stack) = statement_depth g exits q frames k stack
-    value_depth g locals kind o p frames (Needs (Choose s t) ∷ k) (exits, r, q, at, at_s, jump, at_t, stack) = statement_depth g exits q frames k stack
-    value_depth g locals kind o p frames (Needs (Test a s) ∷ k) (exits, outer, q, at, r, jump, body, back, stack) = statement_depth g outer q frames k stack
-    value_depth g locals kind o p frames (Needs Return ∷ k) (exits, q, s, is, at, one, stack) = statement_depth g exits q frames k stack
-    value_depth g locals kind o p frames (Needs (Follow pointer target) ∷ k) (q, thin, check, place) = place_depth g locals o 0 q frames k place
-    value_depth g locals kind o p frames (Needs (FollowMember pointer fields field) ∷ k) (c, q, thin, check, inside, is, place) = place_depth g locals o c q frames k place
-    value_depth g locals kind o p frames (Discard ∷ k) (exits, stack) = statement_depth g exits p frames k stack
-    value_depth g locals kind o p frames (entry ∷ k) stack = absurd stack
-
-    pub place_depth : (g : ℕ) (locals : ℕ → Option ℕ) (o : Operand) (c p : ℕ) (frames : List Frame) (k : List Entry) → PlaceStack source g locals o c p frames k → HasDepth frames k
-    place_depth g locals o c p frames (NeedsPlace (LoadFrom cell) ∷ k) (d, at, single, lands) =
-        by_lands lands (λ stack. value_depth g locals cell (operands.Slot d) (p + 1) frames k stack) (λ stack. ahead_depth g locals cell d (p + 1) frames k stack)
-    place_depth g locals o c p frames (NeedsPlace TakeAddress ∷ k) (d, q, at, lands) =
-        by_lands lands (λ stack. value_depth g locals kinds.NonNull (operands.Slot d) q frames k stack) (λ stack. ahead_depth g locals kinds.NonNull d q frames k stack)
-    place_depth g locals o c p frames (NeedsPlace (StoreTo peek (Convert from to a)) ∷ k) (x, s, u, at, at_a, store, single, hands) =
-        by_hands hands (λ stack. dropped_depth g (u + 1) frames k stack) (λ stack. value_depth g locals to x (u + 1) frames k stack)
-        (λ d r lands. by_lands lands (λ stack. value_depth g locals to (operands.Slot d) r frames k stack) (λ stack. ahead_depth g locals to d r frames k stack))
-    place_depth g locals o c p frames k place = absurd place
-
-    pub condition_depth : (g : ℕ) (failing : Comparison) (l r : Operand) (p : ℕ) (frames : List Frame) (k : List Entry) → ConditionStack source g failing l r p frames k → HasDepth frames k
-    condition_depth g failing l r p frames (Needs (Chain NoOperations) ∷ k) stack = condition_depth g failing l r p frames k stack
-    condition_depth g failing l r p frames (Needs (Choose s t) ∷ k) (exits, m, q, at, at_s, jump, at_t, stack) = statement_depth g exits q frames k stack
-    condition_depth g failing l r p frames (Needs (Test a s) ∷ k) (exits, outer, q, at, m, jump, body, back, stack) = statement_depth g outer q frames k stack
-    condition_depth g failing l r p frames k stack = absurd stack
-
-    pub dropped_depth : (g p : ℕ) (frames : List Frame) (k : List Entry) → DroppedStack source g p frames k → HasDepth frames k
-    dropped_depth g p frames (Discard ∷ k) (exits, stack) = statement_depth g exits p frames k stack
-    dropped_depth g p frames k stack = absurd stack
-
-    pub ahead_depth : (g : ℕ) (locals : ℕ → Option ℕ) (kind : Kind) (n p : ℕ) (frames : List Frame) (k : List Entry) → AheadStack source g locals kind n p frames k → HasDepth frames k
-    ahead_depth g locals kind n p frames (Needs (ConvertTo from to target) ∷ k) (quiet, stack) = ahead_depth g locals to n p frames k stack
-    ahead_depth g locals kind n p frames (Needs (Chain NoOperations) ∷ k) stack = ahead_depth g locals kind n p frames k stack
-    ahead_depth g locals kind n p frames (Needs (Store place) ∷ k) (number, object, is, found, same, room, hands) =
-        by_hands hands (λ stack. dropped_depth g p frames k stack) (λ stack. value_depth g locals kind (operands.Slot n) p frames k stack)
-        (λ d r lands. by_lands lands (λ stack. value_depth g locals kind (operands.Slot d) r frames k stack) (λ stack. ahead_depth g locals kind d r frames k stack))
-    ahead_depth g locals kind n p frames (Needs (Initialise number wanted items) ∷ k) (exits, q, is, few, items_at, stack) = statement_depth g exits q frames k stack
-    ahead_depth g locals kind n p frames k stack = absurd stack
-
-    pub statement_depth : (g : ℕ) (exits : Exits) (p : ℕ) (frames : List Frame) (k : List Entry) → StatementStack source g exits p frames k → HasDepth frames k
-    statement_depth g exits p frames (Rest js ∷ k) (q, at, stack) = statement_depth g exits q frames k stack
-    statement_depth g exits p frames (Join ∷ k) (q, at, stack) = statement_depth g exits q frames k stack
-    statement_depth g exits p frames (Loop a s ∷ k) (outer, q, at, jump, stack) = statement_depth g outer q frames k stack
-    statement_depth g exits p frames (CloseRegion r h ∷ k) stack = statement_depth g exits p frames k stack
-    statement_depth g exits p [] (Caller e ∷ k) (s, at, below) = absurd below
-    statement_depth g exits p (f ∷ frames) (Caller e ∷ k) (s, at, lands) =
-        omega (arith, by_lands lands (λ stack. value_depth f.caller.function e.locals (returned_at source g) (operands.Slot f.result) f.caller.next frames k stack) (λ stack. ahead_depth f.caller.function e.locals (returned_at source g) f.result f.caller.next frames k stack))
-    statement_depth g exits p [] (Main ∷ []) (s, at, last) = omega arith
-    statement_depth g exits p (f ∷ frames) (Main ∷ k) (s, at, last) = absurd last
-    statement_depth g exits p [] (Main ∷ entry ∷ k) (s, at, last) = absurd last
-    statement_depth g exits p frames k stack = absurd stack
-
-  -- and nothing waits but what the int language has
-  mutual
-    pub value_plain : (g : ℕ) (locals : ℕ → Option ℕ) (kind : Kind) (o : Operand) (p : ℕ) (frames : List Frame) (k : List Entry) → ValueStack source g locals kind o p frames k → IsPlainStack k
-    value_plain g locals kind o p frames [] stack = absurd stack
-    value_plain g locals kind o p frames (Needs (ConvertTo from to target) ∷ k) (q, at, stack) = value_plain g locals to o q frames k stack
-    value_plain g locals kind o p frames (Needs (Operate u) ∷ k) (to_slot (d, at, lands)) =
-        by_lands lands (λ stack. value_plain g locals kinds.Int (operands.Slot d) (p + 1) frames k stack) (λ stack. ahead_plain g locals kinds.Int d (p + 1) frames k stack)
-    value_plain g locals kind o p frames (Needs (Operate u) ∷ k) (to_jump (is, stack)) = condition_plain g comparisons.NotEqual o (operands.Word 0) p frames k stack
-    value_plain g locals kind o p frames (Needs (Chain NoOperations) ∷ k) stack = value_plain g locals kind o p frames k stack
-    value_plain g locals kind o p frames (Needs (Chain os) ∷ k) (to_slot (d, q, at, lands)) =
-        by_lands lands (λ stack. value_plain g locals (chain_kind kind os) (operands.Slot d) q frames k stack) (λ stack. ahead_plain g locals (chain_kind kind os) d q frames k stack)
-    value_plain g locals kind o p frames (Needs (Chain os) ∷ k) (to_jump (failing, r, q, at, stack)) = condition_plain g failing o r q frames k stack
-    value_plain g locals kind o p frames (Needs (Apply u left) ∷ k) (to_slot (d, q, at, lands)) =
-        by_lands lands (λ stack. value_plain g locals kinds.Int (operands.Slot d) q frames k stack) (λ stack. ahead_plain g locals kinds.Int d q frames k stack)
-    value_plain g locals kind o p frames (Needs (Apply u left) ∷ k) (to_jump (failing, is, stack)) = condition_plain g failing (operands.Slot (top source g k)) o p frames k stack
-    value_plain g locals kind o p frames (Needs (ApplyPointer peek u left) ∷ k) (d, q, at, lands) =
-        by_lands lands (λ stack. value_plain g locals (operator_kind u) (operands.Slot d) q frames k stack) (λ stack. ahead_plain g locals (operator_kind u) d q frames k stack)
-    value_plain g locals kind o p frames (Needs Decide ∷ k) (d, q, is, at, lands) =
-        by_lands lands (λ stack. value_plain g locals kinds.Int (operands.Slot d) q frames k stack) (λ stack. ahead_plain g locals kinds.Int d q frames k stack)
-    value_plain g locals kind o p frames (Needs (Store place) ∷ k) (l, to, q, at, is, hands) =
-        by_hands hands (λ stack. dropped_plain g q frames k stack) (λ stack. value_plain g locals kind to q frames k stack)
-        (λ d r lands. by_lands lands (λ stack. value_plain g locals kind (operands.Slot d) r frames k stack) (λ stack. ahead_plain g locals kind d r frames k stack))
-    value_plain g locals kind o p frames (Needs (StoreCell peek place) ∷ k) (at, single, hands) =
-        by_hands hands (λ stack. dropped_plain g (p + 1) frames k stack) (λ stack. value_plain g locals kind o (p + 1) frames k stack)
-        (λ d r lands. by_lands lands (λ stack. value_plain g locals kind (operands.Slot d) r frames k stack) (λ stack. ahead_plain g locals kind d r frames k stack))
-    value_plain g locals kind o p frames (Needs (Pass callees.Putchar before cs) ∷ k) (none, single, at, prints) =
-        by_prints prints (λ stack. dropped_plain g (p + 1) frames k stack)
-        (λ d lands. by_lands lands (λ stack. value_plain g locals kinds.Int (operands.Slot d) (p + 1 + 1) frames k stack) (λ stack. ahead_plain g locals kinds.Int d (p + 1 + 1) frames k stack))
-    value_plain g locals kind o p frames (Needs (Pass callees.Getchar before cs) ∷ k) (d, m, q, all, is, at, call, long, lands) =
-        by_lands lands (λ stack. value_plain g locals kinds.Int (operands.Slot d) q frames k stack) (λ stack. ahead_plain g locals kinds.Int d q frames k stack)
-    value_plain g locals kind o p frames (Needs (Pass (callees.Function n) before cs) ∷ k) (d, m, q, all, is, at, call, long, lands) =
-        by_lands lands (λ stack. value_plain g locals (called_at source g (callees.Function n)) (operands.Slot d) q frames k stack) (λ stack. ahead_plain g locals (called_at source g (callees.Function n)) d q frames k stack)
-    value_plain g locals kind o p frames (Needs (MakePlain owner wanted) ∷ k) (handle, d, q, owned, is, at, lands) =
-        by_lands lands (λ stack. value_plain g locals kinds.NonNull (operands.Slot d) q frames k stack) (λ stack. ahead_plain g locals kinds.NonNull d q frames k stack)
-    value_plain g locals kind o p frames (Needs (MakeFields owner before cs) ∷ k) (handle, d, m, q, all, owned, is, at_cs, at, long, lands) =
-        by_lands lands (λ stack. value_plain g locals kinds.NonNull (operands.Slot d) q frames k stack) (λ stack. ahead_plain g locals kinds.NonNull d q frames k stack)
-    value_plain g locals kind o p frames (Needs (MakeArray owner level wanted a) ∷ k) (handle, d, h, r, s, q, owned, is, begun, level_is, single, at, lands) =
-        by_lands lands (λ stack. value_plain g locals kinds.Fat (operands.Slot d) q frames k stack) (λ stack. ahead_plain g locals kinds.Fat d q frames k stack)
-    value_plain g locals kind o p frames (Needs (FillElement object count index level wanted a) ∷ k) (d, h, s, q, is, inside, few, level_is, single, at, lands) =
-        by_lands lands (λ stack. value_plain g locals kinds.Fat (operands.Slot d) q frames k stack) (λ stack. ahead_plain g locals kinds.Fat d q frames k stack)
-    value_plain g locals kind o p frames (Needs (Initialise n wanted items) ∷ k) (exits, q, at, below, items_at, stack) = statement_plain g exits q frames k stack
-    value_plain g locals kind o p frames (Needs (Choose s t) ∷ k) (exits, r, q, at, at_s, jump, at_t, stack) = statement_plain g exits q frames k stack
-    value_plain g locals kind o p frames (Needs (Test a s) ∷ k) (exits, outer, q, at, r, jump, body, back, stack) = statement_plain g outer q frames k stack
-    value_plain g locals kind o p frames (Needs Return ∷ k) (exits, q, s, is, at, one, stack) = statement_plain g exits q frames k stack
-    value_plain g locals kind o p frames (Needs (Follow pointer target) ∷ k) (q, thin, check, place) = place_plain g locals o 0 q frames k place
-    value_plain g locals kind o p frames (Needs (FollowMember pointer fields field) ∷ k) (c, q, thin, check, inside, is, place) = place_plain g locals o c q frames k place
-    value_plain g locals kind o p frames (Discard ∷ k) (exits, stack) = statement_plain g exits p frames k stack
-    value_plain g locals kind o p frames (entry ∷ k) stack = absurd stack
-
-    pub place_plain : (g : ℕ) (locals : ℕ → Option ℕ) (o : Operand) (c p : ℕ) (frames : List Frame) (k : List Entry) → PlaceStack source g locals o c p frames k → IsPlainStack k
-    place_plain g locals o c p frames (NeedsPlace (LoadFrom cell) ∷ k) (d, at, single, lands) =
-        by_lands lands (λ stack. value_plain g locals cell (operands.Slot d) (p + 1) frames k stack) (λ stack. ahead_plain g locals cell d (p + 1) frames k stack)
-    place_plain g locals o c p frames (NeedsPlace TakeAddress ∷ k) (d, q, at, lands) =
-        by_lands lands (λ stack. value_plain g locals kinds.NonNull (operands.Slot d) q frames k stack) (λ stack. ahead_plain g locals kinds.NonNull d q frames k stack)
-    place_plain g locals o c p frames (NeedsPlace (StoreTo peek (Convert from to a)) ∷ k) (x, s, u, at, at_a, store, single, hands) =
-        by_hands hands (λ stack. dropped_plain g (u + 1) frames k stack) (λ stack. value_plain g locals to x (u + 1) frames k stack)
-        (λ d r lands. by_lands lands (λ stack. value_plain g locals to (operands.Slot d) r frames k stack) (λ stack. ahead_plain g locals to d r frames k stack))
-    place_plain g locals o c p frames k place = absurd place
-
-    pub condition_plain : (g : ℕ) (failing : Comparison) (l r : Operand) (p : ℕ) (frames : List Frame) (k : List Entry) → ConditionStack source g failing l r p frames k → IsPlainStack k
-    condition_plain g failing l r p frames (Needs (Chain NoOperations) ∷ k) stack = condition_plain g failing l r p frames k stack
-    condition_plain g failing l r p frames (Needs (Choose s t) ∷ k) (exits, m, q, at, at_s, jump, at_t, stack) = statement_plain g exits q frames k stack
-    condition_plain g failing l r p frames (Needs (Test a s) ∷ k) (exits, outer, q, at, m, jump, body, back, stack) = statement_plain g outer q frames k stack
-    condition_plain g failing l r p frames k stack = absurd stack
-
-    pub dropped_plain : (g p : ℕ) (frames : List Frame) (k : List Entry) → DroppedStack source g p frames k → IsPlainStack k
-    dropped_plain g p frames (Discard ∷ k) (exits, stack) = statement_plain g exits p frames k stack
-    dropped_plain g p frames k stack = absurd stack
-
-    pub ahead_plain : (g : ℕ) (locals : ℕ → Option ℕ) (kind : Kind) (n p : ℕ) (frames : List Frame) (k : List Entry) → AheadStack source g locals kind n p frames k → IsPlainStack k
-    ahead_plain g locals kind n p frames (Needs (ConvertTo from to target) ∷ k) (quiet, stack) = ahead_plain g locals to n p frames k stack
-    ahead_plain g locals kind n p frames (Needs (Chain NoOperations) ∷ k) stack = ahead_plain g locals kind n p frames k stack
-    ahead_plain g locals kind n p frames (Needs (Store place) ∷ k) (number, object, is, found, same, room, hands) =
-        by_hands hands (λ stack. dropped_plain g p frames k stack) (λ stack. value_plain g locals kind (operands.Slot n) p frames k stack)
-        (λ d r lands. by_lands lands (λ stack. value_plain g locals kind (operands.Slot d) r frames k stack) (λ stack. ahead_plain g locals kind d r frames k stack))
-    ahead_plain g locals kind n p frames (Needs (Initialise number wanted items) ∷ k) (exits, q, is, few, items_at, stack) = statement_plain g exits q frames k stack
-    ahead_plain g locals kind n p frames k stack = absurd stack
-
-    pub statement_plain : (g : ℕ) (exits : Exits) (p : ℕ) (frames : List Frame) (k : List Entry) → StatementStack source g exits p frames k → IsPlainStack k
-    statement_plain g exits p frames (Rest js ∷ k) (q, at, stack) = statement_plain g exits q frames k stack
-    statement_plain g exits p frames (Join ∷ k) (q, at, stack) = statement_plain g exits q frames k stack
-    statement_plain g exits p frames (Loop a s ∷ k) (outer, q, at, jump, stack) = statement_plain g outer q frames k stack
-    statement_plain g exits p frames (CloseRegion r h ∷ k) stack = statement_plain g exits p frames k stack
-    statement_plain g exits p [] (Caller e ∷ k) (s, at, below) = absurd below
-    statement_plain g exits p (f ∷ frames) (Caller e ∷ k) (s, at, lands) =
-        by_lands lands (λ stack. value_plain f.caller.function e.locals (returned_at source g) (operands.Slot f.result) f.caller.next frames k stack) (λ stack. ahead_plain f.caller.function e.locals (returned_at source g) f.result f.caller.next frames k stack)
-    statement_plain g exits p [] (Main ∷ []) (s, at, last) = tt
-    statement_plain g exits p (f ∷ frames) (Main ∷ k) (s, at, last) = absurd last
-    statement_plain g exits p [] (Main ∷ entry ∷ k) (s, at, last) = absurd last
-    statement_plain g exits p frames k stack = absurd stack
-
-  pub lands_depth : (g : ℕ) (locals : ℕ → Option ℕ) (kind : Kind) (d p : ℕ) (frames : List Frame) (k : List Entry) → LandsStack source g locals kind d p frames k → HasDepth frames k
-  lands_depth g locals kind d p frames k lands = by_lands lands (λ stack. value_depth g locals kind (operands.Slot d) p frames k stack) (λ stack. ahead_depth g locals kind d p frames k stack)
-
-  pub lands_plain : (g : ℕ) (locals : ℕ → Option ℕ) (kind : Kind) (d p : ℕ) (frames : List Frame) (k : List Entry) → LandsStack source g locals kind d p frames k → IsPlainStack k
-  lands_plain g locals kind d p frames k lands = by_lands lands (λ stack. value_plain g locals kind (operands.Slot d) p frames k stack) (λ stack. ahead_plain g locals kind d p frames k stack)
-
-  prints_depth : (g : ℕ) (locals : ℕ → Option ℕ) (o : Operand) (p : ℕ) (frames : List Frame) (k : List Entry) → PrintsStack source g locals o p frames k → HasDepth frames k
-  prints_depth g locals o p frames k (at, prints) = by_prints prints (λ stack. dropped_depth g (p + 1) frames k stack) (λ d lands. lands_depth g locals kinds.Int d (p + 1 + 1) frames k lands)
-
-  applied_depth : (g : ℕ) (locals : ℕ → Option ℕ) (u : Operator) (l r : Operand) (p : ℕ) (frames : List Frame) (k : List Entry) → AppliedStack source g locals u l r p frames k → HasDepth frames k
-  applied_depth g locals u l r p frames k (to_slot (d, q, at, lands)) = lands_depth g locals kinds.Int d q frames k lands
-  applied_depth g locals u l r p frames k (to_jump (failing, is, stack)) = condition_depth g failing l r p frames k stack
-
-  right_depth : (t : Tables) (a : Expression) (locals : ℕ → Option ℕ) (g p : ℕ) (slots : ℕ → ℕ) (frames : List Frame) (k : List Entry) → RightAt source t a locals g p slots frames k → HasDepth frames k
-  right_depth t a locals g p slots frames (Needs (Apply u left) ∷ k) (l, r, known, is, holds, applied) = applied_depth g locals u l r p frames k applied
-  right_depth t a locals g p slots frames k right = absurd right
-
-  ready_depth : (t : Tables) (v : Kinded) (locals : ℕ → Option ℕ) (g p : ℕ) (slots : ℕ → ℕ) (frames : List Frame) (k : List Entry) → ReadyAt source t v locals g p slots frames k → HasDepth frames k
-  ready_depth t v locals g p slots frames (Needs (Apply u left) ∷ k) (l, r, is_left, is, holds, applied) = applied_depth g locals u l r p frames k applied
-  ready_depth t v locals g p slots frames k ready = absurd ready
-
-  evaluating_depth : (t : Tables) (a : Expression) (locals : ℕ → Option ℕ) (g p : ℕ) (slots : ℕ → ℕ) (frames : List Frame) (k : List Entry) → EvaluatingAt source t a locals g p slots frames k → HasDepth frames k
-  evaluating_depth t a locals g p slots frames k (as_operand o q at holds stack) = value_depth g locals (given_at source g a) o q frames k stack
-  evaluating_depth t a locals g p slots frames k (into_slot d q at holds lands) = lands_depth g locals (given_at source g a) d q frames k lands
-  evaluating_depth t a locals g p slots frames k (for_effect q at holds stack) = dropped_depth g q frames k stack
-  evaluating_depth t a locals g p slots frames k (as_right right) = right_depth t a locals g p slots frames k right
-  evaluating_depth t a locals g p slots frames k (as_condition l r q at holds stack) = condition_depth g (compared_of a).failing l r q frames k stack
-
   -- what a related state shares
   pub shared_of : (pages calls : ℕ) (focus : Focus) (k : List Entry) (e : Environment) (w : World) (c : Configuration) → Related source pages calls focus k e w c → SharedAt source pages calls k e w c
   shared_of pages calls (Throwing tag value) k e w c r = r.0
@@ -280,42 +66,35 @@ module _ (source : Program) where
   shared_of pages calls Proceeding k e w c r = r.0
   shared_of pages calls focus k e w c r = r.0
 
-  depth_going : (t : Tables) (focus : Focus) (k : List Entry) (locals : ℕ → Option ℕ) (g p : ℕ) (slots : ℕ → ℕ) (frames : List Frame) → FocusAt source t focus k locals g p slots frames → HasDepth frames k
-  depth_going t (Evaluating a) k locals g p slots frames at = evaluating_depth t a locals g p slots frames k at
-  depth_going t (Locating x) k locals g p slots frames (o, c, q, at, holds, place) = place_depth g locals o c q frames k place
-  depth_going t (GivenPlace (Thin object offset)) k locals g p slots frames (o, c, small, points, holds, place) = place_depth g locals o c p frames k place
-  depth_going t (Executing s) k locals g p slots frames (exits, q, at, stack) = statement_depth g exits q frames k stack
-  depth_going t (Calling callees.Putchar before) k locals g p slots frames (v, o, single, is, holds, prints) = prints_depth g locals o p frames k prints
-  depth_going t (Calling callees.Getchar before) k locals g p slots frames (d, q, at, holds, lands) = lands_depth g locals kinds.Int d q frames k lands
-  depth_going t (Calling (callees.Function n) before) k locals g p slots frames (d, q, at, holds, lands) = lands_depth g locals (called_at source g (callees.Function n)) d q frames k lands
-  depth_going t (Writing writes (Some pointer)) k locals g p slots frames (object, done, values, address, slot, d, m, q, are, is, there, single, held, at, move, end, holds, lands) = lands_depth g locals kinds.NonNull d q frames k lands
-  depth_going t (Beginning owner count level wanted a) k locals g p slots frames (handle, d, h, r, s, q, owned, ask, next, few, many, zero, size, level_is, single, at, holds, lands) = lands_depth g locals kinds.Fat d q frames k lands
-  depth_going t (Repeating object count index level wanted a) k locals g p slots frames (d, r, s, q, is, inside, few, level_is, single, at, holds, lands) = lands_depth g locals kinds.Fat d q frames k lands
-  depth_going t (Entering h arguments) k locals g p slots frames (m, at, stack, holds, few) = statement_depth g (outside_loops (base_of source g)) m frames k stack
-  depth_going t (Binding n types arguments body) k locals g p slots frames (m, first, at, stack, holds, few, count) = statement_depth g (outside_loops (base_of source g)) m frames k stack
-  depth_going t Breaking k locals g p slots frames (exits, q, at, stack) = statement_depth g exits q frames k stack
-  depth_going t Continuing k locals g p slots frames (exits, q, at, stack) = statement_depth g exits q frames k stack
-  depth_going t (Returning (Some v)) k locals g p slots frames (exits, q, s, at, is, one, stack) = statement_depth g exits q frames k stack
-  depth_going t (Returning None) k locals g p slots frames (exits, q, s, at, stack) = statement_depth g exits q frames k stack
-  depth_going t focus k locals g p slots frames at = absurd at
+  -- ---- calls under way
 
-  depth_given : (t : Tables) (v : Kinded) (k : List Entry) (e : Environment) (w : World) (c : Configuration) → GivenAt source t v k e w c → HasDepth c.frames k
-  depth_given t v k e w c (in_operand o facts is holds stack) = value_depth c.active.function e.locals v.kind o c.active.next c.frames k stack
-  depth_given t v k e w c (nowhere facts stack) = dropped_depth c.active.function c.active.next c.frames k stack
-  depth_given t v k e w c (ahead n facts is holds stack) = ahead_depth c.active.function e.locals v.kind n c.active.next c.frames k stack
-  depth_given t v k e w c (compared failing l r facts zero stack) = condition_depth c.active.function failing l r c.active.next c.frames k stack
-  depth_given t v k e w c (with_left facts ready) = ready_depth t v e.locals c.active.function c.active.next c.active.slots c.frames k ready
+  -- the handlers that are open tell it, frame by frame
+  counted_in : (t : Tables) (slots : Words) (handled k : List Entry) (e : Environment) (w : World) (c : Configuration) → calls_in handled ≡ calls_in k → DataFor source t slots handled k e w c → calls_in k ≡ suc (length c.frames)
+  counted_in t slots handled k e w c same facts = sym same ∙ calls_counted source c.active.function slots c.active.handlers c.frames handled facts.1
 
-  depth_proceeding : (t : Tables) (k : List Entry) (e : Environment) (w : World) (c : Configuration) → ProceedingAt source t k e w c → HasDepth c.frames k
-  depth_proceeding t k e w c (behind_statement exits facts stack) = statement_depth c.active.function exits c.active.next c.frames k stack
-  depth_proceeding t k e w c (behind_call kind o facts stack) = value_depth c.active.function e.locals kind o c.active.next c.frames k stack
-  depth_proceeding t k e w c (behind_wrong kind n stack) = ahead_depth c.active.function e.locals kind n c.active.next c.frames k stack
+  handled_counted : (focus : Focus) (k : List Entry) → calls_in (handling focus k) ≡ calls_in k
+  handled_counted Breaking k = calls_left true k
+  handled_counted Continuing k = calls_left true k
+  handled_counted (Returning v) k = calls_left false k
+  handled_counted focus k = refl
+
+  depth_given : (t : Tables) (v : Kinded) (k : List Entry) (e : Environment) (w : World) (c : Configuration) → GivenAt source t v k e w c → calls_in k ≡ suc (length c.frames)
+  depth_given t v k e w c (in_operand o facts is holds stack) = counted_in t c.active.slots k k e w c refl facts
+  depth_given t v k e w c (nowhere facts stack) = counted_in t c.active.slots k k e w c refl facts
+  depth_given t v k e w c (ahead n (old, same, facts) is holds stack) = counted_in t old k k e w c refl facts
+  depth_given t v k e w c (compared failing l r facts zero stack) = counted_in t c.active.slots k k e w c refl facts
+  depth_given t v k e w c (with_left facts ready) = counted_in t c.active.slots k k e w c refl facts
+
+  depth_proceeding : (t : Tables) (k : List Entry) (e : Environment) (w : World) (c : Configuration) → ProceedingAt source t k e w c → calls_in k ≡ suc (length c.frames)
+  depth_proceeding t k e w c (behind_statement exits facts stack) = counted_in t c.active.slots k k e w c refl facts
+  depth_proceeding t k e w c (behind_call kind o facts stack) = counted_in t c.active.slots k k e w c refl facts
+  depth_proceeding t k e w c (behind_wrong kind n counted stack) = counted
 
   depth_fits : (pages calls : ℕ) (focus : Focus) (k : List Entry) (e : Environment) (w : World) (c : Configuration) → Related source pages calls focus k e w c → calls_in k ≤ calls
   depth_fits pages calls (Throwing tag value) k e w c r = r.1
   depth_fits pages calls (Given v) k e w c (shared, at) = omega (arith, depth_given shared.tables v k e w c at, shared.fits)
   depth_fits pages calls Proceeding k e w c (shared, at) = omega (arith, depth_proceeding shared.tables k e w c at, shared.fits)
-  depth_fits pages calls focus k e w c r = omega (arith, depth_going r.0.tables focus k e.locals c.active.function c.active.next c.active.slots c.frames r.2, r.0.fits)
+  depth_fits pages calls focus k e w c r = omega (arith, counted_in r.0.tables c.active.slots (handling focus k) k e w c (handled_counted focus k) r.1, r.0.fits)
 
 module _ (source : Program) (pages calls : ℕ) where
   abbrev pub above : Machine
@@ -470,6 +249,21 @@ module _ (source : Program) (pages calls : ℕ) where
       by_places (Running focus k e w) next (place_in c) [] (plain.Running c) does (tt, tt) (known c i at, tt)
       (executes (Running focus k e w) next c i [] at (λ choice. matches_within_below next (performed (lower_program source) choice c i) (goes choice)) (shared_way focus k e w c shared) goes)
 
+  -- two, of which the first is known, at any places
+  pub by_two_places : {focus : Focus} {k : List Entry} {e : Environment} {w : World} {c : Configuration} {next : State} {i j : Instruction} (d : Configuration)
+      → step source (Running focus k e w) ≡ next → SharedAt source pages calls k e w c
+      → plain_step.is_within pages calls (plain.Running d) ≡ true → IsOnTheWay above below (Running focus k e w) (plain.Running d)
+      → At (code_of source c.active.function) c.active.next i → ((choice : Choice) → performed (lower_program source) choice c i ≡ plain.Running d)
+      → At (code_of source d.active.function) d.active.next j → place_in c ≢ place_in d
+      → ((choice : Choice) → Matches source pages calls next (performed (lower_program source) choice d j))
+      → IsMatched (Running focus k e w) (plain.Running c)
+  by_two_places {focus} {k} {e} {w} {c} {next} {i} {j} d does shared within_d way_d at first at_d other goes =
+      by_places (Running focus k e w) next (place_in c) (place_in d ∷ []) (plain.Running c) does ((other, tt), (tt, tt)) (known c i at, (known d j at_d, tt))
+      (executes (Running focus k e w) next c i (place_in d ∷ []) at
+      (λ choice. ap (plain_step.is_within pages calls) (first choice) ∙ within_d) (shared_way focus k e w c shared)
+      (λ choice. subst (Executes (Running focus k e w) next (place_in d ∷ [])) (sym (first choice))
+      (executes (Running focus k e w) next d j [] at_d (λ later. matches_within_below next (performed (lower_program source) later d j) (goes later)) way_d goes)))
+
   -- two, of which the first is known
   pub by_two_known : {focus : Focus} {k : List Entry} {e : Environment} {w : World} {c : Configuration} {next : State} {i j : Instruction} (d : Configuration)
       → step source (Running focus k e w) ≡ next → SharedAt source pages calls k e w c
@@ -479,11 +273,7 @@ module _ (source : Program) (pages calls : ℕ) where
       → ((choice : Choice) → Matches source pages calls next (performed (lower_program source) choice d j))
       → IsMatched (Running focus k e w) (plain.Running c)
   by_two_known {focus} {k} {e} {w} {c} {next} {i} {j} d does shared within_d way_d at first at_d other goes =
-      by_places (Running focus k e w) next (place_in c) (place_in d ∷ []) (plain.Running c) does ((apart c d other, tt), (tt, tt)) (known c i at, (known d j at_d, tt))
-      (executes (Running focus k e w) next c i (place_in d ∷ []) at
-      (λ choice. ap (plain_step.is_within pages calls) (first choice) ∙ within_d) (shared_way focus k e w c shared)
-      (λ choice. subst (Executes (Running focus k e w) next (place_in d ∷ [])) (sym (first choice))
-      (executes (Running focus k e w) next d j [] at_d (λ later. matches_within_below next (performed (lower_program source) later d j) (goes later)) way_d goes)))
+      by_two_places d does shared within_d way_d at first at_d (apart c d other) goes
 
   -- two, of which the first shows nothing
   pub by_two : {focus : Focus} {k : List Entry} {e : Environment} {w : World} {c : Configuration} {next : State} {i j : Instruction} (d : Configuration)

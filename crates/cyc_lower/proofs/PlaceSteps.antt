@@ -18,19 +18,21 @@ use Rattle.cyc_plain.specs.Step.{Choice, operand_word, with_slots, advanced, loa
 use Rattle.cyc_plain.specs.Straight.{At}
 use Rattle.cyc_plain.proofs.SlotLaws.{put-same}
 use Rattle.cyc_meaning.specs.Values.{Value, Thin, Operand as Kinded, is_kind, words_of_kind}
-use Rattle.cyc_meaning.specs.State.{World, Access, Found, Closed, Missing, Located, cell_at, Environment, LoadFrom, Entry, NeedsPlace, GivenPlace, Given, Running, ConvertTo, StoreCell, TakeAddress, StoreTo, Needs, Evaluating}
+use Rattle.cyc_meaning.specs.State.{World, Access, Found, Closed, Missing, Located, cell_at, Environment, LoadFrom, Entry, NeedsPlace, GivenPlace, Given, Running, ConvertTo, StoreCell, TakeAddress, StoreTo, Needs, Evaluating, SwapLeft, SwapRight}
 use Rattle.cyc_meaning.specs.Step.{wrong, read, loaded, target_by}
 use Rattle.cyc_objects.specs.Tables.{Tables}
 use Rattle.cyc_objects.specs.Words.{words_from, Points, Is, IsContent}
 use Rattle.cyc_objects.specs.Related as objects
 use Rattle.cyc_objects.proofs.Cells.{found-alive, cell-live, cell-read}
-use Rattle.cyc_lower.specs.Lowering.{is_in, move_of, source_of, source_slot, lower_program}
+use Rattle.cyc_lower.specs.Lowering.{is_in, move_of, source_of, source_slot, lower_program, right_slot}
 use Rattle.cyc_lower.proofs.Widths.{kind_positive, same_kind}
 use Rattle.cyc_lower.proofs.Moves.{put_elsewhere}
-use Rattle.cyc_lower.proofs.Relation.{types_on, starts_on, Matches, held, callers, types_at, starts_at, Holds, DataIn, SharedAt, LandsStack, HandsOnStack, Related, code_of, bounds_at, base_of, top}
-use Rattle.cyc_lower.proofs.Data.{Is-same, height-least, Holds-same, data_above}
+use Rattle.cyc_lower.proofs.Relation.{types_on, starts_on, Matches, held, callers, types_at, starts_at, Holds, DataIn, SharedAt, LandsStack, HandsOnStack, Related, code_of, bounds_at, base_of, top, floor}
+use Rattle.cyc_lower.proofs.Data.{Is-same, height-least, Holds-same, data_above, data_written}
 use Rattle.cyc_lower.proofs.Stands.{CopyBy, AddressAt, OperandBy, ExpressionAt, ConvertedOperandAt}
-use Rattle.cyc_lower.proofs.PlaceWords.{add_is}
+use Rattle.cyc_lower.proofs.CellReads.{word_read}
+use Rattle.cyc_lower.proofs.AddressSteps.{Brought, in_slot, by_word, brought}
+use Rattle.cyc_lower.proofs.SwapSteps.{left_found, right_found}
 use Rattle.cyc_lower.proofs.Accesses.{IsWell}
 use Rattle.cyc_lower.proofs.Matched.{IsMatched, silently, by_one}
 use Rattle.cyc_lower.proofs.Evaluations.{IsStep, sources, landed}
@@ -59,57 +61,12 @@ is_read kind (Found at) k e w well =
     by true None told well = absurd (well refl)
     by true (Some v) told well = (same_kind at.cell.kind kind told, v, refl, refl)
 
--- the word of a cell of one word that a pointer leads to
-module _ {t : Tables} {w : World} {s : StoreState} (related : objects.Related t w s) where
-  pub word_read : (object offset word : ℕ) (at : Located) (v : Value) → cell_at w object offset ≡ Found at → Points t object offset word
-      → words_of_kind at.cell.kind ≡ 1 → at.cell.content ≡ Some v
-      → (word_at s word ≡ Some (s.memory word)) × ((slots : ℕ → ℕ) (d : ℕ) → slots d ≡ s.memory word → Is t at.cell.kind v slots d)
-  word_read object offset word at v found points single has =
-      let (h, alive, cell) = found-alive related object offset word at found points in
-      let first : word + 4 * 0 ≡ word = omega arith in
-      let content = subst (λ (x : Option Value). IsContent t at.cell.kind x (words_from s.memory word) 0) has (cell-read related alive points cell) in (
-        subst (λ n. word_at s n ≡ Some (s.memory n)) first (cell-live related alive points cell 0 (omega (arith, single))),
-        λ slots d same. Is-same t at.cell.kind v (words_from s.memory word) slots 0 d
-            (λ i below.
-            let at_d : d + i ≡ d = omega (arith, below, single) in
-            let at_word : word ≡ word + 4 * (0 + i) = omega (arith, below, single) in
-            ap slots at_d ∙ same ∙ ap s.memory at_word)
-            content,
-      )
-
 module _ (source : Program) (pages calls : ℕ) where
-  -- ---- an address comes to a slot
-
-  -- the address of a place is in a slot, or one instruction brings it there
-  data Brought (t : Tables) (object offset d q : ℕ) (c : Configuration) : Type 0 where
-    in_slot : c.active.next ≡ q → Points t object offset (c.active.slots d) → Brought t object offset d q c
-    by_word : (i : Instruction) → (word : ℕ) → At (code_of source c.active.function) c.active.next i
-        → ((choice : Choice) → performed (lower_program source) choice c i ≡ plain.Running (advanced (with_slots c (put c.active.slots d word))))
-        → c.active.next + 1 ≡ q → Points t object offset word → Brought t object offset d q c
-
-  -- nothing is added to it
-  itself : (w : ℕ) → w < 4294967296 → add_of w 0 ≡ w
-  itself w small = add_is w 0 (omega (arith, small)) ∙ add-zero w
-
-  copied_address : (t : Tables) (object offset : ℕ) (b : Bool) (o : Operand) (d q : ℕ) (c : Configuration) → is_in o d ≡ b → Points t object offset (operand_word c.active.slots o)
-      → CopyBy (code_of source c.active.function) b 1 o d c.active.next q → Brought t object offset d q c
-  copied_address t object offset true (operands.Slot n) d q c same points end = in_slot end (subst (λ x. Points t object offset (c.active.slots x)) (eqb-true n d same) points)
-  copied_address t object offset true (operands.Word n) d q c same points end = absurd (let f : false ≡ true = same in cc)
-  copied_address t object offset false (operands.Slot n) d q c same points (here, end) = by_word (move_of 1 d (operands.Slot n)) (c.active.slots n) here (λ choice. refl) end points
-  copied_address t object offset false (operands.Word n) d q c same points (here, end) = by_word (move_of 1 d (operands.Word n)) n here (λ choice. refl) end points
-
-  brought : (t : Tables) (object offset more : ℕ) (o : Operand) (d q : ℕ) (c : Configuration) → operand_word c.active.slots o < 2 ^ 32 → Points t object offset (add_of (operand_word c.active.slots o) more)
-      → AddressAt (code_of source c.active.function) o more d c.active.next q → Brought t object offset d q c
-  brought t object offset zero o d q c small points copy =
-      copied_address t object offset (is_in o d) o d q c refl (subst (Points t object offset) (itself (operand_word c.active.slots o) small) points) copy
-  brought t object offset (suc bytes) o d q c small points (here, end) =
-      by_word (instructions.Binary plain_binary.Add d o (operands.Word (suc bytes))) (add_of (operand_word c.active.slots o) (suc bytes)) here (λ choice. refl) end points
-
   -- ---- the address of a cell is a value
 
   takes_address : (object offset more : ℕ) (o : Operand) (d q : ℕ) (k : List Entry) (e : Environment) (w : World) (c : Configuration)
-      → (shared : SharedAt source pages calls (NeedsPlace TakeAddress ∷ k) e w c) → DataIn source shared.tables c.active.slots k e w c → Holds shared.tables c.active.slots (base_of source c.active.function) (held k)
-      → Brought shared.tables object offset d q c → LandsStack source c.active.function e.locals kinds.NonNull d q c.frames k
+      → (shared : SharedAt source pages calls (NeedsPlace TakeAddress ∷ k) e w c) → DataIn source shared.tables c.active.slots k e w c → Holds shared.tables c.active.slots (floor source c.active.function k) (held k)
+      → Brought source shared.tables object offset d q c → LandsStack source c.active.function e.locals kinds.NonNull d q c.frames k
       → IsMatched source pages calls (Running (GivenPlace (Thin object offset)) (NeedsPlace TakeAddress ∷ k) e w) (plain.Running c)
   takes_address object offset more o d q k e w c shared facts holds (in_slot end points) lands =
       silently source pages calls (Running (GivenPlace (Thin object offset)) (NeedsPlace TakeAddress ∷ k) e w) (Running (Given (of_kind kinds.NonNull (Thin object offset))) k e w) (plain.Running c) refl
@@ -136,7 +93,7 @@ module _ (source : Program) (pages calls : ℕ) where
   right_side from to a peek place k = Needs (ConvertTo from to (target_by a)) ∷ Needs (StoreCell peek place) ∷ k
 
   right_begins : (from to : Kind) (a : Expression) (peek : Option ℕ) (object offset : ℕ) (k : List Entry) (e : Environment) (w : World) (c : Configuration) (s : ℕ)
-      → (shared : SharedAt source pages calls k e w c) → DataIn source shared.tables c.active.slots k e w c → Holds shared.tables c.active.slots (base_of source c.active.function) (held k)
+      → (shared : SharedAt source pages calls k e w c) → DataIn source shared.tables c.active.slots k e w c → Holds shared.tables c.active.slots (floor source c.active.function k) (held k)
       → Points shared.tables object offset (c.active.slots (top source c.active.function k)) → c.active.next ≡ s → StoresBehind from to a k e c s
       → Related source pages calls (Evaluating a) (right_side from to a peek (Thin object offset) k) e w c
   right_begins from to a peek object offset k e w c s shared facts holds points start (x, u, (m, at_a, at_to), store, single, hands) =
@@ -154,8 +111,8 @@ module _ (source : Program) (pages calls : ℕ) where
       )
 
   stores_to : (from to : Kind) (a : Expression) (peek : Option ℕ) (object offset : ℕ) (k : List Entry) (e : Environment) (w : World) (c : Configuration) (s : ℕ)
-      → (shared : SharedAt source pages calls k e w c) → DataIn source shared.tables c.active.slots k e w c → Holds shared.tables c.active.slots (base_of source c.active.function) (held k)
-      → Brought shared.tables object offset (top source c.active.function k) s c → StoresBehind from to a k e c s
+      → (shared : SharedAt source pages calls k e w c) → DataIn source shared.tables c.active.slots k e w c → Holds shared.tables c.active.slots (floor source c.active.function k) (held k)
+      → Brought source shared.tables object offset (top source c.active.function k) s c → StoresBehind from to a k e c s
       → IsMatched source pages calls (Running (GivenPlace (Thin object offset)) (NeedsPlace (StoreTo peek (Convert from to a)) ∷ k) e w) (plain.Running c)
   stores_to from to a peek object offset k e w c s shared facts holds (in_slot end points) behind =
       silently source pages calls (Running (GivenPlace (Thin object offset)) (NeedsPlace (StoreTo peek (Convert from to a)) ∷ k) e w) (Running (Evaluating a) (right_side from to a peek (Thin object offset) k) e w) (plain.Running c) refl
@@ -163,13 +120,13 @@ module _ (source : Program) (pages calls : ℕ) where
       (omega arith)
   stores_to from to a peek object offset k e w c s shared facts holds (by_word i word here goes end points) behind =
       let g = c.active.function in
-      let base = base_of source g in
+      let base = floor source g k in
       let free = top source g k in
       let after = put c.active.slots free word in
       by_one source pages calls refl shared here
       (λ choice. subst (Matches source pages calls (Running (Evaluating a) (right_side from to a peek (Thin object offset) k) e w)) (sym (goes choice))
       (right_begins from to a peek object offset k e w (advanced (with_slots c after)) s shared
-      (data_above shared.tables source g w.objects e.locals (callers k) c.active.slots after c.globals c.frames free 1 (height-least base (held k)) (λ m out. put_elsewhere c.active.slots free word 1 m (omega arith) out) facts)
+      (data_written source shared.tables g w.objects e.locals k c.active.slots after c.active.handlers c.globals c.frames free 1 (height-least base (held k)) (λ m out. put_elsewhere c.active.slots free word 1 m (omega arith) out) facts)
       (Holds-same shared.tables c.active.slots after base (held k) (λ m below. put_elsewhere c.active.slots free word 1 m (omega arith) (inl below)) holds)
       (subst (Points shared.tables object offset) (sym (put-same c.active.slots free word)) points) end behind))
 
@@ -187,9 +144,15 @@ module _ (source : Program) (pages calls : ℕ) where
       (subst (λ i. Is shared.tables i found.value after d) found.same (stands after d (put-same c.active.slots d (c.store.memory word))))
       (λ m out. put_elsewhere c.active.slots d (c.store.memory word) (words_of_kind kind) m (kind_positive kind) out) facts holds refl lands))
   given_place (Thin object offset) (NeedsPlace TakeAddress ∷ k) e w c well (shared, facts, (o, more, small, points, holds, (d, q, address, lands))) =
-      takes_address object offset more o d q k e w c shared facts holds (brought shared.tables object offset more o d q c small points address) lands
+      takes_address object offset more o d q k e w c shared facts holds (brought source shared.tables object offset more o d q c small points address) lands
   given_place (Thin object offset) (NeedsPlace (StoreTo peek (Convert from to a)) ∷ k) e w c well (shared, facts, (o, more, small, points, holds, (x, s, u, address, at_a, store, single, hands))) =
-      stores_to from to a peek object offset k e w c s shared facts holds (brought shared.tables object offset more o (top source c.active.function k) s c small points address)
+      stores_to from to a peek object offset k e w c s shared facts holds (brought source shared.tables object offset more o (top source c.active.function k) s c small points address)
       (x, u, at_a, store, single, hands)
+  given_place (Thin object offset) (NeedsPlace (SwapLeft kind peek right) ∷ k) e w c well (shared, facts, (o, more, small, points, holds, (exits, x, m, r, q, single, has, waits, address, at_right, exchange, stack))) =
+      left_found source pages calls object offset kind peek right k e w c well shared facts (brought source shared.tables object offset more o (floor source c.active.function k) m c small points address)
+      (exits, x, r, q, single, has, waits, at_right, exchange, stack)
+  given_place (Thin object offset) (NeedsPlace (SwapRight kind peek left) ∷ k) e w c well (shared, facts, (o, more, small, points, holds, (exits, a, y, m, q, single, has, is_left, address, exchange, stack))) =
+      right_found source pages calls object offset kind peek left a k e w c shared facts holds (brought source shared.tables object offset more o (right_slot a (floor source c.active.function k)) m c small points address)
+      is_left (exits, y, q, single, has, exchange, stack)
   given_place (Thin object offset) k e w c well (shared, facts, (o, more, small, points, holds, place)) = absurd place
   given_place place k e w c well (shared, facts, at) = absurd at

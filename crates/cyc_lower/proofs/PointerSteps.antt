@@ -34,8 +34,8 @@ use Rattle.cyc_lower.specs.Lowering.{left_kind, behind_left, pointer_operator, l
 use Rattle.cyc_lower.proofs.Widths.{same_kind, Outside}
 use Rattle.cyc_lower.proofs.Moves.{copied_elsewhere}
 use Rattle.cyc_lower.proofs.Stands.{FirstTwoAt, IndexAt, PointerAt, ValueAt}
-use Rattle.cyc_lower.proofs.Relation.{types_on, starts_on, IsIn, types_at, silent, Holds, held, DataIn, SharedAt, LandsStack, in_temporary, in_local, EvaluatingAt, as_operand, Matches, code_of, bounds_at, base_of, top}
-use Rattle.cyc_lower.proofs.Data.{height-least, in_words}
+use Rattle.cyc_lower.proofs.Relation.{types_on, starts_on, IsIn, types_at, silent, Holds, held, DataIn, SharedAt, LandsStack, in_temporary, in_local, EvaluatingAt, as_operand, Matches, code_of, bounds_at, base_of, top, floor}
+use Rattle.cyc_lower.proofs.Data.{height-least, in_words, behind-least}
 use Rattle.cyc_lower.proofs.Accesses.{IsWell}
 use Rattle.cyc_lower.proofs.Matched.{IsMatched, by_one, by_two}
 use Rattle.cyc_lower.proofs.Evaluations.{landed, landed_word}
@@ -295,7 +295,7 @@ module _ (source : Program) (pages calls : ℕ) where
   compares_pointers : (u : PointerOperator) (peek : Option ℕ) (left v : Kinded) (o : Operand) (d q : ℕ) (k : List Entry) (e : Environment) (w : World) (c : Configuration)
       → is_comparison u ≡ true → IsWell (applies_pointer u left.value v.value k e w)
       → (shared : SharedAt source pages calls k e w c) → DataIn source shared.tables c.active.slots k e w c → IsIn shared.tables v c.active.slots o
-      → Is shared.tables left.kind left.value c.active.slots (top source c.active.function k) → Holds shared.tables c.active.slots (base_of source c.active.function) (held k)
+      → Is shared.tables left.kind left.value c.active.slots (top source c.active.function k) → Holds shared.tables c.active.slots (floor source c.active.function k) (held k)
       → At (code_of source c.active.function) c.active.next (instructions.Binary (pointer_operator u) d (operands.Slot (top source c.active.function k)) o) → c.active.next + 1 ≡ q
       → LandsStack source c.active.function e.locals kinds.Int d q c.frames k
       → IsMatched source pages calls (Running (Given v) (Needs (ApplyPointer peek u left) ∷ k) e w) (plain.Running c)
@@ -312,7 +312,7 @@ module _ (source : Program) (pages calls : ℕ) where
   -- the first two words are not where the index comes
   lands_apart : (g : ℕ) (locals : ℕ → Option ℕ) (d q : ℕ) (frames : List Frame) (k : List Entry) → LandsStack source g locals kinds.Fat d q frames k → (i : ℕ) → i < 2 → top source g k + i ≡ d + 2 → ⊥
   lands_apart g locals d q frames k (in_temporary least stack) i below same = absurd (omega (arith, below, same, least))
-  lands_apart g locals d q frames k (in_local inside stack) i below same = absurd (omega (arith, below, same, inside, height-least (base_of source g) (held k)))
+  lands_apart g locals d q frames k (in_local inside stack) i below same = absurd (omega (arith, below, same, inside, height-least (floor source g k) (held k), behind-least k (base_of source g)))
 
   -- an index comes where it is to be, and the first two words with it
   index_moves : (there : Bool) (u : PointerOperator) (peek : Option ℕ) (x : ℕ) (left v : Kinded) (value : Value) (o : Operand) (d q : ℕ) (k : List Entry) (e : Environment) (w : World) (c : Configuration)
@@ -321,7 +321,7 @@ module _ (source : Program) (pages calls : ℕ) where
       ≡ plain.Running (advanced (with_slots c (put c.active.slots (d + 2) x))))
       → (shared : SharedAt source pages calls k e w c) → DataIn source shared.tables c.active.slots k e w c
       → ((after : Words) → after d ≡ c.active.slots (top source c.active.function k) → after (d + 1) ≡ c.active.slots (top source c.active.function k + 1) → after (d + 2) ≡ x → Is shared.tables kinds.Fat value after d)
-      → Holds shared.tables c.active.slots (base_of source c.active.function) (held k)
+      → Holds shared.tables c.active.slots (floor source c.active.function k) (held k)
       → At (code_of source c.active.function) c.active.next (instructions.Binary (pointer_operator u) (d + 2) (operands.Slot (top source c.active.function k + 2)) o)
       → FirstTwoAt (code_of source c.active.function) (bounds_at source c.active.function) (types_on source c.active.function k) there (top source c.active.function k) d (c.active.next + 1) q
       → LandsStack source c.active.function e.locals kinds.Fat d q c.frames k
@@ -357,7 +357,7 @@ module _ (source : Program) (pages calls : ℕ) where
       → ((choice : Choice) → performed (lower_program source) choice c (instructions.Binary (pointer_operator u) (d + 2) (operands.Slot (top source c.active.function k + 2)) o)
       ≡ plain.Running (advanced (with_slots c (put c.active.slots (d + 2) (change (c.active.slots (top source c.active.function k + 2)))))))
       → (shared : SharedAt source pages calls k e w c) → DataIn source shared.tables c.active.slots k e w c
-      → Is shared.tables left.kind left.value c.active.slots (top source c.active.function k) → Holds shared.tables c.active.slots (base_of source c.active.function) (held k)
+      → Is shared.tables left.kind left.value c.active.slots (top source c.active.function k) → Holds shared.tables c.active.slots (floor source c.active.function k) (held k)
       → IndexAt (code_of source c.active.function) (bounds_at source c.active.function) (types_on source c.active.function k) u o (top source c.active.function k) d c.active.next q
       → LandsStack source c.active.function e.locals kinds.Fat d q c.frames k
       → IsMatched source pages calls (Running (Given v) (Needs (ApplyPointer peek u left) ∷ k) e w) (plain.Running c)
@@ -372,7 +372,7 @@ module _ (source : Program) (pages calls : ℕ) where
   adds_to : (peek : Option ℕ) (left : Kinded) (j : Kind) (v : Value) (o : Operand) (d q : ℕ) (k : List Entry) (e : Environment) (w : World) (c : Configuration)
       → IsWell (applies_pointer pointers.AddFat left.value v k e w)
       → (shared : SharedAt source pages calls k e w c) → DataIn source shared.tables c.active.slots k e w c → IsIn shared.tables (record { kind = j; value = v }) c.active.slots o
-      → Is shared.tables left.kind left.value c.active.slots (top source c.active.function k) → Holds shared.tables c.active.slots (base_of source c.active.function) (held k)
+      → Is shared.tables left.kind left.value c.active.slots (top source c.active.function k) → Holds shared.tables c.active.slots (floor source c.active.function k) (held k)
       → IndexAt (code_of source c.active.function) (bounds_at source c.active.function) (types_on source c.active.function k) pointers.AddFat o (top source c.active.function k) d c.active.next q
       → LandsStack source c.active.function e.locals kinds.Fat d q c.frames k
       → IsMatched source pages calls (Running (Given (record { kind = j; value = v })) (Needs (ApplyPointer peek pointers.AddFat left) ∷ k) e w) (plain.Running c)
@@ -388,7 +388,7 @@ module _ (source : Program) (pages calls : ℕ) where
   takes_from : (peek : Option ℕ) (left : Kinded) (j : Kind) (v : Value) (o : Operand) (d q : ℕ) (k : List Entry) (e : Environment) (w : World) (c : Configuration)
       → IsWell (applies_pointer pointers.SubtractFat left.value v k e w)
       → (shared : SharedAt source pages calls k e w c) → DataIn source shared.tables c.active.slots k e w c → IsIn shared.tables (record { kind = j; value = v }) c.active.slots o
-      → Is shared.tables left.kind left.value c.active.slots (top source c.active.function k) → Holds shared.tables c.active.slots (base_of source c.active.function) (held k)
+      → Is shared.tables left.kind left.value c.active.slots (top source c.active.function k) → Holds shared.tables c.active.slots (floor source c.active.function k) (held k)
       → IndexAt (code_of source c.active.function) (bounds_at source c.active.function) (types_on source c.active.function k) pointers.SubtractFat o (top source c.active.function k) d c.active.next q
       → LandsStack source c.active.function e.locals kinds.Fat d q c.frames k
       → IsMatched source pages calls (Running (Given (record { kind = j; value = v })) (Needs (ApplyPointer peek pointers.SubtractFat left) ∷ k) e w) (plain.Running c)
@@ -405,7 +405,7 @@ module _ (source : Program) (pages calls : ℕ) where
   pub applies_pointers : (u : PointerOperator) (peek : Option ℕ) (left v : Kinded) (o : Operand) (d q : ℕ) (k : List Entry) (e : Environment) (w : World) (c : Configuration)
       → IsWell (step source (Running (Given v) (Needs (ApplyPointer peek u left) ∷ k) e w))
       → (shared : SharedAt source pages calls k e w c) → DataIn source shared.tables c.active.slots k e w c → IsIn shared.tables v c.active.slots o
-      → Is shared.tables left.kind left.value c.active.slots (top source c.active.function k) → Holds shared.tables c.active.slots (base_of source c.active.function) (held k)
+      → Is shared.tables left.kind left.value c.active.slots (top source c.active.function k) → Holds shared.tables c.active.slots (floor source c.active.function k) (held k)
       → PointerAt (code_of source c.active.function) (bounds_at source c.active.function) (types_on source c.active.function k) u o (top source c.active.function k) d c.active.next q
       → LandsStack source c.active.function e.locals (operator_kind u) d q c.frames k
       → IsMatched source pages calls (Running (Given v) (Needs (ApplyPointer peek u left) ∷ k) e w) (plain.Running c)
@@ -422,7 +422,7 @@ module _ (source : Program) (pages calls : ℕ) where
 
   -- the right operand stands behind the left one
   pub right_follows : (peek : Option ℕ) (u : PointerOperator) (b : Expression) (os : Operations) (v : Kinded) (k : List Entry) (e : Environment) (w : World) (c : Configuration) (r : Operand) (m d q : ℕ) → takes_kind u v.kind ≡ true
-      → (t : Tables) → Is t v.kind v.value c.active.slots (top source c.active.function k) → Holds t c.active.slots (base_of source c.active.function) (held k)
+      → (t : Tables) → Is t v.kind v.value c.active.slots (top source c.active.function k) → Holds t c.active.slots (floor source c.active.function k) (held k)
       → ValueAt (code_of source c.active.function) (bounds_at source c.active.function) (types_on source c.active.function k) b (behind_left u (top source c.active.function k)) r c.active.next m
       → PointerAt (code_of source c.active.function) (bounds_at source c.active.function) (types_on source c.active.function k) u r (top source c.active.function k) d m q
       → LandsStack source c.active.function e.locals (operator_kind u) d q c.frames (Needs (Chain os) ∷ k)

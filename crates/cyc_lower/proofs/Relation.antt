@@ -1,6 +1,7 @@
 -- What a state of the source and one of the plain program have in common while the one is matched by the other.
-use Rattle.std.proofs.Common.{max, ◌≡◌, ℕ, suc, ◌+◌, ◌*◌, ◌≤◌, ◌<◌, true, List, [], ◌∷◌, ◌++◌, length, Option, None, Some, slice_get, ◌^◌}
-use Rattle.cyc_words.specs.Word.{add_of}
+use Rattle.std.proofs.Common.{max, ◌≡◌, ℕ, suc, ◌+◌, ◌*◌, ◌≤◌, ◌<◌, true, List, [], ◌∷◌, ◌++◌, length, Option, None, Some, slice_get, ◌^◌, false, Bool}
+use Rattle.cyc_words.specs.Word.{add_of, IsWord as IsNumber}
+use Rattle.std.specs.Prelude.{if◌then◌else◌}
 use Rattle.cyc_types.specs.declared.typed.Kind.{Kind}
 use Rattle.cyc_types.specs.declared.typed.Kind.TheVariants as kinds
 use Rattle.cyc_types.specs.declared.typed.Callee.{Callee}
@@ -8,10 +9,10 @@ use Rattle.cyc_types.specs.declared.typed.UnaryOperator.TheVariants as unary
 use Rattle.cyc_types.specs.declared.typed.Operator.{Operator}
 use Rattle.cyc_types.specs.declared.typed.Callee.TheVariants as callees
 use Rattle.cyc_types.specs.Types.{Ty}
-use Rattle.cyc_types.specs.TypedTrees.{Lvalue, Local, Global, Expression, NoArguments, NoOperations, Statement, Function, Program, Convert}
+use Rattle.cyc_types.specs.TypedTrees.{Lvalue, Local, Global, Expression, NoArguments, NoOperations, Statement, Function, Program, Convert, Dereference, Side, VariableSide, CellSide, Clauses}
 use Rattle.cyc_types.specs.Numbered.{Numbering, argument_count, numbering_of, signatures_of}
 use Rattle.cyc_store.specs.State.{StoreState, demand}
-use Rattle.cyc_store.specs.declared.range.TheConstants.{HEAP}
+use Rattle.cyc_store.specs.declared.range.TheConstants.{HEAP, UNIQUE}
 use Rattle.cyc_objects.specs.Tables.{Variable, Placed, Tables}
 use Rattle.cyc_objects.specs.Words.{words_of_kinds, InRange, Is, Points, before}
 use Rattle.cyc_objects.specs.Related as objects
@@ -23,23 +24,25 @@ use Rattle.cyc_plain.specs.declared.instruction.Operand.TheVariants as operands
 use Rattle.cyc_plain.specs.declared.instruction.Request.TheVariants as requests
 use Rattle.cyc_plain.specs.declared.instruction.Instruction.{Instruction}
 use Rattle.cyc_plain.specs.declared.instruction.Instruction.TheVariants as instructions
+use Rattle.cyc_plain.specs.declared.limits.TheConstants.{RECORD_WORDS}
 use Rattle.cyc_plain.specs.Program.{routine_at}
-use Rattle.cyc_plain.specs.State.{Words, Frame, Configuration}
-use Rattle.cyc_plain.specs.Step.{operand_word}
+use Rattle.cyc_plain.specs.State.{Words, Activation, Frame, Configuration}
+use Rattle.cyc_plain.specs.Step.{operand_word, throws}
 use Rattle.cyc_plain.specs.State as plain
 use Rattle.cyc_plain.specs.Straight.{At}
 use Rattle.cyc_meaning.specs.Values.{Fat, Value, Null, Thin, Operand as Kinded, Cell, kinds_of, words_of_kind, is_thin}
 use Rattle.cyc_meaning.specs.Allocation.{writes_from, blanks_of}
-use Rattle.cyc_meaning.specs.State.{Owner, InRegion, Unique, Object, World, heap_number, globals_number, Environment, ConvertTo, Operate, Chain, Apply, ApplyPointer, Follow, LoadFrom, Decide, Store, Pass, MakePlain, MakeFields, MakeArray, FillElement, Initialise, Choose, Test, Return, Entry, Needs, NeedsPlace, Discard, Rest, Join, Loop, CloseRegion, CloseLexical, EndLoan, Handler, Caller, Main, calls_in, Focus, Evaluating, Locating, Given, Executing, Proceeding, Calling, Entering, Binding, Writing, Beginning, Repeating, Breaking, Continuing, Returning, Throwing, State, Running, Ended, GivenPlace, FollowMember, TakeAddress, StoreTo, StoreCell}
+use Rattle.cyc_meaning.specs.State.{Owner, InRegion, Unique, Object, World, heap_number, globals_number, Environment, ConvertTo, Operate, Chain, Apply, ApplyPointer, Follow, LoadFrom, Decide, Store, Pass, MakePlain, MakeFields, MakeArray, FillElement, Initialise, Choose, Test, Return, Entry, Needs, NeedsPlace, Discard, Rest, Join, Loop, CloseRegion, CloseLexical, EndLoan, Handler, Caller, Main, calls_in, Focus, Evaluating, Locating, Given, Executing, Proceeding, Calling, Entering, Binding, Writing, Beginning, Repeating, Breaking, Continuing, Returning, Throwing, State, Running, Ended, GivenPlace, FollowMember, TakeAddress, StoreTo, StoreCell, FreeObject, SwapLeft, SwapRight, Write, Swapping, ThrowWith, Naming, Catching}
 use Rattle.cyc_meaning.specs.Step.{object_of}
 use Rattle.cyc_meaning.specs.Operators.{null_exception, is_zero}
 use Rattle.cyc_meaning.specs.FrameCount.{words_of_all}
 use Rattle.cyc_lower.specs.declared.statements.Exits.{Exits}
 use Rattle.cyc_meaning.specs.Pointers.{result_kind as operator_kind}
 use Rattle.cyc_lower.specs.Slots.{Types, Starts, starts_of, slot_of}
-use Rattle.cyc_lower.specs.Lowering.{most_elements, unary_operator, failing_comparison, operand_of, move_of, low_byte, converts_there, all_passed, compared_of, break_target, continue_target, results_of, lower_program, outside_loops, slot_types, raises_of}
+use Rattle.cyc_lower.specs.Lowering.{most_elements, unary_operator, failing_comparison, operand_of, move_of, low_byte, converts_there, all_passed, compared_of, break_target, continue_target, results_of, lower_program, outside_loops, slot_types, raises_of, right_slot, tag_operand}
 use Rattle.cyc_lower.proofs.Widths.{kind_of_result, given, called_kind, HasRoom, Outside, chain_kind}
-use Rattle.cyc_lower.proofs.Stands.{BegunAt, ElementsAt, CheckAt, ConversionAt, PlaceAt, OperatorAt, TruthAt, CopyAt, ExpressionAt, ArgumentsAt, OperationsAt, ValueAt, ConditionAt, FailingAt, ComparesAt, DiscardedAt, StatementAt, ItemsAt, PointerAt, StoresAt, ObjectAt, AddressAt, ConvertedOperandAt}
+use Rattle.cyc_lower.proofs.Stands.{BegunAt, ElementsAt, CheckAt, ConversionAt, PlaceAt, OperatorAt, TruthAt, CopyAt, ExpressionAt, ArgumentsAt, OperationsAt, ValueAt, ConditionAt, FailingAt, ComparesAt, DiscardedAt, StatementAt, ItemsAt, PointerAt, StoresAt, ObjectAt, AddressAt, ConvertedOperandAt, FreedAt, HasSide, SideAt, ReadAt, WriteAt, ExchangeAt, LeaveAt, ClausesAt}
+use Rattle.cyc_lower.specs.Lowerable.{waits_for}
 
 -- ---- values in slots
 
@@ -94,7 +97,11 @@ held (Needs (Choose first second) ∷ k) = []
 held (Needs (Test condition body) ∷ k) = []
 held (Needs Return ∷ k) = []
 held (Needs (Follow pointer target) ∷ k) = held k
+held (Needs FreeObject ∷ k) = held k
 held (Needs (FollowMember pointer fields field) ∷ k) = held k
+held (NeedsPlace (SwapLeft kind peek right) ∷ k) = []
+held (NeedsPlace (SwapRight kind None left) ∷ k) = []
+held (NeedsPlace (SwapRight kind (Some n) left) ∷ k) = record { kind = kinds.NonNull; value = left } ∷ []
 held (NeedsPlace a ∷ k) = held k
 held (entry ∷ k) = []
 
@@ -116,7 +123,10 @@ counters_of base (Needs (MakeArray owner level kind element) ∷ k) = counters_o
 counters_of base (Needs (FillElement object count index level kind element) ∷ k) = counters_of base k ++ (height base (held k) + 2) ∷ []
 counters_of base (Needs (Follow pointer target) ∷ k) = counters_of base k
 counters_of base (Needs (FollowMember pointer fields field) ∷ k) = counters_of base k
-counters_of base (NeedsPlace a ∷ k) = counters_of base k
+counters_of base (Needs FreeObject ∷ k) = counters_of base k
+counters_of base (NeedsPlace (LoadFrom cell) ∷ k) = counters_of base k
+counters_of base (NeedsPlace TakeAddress ∷ k) = counters_of base k
+counters_of base (NeedsPlace (StoreTo peek c) ∷ k) = counters_of base k
 counters_of base (entry ∷ k) = []
 
 -- how many arrays of the running call are being filled
@@ -139,7 +149,13 @@ AreCounted counters (entry ∷ k) = AreCounted counters k
 -- the handle of the region where an object with this owner is made
 abbrev pub IsHandleOf : Owner → (handle : ℕ) → Type 0
 IsHandleOf (InRegion region) handle = (region ≡ heap_number) × (handle ≡ HEAP)
-IsHandleOf (Unique live) handle = ⊥
+IsHandleOf (Unique true) handle = handle ≡ UNIQUE
+IsHandleOf (Unique false) handle = ⊥
+
+-- the same for an array, which is made in the heap alone yet
+abbrev pub IsInHeap : Owner → (handle : ℕ) → Type 0
+IsInHeap (InRegion region) handle = (region ≡ heap_number) × (handle ≡ HEAP)
+IsInHeap (Unique live) handle = ⊥
 
 -- a new object has cells of these kinds, which stand from this address on
 pub record IsObject (t : Tables) (object address : ℕ) (kinds : List Kind) : Type 0 where
@@ -179,15 +195,50 @@ abbrev pub GlobalsHold : Tables → (globals : ℕ) → List Object → Words �
 GlobalsHold t globals objects words =
     (number : ℕ) → number < globals → (slice_get t.rows number ≡ Some Variable) × ((v : Kinded) → contents objects number ≡ Some v → IsWord t v.kind v.value (words number))
 
--- a call that waits: its locals, and the values that it holds
+-- The first temporary of the running call, whose locals end at a slot: the records of the handlers that it has open stand between.
+abbrev pub behind_records : List Entry → (slot : ℕ) → ℕ
+behind_records [] slot = slot
+behind_records (Handler clauses ∷ k) slot = behind_records k slot + RECORD_WORDS
+behind_records (Caller e ∷ k) slot = slot
+behind_records (Main ∷ k) slot = slot
+behind_records (entry ∷ k) slot = behind_records k slot
+
+-- a call that waits: its locals, its first temporary by the end of its locals, and the values that it holds
 pub record Waiting : Type 0 where
   pub locals : ℕ → Option ℕ
+  pub temporaries : ℕ → ℕ
   pub values : List Kinded
 
 abbrev pub callers : List Entry → List Waiting
 callers [] = []
-callers (Caller e ∷ k) = record { locals = e.locals; values = held k } ∷ callers k
+callers (Caller e ∷ k) = record { locals = e.locals; temporaries = behind_records k; values = held k } ∷ callers k
 callers (entry ∷ k) = callers k
+
+-- the newest handler is open
+abbrev pub Opened : List plain.Handler → ((index first : ℕ) → Words → List plain.Handler → Type 0) → Type 0
+Opened [] P = ⊥
+Opened (plain.Caught ∷ handlers) P = ⊥
+Opened (plain.Open index first contents ∷ handlers) P = P index first contents handlers
+
+-- the record of a handler holds what it held when the handler was opened
+abbrev pub IsIntact : Words → (first : ℕ) → (contents : Words) → Type 0
+IsIntact slots first contents =
+    (slots first ≡ contents 0) × (slots (first + 1) ≡ contents 1) × (slots (first + 2) ≡ contents 2) × (slots (first + 3) ≡ contents 3)
+
+-- What is left of the entries where a loop is left, or the function: its handlers are the open ones then.
+abbrev pub left_by : (loop : Bool) → List Entry → List Entry
+left_by loop [] = []
+left_by loop (Loop condition body ∷ k) = if loop then k else left_by loop k
+left_by loop (Caller e ∷ k) = Caller e ∷ k
+left_by loop (Main ∷ k) = Main ∷ k
+left_by loop (entry ∷ k) = left_by loop k
+
+-- the plain program has closed the handlers that a focus leaves at once
+abbrev pub handling : Focus → List Entry → List Entry
+handling Breaking k = left_by true k
+handling Continuing k = left_by true k
+handling (Returning v) k = left_by false k
+handling focus k = k
 
 -- the regions of variables that entries name
 abbrev pub homes : List Entry → List ℕ
@@ -195,14 +246,6 @@ homes [] = []
 homes (CloseRegion region home ∷ k) = region ∷ home ∷ homes k
 homes (Caller e ∷ k) = e.home ∷ homes k
 homes (entry ∷ k) = homes k
-
--- nothing waits that catches an exception or is more than variables: no `try`, no region of a program
-abbrev pub IsPlainStack : List Entry → Type 0
-IsPlainStack [] = Unit {0}
-IsPlainStack (CloseLexical region ∷ k) = ⊥
-IsPlainStack (EndLoan lent ∷ k) = ⊥
-IsPlainStack (Handler handler ∷ k) = ⊥
-IsPlainStack (entry ∷ k) = IsPlainStack k
 
 -- ---- what is shared
 
@@ -264,7 +307,7 @@ module _ (source : Program) where
 
   -- the same where these entries wait, of which some are arrays that are being filled
   abbrev pub types_on : ℕ → List Entry → Types
-  types_on g k = record { locals = local_types (slice_get source.functions g); structs = source.structs; raises = raises_in (slice_get source.functions g); counters = counters_of (words_of_all (local_types (slice_get source.functions g))) k }
+  types_on g k = record { locals = local_types (slice_get source.functions g); structs = source.structs; raises = raises_in (slice_get source.functions g); counters = counters_of (behind_records k (words_of_all (local_types (slice_get source.functions g)))) k }
 
   abbrev pub starts_on : ℕ → List Entry → Starts
   starts_on g k = starts_of (types_on g k)
@@ -290,9 +333,13 @@ module _ (source : Program) where
   abbrev pub returned_at : ℕ → Kind
   returned_at g = kind_of_result (bounds_at g).result
 
+  -- the first slot behind the records of handlers too
+  abbrev pub floor : ℕ → List Entry → ℕ
+  floor g k = behind_records k (base_of g)
+
   -- the slot of the next value
   abbrev pub top : ℕ → List Entry → ℕ
-  top g k = height (base_of g) (held k)
+  top g k = height (floor g k) (held k)
 
   -- ---- data
 
@@ -300,7 +347,7 @@ module _ (source : Program) where
   abbrev pub FramesHold : Tables → List Object → (high : ℕ) → List Frame → List Waiting → Type 0
   FramesHold t objects high [] [] = length source.globals ≤ high
   FramesHold t objects high (f ∷ frames) (x ∷ outer) =
-      (low : ℕ) × (low ≤ high) × (LocalsHold t (types_at f.caller.function) objects x.locals low high f.caller.slots × Holds t f.caller.slots (base_of f.caller.function) x.values)
+      (low : ℕ) × (low ≤ high) × (LocalsHold t (types_at f.caller.function) objects x.locals low high f.caller.slots × Holds t f.caller.slots (x.temporaries (base_of f.caller.function)) x.values)
       × FramesHold t objects low frames outer
   FramesHold t objects high [] (x ∷ outer) = ⊥
   FramesHold t objects high (f ∷ frames) [] = ⊥
@@ -313,10 +360,15 @@ module _ (source : Program) where
 
   -- ---- the control stack and the code
 
-  -- code that comes to q from p, at once or by one jump
+  -- code that comes to q from p, at once, by one jump, or by one to another
   pub data Arrives (code : List Instruction) (p q : ℕ) : Type 0 where
     in_place : p ≡ q → Arrives code p q
     by_jump : At code p (instructions.Jump q) → Arrives code p q
+    by_jumps : (m : ℕ) → m < p → At code p (instructions.Jump m) → At code m (instructions.Jump q) → Arrives code p q
+
+  -- no loop of the function is left, and its handlers have their records from this slot on
+  abbrev pub IsOutside : Exits → (slot : ℕ) → Type 0
+  IsOutside exits slot = (exits.loop_record ≡ slot) × (exits.first_record ≡ slot)
 
   -- A value of so many words comes to slot d: that of a temporary, from `free` on, or that of a local which is about to be assigned.
   pub data Lands (base free d words : ℕ) (temporary ahead : Type 0) : Type 0 where
@@ -339,25 +391,25 @@ module _ (source : Program) where
     to_slot : value → Yields value tested
     to_jump : tested → Yields value tested
 
-  abbrev pub LoopAt : ℕ → Expression → Statement → Exits → (q : ℕ) → Type 0
-  LoopAt g condition body exits q = (x : Operand) × (y : Operand) × (m : ℕ) × (r : ℕ) × At (code_of g) (break_target exits.head) (instructions.Jump q)
-      × ConditionAt (code_of g) (bounds_at g) (types_at g) condition x y (base_of g) (continue_target exits.head) m
+  abbrev pub LoopAt : (g t : ℕ) → Expression → Statement → (exits outer : Exits) → (q : ℕ) → Type 0
+  LoopAt g t condition body exits outer q = (exits.loop_record ≡ t) × (exits.first_record ≡ outer.first_record) × (x : Operand) × (y : Operand) × (m : ℕ) × (r : ℕ) × At (code_of g) (break_target exits.head) (instructions.Jump q)
+      × ConditionAt (code_of g) (bounds_at g) (types_at g) condition x y t (continue_target exits.head) m
       × FailingAt (code_of g) (bounds_at g) (types_at g) condition x y m (break_target exits.head)
-      × StatementAt (code_of g) (bounds_at g) (types_at g) body exits (base_of g) (m + 1) r
+      × StatementAt (code_of g) (bounds_at g) (types_at g) body exits t (m + 1) r
       × At (code_of g) r (instructions.Jump (continue_target exits.head)) × (break_target exits.head < q)
 
   -- A branch that is taken where a condition has failed, and what stands behind it. From a place in a loop on stands what waits.
-  abbrev pub ChoosesAt : (g : ℕ) → Comparison → (l r : Operand) → (p : ℕ) → (first second : Statement) → (waits : Exits → (q : ℕ) → Type 0) → Type 0
-  ChoosesAt g failing l r p first second waits =
+  abbrev pub ChoosesAt : (g t : ℕ) → Comparison → (l r : Operand) → (p : ℕ) → (first second : Statement) → (waits : Exits → (q : ℕ) → Type 0) → Type 0
+  ChoosesAt g t failing l r p first second waits =
       (exits : Exits) × (m : ℕ) × (q : ℕ) × At (code_of g) p (instructions.Branch failing l r (m + 1))
-      × StatementAt (code_of g) (bounds_at g) (types_at g) first exits (base_of g) (p + 1) m × At (code_of g) m (instructions.Jump q)
-      × StatementAt (code_of g) (bounds_at g) (types_at g) second exits (base_of g) (m + 1) q × waits exits q
+      × StatementAt (code_of g) (bounds_at g) (types_at g) first exits t (p + 1) m × At (code_of g) m (instructions.Jump q)
+      × StatementAt (code_of g) (bounds_at g) (types_at g) second exits t (m + 1) q × waits exits q
 
-  abbrev pub RepeatsAt : (g : ℕ) → Comparison → (l r : Operand) → (p : ℕ) → Expression → Statement → (waits : Exits → (q : ℕ) → Type 0) → Type 0
-  RepeatsAt g failing l r p condition body waits =
-      (exits : Exits) × (outer : Exits) × (q : ℕ) × LoopAt g condition body exits q
+  abbrev pub RepeatsAt : (g t : ℕ) → Comparison → (l r : Operand) → (p : ℕ) → Expression → Statement → (waits : Exits → (q : ℕ) → Type 0) → Type 0
+  RepeatsAt g t failing l r p condition body waits =
+      (exits : Exits) × (outer : Exits) × (q : ℕ) × LoopAt g t condition body exits outer q
       × (m : ℕ) × At (code_of g) p (instructions.Branch failing l r (break_target exits.head))
-      × StatementAt (code_of g) (bounds_at g) (types_at g) body exits (base_of g) (p + 1) m
+      × StatementAt (code_of g) (bounds_at g) (types_at g) body exits t (p + 1) m
       × At (code_of g) m (instructions.Jump (continue_target exits.head)) × waits outer q
 
   abbrev pub Below : List Frame → (Frame → List Frame → Type 0) → Type 0
@@ -380,6 +432,30 @@ module _ (source : Program) where
       × HasRoom (types_at g) n kind
   StoreAt g kind (Global n) from to p q =
       At (code_of g) p (instructions.StoreGlobal n from) × (p + 1 ≡ q) × (to ≡ from) × (n < (bounds_at g).globals) × (words_of_kind kind ≡ 1)
+
+  -- ---- swaps
+
+  -- where a side of a swap lies: a variable is an object, and a cell has its address in a slot
+  abbrev pub IsSideAt : Tables → (ℕ → Option ℕ) → Words → Side → (s object offset : ℕ) → Type 0
+  IsSideAt t locals slots (VariableSide l ty) s object offset =
+      (offset ≡ 0) × (object_of (record { locals = locals; home = 0; counters = λ level. None }) l ≡ Some object)
+  IsSideAt t locals slots (CellSide x) s object offset = Points t object offset (slots s)
+
+  -- the left side, while the right one is sought: a variable, or a cell that is reached by a peek
+  abbrev pub IsLeft : (ℕ → Option ℕ) → (peek : Option ℕ) → Side → (place : Value) → Type 0
+  IsLeft locals None (VariableSide l ty) (Thin object offset) =
+      (offset ≡ 0) × (object_of (record { locals = locals; home = 0; counters = λ level. None }) l ≡ Some object)
+  IsLeft locals (Some n) (CellSide x) (Thin object offset) = Unit {0}
+  IsLeft locals peek a place = ⊥
+
+  -- words that stand in slots come to sides, and then the code goes on at q
+  abbrev pub WritesAt : Tables → (ℕ → Option ℕ) → (g : ℕ) → Words → List Write → (p q : ℕ) → Type 0
+  WritesAt t locals g slots [] p q = p ≡ q
+  WritesAt t locals g slots (x ∷ writes) p q =
+      (a : Side) × (object : ℕ) × (offset : ℕ) × (s : ℕ) × (v : ℕ) × WriteAt (code_of g) (bounds_at g) (types_at g) a s v p
+      × HasSide (code_of g) (bounds_at g) (types_at g) a x.operand.kind × (words_of_kind x.operand.kind ≡ 1) × (base_of g ≤ s) × (base_of g ≤ v)
+      × (x.place ≡ Thin object offset) × IsSideAt t locals slots a s object offset × IsWord t x.operand.kind x.operand.value (slots v)
+      × WritesAt t locals g slots writes (p + 1) q
 
   -- what this function returns is of this kind
   abbrev pub IsReturned : (g : ℕ) → Kind → Type 0
@@ -431,38 +507,44 @@ module _ (source : Program) where
         × Prints (code_of g) o (p + 1) (DroppedStack g (p + 1) frames k)
         (λ d. Lands (base_of g) (top g k) d 1 (ValueStack g locals kinds.Int (operands.Slot d) (p + 1 + 1) frames k) (AheadStack g locals kinds.Int d (p + 1 + 1) frames k))
     ValueStack g locals kind o p frames (Needs (Pass callee before arguments) ∷ k) =
-        (d : ℕ) × (m : ℕ) × (q : ℕ) × (all : ℕ) × (o ≡ operands.Slot (height (base_of g) (before ++ held k)))
-        × ArgumentsAt (code_of g) (bounds_at g) (types_on g k) arguments (height (base_of g) (before ++ held k) + words_of_kind kind) p m
+        (d : ℕ) × (m : ℕ) × (q : ℕ) × (all : ℕ) × (o ≡ operands.Slot (height (floor g k) (before ++ held k)))
+        × ArgumentsAt (code_of g) (bounds_at g) (types_on g k) arguments (height (floor g k) (before ++ held k) + words_of_kind kind) p m
         × CallAt g callee all (top g k) d m q × (words_held before + (words_of_kind kind + all_passed arguments) ≡ all)
         × Lands (base_of g) (top g k) d (words_of_kind (called_at g callee)) (ValueStack g locals (called_at g callee) (operands.Slot d) q frames k) (AheadStack g locals (called_at g callee) d q frames k)
     ValueStack g locals kind o p frames (Needs (MakePlain owner wanted) ∷ k) =
         (handle : ℕ) × (d : ℕ) × (q : ℕ) × IsHandleOf owner handle × (o ≡ operands.Slot (top g k)) × ObjectAt (code_of g) (bounds_at g) (types_on g k) handle 1 (words_of_kind kind) (top g k) d p q
         × Lands (base_of g) (top g k) d 1 (ValueStack g locals kinds.NonNull (operands.Slot d) q frames k) (AheadStack g locals kinds.NonNull d q frames k)
     ValueStack g locals kind o p frames (Needs (MakeFields owner before fields) ∷ k) =
-        (handle : ℕ) × (d : ℕ) × (m : ℕ) × (q : ℕ) × (all : ℕ) × IsHandleOf owner handle × (o ≡ operands.Slot (height (base_of g) (before ++ held k)))
-        × ArgumentsAt (code_of g) (bounds_at g) (types_on g k) fields (height (base_of g) (before ++ held k) + words_of_kind kind) p m
+        (handle : ℕ) × (d : ℕ) × (m : ℕ) × (q : ℕ) × (all : ℕ) × IsHandleOf owner handle × (o ≡ operands.Slot (height (floor g k) (before ++ held k)))
+        × ArgumentsAt (code_of g) (bounds_at g) (types_on g k) fields (height (floor g k) (before ++ held k) + words_of_kind kind) p m
         × ObjectAt (code_of g) (bounds_at g) (types_on g k) handle (length before + suc (argument_count fields)) all (top g k) d m q
         × (words_held before + (words_of_kind kind + all_passed fields) ≡ all)
         × Lands (base_of g) (top g k) d 1 (ValueStack g locals kinds.NonNull (operands.Slot d) q frames k) (AheadStack g locals kinds.NonNull d q frames k)
     ValueStack g locals kind o p frames (Needs (MakeArray owner level wanted element) ∷ k) =
-        (handle : ℕ) × (d : ℕ) × (h : ℕ) × (r : ℕ) × (s : ℕ) × (q : ℕ) × IsHandleOf owner handle × (o ≡ operands.Slot (top g k))
+        (handle : ℕ) × (d : ℕ) × (h : ℕ) × (r : ℕ) × (s : ℕ) × (q : ℕ) × IsInHeap owner handle × (o ≡ operands.Slot (top g k))
         × BegunAt (code_of g) (bounds_at g) (types_on g k) handle (top g k) p h
-        × (level ≡ length (counters_of (base_of g) k)) × (words_of_kind wanted ≡ 1) × ElementsAt (code_of g) (bounds_at g) (types_on g k) element (top g k) d h r s q
+        × (level ≡ length (counters_of (floor g k) k)) × (words_of_kind wanted ≡ 1) × ElementsAt (code_of g) (bounds_at g) (types_on g k) element (top g k) d h r s q
         × Lands (base_of g) (top g k) d 3 (ValueStack g locals kinds.Fat (operands.Slot d) q frames k) (AheadStack g locals kinds.Fat d q frames k)
     ValueStack g locals kind o p frames (Needs (FillElement object count index level wanted element) ∷ k) =
         (d : ℕ) × (h : ℕ) × (s : ℕ) × (q : ℕ) × (o ≡ operands.Slot (top g k + 3)) × (index < count) × (count ≤ most_elements)
-        × (level ≡ length (counters_of (base_of g) k)) × (words_of_kind wanted ≡ 1) × ElementsAt (code_of g) (bounds_at g) (types_on g k) element (top g k) d h p s q
+        × (level ≡ length (counters_of (floor g k) k)) × (words_of_kind wanted ≡ 1) × ElementsAt (code_of g) (bounds_at g) (types_on g k) element (top g k) d h p s q
         × Lands (base_of g) (top g k) d 3 (ValueStack g locals kinds.Fat (operands.Slot d) q frames k) (AheadStack g locals kinds.Fat d q frames k)
     ValueStack g locals kind o p frames (Needs (Initialise number wanted items) ∷ k) =
         (exits : Exits) × (q : ℕ) × At (code_of g) p (move_of (words_of_kind kind) (slot_of (starts_at g) number) o) × HasRoom (types_at g) number kind
-        × ItemsAt (code_of g) (bounds_at g) (types_at g) items exits (base_of g) (p + 1) q × StatementStack g exits q frames k
+        × ItemsAt (code_of g) (bounds_at g) (types_at g) items exits (floor g k) (p + 1) q × StatementStack g exits q frames k
     ValueStack g locals kind o p frames (Needs (Choose first second) ∷ k) =
-        ChoosesAt g comparisons.Equal o (operands.Word 0) p first second (λ exits q. StatementStack g exits q frames k)
+        ChoosesAt g (floor g k) comparisons.Equal o (operands.Word 0) p first second (λ exits q. StatementStack g exits q frames k)
     ValueStack g locals kind o p frames (Needs (Test condition body) ∷ k) =
-        RepeatsAt g comparisons.Equal o (operands.Word 0) p condition body (λ exits q. StatementStack g exits q frames k)
+        RepeatsAt g (floor g k) comparisons.Equal o (operands.Word 0) p condition body (λ exits q. StatementStack g exits q frames k)
     ValueStack g locals kind o p frames (Needs Return ∷ k) =
-        (exits : Exits) × (q : ℕ) × (s : ℕ) × (o ≡ operands.Slot s) × At (code_of g) p (instructions.Return s) × IsReturned g kind
+        (exits : Exits) × (q : ℕ) × (s : ℕ) × (r : ℕ) × (o ≡ operands.Slot s) × LeaveAt (code_of g) (bounds_at g) (types_at g) exits.first_record (floor g k) p r
+        × At (code_of g) r (instructions.Finish s) × IsReturned g kind
         × StatementStack g exits q frames k
+    ValueStack g locals kind o p frames (Needs FreeObject ∷ k) =
+        (d : ℕ) × (q : ℕ) × FreedAt (code_of g) (bounds_at g) (types_on g k) o p q
+        × Lands (base_of g) (top g k) d 1 (ValueStack g locals kinds.Int (operands.Slot d) q frames k) (AheadStack g locals kinds.Int d q frames k)
+    ValueStack g locals kind o p frames (Needs (ThrowWith tag) ∷ k) =
+        (exits : Exits) × (q : ℕ) × IsNumber tag × At (code_of g) p (instructions.Throw (tag_operand tag) o) × StatementStack g exits q frames k
     ValueStack g locals kind o p frames (Needs (Follow pointer target) ∷ k) =
         (q : ℕ) × (is_thin pointer ≡ true) × CheckAt (code_of g) (bounds_at g) (types_on g k) null_exception o p q × PlaceStack g locals o 0 q frames k
     ValueStack g locals kind o p frames (Needs (FollowMember pointer fields field) ∷ k) =
@@ -485,13 +567,21 @@ module _ (source : Program) where
         × At (code_of g) u (instructions.Store (operands.Slot (top g k)) 0 x) × (words_of_kind to ≡ 1)
         × HandsOn (code_of g) (words_of_kind to) x (u + 1) (DroppedStack g (u + 1) frames k) (ValueStack g locals to x (u + 1) frames k)
         (λ d r. Lands (base_of g) (top g k) d (words_of_kind to) (ValueStack g locals to (operands.Slot d) r frames k) (AheadStack g locals to d r frames k))
+    PlaceStack g locals o c p frames (NeedsPlace (SwapLeft kind peek right) ∷ k) =
+        (exits : Exits) × (x : Dereference) × (m : ℕ) × (r : ℕ) × (q : ℕ) × (words_of_kind kind ≡ 1) × HasSide (code_of g) (bounds_at g) (types_at g) right kind
+        × (waits_for peek right ≡ true) × AddressAt (code_of g) o c (floor g k) p m × SideAt (code_of g) (bounds_at g) (types_at g) right (floor g k + 1) m r
+        × ExchangeAt (code_of g) (bounds_at g) (types_at g) (CellSide x) right (floor g k) r q × StatementStack g exits q frames k
+    PlaceStack g locals o c p frames (NeedsPlace (SwapRight kind peek left) ∷ k) =
+        (exits : Exits) × (a : Side) × (y : Dereference) × (m : ℕ) × (q : ℕ) × (words_of_kind kind ≡ 1) × HasSide (code_of g) (bounds_at g) (types_at g) a kind
+        × IsLeft locals peek a left × AddressAt (code_of g) o c (right_slot a (floor g k)) p m
+        × ExchangeAt (code_of g) (bounds_at g) (types_at g) a (CellSide y) (floor g k) m q × StatementStack g exits q frames k
     PlaceStack g locals o c p frames k = ⊥
 
     -- the same for a condition, which fails where this comparison holds
     pub ConditionStack : (g : ℕ) → Comparison → (l r : Operand) → (p : ℕ) → List Frame → List Entry → Type 0
     ConditionStack g failing l r p frames (Needs (Chain NoOperations) ∷ k) = ConditionStack g failing l r p frames k
-    ConditionStack g failing l r p frames (Needs (Choose first second) ∷ k) = ChoosesAt g failing l r p first second (λ exits q. StatementStack g exits q frames k)
-    ConditionStack g failing l r p frames (Needs (Test condition body) ∷ k) = RepeatsAt g failing l r p condition body (λ exits q. StatementStack g exits q frames k)
+    ConditionStack g failing l r p frames (Needs (Choose first second) ∷ k) = ChoosesAt g (floor g k) failing l r p first second (λ exits q. StatementStack g exits q frames k)
+    ConditionStack g failing l r p frames (Needs (Test condition body) ∷ k) = RepeatsAt g (floor g k) failing l r p condition body (λ exits q. StatementStack g exits q frames k)
     ConditionStack g failing l r p frames k = ⊥
 
     -- the same for a value that stands nowhere, since nobody wants it
@@ -509,24 +599,26 @@ module _ (source : Program) where
         × HandsOn (code_of g) (words_of_kind kind) (operands.Slot n) p (DroppedStack g p frames k) (ValueStack g locals kind (operands.Slot n) p frames k)
         (λ d r. Lands (base_of g) (top g k) d (words_of_kind kind) (ValueStack g locals kind (operands.Slot d) r frames k) (AheadStack g locals kind d r frames k))
     AheadStack g locals kind n p frames (Needs (Initialise number wanted items) ∷ k) =
-        (exits : Exits) × (q : ℕ) × (slot_of (starts_at g) number ≡ n) × HasRoom (types_at g) number kind × ItemsAt (code_of g) (bounds_at g) (types_at g) items exits (base_of g) p q × StatementStack g exits q frames k
+        (exits : Exits) × (q : ℕ) × (slot_of (starts_at g) number ≡ n) × HasRoom (types_at g) number kind × ItemsAt (code_of g) (bounds_at g) (types_at g) items exits (floor g k) p q × StatementStack g exits q frames k
     AheadStack g locals kind n p frames k = ⊥
 
     -- the same where no value waits
     pub StatementStack : (g : ℕ) → Exits → (p : ℕ) → List Frame → List Entry → Type 0
     StatementStack g exits p frames (Rest items ∷ k) =
-        (q : ℕ) × ItemsAt (code_of g) (bounds_at g) (types_at g) items exits (base_of g) p q × StatementStack g exits q frames k
+        (q : ℕ) × ItemsAt (code_of g) (bounds_at g) (types_at g) items exits (floor g k) p q × StatementStack g exits q frames k
     StatementStack g exits p frames (Join ∷ k) = (q : ℕ) × Arrives (code_of g) p q × StatementStack g exits q frames k
     StatementStack g exits p frames (Loop condition body ∷ k) =
-        (outer : Exits) × (q : ℕ) × LoopAt g condition body exits q × At (code_of g) p (instructions.Jump (continue_target exits.head))
+        (outer : Exits) × (q : ℕ) × LoopAt g (floor g k) condition body exits outer q × At (code_of g) p (instructions.Jump (continue_target exits.head))
         × StatementStack g outer q frames k
-    StatementStack g exits p frames (CloseRegion region home ∷ k) = StatementStack g exits p frames k
+    StatementStack g exits p frames (CloseRegion region home ∷ k) = (q : ℕ) × Arrives (code_of g) p q × StatementStack g exits q frames k
+    StatementStack g exits p frames (Handler handler ∷ k) =
+        (q : ℕ) × At (code_of g) p (instructions.Leave (floor g k)) × At (code_of g) (p + 1) (instructions.Jump q) × StatementStack g exits q frames k
     StatementStack g exits p frames (Caller e ∷ k) =
-        (s : ℕ) × At (code_of g) p (instructions.Return s)
+        (s : ℕ) × At (code_of g) p (instructions.Finish s) × IsOutside exits (base_of g)
         × Below frames (λ f rest. Lands (base_of f.caller.function) (top f.caller.function k) f.result (words_of_kind (returned_at g))
         (ValueStack f.caller.function e.locals (returned_at g) (operands.Slot f.result) f.caller.next rest k)
         (AheadStack f.caller.function e.locals (returned_at g) f.result f.caller.next rest k))
-    StatementStack g exits p frames (Main ∷ k) = (s : ℕ) × At (code_of g) p (instructions.Return s) × IsLast frames k
+    StatementStack g exits p frames (Main ∷ k) = (s : ℕ) × At (code_of g) p (instructions.Finish s) × IsOutside exits (base_of g) × IsLast frames k
     StatementStack g exits p frames k = ⊥
 
   -- a value of a kind comes to slot d, and what is done with it stands from place p on
@@ -554,49 +646,49 @@ module _ (source : Program) where
   -- A right operand without code: the left one may be without code too, and both are read at once.
   abbrev pub RightAt : Tables → Expression → (ℕ → Option ℕ) → (g p : ℕ) → Words → List Frame → List Entry → Type 0
   RightAt t a locals g p slots frames (Needs (Apply operator left) ∷ k) =
-      (l : Operand) × (r : Operand) × (operand_of (starts_on g k) a ≡ Some r) × IsIn t left slots l × Holds t slots (base_of g) (held k)
+      (l : Operand) × (r : Operand) × (operand_of (starts_on g k) a ≡ Some r) × IsIn t left slots l × Holds t slots (floor g k) (held k)
       × AppliedStack g locals operator l r p frames k
   RightAt t a locals g p slots frames k = ⊥
 
   -- both operands are there
   abbrev pub ReadyAt : Tables → Kinded → (ℕ → Option ℕ) → (g p : ℕ) → Words → List Frame → List Entry → Type 0
   ReadyAt t v locals g p slots frames (Needs (Apply operator left) ∷ k) =
-      (l : Operand) × (r : Operand) × IsIn t left slots l × IsIn t v slots r × Holds t slots (base_of g) (held k)
+      (l : Operand) × (r : Operand) × IsIn t left slots l × IsIn t v slots r × Holds t slots (floor g k) (held k)
       × AppliedStack g locals operator l r p frames k
   ReadyAt t v locals g p slots frames k = ⊥
 
   -- the code of an expression, by where its value is to be
   pub data EvaluatingAt (t : Tables) (a : Expression) (locals : ℕ → Option ℕ) (g p : ℕ) (slots : Words) (frames : List Frame) (k : List Entry) : Type 0 where
-    as_operand : (o : Operand) → (q : ℕ) → ValueAt (code_of g) (bounds_at g) (types_on g k) a (top g k) o p q → Holds t slots (base_of g) (held k)
+    as_operand : (o : Operand) → (q : ℕ) → ValueAt (code_of g) (bounds_at g) (types_on g k) a (top g k) o p q → Holds t slots (floor g k) (held k)
         → ValueStack g locals (given_at g a) o q frames k → EvaluatingAt t a locals g p slots frames k
-    into_slot : (d q : ℕ) → ExpressionAt (code_of g) (bounds_at g) (types_on g k) a d (top g k) p q → Holds t slots (base_of g) (held k)
+    into_slot : (d q : ℕ) → ExpressionAt (code_of g) (bounds_at g) (types_on g k) a d (top g k) p q → Holds t slots (floor g k) (held k)
         → LandsStack g locals (given_at g a) d q frames k → EvaluatingAt t a locals g p slots frames k
-    for_effect : (q : ℕ) → DiscardedAt (code_of g) (bounds_at g) (types_on g k) a (top g k) p q → Holds t slots (base_of g) (held k)
+    for_effect : (q : ℕ) → DiscardedAt (code_of g) (bounds_at g) (types_on g k) a (top g k) p q → Holds t slots (floor g k) (held k)
         → DroppedStack g q frames k → EvaluatingAt t a locals g p slots frames k
     as_right : RightAt t a locals g p slots frames k → EvaluatingAt t a locals g p slots frames k
-    as_condition : (l r : Operand) → (q : ℕ) → ConditionAt (code_of g) (bounds_at g) (types_on g k) a l r (top g k) p q → Holds t slots (base_of g) (held k)
+    as_condition : (l r : Operand) → (q : ℕ) → ConditionAt (code_of g) (bounds_at g) (types_on g k) a l r (top g k) p q → Holds t slots (floor g k) (held k)
         → ConditionStack g (compared_of a).failing l r q frames k → EvaluatingAt t a locals g p slots frames k
 
   abbrev pub FocusAt : Tables → Focus → List Entry → (ℕ → Option ℕ) → (g p : ℕ) → Words → List Frame → Type 0
   FocusAt t (Evaluating a) k locals g p slots frames = EvaluatingAt t a locals g p slots frames k
   FocusAt t (Locating x) k locals g p slots frames =
-      (o : Operand) × (c : ℕ) × (q : ℕ) × PlaceAt (code_of g) (bounds_at g) (types_on g k) x o c (top g k) p q × Holds t slots (base_of g) (held k)
+      (o : Operand) × (c : ℕ) × (q : ℕ) × PlaceAt (code_of g) (bounds_at g) (types_on g k) x o c (top g k) p q × Holds t slots (floor g k) (held k)
       × PlaceStack g locals o c q frames k
   FocusAt t (GivenPlace (Thin object offset)) k locals g p slots frames =
-      (o : Operand) × (c : ℕ) × (operand_word slots o < 2 ^ 32) × Points t object offset (add_of (operand_word slots o) c) × Holds t slots (base_of g) (held k)
+      (o : Operand) × (c : ℕ) × (operand_word slots o < 2 ^ 32) × Points t object offset (add_of (operand_word slots o) c) × Holds t slots (floor g k) (held k)
       × PlaceStack g locals o c p frames k
   FocusAt t (Executing s) k locals g p slots frames =
-      (exits : Exits) × (q : ℕ) × StatementAt (code_of g) (bounds_at g) (types_at g) s exits (base_of g) p q × StatementStack g exits q frames k
+      (exits : Exits) × (q : ℕ) × StatementAt (code_of g) (bounds_at g) (types_at g) s exits (floor g k) p q × StatementStack g exits q frames k
   FocusAt t (Calling callees.Putchar before) k locals g p slots frames =
-      (v : Kinded) × (o : Operand) × (before ≡ v ∷ []) × IsIn t v slots o × Holds t slots (base_of g) (held k) × PrintsStack g locals o p frames k
+      (v : Kinded) × (o : Operand) × (before ≡ v ∷ []) × IsIn t v slots o × Holds t slots (floor g k) (held k) × PrintsStack g locals o p frames k
   FocusAt t (Calling callee before) k locals g p slots frames =
-      (d : ℕ) × (q : ℕ) × CallAt g callee (words_held before) (top g k) d p q × Holds t slots (base_of g) (before ++ held k)
+      (d : ℕ) × (q : ℕ) × CallAt g callee (words_held before) (top g k) d p q × Holds t slots (floor g k) (before ++ held k)
       × LandsStack g locals (called_at g callee) d q frames k
   FocusAt t (Entering h arguments) k locals g p slots frames =
-      (m : ℕ) × ItemsAt (code_of g) (bounds_at g) (types_at g) h.body (outside_loops (base_of g)) (base_of g) p m × StatementStack g (outside_loops (base_of g)) m frames k
+      (m : ℕ) × ItemsAt (code_of g) (bounds_at g) (types_at g) h.body (outside_loops (base_of g)) (floor g k) p m × StatementStack g (outside_loops (base_of g)) m frames k
       × HoldsFrom t slots 0 arguments × (parameters_at g ≡ h.parameters)
   FocusAt t (Binding number types arguments body) k locals g p slots frames =
-      (m : ℕ) × (first : List Ty) × ItemsAt (code_of g) (bounds_at g) (types_at g) body (outside_loops (base_of g)) (base_of g) p m × StatementStack g (outside_loops (base_of g)) m frames k
+      (m : ℕ) × (first : List Ty) × ItemsAt (code_of g) (bounds_at g) (types_at g) body (outside_loops (base_of g)) (floor g k) p m × StatementStack g (outside_loops (base_of g)) m frames k
       × HoldsFrom t slots (words_of_all first) arguments × (parameters_at g ≡ first ++ types) × (length first ≡ number)
   FocusAt t (Writing writes (Some pointer)) k locals g p slots frames =
       (object : ℕ) × (done : List Kind) × (values : List Kinded) × (address : ℕ) × (slot : ℕ) × (d : ℕ) × (m : ℕ) × (q : ℕ)
@@ -604,26 +696,47 @@ module _ (source : Program) where
       × IsObject t object (slots address) (done ++ kinds_of (blanks_of values)) × (words_held values ≡ length values)
       × HoldsFrom t slots slot values × StoresAt (code_of g) (bounds_at g) (types_on g k) (words_held values) address (4 * words_of_kinds done) slot p m
       × At (code_of g) m (instructions.Move d (operands.Slot address)) × (m + 1 ≡ q)
-      × Holds t slots (base_of g) (held k) × LandsStack g locals kinds.NonNull d q frames k
+      × Holds t slots (floor g k) (held k) × LandsStack g locals kinds.NonNull d q frames k
   FocusAt t (Beginning owner count level wanted element) k locals g p slots frames =
-      (handle : ℕ) × (d : ℕ) × (h : ℕ) × (r : ℕ) × (s : ℕ) × (q : ℕ) × IsHandleOf owner handle
+      (handle : ℕ) × (d : ℕ) × (h : ℕ) × (r : ℕ) × (s : ℕ) × (q : ℕ) × IsInHeap owner handle
       × At (code_of g) p (instructions.Ask (requests.Allocate (top g k) (operands.Word handle) (operands.Slot (top g k + 3)))) × (p + 1 ≡ h)
       × (count ≤ most_elements) × (slots (top g k + 1) ≡ count) × (slots (top g k + 2) ≡ 0) × (slots (top g k + 3) ≡ max 1 count)
-      × (level ≡ length (counters_of (base_of g) k)) × (words_of_kind wanted ≡ 1) × ElementsAt (code_of g) (bounds_at g) (types_on g k) element (top g k) d h r s q
-      × Holds t slots (base_of g) (held k) × LandsStack g locals kinds.Fat d q frames k
+      × (level ≡ length (counters_of (floor g k) k)) × (words_of_kind wanted ≡ 1) × ElementsAt (code_of g) (bounds_at g) (types_on g k) element (top g k) d h r s q
+      × Holds t slots (floor g k) (held k) × LandsStack g locals kinds.Fat d q frames k
   FocusAt t (Repeating object count index level wanted element) k locals g p slots frames =
       (d : ℕ) × (r : ℕ) × (s : ℕ) × (q : ℕ) × Is t kinds.Fat (Fat object 0 count index) slots (top g k) × (index ≤ count) × (count ≤ most_elements)
-      × (level ≡ length (counters_of (base_of g) k)) × (words_of_kind wanted ≡ 1) × ElementsAt (code_of g) (bounds_at g) (types_on g k) element (top g k) d p r s q
-      × Holds t slots (base_of g) (held k) × LandsStack g locals kinds.Fat d q frames k
+      × (level ≡ length (counters_of (floor g k) k)) × (words_of_kind wanted ≡ 1) × ElementsAt (code_of g) (bounds_at g) (types_on g k) element (top g k) d p r s q
+      × Holds t slots (floor g k) (held k) × LandsStack g locals kinds.Fat d q frames k
+  FocusAt t (Writing writes None) k locals g p slots frames =
+      (exits : Exits) × (q : ℕ) × WritesAt t locals g slots writes p q × StatementStack g exits q frames k
+  FocusAt t (Swapping kind (Thin object offset) (Thin other beside) None) k locals g p slots frames =
+      (exits : Exits) × (q : ℕ) × (a : Side) × (b : Side) × (words_of_kind kind ≡ 1) × HasSide (code_of g) (bounds_at g) (types_at g) a kind × HasSide (code_of g) (bounds_at g) (types_at g) b kind
+      × IsSideAt t locals slots a (floor g k) object offset × IsSideAt t locals slots b (right_slot a (floor g k)) other beside
+      × ExchangeAt (code_of g) (bounds_at g) (types_at g) a b (floor g k) p q × StatementStack g exits q frames k
+  FocusAt t (Swapping kind (Thin object offset) (Thin other beside) (Some before)) k locals g p slots frames =
+      (exits : Exits) × (q : ℕ) × (a : Side) × (b : Side) × (words_of_kind kind ≡ 1) × HasSide (code_of g) (bounds_at g) (types_at g) a kind × HasSide (code_of g) (bounds_at g) (types_at g) b kind
+      × IsSideAt t locals slots a (floor g k) object offset × IsSideAt t locals slots b (right_slot a (floor g k)) other beside
+      × (before.kind ≡ kind) × IsWord t before.kind before.value (slots (floor g k + 2))
+      × ReadAt (code_of g) (bounds_at g) (types_at g) b (right_slot a (floor g k)) (floor g k + 3) p
+      × WriteAt (code_of g) (bounds_at g) (types_at g) a (floor g k) (floor g k + 3) (p + 1)
+      × WriteAt (code_of g) (bounds_at g) (types_at g) b (right_slot a (floor g k)) (floor g k + 2) (p + 1 + 1)
+      × (p + 1 + 1 + 1 ≡ q) × StatementStack g exits q frames k
+  FocusAt t (Naming number v items) k locals g p slots frames =
+      (exits : Exits) × (q : ℕ) × (o : Operand) × At (code_of g) p (move_of (words_of_kind v.kind) (slot_of (starts_at g) number) o) × IsIn t v slots o
+      × (number < length (types_at g).locals) × HasRoom (types_at g) number v.kind
+      × ItemsAt (code_of g) (bounds_at g) (types_at g) items exits (floor g k) (p + 1) q × StatementStack g exits q frames k
+  FocusAt t (Catching tag value handler) k locals g p slots frames =
+      (exits : Exits) × (out : ℕ) × (q : ℕ) × ClausesAt (code_of g) (bounds_at g) (types_at g) handler out exits (floor g k) p q × At (code_of g) out (instructions.Jump q)
+      × StatementStack g exits q frames k × IsNumber tag × (slots (floor g k) ≡ tag) × (slots (floor g k + 1) ≡ value)
   FocusAt t Breaking k locals g p slots frames =
       (exits : Exits) × (q : ℕ) × At (code_of g) p (instructions.Jump (break_target exits.head)) × StatementStack g exits q frames k
   FocusAt t Continuing k locals g p slots frames =
       (exits : Exits) × (q : ℕ) × At (code_of g) p (instructions.Jump (continue_target exits.head)) × StatementStack g exits q frames k
   FocusAt t (Returning (Some v)) k locals g p slots frames =
-      (exits : Exits) × (q : ℕ) × (s : ℕ) × At (code_of g) p (instructions.Return s) × Is t v.kind v.value slots s × IsReturned g v.kind
+      (exits : Exits) × (q : ℕ) × (s : ℕ) × At (code_of g) p (instructions.Finish s) × Is t v.kind v.value slots s × IsReturned g v.kind
       × StatementStack g exits q frames k
   FocusAt t (Returning None) k locals g p slots frames =
-      (exits : Exits) × (q : ℕ) × (s : ℕ) × At (code_of g) p (instructions.Return s) × StatementStack g exits q frames k
+      (exits : Exits) × (q : ℕ) × (s : ℕ) × At (code_of g) p (instructions.Finish s) × StatementStack g exits q frames k
   FocusAt t focus k locals g p slots frames = ⊥
 
   -- ---- states
@@ -631,9 +744,31 @@ module _ (source : Program) where
   abbrev pub SharedAt : (pages calls : ℕ) → List Entry → Environment → World → Configuration → Type 0
   SharedAt pages calls k e w c = Shared pages calls w (e.home ∷ homes k) (AreCounted e.counters k) c.output c.input c.store (length c.frames)
 
-  -- the data of the running call and of those that wait, where the running one has these slots
+  -- what stands where a handler catches an exception: it was opened by this instruction, and its clauses end where all goes on
+  abbrev pub CatchesAt : (g : ℕ) → Clauses → (index : ℕ) → List Frame → List Entry → Type 0
+  CatchesAt g handler index frames k =
+      (exits : Exits) × (p : ℕ) × (out : ℕ) × (q : ℕ) × At (code_of g) index (instructions.Try (floor g k) p)
+      × ClausesAt (code_of g) (bounds_at g) (types_at g) handler out exits (floor g k) p q × At (code_of g) out (instructions.Jump q) × StatementStack g exits q frames k
+
+  -- The handlers that the running call has open, and those of the calls that wait: one for each entry, with its record.
+  abbrev pub HandlersStand : (g : ℕ) → Words → List plain.Handler → List Frame → List Entry → Type 0
+  HandlersStand g slots handlers frames [] = ⊥
+  HandlersStand g slots handlers frames (Handler handler ∷ k) =
+      Opened handlers (λ index first contents later. (first ≡ floor g k) × IsIntact slots first contents × CatchesAt g handler index frames k × HandlersStand g slots later frames k)
+  HandlersStand g slots handlers frames (Caller e ∷ k) =
+      (handlers ≡ []) × Below frames (λ f rest. HandlersStand f.caller.function f.caller.slots f.caller.handlers rest k)
+  HandlersStand g slots handlers frames (Main ∷ k) = (handlers ≡ []) × IsLast frames k
+  HandlersStand g slots handlers frames (CloseLexical region ∷ k) = ⊥
+  HandlersStand g slots handlers frames (EndLoan lent ∷ k) = ⊥
+  HandlersStand g slots handlers frames (entry ∷ k) = HandlersStand g slots handlers frames k
+
+  -- the data of the running call and of those that wait, where the running one has these slots, and the handlers of these entries
+  abbrev pub DataFor : Tables → (slots : Words) → (handled k : List Entry) → Environment → World → Configuration → Type 0
+  DataFor t slots handled k e w c =
+      DataAt t c.active.function w.objects e.locals (callers k) slots c.globals c.frames × HandlersStand c.active.function slots c.active.handlers c.frames handled
+
   abbrev pub DataIn : Tables → (slots : Words) → List Entry → Environment → World → Configuration → Type 0
-  DataIn t slots k e w c = DataAt t c.active.function w.objects e.locals (callers k) slots c.globals c.frames
+  DataIn t slots k e w c = DataFor t slots k k e w c
 
   -- the same, but for the slots of one local, which had other words before
   abbrev pub DataBut : Tables → (n words : ℕ) → List Entry → Environment → World → Configuration → Type 0
@@ -641,16 +776,16 @@ module _ (source : Program) where
 
   abbrev pub GoesOn : (pages calls : ℕ) → Focus → List Entry → Environment → World → Configuration → Type 0
   GoesOn pages calls focus k e w c =
-      (shared : SharedAt pages calls k e w c) × DataIn shared.tables c.active.slots k e w c
+      (shared : SharedAt pages calls k e w c) × DataFor shared.tables c.active.slots (handling focus k) k e w c
       × FocusAt shared.tables focus k e.locals c.active.function c.active.next c.active.slots c.frames
 
   -- where a value stands that is handed on; one that is only tested is the comparison of two operands
   pub data GivenAt (t : Tables) (v : Kinded) (k : List Entry) (e : Environment) (w : World) (c : Configuration) : Type 0 where
     in_operand : (o : Operand) → DataIn t c.active.slots k e w c → IsIn t v c.active.slots o
-        → Holds t c.active.slots (base_of c.active.function) (held k) → ValueStack c.active.function e.locals v.kind o c.active.next c.frames k → GivenAt t v k e w c
+        → Holds t c.active.slots (floor c.active.function k) (held k) → ValueStack c.active.function e.locals v.kind o c.active.next c.frames k → GivenAt t v k e w c
     nowhere : DataIn t c.active.slots k e w c → DroppedStack c.active.function c.active.next c.frames k → GivenAt t v k e w c
     ahead : (n : ℕ) → DataBut t n (words_of_kind v.kind) k e w c → Is t v.kind v.value c.active.slots n
-        → Holds t c.active.slots (base_of c.active.function) (held k) → AheadStack c.active.function e.locals v.kind n c.active.next c.frames k → GivenAt t v k e w c
+        → Holds t c.active.slots (floor c.active.function k) (held k) → AheadStack c.active.function e.locals v.kind n c.active.next c.frames k → GivenAt t v k e w c
     compared : (failing : Comparison) → (l r : Operand) → DataIn t c.active.slots k e w c
         → is_zero v.value ≡ Some (compares failing (operand_word c.active.slots l) (operand_word c.active.slots r))
         → ConditionStack c.active.function failing l r c.active.next c.frames k → GivenAt t v k e w c
@@ -660,13 +795,20 @@ module _ (source : Program) where
   pub data ProceedingAt (t : Tables) (k : List Entry) (e : Environment) (w : World) (c : Configuration) : Type 0 where
     behind_statement : (exits : Exits) → DataIn t c.active.slots k e w c → StatementStack c.active.function exits c.active.next c.frames k → ProceedingAt t k e w c
     behind_call : (kind : Kind) → (o : Operand) → DataIn t c.active.slots k e w c → ValueStack c.active.function e.locals kind o c.active.next c.frames k → ProceedingAt t k e w c
-    behind_wrong : (kind : Kind) → (n : ℕ) → AheadStack c.active.function e.locals kind n c.active.next c.frames k → ProceedingAt t k e w c
+    behind_wrong : (kind : Kind) → (n : ℕ) → calls_in k ≡ suc (length c.frames) → AheadStack c.active.function e.locals kind n c.active.next c.frames k → ProceedingAt t k e w c
 
-  -- An exception that nothing catches ends the plain program at once, while the source leaves one entry after the other.
+  -- An exception comes to the newest handler at once, or ends the plain program, while the source leaves one entry after the other. So
+  -- the handlers are those of the call to which it has come, behind which no frame waits that has none open.
+  abbrev pub CaughtBy : Activation → List Frame → List Entry → Type 0
+  CaughtBy a rest [] = (a.handlers ≡ []) × (rest ≡ [])
+  CaughtBy a rest (entry ∷ k) = HandlersStand a.function a.slots a.handlers rest (entry ∷ k)
+
   abbrev pub Throws : (pages calls : ℕ) → (tag value : ℕ) → List Entry → Environment → World → Configuration → Type 0
   Throws pages calls tag value k e w c =
-      (shared : SharedAt pages calls k e w c) × (calls_in k ≤ calls) × IsPlainStack k
-      × (o : Operand) × At (code_of c.active.function) c.active.next (instructions.Uncaught tag o) × (operand_word c.active.slots o ≡ value)
+      (shared : SharedAt pages calls k e w c) × (calls_in k ≤ calls) × IsNumber tag
+      × (x : Operand) × (o : Operand) × At (code_of c.active.function) c.active.next (instructions.Throw x o) × (operand_word c.active.slots x ≡ tag) × (operand_word c.active.slots o ≡ value)
+      × (a : Activation) × (rest : List Frame) × (length rest ≤ length c.frames) × (throws c tag value c.active c.frames ≡ throws c tag value a rest)
+      × DataAt shared.tables a.function w.objects e.locals (callers k) a.slots c.globals rest × CaughtBy a rest k
 
   abbrev pub Related : (pages calls : ℕ) → Focus → List Entry → Environment → World → Configuration → Type 0
   Related pages calls (Throwing tag value) k e w c = Throws pages calls tag value k e w c

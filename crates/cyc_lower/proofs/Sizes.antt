@@ -12,11 +12,11 @@ use Rattle.cyc_types.specs.declared.typed.PointerOperator.{PointerOperator}
 use Rattle.cyc_types.specs.declared.typed.PointerOperator.TheVariants as pointers
 use Rattle.cyc_types.specs.declared.typed.LogicalOperator.{LogicalOperator}
 use Rattle.cyc_types.specs.declared.typed.LogicalOperator.TheVariants as logical
-use Rattle.cyc_types.specs.TypedTrees.{Load, New, OnHeap, AsUnique, ByHandle, Initial, Plain, Fields, Array, Dereference, Target, Member, Element, Lvalue, Local, Global, Expression, Number, Copy, Call, Unary, Binary, Assign, Converted, Convert, Arguments, NoArguments, MoreArguments, Operations, NoOperations, ThenCompute, ThenTest, ThenPointer, ThenPointerPeek, Statement, Block, Empty, Evaluate, If, While, Return, Break, Continue, Items, NoItems, MoreItems, Execute, Declare, StructType, Function, Move, Peek, AddressOfCell, Store}
+use Rattle.cyc_types.specs.TypedTrees.{Load, New, OnHeap, AsUnique, ByHandle, Initial, Plain, Fields, Array, Dereference, Target, Member, Element, Lvalue, Local, Global, Expression, Number, Copy, Call, Unary, Binary, Assign, Converted, Convert, Arguments, NoArguments, MoreArguments, Operations, NoOperations, ThenCompute, ThenTest, ThenPointer, ThenPointerPeek, Statement, Block, Empty, Evaluate, If, While, Return, Break, Continue, Items, NoItems, MoreItems, Execute, Declare, StructType, Function, Move, Peek, AddressOfCell, Store, FreeUnique, Side, VariableSide, CellSide, Swap, Throw, Try, Clauses, NoClauses, Default, Case}
 use Rattle.cyc_types.specs.Types.{Ty, words_of}
 use Rattle.cyc_types.specs.Numbered.{argument_count}
 use Rattle.cyc_types.proofs.WeightLemmas.{some_token}
-use Rattle.cyc_types.specs.Weight.{expression_weight, dereference_weight, initial_weight, converted_weight, arguments_weight, more_arguments_weight, operations_weight, else_weight, statement_weight, items_weight, function_weight}
+use Rattle.cyc_types.specs.Weight.{expression_weight, dereference_weight, initial_weight, converted_weight, arguments_weight, more_arguments_weight, operations_weight, else_weight, statement_weight, items_weight, function_weight, side_weight, clauses_weight}
 use Rattle.cyc_plain.specs.declared.instruction.Comparison.{Comparison}
 use Rattle.cyc_plain.specs.declared.instruction.Comparison.TheVariants as comparisons
 use Rattle.cyc_plain.specs.declared.instruction.Operand.{Operand}
@@ -25,12 +25,13 @@ use Rattle.cyc_plain.specs.declared.instruction.Request.TheVariants as requests
 use Rattle.cyc_plain.specs.declared.instruction.Instruction.{Instruction}
 use Rattle.cyc_plain.specs.declared.instruction.Instruction.TheVariants as instructions
 use Rattle.cyc_plain.specs.Program.{instruction_size, size}
+use Rattle.cyc_plain.specs.declared.limits.TheConstants.{RECORD_WORDS}
 use Rattle.cyc_lower.specs.declared.statements.Exits.{Exits}
 use Rattle.cyc_lower.specs.Slots.{with_counter, starts_of, slot_of, Starts}
-use Rattle.cyc_store.specs.declared.range.TheConstants.{HEAP}
+use Rattle.cyc_store.specs.declared.range.TheConstants.{HEAP, UNIQUE}
 use Rattle.cyc_meaning.specs.Values.{kind_of, words_of_kind}
 use Rattle.cyc_lower.proofs.Widths.{kind_few, type_words}
-use Rattle.cyc_lower.specs.Lowering.{begun_code, filled_code, ended_code, elements_code, types_of, converts_there, passed_words, all_passed, source_of, source_slot, converted_by, moved_by, move_of, unary_operator, binary_operator, operand_of, operand_or, code_unless, slot_or, code_unless_slot, left_of, value_slot, next_slot, left_slot, value_operand, converted_operand, printed_operand, conversion_code, divisor_code, checked_code, operator_code, truth_code, load_code, low_byte, test_code, is_in, copy_code, expression_code, arguments_code, converted_code, converted_operand_code, printed_code, initial_code, assignment_code, operations_code, discarded_code, failing_comparison, compared_or, left_with, slot_with, first_code, second_code, pair_code, condition_code, condition_of, failing_jump, break_target, continue_target, return_code, declaration_code, statement_code, items_code, first_temporary, jump_if_zero, jump_if_nonzero, lower_function, behind_left, pointer_code, outside_loops, inside_loop, pointer_operator, index_of, first_two, pointer_instructions, stores_code, object_code, made_code, place_operand, place_offset, place_code, address_code, store_address_code, blocks}
+use Rattle.cyc_lower.specs.Lowering.{begun_code, filled_code, ended_code, elements_code, types_of, converts_there, passed_words, all_passed, source_of, source_slot, converted_by, moved_by, move_of, unary_operator, binary_operator, operand_of, operand_or, code_unless, slot_or, code_unless_slot, left_of, value_slot, next_slot, left_slot, value_operand, converted_operand, printed_operand, conversion_code, divisor_code, checked_code, operator_code, truth_code, load_code, low_byte, test_code, is_in, copy_code, expression_code, arguments_code, converted_code, converted_operand_code, printed_code, initial_code, assignment_code, operations_code, discarded_code, failing_comparison, compared_or, left_with, slot_with, first_code, second_code, pair_code, condition_code, condition_of, failing_jump, break_target, continue_target, return_code, declaration_code, statement_code, items_code, first_temporary, jump_if_zero, jump_if_nonzero, lower_function, behind_left, pointer_code, outside_loops, inside_loop, pointer_operator, index_of, first_two, pointer_instructions, stores_code, object_code, made_code, place_operand, place_offset, place_code, address_code, store_address_code, blocks, free_code, right_slot, side_code, read_side, write_side, exchange_code, swap_code, leave_code, tag_operand, other_jump, clause_code, caught_code, clauses_code}
 use Rattle.cyc_lower.specs.Lowered.{size_per_weight}
 
 abbrev code_size : List Instruction → ℕ
@@ -164,6 +165,14 @@ object_size handle words d t =
       stores_size words (t + words) 0 t,
     )
 
+-- handlers are closed by one instruction, where there are some
+leave_size : (first t : ℕ) → code_size (leave_code first t) ≤ 5
+leave_size first t = by (first == t)
+  where
+    by : (none : Bool) → code_size (if none then [] else instructions.Leave first ∷ []) ≤ 5
+    by true = omega arith
+    by false = omega arith
+
 -- a list of arguments with a comma before each has at most one token more
 more_weight : (cs : Arguments) → more_arguments_weight cs ≤ arguments_weight cs + 1
 more_weight NoArguments = omega arith
@@ -235,8 +244,12 @@ mutual
         converted_operand_size starts c (p + length address) (t + 1),
         copy_size c o d,
       )
+  expression_size starts (FreeUnique a) p d t =
+      let inner = expression_code starts a p (value_slot starts a t) t in
+      let front = code_unless (operand_of starts a) inner in
+      omega (arith, both front (free_code (value_operand starts a t) (p + length front)), unless_size (operand_of starts a) inner, expression_size starts a p (value_slot starts a t) t)
   expression_size starts (New OnHeap i ty) p d t = made_size starts i HEAP p d t
-  expression_size starts (New AsUnique i ty) p d t = omega arith
+  expression_size starts (New AsUnique i ty) p d t = omega (arith, made_size starts i UNIQUE p d t)
   expression_size starts (New (ByHandle h) i ty) p d t = omega arith
   expression_size starts a p d t = omega (arith, some_token a)
 
@@ -427,25 +440,82 @@ module _ (starts : Starts) where
       by None = alone_size (Binary a (ThenCompute o b NoOperations) ty) p t
   condition_size a p t = alone_size a p t
 
-  return_size : (v : Option Converted) (p t : ℕ) → code_size (return_code starts v p t) ≤ size_per_weight * statement_weight (Return v)
-  return_size None p t = omega arith
-  return_size (Some (Convert from to a)) p t =
+  return_size : (v : Option Converted) (p : ℕ) (exits : Exits) (t : ℕ) → code_size (return_code starts v p exits t) ≤ size_per_weight * statement_weight (Return v)
+  return_size None p exits t = omega (arith, both (leave_code exits.first_record t) (instructions.Finish t ∷ []), leave_size exits.first_record t)
+  return_size (Some (Convert from to a)) p exits t =
       let known = source_of starts (Convert from to a) in
       let inner = expression_code starts a p t t in
       let front = code_unless_slot known inner in
       let s = slot_or known t in
       let conversion = conversion_code starts to (operands.Slot s) (p + length front) in
-      omega (arith, both (front ++ conversion) (instructions.Return s ∷ []), both front conversion, unless_slot_size known inner, expression_size starts a p t t, conversion_size starts to (operands.Slot s) (p + length front))
+      omega (
+        arith,
+        both ((front ++ conversion) ++ leave_code exits.first_record t) (instructions.Finish s ∷ []),
+        both (front ++ conversion) (leave_code exits.first_record t),
+        both front conversion,
+        unless_slot_size known inner,
+        expression_size starts a p t t,
+        conversion_size starts to (operands.Slot s) (p + length front),
+        leave_size exits.first_record t,
+      )
+
+  throw_size : (n : ℕ) (v : Option Expression) (p : ℕ) (exits : Exits) (t : ℕ) → code_size (statement_code starts (Throw n v) p exits t) ≤ size_per_weight * statement_weight (Throw n v)
+  throw_size n None p exits t = omega arith
+  throw_size n (Some a) p exits t =
+      let inner = expression_code starts a p (value_slot starts a t) t in
+      omega (
+        arith,
+        both (code_unless (operand_of starts a) inner) (instructions.Throw (tag_operand n) (value_operand starts a t) ∷ []),
+        unless_size (operand_of starts a) inner,
+        expression_size starts a p (value_slot starts a t) t,
+      )
+
+  caught_size : (x : Option ℕ) (t : ℕ) → code_size (caught_code starts x t) ≤ 6
+  caught_size None t = omega arith
+  caught_size (Some n) t = omega arith
 
   else_size : (t : Statement) (p : ℕ) (exits : Exits) (d : ℕ) → code_size (statement_code starts t p exits d) ≤ size_per_weight * statement_weight t → code_size (statement_code starts t p exits d) ≤ size_per_weight * else_weight t (statement_weight t)
   else_size Empty p exits d bound = omega arith
   else_size t p exits d bound = omega (arith, bound)
+
+  -- a side, and the two instructions that read and write it
+  side_size : (a : Side) (p t : ℕ) → code_size (side_code starts a p t) ≤ size_per_weight * side_weight a
+  side_size (VariableSide l ty) p t = omega arith
+  side_size (CellSide x) p t = omega (arith, store_address_size starts x p t)
+
+  read_size : (a : Side) (s d : ℕ) → instruction_size (read_side starts a s d) ≤ 18
+  read_size (VariableSide (Local w n) ty) s d = omega arith
+  read_size (VariableSide (Global n) ty) s d = omega arith
+  read_size (CellSide x) s d = omega arith
+
+  write_size : (a : Side) (s v : ℕ) → instruction_size (write_side starts a s v) ≤ 18
+  write_size (VariableSide (Local w n) ty) s v = omega arith
+  write_size (VariableSide (Global n) ty) s v = omega arith
+  write_size (CellSide x) s v = omega arith
+
+  swap_size : (x y : Side) (p t : ℕ) → code_size (swap_code starts x y p t) ≤ size_per_weight * (2 + side_weight x + side_weight y)
+  swap_size x y p t =
+      let front = side_code starts x p t in
+      let middle = side_code starts y (p + length front) (right_slot x t) in
+      let back = exchange_code starts x y t in
+      omega (
+        arith,
+        both front (middle ++ back),
+        both middle back,
+        side_size x p t,
+        side_size y (p + length front) (right_slot x t),
+        read_size x t (t + 2),
+        read_size y (right_slot x t) (t + 3),
+        write_size x t (t + 3),
+        write_size y (right_slot x t) (t + 2),
+      )
 
   mutual
     statement_size : (s : Statement) (p : ℕ) (exits : Exits) (d : ℕ) → code_size (statement_code starts s p exits d) ≤ size_per_weight * statement_weight s
     statement_size (Block r js) p exits d = omega (arith, items_size js p exits d)
     statement_size Empty p exits d = omega arith
     statement_size (Evaluate a) p exits t = omega (arith, discarded_size a p t)
+    statement_size (Swap x y) p exits t = swap_size x y p t
     statement_size (If a s u) p exits t =
         let condition = condition_code starts a p t in
         let m = p + length condition in
@@ -482,10 +552,25 @@ module _ (starts : Starts) where
           condition_size a (p + 2) t,
           statement_size s (m + 1) (inside_loop p t exits) t,
         )
-    statement_size (Return v) p exits d = return_size v p d
-    statement_size Break p exits d = omega arith
-    statement_size Continue p exits d = omega arith
-    statement_size s p exits d = omega arith
+    statement_size (Return v) p exits d = return_size v p exits d
+    statement_size Break p exits d = omega (arith, both (leave_code exits.loop_record d) (instructions.Jump (break_target exits.head) ∷ []), leave_size exits.loop_record d)
+    statement_size Continue p exits d = omega (arith, both (leave_code exits.loop_record d) (instructions.Jump (continue_target exits.head) ∷ []), leave_size exits.loop_record d)
+    statement_size (Throw n v) p exits d = throw_size n v p exits d
+    statement_size (Try s cs) p exits t =
+        let body = statement_code starts s (p + 1) exits (t + RECORD_WORDS) in
+        let close = instructions.Leave t ∷ [] in
+        let out = p + 1 + length (body ++ close) in
+        let clauses = clauses_code starts cs (out + 1) out exits t in
+        let over = instructions.Jump (out + 1 + length clauses) in
+        omega (
+          arith,
+          cons (instructions.Try t (out + 1)) ((body ++ close) ++ over ∷ clauses),
+          both (body ++ close) (over ∷ clauses),
+          both body close,
+          cons over clauses,
+          statement_size s (p + 1) exits (t + RECORD_WORDS),
+          clauses_size cs (out + 1) out exits t,
+        )
 
     items_size : (js : Items) (p : ℕ) (exits : Exits) (d : ℕ) → code_size (items_code starts js p exits d) ≤ size_per_weight * items_weight js
     items_size NoItems p exits d = omega arith
@@ -499,8 +584,29 @@ module _ (starts : Starts) where
         omega (arith, both front (items_code starts js q exits d), initial_size starts c p (slot_of starts n) d, items_size js q exits d)
     items_size (MoreItems j js) p exits d = omega (arith, items_size js p exits d)
 
+    -- where no clause catches it, the exception goes on
+    clauses_size : (cs : Clauses) (p out : ℕ) (exits : Exits) (t : ℕ) → code_size (clauses_code starts cs p out exits t) ≤ 24 + size_per_weight * clauses_weight cs
+    clauses_size NoClauses p out exits t = omega arith
+    clauses_size (Default r js) p out exits t = omega (arith, items_size js p exits t)
+    clauses_size (Case n x r js cs) p out exits t =
+        let caught = caught_code starts x t in
+        let items = items_code starts js (p + 1 + length caught) exits t in
+        let jump = instructions.Jump out ∷ [] in
+        let clause = clause_code n t (caught ++ items) p out in
+        let next = p + length clause in
+        omega (
+          arith,
+          both clause (clauses_code starts cs next out exits t),
+          cons (other_jump n t (p + 1 + length (caught ++ items) + 1)) ((caught ++ items) ++ jump),
+          both (caught ++ items) jump,
+          both caught items,
+          caught_size x t,
+          items_size js (p + 1 + length caught) exits t,
+          clauses_size cs next out exits t,
+        )
+
 pub function_size : (structs : List StructType) (h : Function) → size (lower_function structs h) ≤ size_per_weight * function_weight h
 function_size structs h =
     let d = first_temporary h in
     let starts = starts_of (types_of structs h) in
-    omega (arith, both (items_code starts h.body 0 (outside_loops d) d) (instructions.Return d ∷ blocks), items_size starts h.body 0 (outside_loops d) d)
+    omega (arith, both (items_code starts h.body 0 (outside_loops d) d) (instructions.Finish d ∷ blocks), items_size starts h.body 0 (outside_loops d) d)

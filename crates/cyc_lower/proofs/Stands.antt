@@ -1,6 +1,7 @@
 -- Where in a function's code the code of a construct stands, with all places between its parts left open.
 use Rattle.std.proofs.Common.{◌≡◌, ℕ, suc, ◌+◌, ◌<◌, Bool, true, false, List, length, Option, None, Some, zero, ◌≤◌, max, slice_get}
 use Rattle.std.specs.Prelude.{◌==◌}
+use Rattle.cyc_words.specs.Word.{IsWord}
 use Rattle.cyc_types.specs.declared.typed.Kind.{Kind}
 use Rattle.cyc_types.specs.declared.typed.Kind.TheVariants as kinds
 use Rattle.cyc_types.specs.declared.typed.Callee.TheVariants as callees
@@ -8,9 +9,11 @@ use Rattle.cyc_types.specs.declared.typed.Operator.{Operator}
 use Rattle.cyc_types.specs.declared.typed.Operator.TheVariants as operators
 use Rattle.cyc_types.specs.declared.typed.PointerOperator.{PointerOperator}
 use Rattle.cyc_types.specs.declared.typed.PointerOperator.TheVariants as pointers
-use Rattle.cyc_types.specs.TypedTrees.{Array, Counter, type_of_place, Load, Dereference, Target, Lvalue, Local, Global, Expression, Number, NullPointer, Copy, Call, Unary, Binary, Assign, Converted, Convert, Arguments, NoArguments, MoreArguments, Operations, NoOperations, ThenCompute, ThenTest, ThenPointer, Statement, Block, Empty, Evaluate, If, While, Return, Break, Continue, Items, NoItems, MoreItems, Execute, Declare, Move, Peek, ThenPointerPeek, New, OnHeap, Initial, Plain, Fields, AddressOfCell, Store, Member}
+use Rattle.cyc_types.specs.TypedTrees.{Array, Counter, type_of_place, Load, Dereference, Target, Lvalue, Local, Global, Expression, Number, NullPointer, Copy, Call, Unary, Binary, Assign, Converted, Convert, Arguments, NoArguments, MoreArguments, Operations, NoOperations, ThenCompute, ThenTest, ThenPointer, Statement, Block, Empty, Evaluate, If, While, Return, Break, Continue, Items, NoItems, MoreItems, Execute, Declare, Move, Peek, ThenPointerPeek, New, OnHeap, Initial, Plain, Fields, AddressOfCell, Store, Member, AsUnique, FreeUnique, Side, VariableSide, CellSide, Swap, Throw, Try, Clauses, NoClauses, Default, Case}
 use Rattle.cyc_types.specs.Types.{words_of}
+use Rattle.cyc_types.specs.typing.Expressions.{type_of_side}
 use Rattle.cyc_types.specs.Numbered.{Numbering, argument_count}
+use Rattle.cyc_plain.specs.declared.limits.TheConstants.{RECORD_WORDS}
 use Rattle.cyc_plain.specs.declared.instruction.UnaryOperator.TheVariants as plain_unary
 use Rattle.cyc_plain.specs.declared.instruction.BinaryOperator.TheVariants as plain_binary
 use Rattle.cyc_plain.specs.declared.instruction.BinaryOperator.TheVariants as plain_binary
@@ -22,12 +25,13 @@ use Rattle.cyc_plain.specs.declared.instruction.Request.TheVariants as requests
 use Rattle.cyc_plain.specs.declared.instruction.Instruction.{Instruction}
 use Rattle.cyc_plain.specs.declared.instruction.Instruction.TheVariants as instructions
 use Rattle.cyc_plain.specs.Straight.{At}
-use Rattle.cyc_store.specs.declared.range.TheConstants.{MOST_BLOCK_WORDS, HEAP}
+use Rattle.cyc_store.specs.declared.range.TheConstants.{MOST_BLOCK_WORDS, HEAP, UNIQUE}
 use Rattle.cyc_meaning.specs.Operators.{array_size, null_exception, division_by_zero}
-use Rattle.cyc_meaning.specs.Values.{is_thin, words_of_kind}
+use Rattle.cyc_meaning.specs.Values.{is_thin, words_of_kind, kind_of}
 use Rattle.cyc_lower.specs.declared.statements.Exits.{Exits}
 use Rattle.cyc_lower.specs.Slots.{counted, Types, starts_of, slot_of, field_of}
-use Rattle.cyc_lower.specs.Lowering.{most_elements, unary_operator, binary_operator, operand_of, source_of, source_slot, failing_comparison, left_with, left_of, value_slot, next_slot, slot_with, left_slot, is_in, jump_if_nonzero, move_of, test_jump, are_as_wide, converts_there, passed_words, all_passed, compared_of, low_byte, break_target, continue_target, results_of, behind_left, inside_loop, pointer_operator, raising}
+use Rattle.cyc_lower.specs.Lowering.{most_elements, unary_operator, binary_operator, operand_of, source_of, source_slot, failing_comparison, left_with, left_of, value_slot, next_slot, slot_with, left_slot, is_in, jump_if_nonzero, move_of, test_jump, are_as_wide, converts_there, passed_words, all_passed, compared_of, low_byte, break_target, continue_target, results_of, behind_left, inside_loop, pointer_operator, raising, jump_if_zero, right_slot, tag_operand, other_jump, goes_on}
+use Rattle.cyc_lower.specs.Lowerable.{may_wait}
 use Rattle.cyc_lower.proofs.Widths.{kind_of_result, given, passed_kind, HasRoom, HasField}
 
 -- ---- expressions
@@ -146,6 +150,10 @@ module _ (code : List Instruction) (bounds : Numbering) (types : Types) where
       × At code p (instructions.Ask (requests.Allocate (t + words) (operands.Word handle) (operands.Word (max 1 words))))
       × StoresAt words (t + words) 0 t (p + 1) m × At code m (instructions.Move d (operands.Slot (t + words))) × (m + 1 ≡ q)
 
+  -- the block at the address in an operand is freed, where that is not 0
+  abbrev pub FreedAt : Operand → (p q : ℕ) → Type 0
+  FreedAt o p q = At code p (jump_if_zero o q) × At code (p + 1) (instructions.Ask (requests.Free o)) × (p + 1 + 1 ≡ q)
+
 module _ (code : List Instruction) (bounds : Numbering) where
   abbrev mutual
     -- the value comes to slot d by the last instruction
@@ -177,7 +185,14 @@ module _ (code : List Instruction) (bounds : Numbering) where
         × CopyAt code (passed_words c) o d m q
     ExpressionAt types (Load x) d t p q =
         (o : Operand) × (c : ℕ) × (r : ℕ) × PlaceAt types x o c t p r × (words_of (type_of_place x) ≡ 1) × At code r (instructions.Load d o c) × (r + 1 ≡ q)
+    ExpressionAt types (FreeUnique a) d t p q =
+        (o : Operand) × (m : ℕ) × OperandBy code bounds types (operand_of (starts_of types) a) (ExpressionAt types a (value_slot (starts_of types) a t) t p m) (value_slot (starts_of types) a t) o p m × FreedAt code bounds types o m q
+    ExpressionAt types (New OnHeap (Array w level n kind a) ty) d t p q =
+        (m : ℕ) × (h : ℕ) × (r : ℕ) × (s : ℕ) × ExpressionAt types n t t p m × BegunAt code bounds types HEAP t m h
+        × (level ≡ length types.counters) × (words_of_kind kind ≡ 1)
+        × ElementsBy code bounds types (ExpressionAt (counted types (t + 2)) a (t + 3) (t + 3) (h + 1) r) t d h r s q
     ExpressionAt types (New OnHeap i ty) d t p q = MadeAt types i HEAP d t p q
+    ExpressionAt types (New AsUnique i ty) d t p q = MadeAt types i UNIQUE d t p q
     ExpressionAt types (AddressOfCell x ty) d t p q = (o : Operand) × (c : ℕ) × (r : ℕ) × PlaceAt types x o c t p r × AddressAt code o c d r q
     ExpressionAt types (Store x v ty) d t p q =
         (o : Operand) × (m : ℕ)
@@ -191,10 +206,7 @@ module _ (code : List Instruction) (bounds : Numbering) where
     MadeAt types (Plain kind a) handle d t p q =
         (m : ℕ) × ExpressionAt types a t t p m × (words_of_kind (given bounds.functions a) ≡ words_of_kind kind) × ObjectAt code bounds types handle 1 (words_of_kind kind) t d m q
     MadeAt types (Fields cs) handle d t p q = (m : ℕ) × ArgumentsAt types cs t p m × ObjectAt code bounds types handle (argument_count cs) (all_passed cs) t d m q
-    MadeAt types (Array w level n kind a) handle d t p q =
-        (m : ℕ) × (h : ℕ) × (r : ℕ) × (s : ℕ) × ExpressionAt types n t t p m × BegunAt code bounds types handle t m h
-        × (level ≡ length types.counters) × (words_of_kind kind ≡ 1)
-        × ElementsBy code bounds types (ExpressionAt (counted types (t + 2)) a (t + 3) (t + 3) (h + 1) r) t d h r s q
+    MadeAt types i handle d t p q = ⊥
 
     -- The address of a place comes to an operand, but for so many bytes that are to be added to it.
     pub PlaceAt : (types : Types) → Dereference → Operand → (c t p q : ℕ) → Type 0
@@ -302,6 +314,42 @@ module _ (code : List Instruction) (bounds : Numbering) (types : Types) where
       (a : Operand) × (c : ℕ) × (r : ℕ) × (s : ℕ) × (u : ℕ) × PlaceAt code bounds types x a c t p r × AddressAt code a c t r s × ConvertedOperandAt code bounds types v (t + 1) o s u
       × (words_of_kind (passed_kind v) ≡ 1) × At code u (instructions.Store (operands.Slot t) 0 o) × (u + 1 ≡ q)
 
+  -- ---- swaps
+
+  -- a side of a swap has room for a value of a kind
+  abbrev pub HasSide : Side → Kind → Type 0
+  HasSide (VariableSide (Local w n) ty) kind = HasRoom types n kind
+  HasSide (VariableSide (Global n) ty) kind = n < bounds.globals
+  HasSide (CellSide x) kind = Unit {0}
+
+  -- the address of a side that is a cell comes to slot t
+  abbrev pub SideAt : Side → (t p q : ℕ) → Type 0
+  SideAt (VariableSide l ty) t p q = p ≡ q
+  SideAt (CellSide x) t p q = (o : Operand) × (c : ℕ) × (m : ℕ) × PlaceAt code bounds types x o c t p m × AddressAt code o c t m q
+
+  -- a word that a side holds comes to slot d
+  abbrev pub ReadAt : Side → (s d p : ℕ) → Type 0
+  ReadAt (VariableSide (Local w n) ty) s d p = At code p (instructions.Move d (operands.Slot (slot_of (starts_of types) n)))
+  ReadAt (VariableSide (Global n) ty) s d p = At code p (instructions.LoadGlobal d n)
+  ReadAt (CellSide x) s d p = At code p (instructions.Load d (operands.Slot s) 0)
+
+  -- the word in slot v comes to a side
+  abbrev pub WriteAt : Side → (s v p : ℕ) → Type 0
+  WriteAt (VariableSide (Local w n) ty) s v p = At code p (instructions.Move (slot_of (starts_of types) n) (operands.Slot v))
+  WriteAt (VariableSide (Global n) ty) s v p = At code p (instructions.StoreGlobal n (operands.Slot v))
+  WriteAt (CellSide x) s v p = At code p (instructions.Store (operands.Slot s) 0 (operands.Slot v))
+
+  -- both sides are read, the left one first, and then written
+  abbrev pub ExchangeAt : (left right : Side) → (t p q : ℕ) → Type 0
+  ExchangeAt a b t p q =
+      ReadAt a t (t + 2) p × ReadAt b (right_slot a t) (t + 3) (p + 1) × WriteAt a t (t + 3) (p + 1 + 1) × WriteAt b (right_slot a t) (t + 2) (p + 1 + 1 + 1)
+      × (p + 1 + 1 + 1 + 1 ≡ q)
+
+  abbrev pub SwapAt : (left right : Side) → (t p q : ℕ) → Type 0
+  SwapAt a b t p q =
+      (m : ℕ) × (r : ℕ) × (words_of (type_of_side a) ≡ 1) × HasSide a (kind_of (type_of_side a)) × HasSide b (kind_of (type_of_side a)) × (may_wait a b ≡ true)
+      × SideAt a t p m × SideAt b (right_slot a t) m r × ExchangeAt a b t r q
+
   -- the value of an expression is dropped
   abbrev pub DiscardedAt : Expression → (t p q : ℕ) → Type 0
   DiscardedAt (Call callees.Putchar cs ty) t p q = (o : Operand) × (m : ℕ) × PrintedAt code bounds types cs t o p m × At code m (instructions.WriteByte o) × (m + 1 ≡ q)
@@ -316,15 +364,34 @@ module _ (code : List Instruction) (bounds : Numbering) (types : Types) where
   ReturnedAt (Some (operands.Slot n)) computed slot s p q = (s ≡ n) × (p ≡ q)
   ReturnedAt o computed slot s p q = (s ≡ slot) × computed
 
-  abbrev pub ReturnAt : Option Converted → (t p : ℕ) → Type 0
-  ReturnAt None t p = (s : ℕ) × At code p (instructions.Return s)
-  ReturnAt (Some (Convert from to a)) t p =
-      (s : ℕ) × (m : ℕ) × (r : ℕ) × ReturnedAt (source_of (starts_of types) (Convert from to a)) (ExpressionAt code bounds types a t t p m) t s p m × ConversionAt code bounds types from to (operands.Slot s) m r
-      × At code r (instructions.Return s) × (results_of bounds.result ≡ words_of_kind to) × (to ≡ kind_of_result bounds.result)
+  -- handlers are closed whose records stand from a slot on, where there are some
+  abbrev pub LeaveBy : (none : Bool) → (first p q : ℕ) → Type 0
+  LeaveBy true first p q = p ≡ q
+  LeaveBy false first p q = At code p (instructions.Leave first) × (p + 1 ≡ q)
+
+  abbrev pub LeaveAt : (first t p q : ℕ) → Type 0
+  LeaveAt first t p q = LeaveBy (first == t) first p q
+
+  abbrev pub ReturnAt : Option Converted → Exits → (t p : ℕ) → Type 0
+  ReturnAt None exits t p = (s : ℕ) × (m : ℕ) × LeaveAt exits.first_record t p m × At code m (instructions.Finish s)
+  ReturnAt (Some (Convert from to a)) exits t p =
+      (s : ℕ) × (m : ℕ) × (r : ℕ) × (u : ℕ) × ReturnedAt (source_of (starts_of types) (Convert from to a)) (ExpressionAt code bounds types a t t p m) t s p m × ConversionAt code bounds types from to (operands.Slot s) m r
+      × LeaveAt exits.first_record t r u × At code u (instructions.Finish s) × (results_of bounds.result ≡ words_of_kind to) × (to ≡ kind_of_result bounds.result)
 
   abbrev pub DeclarationAt : ℕ → Option Converted → (t p q : ℕ) → Type 0
   DeclarationAt n None t p q = (n < bounds.locals) × (p ≡ q)
   DeclarationAt n (Some c) t p q = (n < bounds.locals) × HasRoom types n (passed_kind c) × InitialAt code bounds types c (slot_of (starts_of types) n) t p q
+
+  -- what an exception tells is brought to an operand
+  abbrev pub ThrownAt : Option Expression → Operand → (t p q : ℕ) → Type 0
+  ThrownAt None o t p q = (o ≡ operands.Word 0) × (p ≡ q)
+  ThrownAt (Some a) o t p q = ValueAt a t o p q
+
+  -- and the local of a clause gets it
+  abbrev pub CaughtAt : (number : Option ℕ) → (t p q : ℕ) → Type 0
+  CaughtAt None t p q = p ≡ q
+  CaughtAt (Some n) t p q =
+      (n < bounds.locals) × HasRoom types n kinds.Int × At code p (instructions.Move (slot_of (starts_of types) n) (operands.Slot (t + 1))) × (p + 1 ≡ q)
 
   -- with these ways out
   abbrev mutual
@@ -332,6 +399,7 @@ module _ (code : List Instruction) (bounds : Numbering) (types : Types) where
     StatementAt (Block r js) exits t p q = ItemsAt js exits t p q
     StatementAt Empty exits t p q = p ≡ q
     StatementAt (Evaluate a) exits t p q = DiscardedAt a t p q
+    StatementAt (Swap a b) exits t p q = SwapAt a b t p q
     StatementAt (If a s u) exits t p q =
         (x : Operand) × (y : Operand) × (m : ℕ) × (r : ℕ) × ConditionAt a x y t p m × FailingAt a x y m (r + 1) × StatementAt s exits t (m + 1) r
         × At code r (instructions.Jump q) × StatementAt u exits t (r + 1) q
@@ -339,13 +407,24 @@ module _ (code : List Instruction) (bounds : Numbering) (types : Types) where
         (x : Operand) × (y : Operand) × (m : ℕ) × (r : ℕ) × At code p (instructions.Jump (continue_target p)) × At code (break_target p) (instructions.Jump q)
         × ConditionAt a x y t (continue_target p) m × FailingAt a x y m (break_target p) × StatementAt s (inside_loop p t exits) t (m + 1) r
         × At code r (instructions.Jump (continue_target p)) × (r + 1 ≡ q) × (break_target p < q)
-    StatementAt (Return v) exits t p q = ReturnAt v t p
-    StatementAt Break exits t p q = At code p (instructions.Jump (break_target exits.head))
-    StatementAt Continue exits t p q = At code p (instructions.Jump (continue_target exits.head))
-    StatementAt s exits t p q = ⊥
+    StatementAt (Return v) exits t p q = ReturnAt v exits t p
+    StatementAt Break exits t p q = (m : ℕ) × LeaveAt exits.loop_record t p m × At code m (instructions.Jump (break_target exits.head))
+    StatementAt Continue exits t p q = (m : ℕ) × LeaveAt exits.loop_record t p m × At code m (instructions.Jump (continue_target exits.head))
+    StatementAt (Throw tag v) exits t p q = IsWord tag × (o : Operand) × (m : ℕ) × ThrownAt v o t p m × At code m (instructions.Throw (tag_operand tag) o)
+    StatementAt (Try s cs) exits t p q =
+        (m : ℕ) × At code p (instructions.Try t (m + 1 + 1)) × StatementAt s exits (t + RECORD_WORDS) (p + 1) m × At code m (instructions.Leave t)
+        × At code (m + 1) (instructions.Jump q) × ClausesAt cs (m + 1) exits t (m + 1 + 1) q
 
     pub ItemsAt : Items → Exits → (t p q : ℕ) → Type 0
     ItemsAt NoItems exits t p q = p ≡ q
     ItemsAt (MoreItems (Execute s) js) exits t p q = (m : ℕ) × StatementAt s exits t p m × ItemsAt js exits t m q
     ItemsAt (MoreItems (Declare n ty v) js) exits t p q = (m : ℕ) × DeclarationAt n v t p m × ItemsAt js exits t m q
     ItemsAt js exits t p q = ⊥
+
+    -- the clauses of a `try`, each of which ends in a jump to this place
+    pub ClausesAt : Clauses → (out : ℕ) → Exits → (t p q : ℕ) → Type 0
+    ClausesAt NoClauses out exits t p q = At code p (goes_on t)
+    ClausesAt (Default r js) out exits t p q = ItemsAt js exits t p q
+    ClausesAt (Case tag x r js cs) out exits t p q =
+        (m : ℕ) × (u : ℕ) × IsWord tag × At code p (other_jump tag t (u + 1)) × CaughtAt x t (p + 1) m × ItemsAt js exits t m u × At code u (instructions.Jump out) × (out < u)
+        × ClausesAt cs out exits t (u + 1) q

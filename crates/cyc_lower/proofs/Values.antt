@@ -1,6 +1,6 @@
 -- The steps that hand a value on.
 use Rattle.std.proofs.Common.{◌≡◌, ◌≢◌, ℕ, zero, suc, ◌+◌, ◌<◌, Bool, true, false, not, List, [], ◌∷◌, Option, None, Some, slice_get, refl, sym, ap, subst, ◌∙◌, arith, inl, inr, length, ◌≤◌}
-use Rattle.std.specs.Prelude.{ℤ, nat_lt, ◌==◌, ◌&&◌, ◌<ℤ◌, ◌≤ℤ◌, int_le, int_lt, if◌then◌else◌}
+use Rattle.std.specs.Prelude.{ℤ, nat_lt, ◌==◌, ◌&&◌, ◌<ℤ◌, ◌≤ℤ◌, int_le, int_lt, if◌then◌else◌, ◌%◌, ◌^◌}
 use Rattle.std.proofs.lemmas.Int.{ints}
 use Rattle.std.proofs.lemmas.Bool.{eqb-true, false_from_ne_true}
 use Rattle.std.proofs.lemmas.Option.{same_Some, none-some}
@@ -42,7 +42,7 @@ use Rattle.cyc_meaning.specs.Operators.{Result, Gives, Raises, Misfits, has_no_r
 use Rattle.cyc_meaning.specs.Pointers.{takes_kind, followed, result_kind as operator_kind}
 use Rattle.cyc_meaning.specs.Places.{arrives, member_of}
 use Rattle.cyc_meaning.specs.Conversion.{conversion}
-use Rattle.cyc_meaning.specs.State.{Region, World, Environment, with_local, made, variable, written, region_at, Awaiting, ConvertTo, Operate, Chain, Apply, ApplyPointer, Follow, Decide, Store, Pass, MakePlain, MakeFields, MakeArray, FillElement, Initialise, Choose, Test, Return, Entry, Needs, Discard, Rest, Join, Loop, Focus, Evaluating, Given, GivenPlace, Executing, Proceeding, Calling, Returning, Throwing, State, Running, cell_at, FollowMember, StoreCell, calls_in}
+use Rattle.cyc_meaning.specs.State.{Region, World, Environment, with_local, made, variable, written, region_at, Awaiting, ConvertTo, Operate, Chain, Apply, ApplyPointer, Follow, Decide, Store, Pass, MakePlain, MakeFields, MakeArray, FillElement, Initialise, Choose, Test, Return, Entry, Needs, Discard, Rest, Join, Loop, Focus, Evaluating, Given, GivenPlace, Executing, Proceeding, Calling, Returning, Throwing, State, Running, cell_at, FollowMember, StoreCell, calls_in, FreeObject, ThrowWith}
 use Rattle.cyc_meaning.specs.Step.{leads_to, wrong, object_of, computed, stored_at, declared, passes, tested, awaits_right, chosen, looped, step}
 use Rattle.cyc_meaning.specs.State.{status_of}
 use Rattle.cyc_meaning.specs.SourceMachine.{status_in}
@@ -51,7 +51,7 @@ use Rattle.cyc_lower.specs.Slots.{slot_of, Types}
 use Rattle.cyc_lower.proofs.Slots.{slot-room, room-inside}
 use Rattle.cyc_lower.proofs.Widths.{kind_positive, same_kind, HasRoom, Outside, chain_kind}
 use Rattle.cyc_lower.proofs.Moves.{moved_slots, moves, put_elsewhere, moved_elsewhere, moved_is}
-use Rattle.cyc_lower.specs.Lowering.{unary_operator, binary_operator, failing_comparison, operand_of, value_slot, next_slot, is_in, jump_if_zero, jump_if_nonzero, move_of, converts_there, break_target, lower_program}
+use Rattle.cyc_lower.specs.Lowering.{unary_operator, binary_operator, failing_comparison, operand_of, value_slot, next_slot, is_in, jump_if_zero, jump_if_nonzero, move_of, converts_there, break_target, lower_program, tag_operand}
 use Rattle.cyc_lower.proofs.Stands.{OperandBy, CopyBy, CopyAt, CheckAt, CheckedAt, OperatorAt, TruthAt, ExpressionAt, OperationsAt, GuardAt}
 use Rattle.cyc_objects.specs.Tables.{Tables}
 use Rattle.cyc_objects.specs.Words.{Points, Is}
@@ -59,15 +59,17 @@ use Rattle.cyc_objects.proofs.Pointers.{not-null, part-not-null, pointer-word}
 use Rattle.cyc_objects.specs.Tables.{Variable, with_row}
 use Rattle.cyc_objects.proofs.Values.{Grows-row, Is-grows}
 use Rattle.cyc_lower.proofs.Sharing.{shared_declared, row_declared, shared_written}
-use Rattle.cyc_lower.proofs.Relation.{types_on, starts_on, IsWord, IsIn, with_kind, types_at, starts_at, Holds, held, contents, callers, in_place, by_jump, in_temporary, in_local, drops, leaves, copies, DataIn, SharedAt, StoreAt, to_slot, to_jump, ValueStack, ConditionStack, DroppedStack, AheadStack, LandsStack, HandsOnStack, AppliedStack, ReadyAt, as_operand, into_slot, as_right, in_operand, nowhere, ahead, compared, with_left, behind_statement, Related, Matches, code_of, bounds_at, base_of, top, IsPlainStack}
-use Rattle.cyc_lower.proofs.Data.{in_words, IsWord-is, one_word, height-least, Holds-same, Holds-above, data_above, data_assigned, data_assigned_global, data_declared, data_grows}
+use Rattle.cyc_lower.proofs.Relation.{types_on, starts_on, IsWord, IsIn, with_kind, types_at, starts_at, Holds, held, contents, callers, in_place, by_jump, in_temporary, in_local, drops, leaves, copies, DataIn, SharedAt, StoreAt, to_slot, to_jump, ValueStack, ConditionStack, DroppedStack, AheadStack, LandsStack, HandsOnStack, AppliedStack, ReadyAt, as_operand, into_slot, as_right, in_operand, nowhere, ahead, compared, with_left, behind_statement, Related, Matches, code_of, bounds_at, base_of, top, floor}
+use Rattle.cyc_lower.proofs.Data.{in_words, IsWord-is, one_word, height-least, Holds-same, Holds-above, data_above, data_assigned, data_assigned_global, data_declared, data_grows, null_is, points_in, null_at, points_at, behind-least, handlers_beside, data_written}
 use Rattle.cyc_lower.proofs.Accesses.{IsWell, is_fitting, is_stored, written_here, written_elsewhere, written_length, is_declared, home_there, is_member}
 use Rattle.cyc_lower.proofs.PlaceWords.{stays, member_there}
 use Rattle.cyc_lower.proofs.CellWrites.{cell_is_there, saves_there, shared_saved, data_saved}
 use Rattle.cyc_lower.proofs.Weights.{weight}
 use Rattle.cyc_lower.proofs.Relation.{types_on, starts_on, StatementStack}
-use Rattle.cyc_lower.proofs.Matched.{IsMatched, silently, by_one, by_two, by_three, shared_way, shared_within, lands_depth, value_depth, place_depth, lands_plain, value_plain, place_plain, by_two_known, output_way}
+use Rattle.cyc_lower.proofs.Matched.{IsMatched, silently, by_one, by_two, by_three, shared_way, shared_within, by_two_known, output_way}
+use Rattle.cyc_lower.proofs.Handling.{leaving, record_left, raised}
 use Rattle.cyc_lower.proofs.PointerSteps.{applies_pointers, right_follows}
+use Rattle.cyc_lower.proofs.UniqueBlocks.{frees_value}
 use Rattle.cyc_lower.proofs.Allocations.{plain_made, fields_made}
 use Rattle.cyc_lower.proofs.Arrays.{array_sized, array_filled}
 use Rattle.cyc_lower.proofs.Evaluations.{IsStep, landed_word, landed_moved, lands_at, passes_related, passes_weight, object_of_same, global_there}
@@ -113,35 +115,15 @@ module _ (t : Tables) where
       let (words, p, same, is_it) = in_words t (of_kind kind (Int a)) slots o is in
       sym same ∙ int_at kind a words p is_it
 
-  null_at : (kind : Kind) (words : Words) (p : ℕ) → Is t kind Null words p → words p ≡ 0
-  null_at kinds.Nullable words p is = is
-  null_at kinds.Fat words p is = is
-  null_at kind words p is = absurd is
-
-  pub null_is : (kind : Kind) (slots : Words) (o : Operand) → IsIn t (of_kind kind Null) slots o → operand_word slots o ≡ 0
-  null_is kind slots o is =
-      let (words, p, same, is_it) = in_words t (of_kind kind Null) slots o is in
-      sym same ∙ null_at kind words p is_it
-
   -- a value of one word is told by it
   pub first_word : (v : Kinded) (slots : Words) (o : Operand) → words_of_kind v.kind ≡ 1 → IsIn t v slots o → IsWord t v.kind v.value (operand_word slots o)
   first_word v slots (operands.Slot n) single is = one_word t v.kind v.value slots n single is
   first_word v slots (operands.Word w) single is = is
 
-  -- the address of a cell, which is not 0
-  points_at : (kind : Kind) (object offset : ℕ) (words : Words) (p : ℕ) → Is t kind (Thin object offset) words p → Points t object offset (words p)
-  points_at kinds.Nullable object offset words p is = is
-  points_at kinds.NonNull object offset words p is = is
-  points_at kind object offset words p is = absurd is
-
-  pub points_in : (kind : Kind) (object offset : ℕ) (slots : Words) (o : Operand) → IsIn t (of_kind kind (Thin object offset)) slots o → Points t object offset (operand_word slots o)
-  points_in kind object offset slots o is =
-      let (words, p, same, is_it) = in_words t (of_kind kind (Thin object offset)) slots o is in
-      subst (Points t object offset) same (points_at kind object offset words p is_it)
-
+  -- the address of a cell is not 0
   pub not_zero : (kind : Kind) (object offset : ℕ) (slots : Words) (o : Operand) → IsIn t (of_kind kind (Thin object offset)) slots o → (operand_word slots o == 0) ≡ false
   not_zero kind object offset slots o is =
-      false_from_ne_true (operand_word slots o == 0) (λ h. not-null (points_in kind object offset slots o is) (eqb-true (operand_word slots o) 0 h))
+      false_from_ne_true (operand_word slots o == 0) (λ h. not-null (points_in t kind object offset slots o is) (eqb-true (operand_word slots o) 0 h))
 
   part_at : (kind : Kind) (object start many index : ℕ) (words : Words) (p : ℕ) → Is t kind (Fat object start many index) words p → Is t kinds.Fat (Fat object start many index) words p
   part_at kinds.Fat object start many index words p is = is
@@ -187,11 +169,11 @@ module _ (t : Tables) where
   -- a value that is converted without a change keeps its words
   kept_at : (from to : Kind) (v : Value) (words : Words) (p : ℕ) → conversion to v ≡ Gives v → Is t from v words p → Is t to v words p
   kept_at from kinds.Int (Int a) words p gives is = int_at from a words p is
-  kept_at from kinds.Nullable Null words p gives is = null_at from words p is
-  kept_at from kinds.Fat Null words p gives is = null_at from words p is
+  kept_at from kinds.Nullable Null words p gives is = null_at t from words p is
+  kept_at from kinds.Fat Null words p gives is = null_at t from words p is
   kept_at from kinds.NonNull Null words p gives is = absurd (let f : Raises 1 ≡ Gives Null = gives in cc)
-  kept_at from kinds.Nullable (Thin object offset) words p gives is = points_at from object offset words p is
-  kept_at from kinds.NonNull (Thin object offset) words p gives is = points_at from object offset words p is
+  kept_at from kinds.Nullable (Thin object offset) words p gives is = points_at t from object offset words p is
+  kept_at from kinds.NonNull (Thin object offset) words p gives is = points_at t from object offset words p is
   kept_at from kinds.Fat (Thin object offset) words p gives is = absurd (let f : Gives (Fat object offset 1 0) ≡ Gives (Thin object offset) = gives in cc)
   kept_at from kinds.Fat (Fat object start many index) words p gives is = part_at from object start many index words p is
   kept_at from kinds.Nullable (Fat object start many index) words p gives is = absurd (not_thinned object start index (nat_lt index many) gives)
@@ -283,13 +265,13 @@ module _ (source : Program) (pages calls : ℕ) where
 
   -- where a check fails, its exception is raised
   pub guard_fails : {focus : Focus} {l : List Entry} (tag : ℕ) (failing : Comparison) (x y : Operand) (k : List Entry) (e : Environment) (w : World) (c : Configuration) (q : ℕ)
-      → step source (Running focus l e w) ≡ Running (Throwing tag 0) k e w → SharedAt source pages calls l e w c → SharedAt source pages calls k e w c → calls_in k ≤ calls → IsPlainStack k
-      → GuardAt (code_of source c.active.function) (bounds_at source c.active.function) (types_at source c.active.function) tag failing x y c.active.next q
+      → step source (Running focus l e w) ≡ Running (Throwing tag 0) k e w → SharedAt source pages calls l e w c → (shared : SharedAt source pages calls k e w c) → IsMachineWord tag → DataIn source shared.tables c.active.slots k e w c
+      → GuardAt (code_of source c.active.function) (bounds_at source c.active.function) (types_on source c.active.function k) tag failing x y c.active.next q
       → compares failing (operand_word c.active.slots x) (operand_word c.active.slots y) ≡ true → IsMatched source pages calls (Running focus l e w) (plain.Running c)
-  guard_fails tag failing x y k e w c q does shared shared_there fits plain_stack (s, jump, raised, end) fails =
+  guard_fails tag failing x y k e w c q does shared shared_there word facts (s, jump, raising_it, end) fails =
       by_one source pages calls does shared jump
       (λ choice. taken (Running (Throwing tag 0) k e w) c (compares failing (operand_word c.active.slots x) (operand_word c.active.slots y)) s fails
-      (shared_there, fits, plain_stack, operands.Word 0, raised, refl))
+      (raised source pages calls tag 0 k e w (at c s) (operands.Word tag) (operands.Word 0) word shared_there facts raising_it refl refl))
 
   -- where it does not fail, the run goes on behind it
   pub guard_passes : {focus : Focus} {l : List Entry} (next : State) (tag : ℕ) (failing : Comparison) (x y : Operand) (e : Environment) (w : World) (c : Configuration) (q : ℕ)
@@ -305,7 +287,7 @@ module _ (source : Program) (pages calls : ℕ) where
   -- what is known of a value that stands in an operand
   abbrev pub Stands : Kinded → Operand → List Entry → Environment → World → Configuration → Type 0
   Stands v o k e w c = (shared : SharedAt source pages calls k e w c) × DataIn source shared.tables c.active.slots k e w c × IsIn shared.tables v c.active.slots o
-      × Holds shared.tables c.active.slots (base_of source c.active.function) (held k)
+      × Holds shared.tables c.active.slots (floor source c.active.function k) (held k)
 
   abbrev pub GoesBehind : Kinded → List Entry → Environment → World → Configuration → Type 0
   GoesBehind v k e w c = IsMatched source pages calls (Running (Given v) k e w) (plain.Running c)
@@ -342,8 +324,7 @@ module _ (source : Program) (pages calls : ℕ) where
   converted from kinds.Fat target i Null o k e w c well does wide stands (q, (same, end), stack) = kept_value from kinds.Fat target i Null o k e w c q refl does stands end stack
   converted from kinds.NonNull target i Null o k e w c well does wide (shared, facts, is, holds) (q, (same, check), stack) =
       guard_fails null_exception comparisons.Equal o (operands.Word 0) k e w c q does shared shared
-      (omega (arith, value_depth source c.active.function e.locals kinds.NonNull o q c.frames k stack, shared.fits))
-      (value_plain source c.active.function e.locals kinds.NonNull o q c.frames k stack) check
+      (omega arith) facts check
       (ap (λ x. x == 0) (null_is shared.tables i c.active.slots o is))
   converted from kinds.Nullable target i (Thin object offset) o k e w c well does wide stands (q, (same, end), stack) = kept_value from kinds.Nullable target i (Thin object offset) o k e w c q refl does stands end stack
   converted from kinds.NonNull target i (Thin object offset) o k e w c well does wide (shared, facts, is, holds) (q, (same, check), stack) =
@@ -451,7 +432,7 @@ module _ (source : Program) (pages calls : ℕ) where
   quotient : (u : Operator) (a b : ℕ) (l r : Operand) (d : ℕ) (k : List Entry) (e : Environment) (w : World) (c : Configuration) (q : ℕ)
       → ((x : ℕ) → plain_operators.has_no_result (binary_operator u) x ≡ (x == 0)) → ((x y : ℕ) → plain_operators.binary_result (binary_operator u) x y ≡ binary_word u x y)
       → (b == 0) ≡ false → (shared : SharedAt source pages calls k e w c) → DataIn source shared.tables c.active.slots k e w c
-      → operand_word c.active.slots l ≡ a → operand_word c.active.slots r ≡ b → Holds shared.tables c.active.slots (base_of source c.active.function) (held k)
+      → operand_word c.active.slots l ≡ a → operand_word c.active.slots r ≡ b → Holds shared.tables c.active.slots (floor source c.active.function k) (held k)
       → c.active.next + 1 ≡ q → LandsStack source c.active.function e.locals kinds.Int d q c.frames k
       → (choice : Choice) → Matches source pages calls (Running (Given (int_of (binary_word u a b))) k e w) (performed (lower_program source) choice c (instructions.Binary (binary_operator u) d l r))
   quotient u a b l r d k e w c q plain_test same nonzero shared facts is_left is holds end lands choice =
@@ -468,15 +449,14 @@ module _ (source : Program) (pages calls : ℕ) where
       → ((x : ℕ) → plain_operators.has_no_result (binary_operator u) x ≡ (x == 0)) → ((x : ℕ) → has_no_result u x ≡ (x == 0))
       → ((x y : ℕ) → plain_operators.binary_result (binary_operator u) x y ≡ binary_word u x y) → (b == 0) ≡ f
       → (shared : SharedAt source pages calls k e w c) → DataIn source shared.tables c.active.slots k e w c
-      → operand_word c.active.slots l ≡ a → operand_word c.active.slots r ≡ b → Holds shared.tables c.active.slots (base_of source c.active.function) (held k)
+      → operand_word c.active.slots l ≡ a → operand_word c.active.slots r ≡ b → Holds shared.tables c.active.slots (floor source c.active.function k) (held k)
       → CheckAt (code_of source c.active.function) (bounds_at source c.active.function) (types_on source c.active.function k) division_by_zero r c.active.next m
       → At (code_of source c.active.function) m (instructions.Binary (binary_operator u) d l r) → m + 1 ≡ q
       → LandsStack source c.active.function e.locals kinds.Int d q c.frames k → GoesBehind (of_kind j (Int b)) (Needs (Apply u (of_kind i (Int a))) ∷ k) e w c
   tested_divides u i j a b true l r d k e w c m q plain_test test same zero_b shared facts is_left is holds check here end lands =
       guard_fails division_by_zero comparisons.Equal r (operands.Word 0) k e w c m
       (ap (λ x. computed kinds.Int (if x then Raises 4 else Gives (Int (binary_word u a b))) k e w) (test b ∙ zero_b)) shared shared
-      (omega (arith, lands_depth source c.active.function e.locals kinds.Int d q c.frames k lands, shared.fits))
-      (lands_plain source c.active.function e.locals kinds.Int d q c.frames k lands) check (ap (λ x. x == 0) is ∙ zero_b)
+      (omega arith) facts check (ap (λ x. x == 0) is ∙ zero_b)
   tested_divides u i j a b false l r d k e w c m q plain_test test same zero_b shared facts is_left is holds (s, jump, raised, behind) here end lands =
       let nonzero : (operand_word c.active.slots r == 0) ≡ false = ap (λ x. x == 0) is ∙ zero_b in
       by_two source pages calls (at c m)
@@ -490,7 +470,7 @@ module _ (source : Program) (pages calls : ℕ) where
       → ((x : ℕ) → plain_operators.has_no_result (binary_operator u) x ≡ (x == 0)) → ((x : ℕ) → has_no_result u x ≡ (x == 0))
       → ((x y : ℕ) → plain_operators.binary_result (binary_operator u) x y ≡ binary_word u x y)
       → (shared : SharedAt source pages calls k e w c) → DataIn source shared.tables c.active.slots k e w c
-      → operand_word c.active.slots l ≡ a → operand_word c.active.slots r ≡ b → Holds shared.tables c.active.slots (base_of source c.active.function) (held k)
+      → operand_word c.active.slots l ≡ a → operand_word c.active.slots r ≡ b → Holds shared.tables c.active.slots (floor source c.active.function k) (held k)
       → CheckedAt (code_of source c.active.function) (bounds_at source c.active.function) (types_on source c.active.function k) u d l r c.active.next q
       → LandsStack source c.active.function e.locals kinds.Int d q c.frames k → GoesBehind (of_kind j (Int b)) (Needs (Apply u (of_kind i (Int a))) ∷ k) e w c
   divides u i j a b l (operands.Word (suc n)) d k e w c q plain_test test same shared facts is_left is holds (m, begin, here, end) lands =
@@ -505,7 +485,7 @@ module _ (source : Program) (pages calls : ℕ) where
 
   computes : (u : Operator) (i j : Kind) (a b : ℕ) (l r : Operand) (d : ℕ) (k : List Entry) (e : Environment) (w : World) (c : Configuration) (q : ℕ)
       → (shared : SharedAt source pages calls k e w c) → DataIn source shared.tables c.active.slots k e w c
-      → operand_word c.active.slots l ≡ a → operand_word c.active.slots r ≡ b → Holds shared.tables c.active.slots (base_of source c.active.function) (held k)
+      → operand_word c.active.slots l ≡ a → operand_word c.active.slots r ≡ b → Holds shared.tables c.active.slots (floor source c.active.function k) (held k)
       → OperatorAt (code_of source c.active.function) (bounds_at source c.active.function) (types_on source c.active.function k) u d l r c.active.next q
       → LandsStack source c.active.function e.locals kinds.Int d q c.frames k → GoesBehind (of_kind j (Int b)) (Needs (Apply u (of_kind i (Int a))) ∷ k) e w c
   computes operators.Divide i j a b l r d k e w c q shared facts is_left is holds here lands =
@@ -564,17 +544,17 @@ module _ (source : Program) (pages calls : ℕ) where
   -- where a word was negated once, a second time gives 0 or 1
   negated_twice : (t d : ℕ) (k : List Entry) (e : Environment) (w : World) (c : Configuration) (q : ℕ) → t ≡ truth (not (c.active.slots (top source c.active.function k) == 0))
       → (shared : SharedAt source pages calls k e w c) → DataIn source shared.tables c.active.slots k e w c
-      → Holds shared.tables c.active.slots (base_of source c.active.function) (held k) → c.active.next + 1 + 1 ≡ q → LandsStack source c.active.function e.locals kinds.Int d q c.frames k
+      → Holds shared.tables c.active.slots (floor source c.active.function k) (held k) → c.active.next + 1 + 1 ≡ q → LandsStack source c.active.function e.locals kinds.Int d q c.frames k
       → Related source pages calls (Given (int_of t)) k e w
       (advanced (with_slots (negated c k) (put (negated c k).active.slots d (truth ((negated c k).active.slots (top source c.active.function k) == 0)))))
   negated_twice t d k e w c q t_is shared facts holds end lands =
       let free = top source c.active.function k in
-      let base = base_of source c.active.function in
+      let base = floor source c.active.function k in
       let x = truth (c.active.slots free == 0) in
       let slots = put c.active.slots free x in
       landed_word source pages calls t (truth (slots free == 0)) d k e w (negated c k) q
       (ap (λ y. truth (y == 0)) (put-same c.active.slots free x) ∙ truth_twice (c.active.slots free == 0) ∙ sym t_is)
-      shared (data_above shared.tables source c.active.function w.objects e.locals (callers k) c.active.slots slots c.globals c.frames free 1 (height-least base (held k)) (λ m out. put_elsewhere c.active.slots free x 1 m (omega arith) out) facts)
+      shared (data_written source shared.tables c.active.function w.objects e.locals k c.active.slots slots c.active.handlers c.globals c.frames free 1 (height-least base (held k)) (λ m out. put_elsewhere c.active.slots free x 1 m (omega arith) out) facts)
       (Holds-same shared.tables c.active.slots slots base (held k) (λ m below. put_elsewhere c.active.slots free x 1 m (omega arith) (inl below)) holds) end lands
 
   decides_truth : (v : Kinded) (o : Operand) (k : List Entry) (e : Environment) (w : World) (c : Configuration) → IsWell (step source (Running (Given v) (Needs Decide ∷ k) e w)) → Stands v o k e w c
@@ -605,7 +585,7 @@ module _ (source : Program) (pages calls : ℕ) where
       → ((x : ℕ) → i ≢ instructions.Unary plain_unary.Not x (operands.Slot (top source c.active.function k)))
       → (c.active.slots (top source c.active.function k) == 0) ≡ f
       → (shared : SharedAt source pages calls k e w c) → DataIn source shared.tables c.active.slots k e w c
-      → Holds shared.tables c.active.slots (base_of source c.active.function) (held k)
+      → Holds shared.tables c.active.slots (floor source c.active.function k) (held k)
       → TruthAt (code_of source c.active.function) (bounds_at source c.active.function) (types_on source c.active.function k) (top source c.active.function k) d m r
       → LandsStack source c.active.function e.locals kinds.Int d r c.frames (Needs (Chain os) ∷ k)
       → GoesBehind v (Needs (Chain (ThenTest u b os)) ∷ k) e w c
@@ -806,7 +786,7 @@ module _ (source : Program) (pages calls : ℕ) where
       let words = words_of_kind v.kind in
       let stored = is_stored object v (Given v) k e w well in
       let slot = slot_of (starts_on source g k) n in
-      let inside = slot-room (types_on source g k) n (facts.2.within n object found).0 in
+      let inside = slot-room (types_on source g k) n (facts.0.2.within n object found).0 in
       let slots = moved_slots c.active.slots words slot o in
       let elsewhere : (m : ℕ) → Outside slot words m → slots m ≡ c.active.slots m = λ m out. moved_elsewhere c.active.slots words slot o m (kind_positive v.kind) out in
       let moved = moved_is shared.tables v c.active.slots slot o is in
@@ -814,12 +794,15 @@ module _ (source : Program) (pages calls : ℕ) where
       let next = written w object 0 stored.at v.value in
       hands_behind v k e next c after stored.gives shared shared here (λ choice. moves (lower_program source) choice c words slot o) (λ same. omega (arith, same))
       (handed v to k e next after q end (
-        shared_written source pages calls k e w after shared object stored.at v.value stored.object_there stored.cell_there (facts.2.rows n object found),
-        data_assigned shared.tables source g w.objects next.objects e.locals (callers k) c.active.slots slots c.globals c.frames n object v found
-            (written_here w object stored.at v.value stored.object_there stored.cell_there v.kind stored.same) (written_elsewhere w object stored.at v.value stored.object_there stored.cell_there)
-            (written_length w object stored.at v.value stored.object_there stored.cell_there) room moved elsewhere facts,
+        shared_written source pages calls k e w after shared object stored.at v.value stored.object_there stored.cell_there (facts.0.2.rows n object found),
+        (
+          data_assigned shared.tables source g w.objects next.objects e.locals (callers k) c.active.slots slots c.globals c.frames n object v found
+              (written_here w object stored.at v.value stored.object_there stored.cell_there v.kind stored.same) (written_elsewhere w object stored.at v.value stored.object_there stored.cell_there)
+              (written_length w object stored.at v.value stored.object_there stored.cell_there) room moved elsewhere facts.0,
+          handlers_beside source g c.active.slots slots c.active.handlers c.frames k slot words (omega (arith, inside, room)) elsewhere facts.1,
+        ),
         subst (IsIn shared.tables v slots) (sym there) moved,
-        Holds-above shared.tables c.active.slots slots (base_of source g) (held k) (λ m above. elsewhere m (inr (omega (arith, inside, room, above)))) holds,
+        Holds-above shared.tables c.active.slots slots (floor source g k) (held k) (λ m above. elsewhere m (inr (omega (arith, inside, room, above, behind-least k (base_of source g))))) holds,
       ) hands)
   stores object v (Global n) o to k e w c q found well (shared, facts, is, holds) (here, end, there, few, single) hands =
       let g = c.active.function in
@@ -830,12 +813,15 @@ module _ (source : Program) (pages calls : ℕ) where
       let next = written w object 0 stored.at v.value in
       hands_behind v k e next c after stored.gives shared shared here (λ choice. refl) (λ equal. omega (arith, equal))
       (handed v to k e next after q end (
-        shared_written source pages calls k e w after shared object stored.at v.value stored.object_there stored.cell_there (ap (slice_get shared.tables.rows) (sym same) ∙ (facts.4 n (global_there source pages calls g n few)).0),
-        data_assigned_global shared.tables source g w.objects next.objects e.locals (callers k) c.active.slots c.globals c.frames n v x
-            (global_there source pages calls g n few)
-            (ap (contents next.objects) same ∙ written_here w object stored.at v.value stored.object_there stored.cell_there v.kind stored.same)
-            (λ i other. written_elsewhere w object stored.at v.value stored.object_there stored.cell_there i (λ equal. other (equal ∙ sym same)))
-            (written_length w object stored.at v.value stored.object_there stored.cell_there) (first_word shared.tables v c.active.slots o single is) facts,
+        shared_written source pages calls k e w after shared object stored.at v.value stored.object_there stored.cell_there (ap (slice_get shared.tables.rows) (sym same) ∙ (facts.0.4 n (global_there source pages calls g n few)).0),
+        (
+          data_assigned_global shared.tables source g w.objects next.objects e.locals (callers k) c.active.slots c.globals c.frames n v x
+              (global_there source pages calls g n few)
+              (ap (contents next.objects) same ∙ written_here w object stored.at v.value stored.object_there stored.cell_there v.kind stored.same)
+              (λ i other. written_elsewhere w object stored.at v.value stored.object_there stored.cell_there i (λ equal. other (equal ∙ sym same)))
+              (written_length w object stored.at v.value stored.object_there stored.cell_there) (first_word shared.tables v c.active.slots o single is) facts.0,
+          facts.1,
+        ),
         subst (IsIn shared.tables v c.active.slots) (sym there) is,
         holds,
       ) hands)
@@ -885,18 +871,22 @@ module _ (source : Program) (pages calls : ℕ) where
       → e.locals n ≡ Some object → IsWell (stored_at (Thin object 0) v (Given v) k e w)
       → ((m : ℕ) → Outside (slot_of (starts_on source c.active.function k) n) (words_of_kind v.kind) m → old m ≡ c.active.slots m) → DataIn source shared.tables old k e w c
       → HasRoom (types_at source c.active.function) n v.kind
-      → Is shared.tables v.kind v.value c.active.slots (slot_of (starts_on source c.active.function k) n) → Holds shared.tables c.active.slots (base_of source c.active.function) (held k)
+      → Is shared.tables v.kind v.value c.active.slots (slot_of (starts_on source c.active.function k) n) → Holds shared.tables c.active.slots (floor source c.active.function k) (held k)
       → HandsOnStack source c.active.function e.locals v.kind (operands.Slot (slot_of (starts_on source c.active.function k) n)) c.active.next c.frames k → GoesBehind v (Needs (Store (Thin object 0)) ∷ k) e w c
   catches_up object n old v k e w c shared found well same facts room is holds hands =
       let g = c.active.function in
       let stored = is_stored object v (Given v) k e w well in
       let next = written w object 0 stored.at v.value in
+      let inside = slot-room (types_on source g k) n (facts.0.2.within n object found).0 in
       hands_at_once v (Needs (Store (Thin object 0)) ∷ k) k e w next c stored.gives shared (omega arith)
       (handed v (operands.Slot (slot_of (starts_on source g k) n)) k e next c c.active.next refl (
-        shared_written source pages calls k e w c shared object stored.at v.value stored.object_there stored.cell_there (facts.2.rows n object found),
-        data_assigned shared.tables source g w.objects next.objects e.locals (callers k) old c.active.slots c.globals c.frames n object v found
-            (written_here w object stored.at v.value stored.object_there stored.cell_there v.kind stored.same) (written_elsewhere w object stored.at v.value stored.object_there stored.cell_there)
-            (written_length w object stored.at v.value stored.object_there stored.cell_there) room is (λ m out. sym (same m out)) facts,
+        shared_written source pages calls k e w c shared object stored.at v.value stored.object_there stored.cell_there (facts.0.2.rows n object found),
+        (
+          data_assigned shared.tables source g w.objects next.objects e.locals (callers k) old c.active.slots c.globals c.frames n object v found
+              (written_here w object stored.at v.value stored.object_there stored.cell_there v.kind stored.same) (written_elsewhere w object stored.at v.value stored.object_there stored.cell_there)
+              (written_length w object stored.at v.value stored.object_there stored.cell_there) room is (λ m out. sym (same m out)) facts.0,
+          handlers_beside source g old c.active.slots c.active.handlers c.frames k (slot_of (starts_on source g k) n) (words_of_kind v.kind) (omega (arith, inside, room)) (λ m out. sym (same m out)) facts.1,
+        ),
         is,
         holds,
       ) hands)
@@ -963,14 +953,18 @@ module _ (source : Program) (pages calls : ℕ) where
       let grown = with_row shared.tables Variable in
       let grows = Grows-row shared.tables Variable in
       let slots = moved_slots c.active.slots words slot o in
+      let local = room-inside (types_at source g) n v.kind room in
+      let elsewhere : (m : ℕ) → Outside slot words m → slots m ≡ c.active.slots m = λ m out. moved_elsewhere c.active.slots words slot o m (kind_positive v.kind) out in
       by_one source pages calls (makes_local n kind js v k e w well) shared here
       (λ choice. subst (Matches source pages calls (Running Proceeding (Rest js ∷ k) (with_local e n (length w.objects)) (made w (variable e.home kind (Some v.value))))) (sym (moves (lower_program source) choice c words slot o)) (
         shared_declared source pages calls k e w (advanced (with_slots c slots)) shared n r kind (Some v.value) home,
         behind_statement exits
-            (data_declared grown source g w.objects e (callers k) c.active.slots slots c.globals c.frames n words (variable e.home kind (Some v.value)) (room-inside (types_at source g) n v.kind room) room (row_declared source pages calls k e w c shared)
-            (λ m out. moved_elsewhere c.active.slots words slot o m (kind_positive v.kind) out)
-            (made_value grown n kind js v k e w slots slot (types_at source g) well room (Is-grows grows v.kind v.value slots slot (moved_is shared.tables v c.active.slots slot o is)))
-            (data_grows shared.tables grown grows source g w.objects e.locals (callers k) c.active.slots c.globals c.frames facts))
+            (
+              data_declared grown source g w.objects e (callers k) c.active.slots slots c.globals c.frames n words (variable e.home kind (Some v.value)) local room (row_declared source pages calls k e w c shared) elsewhere
+                  (made_value grown n kind js v k e w slots slot (types_at source g) well room (Is-grows grows v.kind v.value slots slot (moved_is shared.tables v c.active.slots slot o is)))
+                  (data_grows shared.tables grown grows source g w.objects e.locals (callers k) c.active.slots c.globals c.frames facts.0),
+              handlers_beside source g c.active.slots slots c.active.handlers c.frames k slot words (omega (arith, slot-room (types_on source g k) n local, room)) elsewhere facts.1,
+            )
             (q, items, stack),
       ))
 
@@ -986,14 +980,18 @@ module _ (source : Program) (pages calls : ℕ) where
       let grown = with_row shared.tables Variable in
       let grows = Grows-row shared.tables Variable in
       let slot = slot_of (starts_on source g k) n in
+      let local = room-inside (types_at source g) n v.kind room in
       silently source pages calls (Running (Given v) (Needs (Initialise n kind js) ∷ k) e w)
       (Running Proceeding (Rest js ∷ k) (with_local e n (length w.objects)) (made w (variable e.home kind (Some v.value)))) (plain.Running c)
       (makes_local n kind js v k e w well) (
         shared_declared source pages calls k e w c shared n r kind (Some v.value) home,
         behind_statement exits
-            (data_declared grown source g w.objects e (callers k) old c.active.slots c.globals c.frames n (words_of_kind v.kind) (variable e.home kind (Some v.value)) (room-inside (types_at source g) n v.kind room) room (row_declared source pages calls k e w c shared)
-            (λ m out. sym (same m out)) (made_value grown n kind js v k e w c.active.slots slot (types_at source g) well room (Is-grows grows v.kind v.value c.active.slots slot is))
-            (data_grows shared.tables grown grows source g w.objects e.locals (callers k) old c.globals c.frames facts))
+            (
+              data_declared grown source g w.objects e (callers k) old c.active.slots c.globals c.frames n (words_of_kind v.kind) (variable e.home kind (Some v.value)) local room (row_declared source pages calls k e w c shared)
+                  (λ m out. sym (same m out)) (made_value grown n kind js v k e w c.active.slots slot (types_at source g) well room (Is-grows grows v.kind v.value c.active.slots slot is))
+                  (data_grows shared.tables grown grows source g w.objects e.locals (callers k) old c.globals c.frames facts.0),
+              handlers_beside source g old c.active.slots c.active.handlers c.frames k slot (words_of_kind v.kind) (omega (arith, slot-room (types_on source g k) n local, room)) (λ m out. sym (same m out)) facts.1,
+            )
             stack,
       )
       (omega arith)
@@ -1014,7 +1012,7 @@ module _ (source : Program) (pages calls : ℕ) where
       → is_zero v.value ≡ Some f → compares failing (operand_word c.active.slots l) (operand_word c.active.slots r) ≡ f
       → (shared : SharedAt source pages calls k e w c) → DataIn source shared.tables c.active.slots (Needs (Test a s) ∷ k) e w c
       → ConditionStack source c.active.function failing l r c.active.next c.frames (Needs (Test a s) ∷ k) → GoesBehind v (Needs (Test a s) ∷ k) e w c
-  loops a s v true failing l r k e w c fails told shared facts (exits, outer, q, (x, y, m, n, leave, at_a, again, at_body, repeats, after), i, jump, at_s, back, stack) =
+  loops a s v true failing l r k e w c fails told shared facts (exits, outer, q, (record_is, first_is, x, y, m, n, leave, at_a, again, at_body, repeats, after), i, jump, at_s, back, stack) =
       by_two source pages calls (at c (break_target exits.head)) (ap (λ (z : Option Bool). looped z a s k e w) fails) shared shared
       jump (λ choice. ap (λ z. plain_step.branches c z (break_target exits.head)) told)
       leave
@@ -1024,6 +1022,16 @@ module _ (source : Program) (pages calls : ℕ) where
   loops a s v false failing l r k e w c fails told shared facts (exits, outer, q, around, m, jump, at_s, back, stack) =
       by_one source pages calls (ap (λ (z : Option Bool). looped z a s k e w) fails) shared jump
       (λ choice. not_taken (Running (Executing s) (Loop a s ∷ k) e w) c _ _ told (shared, facts, (exits, m, at_s, (outer, q, around, back, stack))))
+
+  -- ---- exceptions
+
+  throws_with : (tag : ℕ) (i : Kind) (v : Value) (o : Operand) (k : List Entry) (e : Environment) (w : World) (c : Configuration) → IsWell (step source (Running (Given (of_kind i v)) (Needs (ThrowWith tag) ∷ k) e w))
+      → Stands (of_kind i v) o (Needs (ThrowWith tag) ∷ k) e w c → ValueStack source c.active.function e.locals i o c.active.next c.frames (Needs (ThrowWith tag) ∷ k) → GoesBehind (of_kind i v) (Needs (ThrowWith tag) ∷ k) e w c
+  throws_with tag i (Int a) o k e w c well (shared, facts, is, holds) (exits, q, word, here, stack) =
+      silently source pages calls (Running (Given (of_kind i (Int a))) (Needs (ThrowWith tag) ∷ k) e w) (Running (Throwing tag a) k e w) (plain.Running c) refl
+      (raised source pages calls tag a k e w c (tag_operand tag) o word shared facts here (let z : tag % 2 ^ 32 ≡ tag = omega (arith, word) in z) (int_is shared.tables i a c.active.slots o is))
+      (omega arith)
+  throws_with tag i v o k e w c well stands stack = absurd (well refl)
 
   -- ---- all that waits for a value
 
@@ -1035,8 +1043,7 @@ module _ (source : Program) (pages calls : ℕ) where
       let does : step source (Running (Given (of_kind i Null)) (Needs (Follow pointer target) ∷ k) e w) ≡ Running (Throwing 1 0) k e w
       = ap (λ (b : Bool). if b then Running (Throwing 1 0) k e w else wrong w) (is_fitting (is_kind i pointer && leads_to w target (followed Null)) (Running (Throwing 1 0) k e w) w well) in
       guard_fails null_exception comparisons.Equal o (operands.Word 0) k e w c q does shared shared
-      (omega (arith, place_depth source c.active.function e.locals o 0 q c.frames k place, shared.fits))
-      (place_plain source c.active.function e.locals o 0 q c.frames k place) check (ap (λ x. x == 0) (null_is shared.tables i c.active.slots o is))
+      (omega arith) facts check (ap (λ x. x == 0) (null_is shared.tables i c.active.slots o is))
   follows pointer target i (Thin object offset) o k e w c well (shared, facts, is, holds) (q, thin, check, place) =
       let there = Running (GivenPlace (Thin object offset)) k e w in
       let does : step source (Running (Given (of_kind i (Thin object offset))) (Needs (Follow pointer target) ∷ k) e w) ≡ there
@@ -1062,8 +1069,7 @@ module _ (source : Program) (pages calls : ℕ) where
       let does : step source (Running (Given (of_kind i Null)) (Needs (FollowMember pointer fields field) ∷ k) e w) ≡ Running (Throwing 1 0) k e w
       = ap (λ (b : Bool). if b then Running (Throwing 1 0) k e w else wrong w) (is_fitting (is_kind i pointer) (Running (Throwing 1 0) k e w) w well) in
       guard_fails null_exception comparisons.Equal o (operands.Word 0) k e w c q does shared shared
-      (omega (arith, place_depth source c.active.function e.locals o offset q c.frames k place, shared.fits))
-      (place_plain source c.active.function e.locals o offset q c.frames k place) check (ap (λ x. x == 0) (null_is shared.tables i c.active.slots o is))
+      (omega arith) facts check (ap (λ x. x == 0) (null_is shared.tables i c.active.slots o is))
   follows_member pointer fields field i (Thin object start) o k e w c well (shared, facts, is, holds) (offset, q, thin, check, inside, same, place) =
       let there = Running (GivenPlace (Thin object field)) k e w in
       let arrived = arrives (member_of w (followed (Thin object start)) fields field) k e w in
@@ -1107,10 +1113,11 @@ module _ (source : Program) (pages calls : ℕ) where
       chooses s t v (operand_word c.active.slots o == 0) comparisons.Equal o (operands.Word 0) k e w c (zero_is shared.tables v c.active.slots o (λ none. well (ap (λ x. status_in (status_of (chosen x s t k e w))) none)) is) refl shared facts stack
   stands_given v o (Needs (Test a s) ∷ k) e w c of_words words well (shared, facts, is, holds) stack =
       loops a s v (operand_word c.active.slots o == 0) comparisons.Equal o (operands.Word 0) k e w c (zero_is shared.tables v c.active.slots o (λ none. well (ap (λ x. status_in (status_of (looped x a s k e w))) none)) is) refl shared facts stack
-  stands_given v o (Needs Return ∷ k) e w c of_words words well (shared, facts, is, holds) (exits, q, s, there, here, single, stack) =
-      silently source pages calls (Running (Given v) (Needs Return ∷ k) e w) (Running (Returning (Some v)) k e w) (plain.Running c) refl
-      (shared, facts, (exits, q, s, here, subst (IsIn shared.tables v c.active.slots) there is, single, stack))
-      (omega arith)
+  stands_given v o (Needs Return ∷ k) e w c of_words words well (shared, facts, is, holds) (exits, q, s, r, there, leave, here, single, stack) =
+      leaving source pages calls false (Given v) (Returning (Some v)) (Needs Return ∷ k) k e w c exits.first_record r refl shared (omega arith) (record_left source c.active.function exits q c.frames k stack).1 leave facts.1
+      (λ handlers stand. (shared, (facts.0, stand), (exits, q, s, here, subst (IsIn shared.tables v c.active.slots) there is, single, stack)))
+  stands_given v o (Needs (ThrowWith tag) ∷ k) e w c of_words words well stands stack = throws_with tag v.kind v.value o k e w c well stands stack
+  stands_given v o (Needs FreeObject ∷ k) e w c of_words words well (shared, facts, is, holds) stack = frees_value source pages calls v.kind v.value o k e w c well shared facts is stack
   stands_given v o (Needs (Follow pointer target) ∷ k) e w c of_words words well stands stack = follows pointer target v.kind v.value o k e w c well stands stack
   stands_given v o (Needs (FollowMember pointer fields field) ∷ k) e w c of_words words well stands stack = follows_member pointer fields field v.kind v.value o k e w c well stands stack
   stands_given v o (Discard ∷ k) e w c of_words words well (shared, facts, is, holds) (exits, stack) =
@@ -1130,7 +1137,7 @@ module _ (source : Program) (pages calls : ℕ) where
 
   ahead_given : (v : Kinded) (n : ℕ) (old : Words) (k : List Entry) (e : Environment) (w : World) (c : Configuration) → IsWell (step source (Running (Given v) k e w)) → (shared : SharedAt source pages calls k e w c)
       → ((m : ℕ) → Outside n (words_of_kind v.kind) m → old m ≡ c.active.slots m) → DataIn source shared.tables old k e w c
-      → Is shared.tables v.kind v.value c.active.slots n → Holds shared.tables c.active.slots (base_of source c.active.function) (held k)
+      → Is shared.tables v.kind v.value c.active.slots n → Holds shared.tables c.active.slots (floor source c.active.function k) (held k)
       → AheadStack source c.active.function e.locals v.kind n c.active.next c.frames k → GoesBehind v k e w c
   ahead_given v n old (Needs (ConvertTo from to target) ∷ k) e w c well shared same facts is holds (quiet, stack) =
       let (does, now, wide) = converts_ahead shared.tables from to target v n k e w c well quiet is in

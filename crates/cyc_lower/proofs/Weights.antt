@@ -1,8 +1,8 @@
 -- The weight of a source state, which falls with each step that the plain program makes no step for.
 use Rattle.std.proofs.Common.{ℕ, suc, ◌+◌, List, [], ◌∷◌, Option, None, Some, length}
-use Rattle.cyc_types.specs.TypedTrees.{Array, Load, New, Initial, Plain, Fields, Dereference, Target, Expression, Number, NullPointer, Copy, Call, Unary, Binary, Assign, Converted, Convert, Arguments, NoArguments, MoreArguments, Operations, NoOperations, ThenCompute, ThenTest, ThenPointer, Statement, Block, Empty, Evaluate, If, While, Break, Continue, Items, NoItems, MoreItems, Execute, Declare, Move, Peek, ThenPointerPeek, AddressOfCell, Member}
+use Rattle.cyc_types.specs.TypedTrees.{Array, Load, New, Initial, Plain, Fields, Dereference, Target, Expression, Number, NullPointer, Copy, Call, Unary, Binary, Assign, Converted, Convert, Arguments, NoArguments, MoreArguments, Operations, NoOperations, ThenCompute, ThenTest, ThenPointer, Statement, Block, Empty, Evaluate, If, While, Break, Continue, Items, NoItems, MoreItems, Execute, Declare, Move, Peek, ThenPointerPeek, AddressOfCell, Member, FreeUnique, Side, VariableSide, CellSide, Swap, Clauses, NoClauses, Default, Case}
 use Rattle.cyc_types.specs.TypedTrees as typed
-use Rattle.cyc_meaning.specs.State.{Awaiting, Chain, Pass, MakeFields, Initialise, Entry, Needs, Rest, Focus, Evaluating, Locating, Executing, Entering, Binding, State, Running, AwaitingPlace, StoreTo, NeedsPlace}
+use Rattle.cyc_meaning.specs.State.{Awaiting, Chain, Pass, MakeFields, Initialise, Entry, Needs, Rest, Focus, Evaluating, Locating, Executing, Entering, Binding, State, Running, AwaitingPlace, StoreTo, NeedsPlace, SwapLeft, Writing, Catching}
 
 -- An expression that is an operand may have no code. One that begins with another weighs more than that and what waits for it.
 abbrev mutual
@@ -18,6 +18,7 @@ abbrev mutual
   expression_weight (Binary a os t) = suc (suc (expression_weight a + operations_weight os))
   expression_weight (Assign l c t) = suc (suc (converted_weight c))
   expression_weight (Load x) = suc (suc (dereference_weight x))
+  expression_weight (FreeUnique a) = suc (suc (expression_weight a))
   expression_weight (New w i t) = suc (suc (object_weight i))
   expression_weight (AddressOfCell x t) = suc (suc (dereference_weight x))
   expression_weight (typed.Store x c t) = suc (suc (suc (dereference_weight x + converted_weight c)))
@@ -49,20 +50,31 @@ abbrev mutual
   operations_weight (ThenPointerPeek n o a os) = suc (suc (expression_weight a + operations_weight os))
   operations_weight os = 0
 
+-- a side of a swap, with what waits for it
+abbrev pub side_weight : Side → ℕ
+side_weight (VariableSide l t) = 0
+side_weight (CellSide x) = suc (dereference_weight x)
+
 abbrev pub initial_weight : Option Converted → ℕ
 initial_weight None = 0
 initial_weight (Some c) = suc (converted_weight c)
+
+abbrev pub thrown_weight : Option Expression → ℕ
+thrown_weight None = 0
+thrown_weight (Some a) = suc (expression_weight a)
 
 abbrev mutual
   pub statement_weight : Statement → ℕ
   statement_weight (Block r js) = suc (suc (suc (items_weight js)))
   statement_weight Empty = 1
   statement_weight (Evaluate a) = suc (suc (expression_weight a))
+  statement_weight (Swap a b) = suc (suc (side_weight a + side_weight b))
   statement_weight (If a s t) = suc (suc (expression_weight a))
   statement_weight (While p a s) = 0
   statement_weight (typed.Return v) = suc (initial_weight v)
   statement_weight Break = 1
   statement_weight Continue = 1
+  statement_weight (typed.Throw tag v) = suc (thrown_weight v)
   statement_weight s = 0
 
   pub items_weight : Items → ℕ
@@ -70,6 +82,12 @@ abbrev mutual
   items_weight (MoreItems (Execute s) js) = suc (statement_weight s + items_weight js)
   items_weight (MoreItems (Declare n t v) js) = suc (initial_weight v + items_weight js)
   items_weight js = 0
+
+-- an exception that comes to a default goes on there
+abbrev pub clauses_weight : Clauses → ℕ
+clauses_weight NoClauses = 1
+clauses_weight (Default r js) = suc (suc (suc (items_weight js)))
+clauses_weight (Case tag x r js cs) = 0
 
 -- each entry weighs something, so that a stack is lighter without it
 abbrev pub awaiting_weight : Awaiting → ℕ
@@ -80,6 +98,7 @@ awaiting_weight (Initialise number kind js) = suc (items_weight js)
 awaiting_weight a = 0
 
 abbrev pub place_weight : AwaitingPlace → ℕ
+place_weight (SwapLeft kind peek right) = side_weight right
 place_weight (StoreTo peek c) = suc (converted_weight c)
 place_weight a = 0
 
@@ -99,6 +118,8 @@ focus_weight (Executing s) = statement_weight s
 focus_weight (Entering h arguments) = suc (suc (suc (suc (length h.parameters + items_weight h.body))))
 focus_weight (Binding number types arguments body) = suc (suc (length types + items_weight body))
 focus_weight (Locating x) = dereference_weight x
+focus_weight (Writing writes result) = 1
+focus_weight (Catching tag value handler) = clauses_weight handler
 focus_weight focus = 0
 
 abbrev pub weight : State → ℕ

@@ -13,7 +13,7 @@ use Rattle.cyc_types.specs.declared.typed.PointerOperator.TheVariants as pointer
 use Rattle.cyc_types.specs.declared.typed.LogicalOperator.{LogicalOperator}
 use Rattle.cyc_types.specs.declared.typed.LogicalOperator.TheVariants as logical
 use Rattle.cyc_types.specs.Types.{Ty, words_of, ValueType, Void, Null, Value}
-use Rattle.cyc_types.specs.TypedTrees.{Counter, Load, New, OnHeap, AsUnique, ByHandle, Initial, Plain, Fields, Array, Dereference, Target, type_of_place, Lvalue, Local, Global, Expression, Number, NullPointer, Copy, Call, Unary, Binary, Assign, Converted, Convert, Arguments, NoArguments, MoreArguments, Operations, NoOperations, ThenCompute, ThenTest, ThenPointer, type_of, Statement, Block, Empty, Evaluate, If, While, Return, Break, Continue, Items, NoItems, MoreItems, Execute, Declare, GlobalVariable, Signature, StructType, Function, Program, Move, Peek, ThenPointerPeek, AddressOfCell, Store, Member}
+use Rattle.cyc_types.specs.TypedTrees.{Counter, Load, New, OnHeap, AsUnique, ByHandle, Initial, Plain, Fields, Array, Dereference, Target, type_of_place, Lvalue, Local, Global, Expression, Number, NullPointer, Copy, Call, Unary, Binary, Assign, Converted, Convert, Arguments, NoArguments, MoreArguments, Operations, NoOperations, ThenCompute, ThenTest, ThenPointer, type_of, Statement, Block, Empty, Evaluate, If, While, Return, Break, Continue, Items, NoItems, MoreItems, Execute, Declare, GlobalVariable, Signature, StructType, Function, Program, Move, Peek, ThenPointerPeek, AddressOfCell, Store, Member, FreeUnique, Side, VariableSide, CellSide, Swap, Throw, Try, Clauses, NoClauses, Default, Case}
 use Rattle.cyc_types.specs.typing.WellTyped.{signature_of}
 use Rattle.cyc_types.specs.Numbered.{Numbering, argument_count, signatures_of, numbering_of}
 use Rattle.cyc_plain.specs.declared.instruction.Comparison.{Comparison}
@@ -24,36 +24,30 @@ use Rattle.cyc_plain.specs.declared.instruction.Operand.TheVariants as operands
 use Rattle.cyc_plain.specs.declared.instruction.Instruction.{Instruction}
 use Rattle.cyc_plain.specs.declared.instruction.Instruction.TheVariants as instructions
 use Rattle.cyc_plain.specs.Program.{Routine, Program as PlainProgram, no_routine, routine_at}
-use Rattle.cyc_plain.specs.declared.limits.TheConstants.{MOST_GLOBALS}
-use Rattle.cyc_plain.specs.WellFormed.{IsOperand, IsInRange, IsRoutine, IsWellFormed, leaves}
+use Rattle.cyc_plain.specs.declared.limits.TheConstants.{MOST_GLOBALS, RECORD_WORDS}
+use Rattle.cyc_plain.specs.WellFormed.{IsOperand, IsInRange, IsRoutine, IsWellFormed, leaves, is_return}
 use Rattle.std.specs.Prelude.{unwrap_or, ◌==◌, max, if◌then◌else◌}
-use Rattle.std.proofs.lemmas.Bool.{eqb-true}
+use Rattle.std.proofs.lemmas.Bool.{eqb-true, eq-eqb}
 use Rattle.cyc_meaning.specs.Operators.{null_exception, division_by_zero}
-use Rattle.cyc_store.specs.declared.range.TheConstants.{HEAP}
+use Rattle.cyc_store.specs.declared.range.TheConstants.{HEAP, UNIQUE}
 use Rattle.cyc_meaning.specs.Values.{kind_of, words_of_kind}
-use Rattle.cyc_meaning.specs.FrameCount.{result_words, operand_words, converted_words, argument_words, expression_need, dereference_need, converted_need, arguments_need, operations_need, initial_need, statement_need, items_need, words_of_all, initial_value_need, place_words}
+use Rattle.cyc_meaning.specs.FrameCount.{result_words, operand_words, converted_words, argument_words, expression_need, dereference_need, converted_need, arguments_need, operations_need, initial_need, statement_need, items_need, words_of_all, initial_value_need, place_words, side_need, kept_by, kept_by_items, clauses_need, kept_by_clauses, thrown_need}
 use Rattle.cyc_lower.specs.declared.statements.Exits.{Exits}
 use Rattle.cyc_meaning.specs.Pointers.{result_kind as operator_kind}
 use Rattle.cyc_objects.proofs.NumberLemmas.{slice_get-there}
 use Rattle.cyc_lower.proofs.Counters.{found_last}
 use Rattle.cyc_lower.specs.Slots.{counted, starts_of, slot_of, Types}
-use Rattle.cyc_lower.specs.Lowering.{begun_code, filled_code, ended_code, elements_code, counter_operand, types_of, spare_slots, are_as_wide, converts_there, passed_words, all_passed, source_of, source_slot, moved_by, move_of, unary_operator, binary_operator, operand_of, operand_or, code_unless, slot_or, code_unless_slot, left_with, left_of, value_slot, next_slot, slot_with, left_slot, value_operand, converted_operand, printed_operand, check_code, conversion_code, divisor_code, checked_code, operator_code, truth_code, load_code, low_byte, test_code, is_in, copy_code, expression_code, arguments_code, converted_code, converted_operand_code, printed_code, initial_code, assignment_code, operations_code, discarded_code, failing_comparison, compared_or, first_operand, first_code, second_code, pair_code, condition_code, condition_of, failing_jump, break_target, continue_target, return_code, declaration_code, statement_code, items_code, first_temporary, results_of, lower_function, lower_global, lower_program, pointer_operator, left_kind, behind_left, pointer_code, outside_loops, inside_loop, index_code, pointer_instructions, stores_code, object_code, made_code, place_operand, place_offset, place_code, address_code, addressed_by, store_address_code, store_code, guard_code, blocks}
+use Rattle.cyc_lower.specs.Lowering.{begun_code, filled_code, ended_code, elements_code, counter_operand, types_of, spare_slots, are_as_wide, converts_there, passed_words, all_passed, source_of, source_slot, moved_by, move_of, unary_operator, binary_operator, operand_of, operand_or, code_unless, slot_or, code_unless_slot, left_with, left_of, value_slot, next_slot, slot_with, left_slot, value_operand, converted_operand, printed_operand, check_code, conversion_code, divisor_code, checked_code, operator_code, truth_code, load_code, low_byte, test_code, is_in, copy_code, expression_code, arguments_code, converted_code, converted_operand_code, printed_code, initial_code, assignment_code, operations_code, discarded_code, failing_comparison, compared_or, first_operand, first_code, second_code, pair_code, condition_code, condition_of, failing_jump, break_target, continue_target, return_code, declaration_code, statement_code, items_code, first_temporary, results_of, lower_function, lower_global, lower_program, pointer_operator, left_kind, behind_left, pointer_code, outside_loops, inside_loop, index_code, pointer_instructions, stores_code, object_code, made_code, place_operand, place_offset, place_code, address_code, addressed_by, store_address_code, store_code, guard_code, blocks, free_code, right_slot, side_code, read_side, write_side, exchange_code, swap_code, leave_code, tag_operand, other_jump, goes_on, clause_code, thrown_code, thrown_operand, caught_code, clauses_code}
 use Rattle.cyc_lower.proofs.Widths.{kind_positive, kind_few, type_words, kind_of_result, result_kind, given, passed_kind, words_in, chain_kind, made_kind}
-use Rattle.cyc_lower.proofs.Fitting.{FitsPlace, FitsStored, FitsCell, Fits, FitsConverted, FitArguments, FitOperations, FitsReturn, FitsInitial, FitsStatement, FitItems, AreFitting, IsFitting, FitsObject}
+use Rattle.cyc_lower.proofs.Fitting.{FitsPlace, FitsStored, FitsCell, Fits, FitsConverted, FitArguments, FitOperations, FitsReturn, FitsInitial, FitsStatement, FitItems, AreFitting, IsFitting, FitsObject, FitsSide, FitsThrown, FitsCaught, FitClauses}
+use Rattle.cyc_lower.specs.Words.{AreOfWordsItems, AreOfWordsFunctions, IsOfWordsProgram}
+use Rattle.cyc_lower.proofs.WordLemmas.{all_append, all_of, no_return}
 use Rattle.cyc_lower.proofs.Lengths.{body_long}
+use Rattle.cyc_types.specs.typing.Expressions.{type_of_side}
 use Rattle.cyc_lower.proofs.Values.{as_wide}
 use Rattle.cyc_lower.proofs.Slots.{words_positive, slot-room, slot_types-many, slots-few}
 
 -- ---- lists
-
-pub all_append : {X : Type 0} (P : X → Type 0) (xs ys : List X) → AllByRecursion P xs → AllByRecursion P ys → AllByRecursion P (xs ++ ys)
-all_append P [] ys all more = more
-all_append P (x ∷ xs) ys (first, rest) more = (first, all_append P xs ys rest more)
-
-pub all_of : {X : Type 0} (P : X → Type 0) (xs : List X) → AllByRecursion P xs → All P xs
-all_of P [] all k d below = absurd (omega arith)
-all_of P (x ∷ xs) (first, rest) zero d below = first
-all_of P (x ∷ xs) (first, rest) (suc k) d below = all_of P xs rest k d (omega arith)
 
 last_behind : {X : Type 0} (xs ys : List X) → 0 < length ys → slice_get (xs ++ ys) (length (xs ++ ys) - 1) ≡ slice_get ys (length ys - 1)
 last_behind xs ys some = behind_all xs (length ys - 1) (length (xs ++ ys) - 1) (omega (arith, length-append xs ys, some))
@@ -185,10 +179,13 @@ module _ (program : PlainProgram) (r : Routine) (b : Numbering) (types : Types) 
   given_needs (Load (Target k a t)) numbered = omega (arith, type_words t)
   given_needs (Load (Member k a s f t)) numbered = omega (arith, type_words t)
   given_needs (Load x) numbered = absurd numbered
+  given_needs (FreeUnique a) numbered = omega (arith, operand_positive (type_of a))
   given_needs (New OnHeap (Plain kind a) t) numbered = omega arith
   given_needs (New OnHeap (Fields cs) t) numbered = omega arith
   given_needs (New OnHeap (Array p level n kind a) t) numbered = omega arith
-  given_needs (New AsUnique i t) numbered = absurd numbered
+  given_needs (New AsUnique (Plain kind a) t) numbered = omega arith
+  given_needs (New AsUnique (Fields cs) t) numbered = omega arith
+  given_needs (New AsUnique (Array p level n kind a) t) numbered = absurd numbered
   given_needs (New (ByHandle h) i t) numbered = absurd numbered
   given_needs (AddressOfCell x t) numbered = omega arith
   given_needs (Store x (Convert from to a) t) numbered = omega arith
@@ -323,6 +320,9 @@ module _ (program : PlainProgram) (r : Routine) (b : Numbering) (types : Types) 
 
   guard_in : (tag : ℕ) (failing : Comparison) (o m : Operand) → tag ≤ 4 → IsOperand r o → IsOperand r m → AreIn (guard_code (starts_of types) tag failing o m)
   guard_in tag failing o m few left right = ((left, right, omega (arith, few, behind)), tt)
+
+  free_in : (o : Operand) (p : ℕ) → IsOperand r o → p + 2 < length r.code → AreIn (free_code o p)
+  free_in o p inside short = ((inside, tt, short), (record { answer_in_range = omega arith; first_in_range = inside; second_in_range = tt }, tt))
 
   check_in : (tag : ℕ) (o : Operand) → tag ≤ 4 → IsOperand r o → AreIn (check_code (starts_of types) tag o)
   check_in tag o few inside = guard_in tag comparisons.Equal o (operands.Word 0) few inside tt
@@ -565,29 +565,22 @@ module _ (program : PlainProgram) (r : Routine) (b : Numbering) (globals : b.glo
         (λ less. addressed_in program r b types locals levels globals called results behind x p t t place (omega (arith, few)) (omega (arith, few)) less (λ shorter. place_in types locals levels behind x place_words p t place (omega arith) (omega (arith, few)) shorter))
         (λ q less. converted_operand_in types locals levels behind c q (t + 1) numbered (omega (arith, few)) (omega (arith, few)) less))
         (copy_in program r b types locals levels globals called results behind (is_in o d) c o d (converted_room program r b types locals levels globals called results behind c (t + 1) numbered (omega (arith, few))) (omega (arith, room, ap words_of_kind (stored_kind program r b types locals levels globals called results behind x c ty))))
-    expression_in types locals levels behind (New OnHeap i ty) p d t numbered room few short = made_in types locals levels behind i HEAP ty p d t numbered room (omega (arith, few)) short
-    expression_in types locals levels behind (New AsUnique i ty) p d t numbered room few short = absurd numbered
-    expression_in types locals levels behind (New (ByHandle h) i ty) p d t numbered room few short = absurd numbered
-    expression_in types locals levels behind a p d t numbered room few short = absurd numbered
-
-    made_in : (types : Types) (locals : (n : ℕ) → n < b.locals → slot_of (starts_of types) n + words_in types.locals n ≤ r.slots) (levels : (l slot : ℕ) → slice_get types.counters l ≡ Some slot → slot < r.slots) (behind : types.raises + 4 < length r.code) → (i : Initial) (handle : ℕ) (ty : Ty) (p d t : ℕ) → FitsObject b types i → d + words_of_kind (made_kind i) ≤ r.slots → t + initial_value_need i 0 (words_of ty) ≤ r.slots → p + length (made_code (starts_of types) i handle p d t) < length r.code → AreIn program r b types locals levels globals called results behind (made_code (starts_of types) i handle p d t)
-    made_in types locals levels behind (Plain kind a) handle ty p d t (single, kind_is, numbered) room few short =
-        let front = expression_code (starts_of types) a p t t in
-        let back = object_code handle 1 d t in
+    expression_in types locals levels behind (FreeUnique a) p d t numbered room few short =
+        let slot = value_slot (starts_of types) a t in
+        let o = value_operand (starts_of types) a t in
+        let inner = expression_code (starts_of types) a p slot t in
+        let front = code_unless (operand_of (starts_of types) a) inner in
+        let back = free_code o (p + length front) in
+        let long = length-append front back in
+        let free : t + words_of_kind (kind_at program r b types locals levels globals called results behind a) ≤ r.slots = omega (arith, few, given_needs program r b types locals levels globals called results behind a numbered, operand_positive (type_of a)) in
         append program r b types locals levels globals called results behind front back
-        (expression_in types locals levels behind a p t t numbered (omega (arith, few, single, ap words_of_kind kind_is, words_positive ty)) (omega (arith, few)) (omega (arith, short, length-append front back)))
-        (object_in program r b types locals levels globals called results behind handle 1 d t (omega (arith, room)) (omega (arith, few, single, words_positive ty)))
-    made_in types locals levels behind (Fields cs) handle ty p d t (single, some, many, numbered) room few short =
-        let front = arguments_code (starts_of types) cs p t in
-        let back = object_code handle (argument_count cs) d t in
-        append program r b types locals levels globals called results behind front back
-        (arguments_in types locals levels behind cs p t t 0 numbered (omega arith) (omega (arith, few)) (omega (arith, few)) (omega (arith, short, length-append front back)))
-        (object_in program r b types locals levels globals called results behind handle (argument_count cs) d t (omega (arith, room)) (omega (arith, few, single, arguments_words cs, words_positive ty)))
-    made_in types locals levels behind (Array w level n kind a) handle ty p d t (level_is, single, kind_is, fits_n, fits_a) room few short =
+        (unless_in program r b types locals levels globals called results behind (operand_of (starts_of types) a) inner p (omega (arith, short, long)) (λ less. expression_in types locals levels behind a p slot t numbered (slot_fits program r b types locals levels globals called results behind a t numbered free) (omega (arith, few)) less))
+        (free_in program r b types locals levels globals called results behind o (p + length front) (value_in program r b types locals levels globals called results behind a t numbered free) (omega (arith, short, long)))
+    expression_in types locals levels behind (New OnHeap (Array w level n kind a) ty) p d t (level_is, single, kind_is, fits_n, fits_a) room few short =
         let first = expression_code (starts_of types) n p t t in
         let m = p + length first in
         let h = m + 6 in
-        let begun = begun_code (starts_of types) handle t in
+        let begun = begun_code (starts_of types) HEAP t in
         let inner = expression_code (starts_of (counted types (t + 2))) a (h + 1) (t + 3) (t + 3) in
         let filled = filled_code h t in
         let ended = ended_code d t in
@@ -617,6 +610,26 @@ module _ (program : PlainProgram) (r : Routine) (b : Numbering) (globals : b.glo
               ))
               ((omega (arith, few), tt), pointer_copied program r b types locals levels globals called results behind d t room (omega (arith, few))),
         ))
+    expression_in types locals levels behind (New OnHeap i ty) p d t numbered room few short = made_in types locals levels behind i HEAP 0 ty p d t numbered (omega (arith, room, kind_positive (made_kind i))) (omega (arith, few)) short
+    expression_in types locals levels behind (New AsUnique i ty) p d t numbered room few short = made_in types locals levels behind i UNIQUE 1 ty p d t numbered (omega (arith, room, kind_positive (made_kind i))) (omega (arith, few)) short
+    expression_in types locals levels behind (New (ByHandle h) i ty) p d t numbered room few short = absurd numbered
+    expression_in types locals levels behind a p d t numbered room few short = absurd numbered
+
+    -- behind a handle of so many words
+    made_in : (types : Types) (locals : (n : ℕ) → n < b.locals → slot_of (starts_of types) n + words_in types.locals n ≤ r.slots) (levels : (l slot : ℕ) → slice_get types.counters l ≡ Some slot → slot < r.slots) (behind : types.raises + 4 < length r.code) → (i : Initial) (handle words : ℕ) (ty : Ty) (p d t : ℕ) → FitsObject b types i → d < r.slots → t + initial_value_need i words (words_of ty) ≤ r.slots → p + length (made_code (starts_of types) i handle p d t) < length r.code → AreIn program r b types locals levels globals called results behind (made_code (starts_of types) i handle p d t)
+    made_in types locals levels behind (Plain kind a) handle words ty p d t (single, kind_is, numbered) room few short =
+        let front = expression_code (starts_of types) a p t t in
+        let back = object_code handle 1 d t in
+        append program r b types locals levels globals called results behind front back
+        (expression_in types locals levels behind a p t t numbered (omega (arith, few, single, ap words_of_kind kind_is, words_positive ty)) (omega (arith, few)) (omega (arith, short, length-append front back)))
+        (object_in program r b types locals levels globals called results behind handle 1 d t room (omega (arith, few, single, words_positive ty)))
+    made_in types locals levels behind (Fields cs) handle words ty p d t (single, some, many, numbered) room few short =
+        let front = arguments_code (starts_of types) cs p t in
+        let back = object_code handle (argument_count cs) d t in
+        append program r b types locals levels globals called results behind front back
+        (arguments_in types locals levels behind cs p t t words numbered (omega arith) (omega (arith, few)) (omega (arith, few)) (omega (arith, short, length-append front back)))
+        (object_in program r b types locals levels globals called results behind handle (argument_count cs) d t room (omega (arith, few, single, arguments_words cs, words_positive ty)))
+    made_in types locals levels behind i handle words ty p d t numbered room few short = absurd numbered
 
     -- a place of what has so many words
     place_in : (types : Types) (locals : (n : ℕ) → n < b.locals → slot_of (starts_of types) n + words_in types.locals n ≤ r.slots) (levels : (l slot : ℕ) → slice_get types.counters l ≡ Some slot → slot < r.slots) (behind : types.raises + 4 < length r.code) → (x : Dereference) (own p t : ℕ) → FitsCell b types x → 1 ≤ own → t + dereference_need x own ≤ r.slots → p + length (place_code (starts_of types) x p t) < length r.code → AreIn program r b types locals levels globals called results behind (place_code (starts_of types) x p t)
@@ -742,7 +755,7 @@ module _ (program : PlainProgram) (r : Routine) (b : Numbering) (globals : b.glo
         (right_in program r b types locals levels globals called results behind o a ty p l next t left numbered wide next_room all inside (omega (arith, few)) (omega (arith, short, long)) (λ slot fits less. expression_in types locals levels behind a p slot (behind_left o t) numbered fits (omega (arith, few, wide)) less))
         (operations_in types locals levels behind os ty (operator_kind o) (p + length front) (operands.Slot next) d t (words_of ty) rest room (next_left_in program r b types locals levels globals called results behind os ty d t (words_of ty) rest (omega (arith, few))) next_few (words_positive ty) (omega (arith, few)) (omega (arith, short, long)))
 
-module _ (program : PlainProgram) (r : Routine) (b : Numbering) (types : Types) (locals : (n : ℕ) → n < b.locals → slot_of (starts_of types) n + words_in types.locals n ≤ r.slots) (levels : (l slot : ℕ) → slice_get types.counters l ≡ Some slot → slot < r.slots) (globals : b.globals ≡ length program.globals) (called : (n : ℕ) (s : Signature) → slice_get b.functions n ≡ Some s → IsKnown program n s) (results : r.results ≡ results_of b.result) (behind : types.raises + 4 < length r.code) where
+module _ (program : PlainProgram) (r : Routine) (b : Numbering) (types : Types) (locals : (n : ℕ) → n < b.locals → slot_of (starts_of types) n + words_in types.locals n ≤ r.slots) (levels : (l slot : ℕ) → slice_get types.counters l ≡ Some slot → slot < r.slots) (globals : b.globals ≡ length program.globals) (called : (n : ℕ) (s : Signature) → slice_get b.functions n ≡ Some s → IsKnown program n s) (results : r.results ≡ results_of b.result) (behind : types.raises + 4 < length r.code) (no_return : All (λ i. is_return i ≡ false) r.code) where
   assignment_in : (l : Lvalue) (c : Converted) (p t : ℕ) → FitsStored b types l (passed_kind c) → FitsConverted b types c → t + converted_words c ≤ r.slots → t + converted_need c ≤ r.slots → p + length (assignment_code (starts_of types) l c p t) < length r.code → AreIn program r b types locals levels globals called results behind (assignment_code (starts_of types) l c p t)
   assignment_in (Local w n) c p t (within, own) numbered free few short = initial_in program r b globals called results types locals levels behind c p (slot_of (starts_of types) n) t numbered (omega (arith, locals n within, own)) free few short
   assignment_in (Global n) c p t (within, single) numbered free few short =
@@ -806,23 +819,45 @@ module _ (program : PlainProgram) (r : Routine) (b : Numbering) (types : Types) 
       by None = (value_in program r b types locals levels globals called results behind (Binary a (ThenCompute o c NoOperations) ty) t (first, (second, none)) (omega (arith, few)), tt)
   compared_in a t numbered few = (value_in program r b types locals levels globals called results behind a t numbered (omega (arith, few, kind_few (kind_at program r b types locals levels globals called results behind a))), tt)
 
-  return_in : (v : Option Converted) (p t : ℕ) → FitsReturn b types b.result v → t + initial_need v + spare_slots ≤ r.slots → p + length (return_code (starts_of types) v p t) < length r.code → AreIn program r b types locals levels globals called results behind (return_code (starts_of types) v p t)
-  return_in None p t numbered few short = (omega (arith, few, results, results_few b.result), tt)
-  return_in (Some (Convert from to a)) p t numbered few short =
+  -- Handlers that are closed from a slot on: none, or records that are slots of the function.
+  abbrev Closes : (first t : ℕ) → Type 0
+  Closes first t = (first ≤ t) × ((first == t) ≡ false → first + RECORD_WORDS ≤ r.slots)
+
+  abbrev HasExits : Exits → (t : ℕ) → Type 0
+  HasExits exits t = Closes exits.loop_record t × Closes exits.first_record t
+
+  closes_none : (t : ℕ) → Closes t t
+  closes_none t = (omega arith, λ other. absurd (let f : true ≡ false = sym (eq-eqb t t refl) ∙ other in cc))
+
+  leave_in : (first t : ℕ) → Closes first t → AreIn program r b types locals levels globals called results behind (leave_code first t)
+  leave_in first t (below, room) = by (first == t) refl
+    where
+      by : (none : Bool) → (first == t) ≡ none → AreIn program r b types locals levels globals called results behind (if none then [] else instructions.Leave first ∷ [])
+      by true is = tt
+      by false is = (room is, tt)
+
+  return_in : (v : Option Converted) (p : ℕ) (exits : Exits) (t : ℕ) → FitsReturn b types b.result v → HasExits exits t → t + initial_need v + spare_slots ≤ r.slots → p + length (return_code (starts_of types) v p exits t) < length r.code
+      → AreIn program r b types locals levels globals called results behind (return_code (starts_of types) v p exits t)
+  return_in None p exits t numbered outside few short = append program r b types locals levels globals called results behind (leave_code exits.first_record t) _ (leave_in exits.first_record t outside.1) (omega (arith, few, results, results_few b.result), tt)
+  return_in (Some (Convert from to a)) p exits t numbered outside few short =
       let c = Convert from to a in
       let known = source_of (starts_of types) c in
       let s = slot_or known t in
       let inner = expression_code (starts_of types) a p t t in
       let front = code_unless_slot known inner in
       let conversion = conversion_code (starts_of types) to (operands.Slot s) (p + length front) in
-      let back = instructions.Return s ∷ [] in
-      let long = length-append (front ++ conversion) back in
+      let leave = leave_code exits.first_record t in
+      let back = instructions.Finish s ∷ [] in
+      let long : length (((front ++ conversion) ++ leave) ++ back) ≡ length (front ++ conversion) + length leave + 1
+      = length-append ((front ++ conversion) ++ leave) back ∙ ap (λ (n : ℕ). n + 1) (length-append (front ++ conversion) leave) in
       let long_front = length-append front conversion in
       let (words, kind, is) = value_of b.result numbered in
       let there : s + words_of_kind to ≤ r.slots = returned_in (are_as_wide from to) kind is refl in
-      append program r b types locals levels globals called results behind (front ++ conversion) back
+      append program r b types locals levels globals called results behind ((front ++ conversion) ++ leave) back
+      (append program r b types locals levels globals called results behind (front ++ conversion) leave
       (append program r b types locals levels globals called results behind front conversion (unless_slot_in program r b types locals levels globals called results behind known inner p (omega (arith, short, long, long_front)) (λ less. expression_in program r b globals called results types locals levels behind a p t t is (omega (arith, few, kind_few (kind_at program r b types locals levels globals called results behind a))) (omega (arith, few)) less))
-      (conversion_in program r b types locals levels globals called results behind to (operands.Slot s) (p + length front) (omega (arith, there, kind_positive to)) (omega (arith, short, long, long_front)))) (omega (arith, there, results, words), tt)
+      (conversion_in program r b types locals levels globals called results behind to (operands.Slot s) (p + length front) (omega (arith, there, kind_positive to)) (omega (arith, short, long, long_front))))
+      (leave_in exits.first_record t outside.1)) (omega (arith, there, results, words), tt)
     where
       value_of : (result : Option Ty) → FitsReturn b types result (Some (Convert from to a)) → (results_of result ≡ words_of_kind to) × (from ≡ kind_at program r b types locals levels globals called results behind a) × Fits b types a
       value_of None numbered = absurd numbered
@@ -849,12 +884,74 @@ module _ (program : PlainProgram) (r : Routine) (b : Numbering) (types : Types) 
   declaration_in n (Some c) p t within (own, numbered) few short =
       initial_in program r b globals called results types locals levels behind c p (slot_of (starts_of types) n) t numbered (omega (arith, locals n within, own)) (omega (arith, few, converted_few c)) (omega (arith, few)) short
 
+  -- ---- swaps
+
+  side_in : (a : Side) (kind : Kind) (p t : ℕ) → FitsSide b types a kind → t < r.slots → t + side_need a ≤ r.slots → p + length (side_code (starts_of types) a p t) < length r.code → AreIn program r b types locals levels globals called results behind (side_code (starts_of types) a p t)
+  side_in (VariableSide l ty) kind p t numbered room few short = tt
+  side_in (CellSide x) kind p t numbered room few short = addressed_in program r b types locals levels globals called results behind x p t t numbered room few short (λ less. place_in program r b globals called results types locals levels behind x place_words p t numbered (omega arith) few less)
+
+  read_in : (a : Side) (kind : Kind) (s d : ℕ) → FitsSide b types a kind → s < r.slots → d < r.slots → IsInRange program r (read_side (starts_of types) a s d)
+  read_in (VariableSide (Local w n) ty) kind s d (within, own) low room = (room, omega (arith, locals n within, own, kind_positive kind))
+  read_in (VariableSide (Global n) ty) kind s d within low room = (room, omega (arith, within, globals))
+  read_in (CellSide x) kind s d numbered low room = (room, low)
+
+  write_in : (a : Side) (kind : Kind) (s v : ℕ) → FitsSide b types a kind → s < r.slots → v < r.slots → IsInRange program r (write_side (starts_of types) a s v)
+  write_in (VariableSide (Local w n) ty) kind s v (within, own) low room = (omega (arith, locals n within, own, kind_positive kind), room)
+  write_in (VariableSide (Global n) ty) kind s v within low room = (omega (arith, within, globals), room)
+  write_in (CellSide x) kind s v numbered low room = (low, room)
+
+  right_near : (a : Side) (t : ℕ) → right_slot a t ≤ t + 1
+  right_near (VariableSide l ty) t = omega arith
+  right_near (CellSide x) t = omega arith
+
+  swap_in : (x y : Side) (kind : Kind) (p t : ℕ) → FitsSide b types x kind → FitsSide b types y kind → t + statement_need (Swap x y) ≤ r.slots → p + length (swap_code (starts_of types) x y p t) < length r.code → AreIn program r b types locals levels globals called results behind (swap_code (starts_of types) x y p t)
+  swap_in x y kind p t fits_x fits_y few short =
+      let front = side_code (starts_of types) x p t in
+      let middle = side_code (starts_of types) y (p + length front) (right_slot x t) in
+      let back = exchange_code (starts_of types) x y t in
+      let slot = right_near x t in
+      let long = length-append front (middle ++ back) in
+      let long_rest = length-append middle back in
+      let room : t + 4 ≤ r.slots = omega (arith, few) in
+      append program r b types locals levels globals called results behind front (middle ++ back) (side_in x kind p t fits_x (omega (arith, room)) (omega (arith, few)) (omega (arith, short, long)))
+      (append program r b types locals levels globals called results behind middle back (side_in y kind (p + length front) (right_slot x t) fits_y (omega (arith, room, slot)) (omega (arith, few, slot)) (omega (arith, short, long, long_rest))) (
+        read_in x kind t (t + 2) fits_x (omega (arith, room)) (omega (arith, room)),
+        (
+          read_in y kind (right_slot x t) (t + 3) fits_y (omega (arith, room, slot)) (omega (arith, room)),
+          (
+            write_in x kind t (t + 3) fits_x (omega (arith, room)) (omega (arith, room)),
+            (write_in y kind (right_slot x t) (t + 2) fits_y (omega (arith, room, slot)) (omega (arith, room)), tt),
+          ),
+        ),
+      ))
+
+  thrown_in : (v : Option Expression) (p t : ℕ) → FitsThrown b types v → t + thrown_need v + spare_slots ≤ r.slots → p + length (thrown_code (starts_of types) v p t) < length r.code → AreIn program r b types locals levels globals called results behind (thrown_code (starts_of types) v p t)
+  thrown_in None p t numbered few short = tt
+  thrown_in (Some a) p t numbered few short =
+      let slot = value_slot (starts_of types) a t in
+      unless_in program r b types locals levels globals called results behind (operand_of (starts_of types) a) (expression_code (starts_of types) a p slot t) p short
+      (λ less. expression_in program r b globals called results types locals levels behind a p slot t numbered (slot_fits program r b types locals levels globals called results behind a t numbered (omega (arith, few, kind_few (kind_at program r b types locals levels globals called results behind a)))) (omega (arith, few)) less)
+
+  thrown_there : (v : Option Expression) (t : ℕ) → FitsThrown b types v → t + thrown_need v + spare_slots ≤ r.slots → IsOperand r (thrown_operand (starts_of types) v t)
+  thrown_there None t numbered few = tt
+  thrown_there (Some a) t numbered few = value_in program r b types locals levels globals called results behind a t numbered (omega (arith, few, kind_few (kind_at program r b types locals levels globals called results behind a)))
+
+  caught_in : (x : Option ℕ) (t : ℕ) → FitsCaught b types x → t + 1 < r.slots → AreIn program r b types locals levels globals called results behind (caught_code (starts_of types) x t)
+  caught_in None t numbered few = tt
+  caught_in (Some n) t (within, room) few = ((omega (arith, locals n within, room), few), tt)
+
+  -- one handler more is open inside a `try`
+  exits_inside : (exits : Exits) (t : ℕ) → HasExits exits t → t + RECORD_WORDS ≤ r.slots → HasExits exits (t + RECORD_WORDS)
+  exits_inside exits t (in_loop, in_function) room =
+      ((omega (arith, in_loop.0), λ other. omega (arith, in_loop.0, room)), (omega (arith, in_function.0), λ other. omega (arith, in_function.0, room)))
+
   mutual
-    statement_in : (s : Statement) (in_loop : Bool) (p : ℕ) (exits : Exits) (t : ℕ) → FitsStatement b types in_loop s → (in_loop ≡ true → exits.head + 2 < length r.code) → t + statement_need s + spare_slots ≤ r.slots → p + length (statement_code (starts_of types) s p exits t) < length r.code → AreIn program r b types locals levels globals called results behind (statement_code (starts_of types) s p exits t)
-    statement_in (Block n js) in_loop p exits t numbered around few short = items_in js in_loop p exits t numbered around few short
-    statement_in Empty in_loop p exits t numbered around few short = tt
-    statement_in (Evaluate a) in_loop p exits t numbered around few short = discarded_in a p t numbered few short
-    statement_in (If a s u) in_loop p exits t (numbered_a, numbered_s, numbered_u) around few short =
+    statement_in : (s : Statement) (in_loop : Bool) (p : ℕ) (exits : Exits) (t : ℕ) → FitsStatement b types in_loop s → (in_loop ≡ true → exits.head + 2 < length r.code) → HasExits exits t → t + kept_by s + statement_need s + spare_slots ≤ r.slots → p + length (statement_code (starts_of types) s p exits t) < length r.code → AreIn program r b types locals levels globals called results behind (statement_code (starts_of types) s p exits t)
+    statement_in (Block n js) in_loop p exits t numbered around outside few short = items_in js in_loop p exits t numbered around outside few short
+    statement_in Empty in_loop p exits t numbered around outside few short = tt
+    statement_in (Evaluate a) in_loop p exits t numbered around outside few short = discarded_in a p t numbered (omega (arith, few)) short
+    statement_in (Swap x y) in_loop p exits t (single, fits_x, fits_y, waits) around outside few short = swap_in x y (kind_of (type_of_side x)) p t fits_x fits_y (omega (arith, few)) short
+    statement_in (If a s u) in_loop p exits t (numbered_a, numbered_s, numbered_u) around outside few short =
         let condition = condition_code (starts_of types) a p t in
         let m = p + length condition in
         let first = statement_code (starts_of types) s (m + 1) exits t in
@@ -867,9 +964,9 @@ module _ (program : PlainProgram) (r : Routine) (b : Numbering) (types : Types) 
         let (left, right) = compared_in a t numbered_a (omega (arith, few)) in
         append program r b types locals levels globals called results behind (condition ++ jump_first) jump_second
         (append program r b types locals levels globals called results behind condition jump_first (condition_in a p t numbered_a (omega (arith, few)) (omega (arith, short, long, long_front)))
-        ((left, right, omega (arith, short, long, long_front)), statement_in s in_loop (m + 1) exits t numbered_s around (omega (arith, few)) (omega (arith, short, long, long_front))))
-        (omega (arith, short, long, long_front), statement_in u in_loop (q + 1) exits t numbered_u around (omega (arith, few)) (omega (arith, short, long, long_front)))
-    statement_in (While w a s) in_loop p exits t (numbered_a, numbered_s) around few short =
+        ((left, right, omega (arith, short, long, long_front)), statement_in s in_loop (m + 1) exits t numbered_s around outside (omega (arith, few)) (omega (arith, short, long, long_front))))
+        (omega (arith, short, long, long_front), statement_in u in_loop (q + 1) exits t numbered_u around outside (omega (arith, few)) (omega (arith, short, long, long_front)))
+    statement_in (While w a s) in_loop p exits t (numbered_a, numbered_s) around outside few short =
         let condition = condition_code (starts_of types) a (p + 2) t in
         let m = p + 2 + length condition in
         let body = statement_code (starts_of types) s (m + 1) (inside_loop p t exits) t in
@@ -883,30 +980,68 @@ module _ (program : PlainProgram) (r : Routine) (b : Numbering) (types : Types) 
             omega (arith, short, long, long_front),
             append program r b types locals levels globals called results behind (condition ++ test) again
                 (append program r b types locals levels globals called results behind condition test (condition_in a (p + 2) t numbered_a (omega (arith, few)) (omega (arith, short, long, long_front)))
-                ((left, right, omega (arith, short, long, long_front)), statement_in s true (m + 1) (inside_loop p t exits) t numbered_s (λ inside. omega (arith, short, long, long_front)) (omega (arith, few)) (omega (arith, short, long, long_front))))
+                ((left, right, omega (arith, short, long, long_front)), statement_in s true (m + 1) (inside_loop p t exits) t numbered_s (λ inside. omega (arith, short, long, long_front)) (closes_none t, outside.1) (omega (arith, few)) (omega (arith, short, long, long_front))))
                 (omega (arith, short, long, long_front), tt),
           ),
         )
-    statement_in (Return v) in_loop p exits t numbered around few short = return_in v p t numbered few short
-    statement_in Break in_loop p exits t numbered around few short = (omega (arith, around numbered), tt)
-    statement_in Continue in_loop p exits t numbered around few short = (omega (arith, around numbered), tt)
-    statement_in s in_loop p exits t numbered around few short = absurd numbered
+    statement_in (Return v) in_loop p exits t numbered around outside few short = return_in v p exits t numbered outside (omega (arith, few)) short
+    statement_in Break in_loop p exits t numbered around outside few short = append program r b types locals levels globals called results behind (leave_code exits.loop_record t) _ (leave_in exits.loop_record t outside.0) (omega (arith, around numbered), tt)
+    statement_in Continue in_loop p exits t numbered around outside few short = append program r b types locals levels globals called results behind (leave_code exits.loop_record t) _ (leave_in exits.loop_record t outside.0) (omega (arith, around numbered), tt)
+    statement_in (Throw tag v) in_loop p exits t (word, numbered) around outside few short =
+        let front = thrown_code (starts_of types) v p t in
+        let back = instructions.Throw (tag_operand tag) (thrown_operand (starts_of types) v t) ∷ [] in
+        let long = length-append front back in
+        append program r b types locals levels globals called results behind front back (thrown_in v p t numbered (omega (arith, few)) (omega (arith, short, long))) ((tt, thrown_there v t numbered (omega (arith, few))), tt)
+    statement_in (Try s cs) in_loop p exits t (numbered_s, numbered) around outside few short =
+        let body = statement_code (starts_of types) s (p + 1) exits (t + RECORD_WORDS) in
+        let close = instructions.Leave t ∷ [] in
+        let out = p + 1 + length (body ++ close) in
+        let clauses = clauses_code (starts_of types) cs (out + 1) out exits t in
+        let over = instructions.Jump (out + 1 + length clauses) ∷ clauses in
+        let long = length-append (body ++ close) over in
+        let long_body = length-append body close in
+        let room : t + RECORD_WORDS ≤ r.slots = omega (arith, few) in (
+          record { record_in_range = room; handler_in_range = omega (arith, short, long); no_return = no_return },
+          append program r b types locals levels globals called results behind (body ++ close) over
+              (append program r b types locals levels globals called results behind body close (statement_in s in_loop (p + 1) exits (t + RECORD_WORDS) numbered_s around (exits_inside exits t outside room) (omega (arith, few)) (omega (arith, short, long, long_body))) (room, tt))
+              (omega (arith, short, long), clauses_in cs in_loop (out + 1) out exits t numbered around outside (omega (arith, few)) (omega (arith, short, long)) (omega (arith, short, long))),
+        )
 
-    items_in : (js : Items) (in_loop : Bool) (p : ℕ) (exits : Exits) (t : ℕ) → FitItems b types in_loop js → (in_loop ≡ true → exits.head + 2 < length r.code) → t + items_need js + spare_slots ≤ r.slots → p + length (items_code (starts_of types) js p exits t) < length r.code → AreIn program r b types locals levels globals called results behind (items_code (starts_of types) js p exits t)
-    items_in NoItems in_loop p exits t numbered around few short = tt
-    items_in (MoreItems (Execute s) js) in_loop p exits t (numbered, rest) around few short =
+    items_in : (js : Items) (in_loop : Bool) (p : ℕ) (exits : Exits) (t : ℕ) → FitItems b types in_loop js → (in_loop ≡ true → exits.head + 2 < length r.code) → HasExits exits t → t + kept_by_items js + items_need js + spare_slots ≤ r.slots → p + length (items_code (starts_of types) js p exits t) < length r.code → AreIn program r b types locals levels globals called results behind (items_code (starts_of types) js p exits t)
+    items_in NoItems in_loop p exits t numbered around outside few short = tt
+    items_in (MoreItems (Execute s) js) in_loop p exits t (numbered, rest) around outside few short =
         let front = statement_code (starts_of types) s p exits t in
         let back = items_code (starts_of types) js (p + length front) exits t in
         let long = length-append front back in
-        append program r b types locals levels globals called results behind front back (statement_in s in_loop p exits t numbered around (omega (arith, few)) (omega (arith, short, long)))
-        (items_in js in_loop (p + length front) exits t rest around (omega (arith, few)) (omega (arith, short, long)))
-    items_in (MoreItems (Declare n ty v) js) in_loop p exits t (within, numbered, rest) around few short =
+        append program r b types locals levels globals called results behind front back (statement_in s in_loop p exits t numbered around outside (omega (arith, few)) (omega (arith, short, long)))
+        (items_in js in_loop (p + length front) exits t rest around outside (omega (arith, few)) (omega (arith, short, long)))
+    items_in (MoreItems (Declare n ty v) js) in_loop p exits t (within, numbered, rest) around outside few short =
         let front = declaration_code (starts_of types) n v p t in
         let back = items_code (starts_of types) js (p + length front) exits t in
         let long = length-append front back in
         append program r b types locals levels globals called results behind front back (declaration_in n v p t within numbered (omega (arith, few)) (omega (arith, short, long)))
-        (items_in js in_loop (p + length front) exits t rest around (omega (arith, few)) (omega (arith, short, long)))
-    items_in js in_loop p exits t numbered around few short = absurd numbered
+        (items_in js in_loop (p + length front) exits t rest around outside (omega (arith, few)) (omega (arith, short, long)))
+    items_in js in_loop p exits t numbered around outside few short = absurd numbered
+
+    clauses_in : (cs : Clauses) (in_loop : Bool) (p out : ℕ) (exits : Exits) (t : ℕ) → FitClauses b types in_loop cs → (in_loop ≡ true → exits.head + 2 < length r.code) → HasExits exits t
+        → t + kept_by_clauses cs + clauses_need cs + spare_slots ≤ r.slots → out < length r.code → p + length (clauses_code (starts_of types) cs p out exits t) < length r.code → AreIn program r b types locals levels globals called results behind (clauses_code (starts_of types) cs p out exits t)
+    clauses_in NoClauses in_loop p out exits t numbered around outside few there short = ((omega (arith, few), omega (arith, few)), tt)
+    clauses_in (Default n js) in_loop p out exits t numbered around outside few there short = items_in js in_loop p exits t numbered around outside few short
+    clauses_in (Case tag x n js cs) in_loop p out exits t (word, caught_fits, numbered, rest) around outside few there short =
+        let caught = caught_code (starts_of types) x t in
+        let items = items_code (starts_of types) js (p + 1 + length caught) exits t in
+        let leave = instructions.Jump out ∷ [] in
+        let clause = clause_code tag t (caught ++ items) p out in
+        let later = clauses_code (starts_of types) cs (p + length clause) out exits t in
+        let long = length-append clause later in
+        let long_clause = length-append (caught ++ items) leave in
+        let long_inner = length-append caught items in
+        append program r b types locals levels globals called results behind clause later
+        ((omega (arith, few), tt, omega (arith, short, long, long_clause)),
+        append program r b types locals levels globals called results behind (caught ++ items) leave
+        (append program r b types locals levels globals called results behind caught items (caught_in x t caught_fits (omega (arith, few))) (items_in js in_loop (p + 1 + length caught) exits t numbered around outside (omega (arith, few)) (omega (arith, short, long, long_clause, long_inner))))
+        (there, tt))
+        (clauses_in cs in_loop (p + length clause) out exits t rest around outside (omega (arith, few)) there (omega (arith, short, long)))
 
 -- ---- functions
 
@@ -931,38 +1066,40 @@ module _ (source : Program) (is_fitting : IsFitting source) where
       let (few, parameters, results) = signatures_known source.structs source.functions n s there in
       record { there = few; parameters = parameters; results = results }
 
-  function_well : (h : Function) → FitItems (numbering_of (length source.globals) (signatures_of source.functions) h) (types_of source.structs h) false h.body → IsRoutine (lower_program source) (lower_function source.structs h)
-  function_well h numbered_body =
+  function_well : (h : Function) → AreOfWordsItems h.body → FitItems (numbering_of (length source.globals) (signatures_of source.functions) h) (types_of source.structs h) false h.body → IsRoutine (lower_program source) (lower_function source.structs h)
+  function_well h words numbered_body =
       let d = first_temporary h in
       let r = lower_function source.structs h in
       let b = numbering_of (length source.globals) (signatures_of source.functions) h in
       let types = types_of source.structs h in
       let starts = starts_of types in
       let body = items_code starts h.body 0 (outside_loops d) d in
-      let end = instructions.Return d ∷ blocks in
+      let end = instructions.Finish d ∷ blocks in
       let long = length-append body end in
       let placed = body_long source.structs h in
+      let none : (first : ℕ) → first ≡ d → (first ≤ d) × ((first == d) ≡ false → first + RECORD_WORDS ≤ r.slots)
+      = λ first is. (omega (arith, is), λ other. absurd (let f : true ≡ false = sym (eq-eqb first d is) ∙ other in cc)) in
       record {
         parameters = omega (arith, slots-few h);
         results = omega (arith, results_few h.result);
         frame = omega (arith, slots-few h);
         instructions = all_of (IsInRange (lower_program source) r) (body ++ end)
             (all_append (IsInRange (lower_program source) r) body end
-            (items_in (lower_program source) r b types (λ n within. omega (arith, slot-room types n (omega (arith, within, slot_types-many h)))) (λ l slot there. absurd (none-some slot there)) (globals_counted source.globals) known_functions refl (omega (arith, long, placed))
-            h.body false 0 (outside_loops d) d numbered_body (λ inside. absurd (let f : false ≡ true = inside in cc)) (omega arith) (omega (arith, long)))
-            (omega (arith, results_few h.result), (tt, (tt, (tt, (tt, tt))))));
+            (items_in (lower_program source) r b types (λ n within. omega (arith, slot-room types n (omega (arith, within, slot_types-many h)))) (λ l slot there. absurd (none-some slot there)) (globals_counted source.globals) known_functions refl (omega (arith, long, placed)) (no_return source.structs h words)
+            h.body false 0 (outside_loops d) d numbered_body (λ inside. absurd (let f : false ≡ true = inside in cc)) (none d refl, none d refl) (omega arith) (omega (arith, long)))
+            (omega (arith, results_few h.result), ((tt, tt), ((tt, tt), ((tt, tt), ((tt, tt), tt))))));
         last = subst (λ (o : Option Instruction). IsSomeAnd o (λ i. leaves i ≡ true)) (sym (last_behind body end (omega arith))) refl;
       }
 
-  functions_well : (hs : List Function) → AreFitting source.structs (length source.globals) (signatures_of source.functions) hs → AllByRecursion (IsRoutine (lower_program source)) (map (lower_function source.structs) hs)
-  functions_well [] numbered_all = tt
-  functions_well (h ∷ hs) (first, rest) = (function_well h first, functions_well hs rest)
+  functions_well : (hs : List Function) → AreOfWordsFunctions hs → AreFitting source.structs (length source.globals) (signatures_of source.functions) hs → AllByRecursion (IsRoutine (lower_program source)) (map (lower_function source.structs) hs)
+  functions_well [] words numbered_all = tt
+  functions_well (h ∷ hs) (own, others) (first, rest) = (function_well h own first, functions_well hs others rest)
 
-  pub well_formed : length source.globals ≤ MOST_GLOBALS → IsWellFormed (lower_program source)
-  well_formed few =
+  pub well_formed : IsOfWordsProgram source → length source.globals ≤ MOST_GLOBALS → IsWellFormed (lower_program source)
+  well_formed words few =
       let main = known_functions source.main _ is_fitting.main in
       record {
-        functions = all_of (IsRoutine (lower_program source)) (map (lower_function source.structs) source.functions) (functions_well source.functions is_fitting.functions);
+        functions = all_of (IsRoutine (lower_program source)) (map (lower_function source.structs) source.functions) (functions_well source.functions words.functions is_fitting.functions);
         main = main.there;
         main_parameters = main.parameters;
         main_results = main.results;

@@ -26,7 +26,7 @@ use Rattle.cyc_store.specs.State as stores
 use Rattle.std.specs.List.{AllByRecursion}
 use Rattle.cyc_words.proofs.Simulation.{simulates}
 use Rattle.cyc_meaning.specs.Values.{Int, Null, Operand as Kinded, kind_of}
-use Rattle.cyc_meaning.specs.State.{World, Environment, no_locals, constant_value, global_object, first_world, Entry, Main, Focus, Evaluating, Locating, Given, GivenPlace, Executing, Proceeding, Calling, Entering, Binding, Writing, Beginning, Repeating, Breaking, Continuing, Returning, Throwing, State, Running, Ended, Dead, Wrong, output_of, input_of, status_of}
+use Rattle.cyc_meaning.specs.State.{World, Environment, no_locals, constant_value, global_object, first_world, Entry, Main, Focus, Evaluating, Locating, Given, GivenPlace, Executing, Proceeding, Calling, Entering, Binding, Writing, Beginning, Repeating, Breaking, Continuing, Returning, Throwing, State, Running, Ended, Dead, Wrong, output_of, input_of, status_of, Swapping, Naming, Catching}
 use Rattle.cyc_meaning.specs.Step.{wrong, called, step}
 use Rattle.cyc_meaning.specs.Run.{start, is_within, limited_step}
 use Rattle.cyc_lower.specs.Lowering.{initial_word, lower_global, lower_program}
@@ -45,8 +45,10 @@ use Rattle.cyc_lower.proofs.Keeping.{keeping, stepped_keeping}
 use Rattle.cyc_lower.proofs.Allocations.{writing}
 use Rattle.cyc_lower.proofs.Arrays.{beginning, repeating}
 use Rattle.cyc_lower.proofs.Values.{given}
+use Rattle.cyc_lower.proofs.SwapSteps.{swapping, writing_sides}
 use Rattle.cyc_lower.proofs.PlaceSteps.{given_place}
-use Rattle.cyc_lower.proofs.StatementSteps.{executing, proceeding, breaking, continuing, returning, throwing}
+use Rattle.cyc_lower.proofs.StatementSteps.{executing, proceeding, breaking, continuing, returning}
+use Rattle.cyc_lower.proofs.ExceptionSteps.{naming, throwing, catching}
 use Rattle.cyc_lower.proofs.Calls.{FunctionsStand, calling, entering, binding, entered}
 use Rattle.cyc_lower.proofs.Bridge.{functions_stand}
 
@@ -105,11 +107,14 @@ module _ (source : Program) (pages calls : ℕ) (well_typed : AreWellTypedGlobal
   stepping Continuing k e w c well words related = continuing source pages calls k e w c well related
   stepping (Returning v) k e w c well words related = returning source pages calls v k e w c well related
   stepping (Throwing tag value) k e w c well words related = throwing source pages calls tag value k e w c well related
+  stepping (Catching tag value handler) k e w c well words related = catching source pages calls tag value handler k e w c well related
+  stepping (Naming n v js) k e w c well words related = naming source pages calls n v js k e w c well related
   stepping (GivenPlace place) k e w c well words related = given_place source pages calls place k e w c well related
-  stepping (Writing writes result) k e w c well words related = writing source pages calls writes result k e w c words well related
+  stepping (Writing writes (Some pointer)) k e w c well words related = writing source pages calls writes pointer k e w c words well related
+  stepping (Writing writes None) k e w c well words related = writing_sides source pages calls writes k e w c words well related
   stepping (Beginning owner count level wanted element) k e w c well words related = beginning source pages calls owner count level wanted element k e w c well related
   stepping (Repeating object count index level wanted element) k e w c well words related = repeating source pages calls object count index level wanted element k e w c well related
-  stepping focus k e w c well words (shared, facts, at) = absurd at
+  stepping (Swapping kind left right before) k e w c well words related = swapping source pages calls kind left right before k e w c well related
 
   -- what fails is within all limits
   failed_within : (s : State) → status_in (status_of s) ≡ Failed → is_within pages calls s ≡ true
@@ -162,13 +167,16 @@ module _ (source : Program) (pages calls : ℕ) (well_typed : AreWellTypedGlobal
         fits = omega (arith, some_call);
         counters = tt;
       }) (
-        length w.objects,
-        omega arith,
-        no_locals_hold t _ w.objects (length w.objects) (length w.objects) slots,
-        globals_many source.globals,
-        λ number few. (globals_rows source.globals number few, λ v has. globals_start t source.globals number v well_typed has),
+        (
+          length w.objects,
+          omega arith,
+          no_locals_hold t _ w.objects (length w.objects) (length w.objects) slots,
+          globals_many source.globals,
+          λ number few. (globals_rows source.globals number few, λ v has. globals_start t source.globals number v well_typed has),
+        ),
+        (refl, tt),
       )
-      tt (λ m end. (_, end, tt))
+      refl tt (λ m end. (_, end, (refl, refl), tt))
 
   from_start : (h : Option Function) (input : List ℕ) → slice_get source.functions source.main ≡ h → 1 ≤ calls
       → (status_in (status_of (called h [] (Main ∷ []) (first_world source input))) ≡ Failed → ⊥)

@@ -1,5 +1,5 @@
 -- A lowered program has words wherever its source has.
-use Rattle.std.proofs.Common.{ℕ, zero, suc, ◌+◌, ◌*◌, ◌≤◌, max, Bool, true, false, List, [], ◌∷◌, ◌++◌, length, map, Option, None, Some, All, arith, slice_get}
+use Rattle.std.proofs.Common.{◌≡◌, ℕ, zero, suc, ◌+◌, ◌*◌, ◌≤◌, max, Bool, true, false, List, [], ◌∷◌, ◌++◌, length, map, Option, None, Some, All, refl, arith, slice_get}
 use Rattle.cyc_meaning.specs.Operators.{null_exception, division_by_zero}
 use Rattle.std.specs.List.{AllByRecursion}
 use Rattle.cyc_words.proofs.WordLemmas.{IsWord-add_of}
@@ -14,30 +14,60 @@ use Rattle.cyc_types.specs.declared.typed.PointerOperator.{PointerOperator}
 use Rattle.cyc_types.specs.declared.typed.PointerOperator.TheVariants as pointers
 use Rattle.cyc_types.specs.declared.typed.LogicalOperator.{LogicalOperator}
 use Rattle.cyc_types.specs.declared.typed.LogicalOperator.TheVariants as logical
-use Rattle.cyc_types.specs.TypedTrees.{Array, Counter, Load, New, OnHeap, AsUnique, ByHandle, Initial, Plain, Fields, Dereference, Target, Lvalue, Local, Global, Expression, Number, NullPointer, Copy, Call, Unary, Binary, Assign, Converted, Convert, Arguments, NoArguments, MoreArguments, Operations, NoOperations, ThenCompute, ThenTest, ThenPointer, Statement, Block, Empty, Evaluate, If, While, Return, Break, Continue, Items, NoItems, MoreItems, Execute, Declare, Constant, Word, Null, GlobalVariable, StructType, Function, Program, Move, Peek, ThenPointerPeek, AddressOfCell, Store, Member, Element}
+use Rattle.cyc_types.specs.TypedTrees.{Array, Counter, Load, New, OnHeap, AsUnique, ByHandle, Initial, Plain, Fields, Dereference, Target, Lvalue, Local, Global, Expression, Number, NullPointer, Copy, Call, Unary, Binary, Assign, Converted, Convert, Arguments, NoArguments, MoreArguments, Operations, NoOperations, ThenCompute, ThenTest, ThenPointer, Statement, Block, Empty, Evaluate, If, While, Return, Break, Continue, Items, NoItems, MoreItems, Execute, Declare, Constant, Word, Null, GlobalVariable, StructType, Function, Program, Move, Peek, ThenPointerPeek, AddressOfCell, Store, Member, Element, FreeUnique, Side, VariableSide, CellSide, Swap, Throw, Try, Clauses, NoClauses, Default, Case}
 use Rattle.cyc_plain.specs.declared.instruction.Comparison.{Comparison}
 use Rattle.cyc_plain.specs.declared.instruction.Comparison.TheVariants as comparisons
 use Rattle.cyc_plain.specs.declared.instruction.Operand.{Operand}
 use Rattle.cyc_plain.specs.declared.instruction.Operand.TheVariants as operands
 use Rattle.cyc_plain.specs.declared.instruction.Instruction.{Instruction}
 use Rattle.cyc_plain.specs.declared.instruction.Instruction.TheVariants as instructions
-use Rattle.cyc_plain.specs.WellFormed.{IsOfWord, HasWord, HasWords}
-use Rattle.cyc_lower.specs.Words.{IsOfWords, IsOfWordsCell, IsOfWordsObject, IsOfWordsConverted, AreOfWordsArguments, AreOfWordsOperations, IsOfWordsInitial, IsOfWordsStatement, AreOfWordsItems, IsOfWordsConstant, AreOfWordsGlobals, AreOfWordsFunctions, IsOfWordsProgram}
+use Rattle.cyc_plain.specs.WellFormed.{IsOfWord, HasWord, HasWords, is_return}
+use Rattle.cyc_lower.specs.Words.{IsOfWords, IsOfWordsCell, IsOfWordsObject, IsOfWordsConverted, AreOfWordsArguments, AreOfWordsOperations, IsOfWordsInitial, IsOfWordsStatement, AreOfWordsItems, IsOfWordsConstant, AreOfWordsGlobals, AreOfWordsFunctions, IsOfWordsProgram, IsOfWordsSide, IsOfWordsThrown, AreOfWordsClauses}
+use Rattle.cyc_plain.specs.declared.limits.TheConstants.{RECORD_WORDS}
 use Rattle.cyc_lower.specs.declared.statements.Exits.{Exits}
 use Rattle.cyc_lower.specs.Slots.{with_counter, starts_of, slot_of, Starts, bytes_from, field_in}
 use Rattle.std.specs.Prelude.{◌==◌, if◌then◌else◌}
 use Rattle.cyc_types.specs.Types.{words_of, Ty}
 use Rattle.cyc_types.specs.Numbered.{argument_count}
-use Rattle.cyc_store.specs.declared.range.TheConstants.{HEAP}
+use Rattle.cyc_store.specs.declared.range.TheConstants.{HEAP, UNIQUE}
 use Rattle.cyc_meaning.specs.Values.{words_of_kind}
-use Rattle.cyc_lower.specs.Lowering.{begun_code, filled_code, ended_code, elements_code, counter_operand, types_of, are_as_wide, converts_there, passed_words, source_of, source_slot, converted_by, moved_by, move_of, operand_of, operand_or, code_unless, slot_or, code_unless_slot, left_with, left_of, value_slot, next_slot, left_slot, value_operand, converted_operand, printed_operand, check_code, conversion_code, divisor_code, checked_code, operator_code, truth_code, load_code, test_code, is_in, copy_code, expression_code, arguments_code, converted_code, converted_operand_code, printed_code, initial_code, assignment_code, operations_code, discarded_code, failing_comparison, compared_or, compared_of, slot_with, first_code, second_code, pair_code, condition_code, condition_of, return_code, declaration_code, statement_code, items_code, first_temporary, initial_word, lower_function, lower_global, lower_program, behind_left, pointer_code, outside_loops, inside_loop, index_of, first_two, pointer_instructions, stores_code, object_code, made_code, place_operand, place_offset, place_code, address_code, addressed_by, store_address_code, store_code, guard_code, blocks}
-use Rattle.cyc_lower.proofs.WellFormed.{all_append, all_of}
+use Rattle.cyc_lower.specs.Lowering.{begun_code, filled_code, ended_code, elements_code, counter_operand, types_of, are_as_wide, converts_there, passed_words, source_of, source_slot, converted_by, moved_by, move_of, operand_of, operand_or, code_unless, slot_or, code_unless_slot, left_with, left_of, value_slot, next_slot, left_slot, value_operand, converted_operand, printed_operand, check_code, conversion_code, divisor_code, checked_code, operator_code, truth_code, load_code, test_code, is_in, copy_code, expression_code, arguments_code, converted_code, converted_operand_code, printed_code, initial_code, assignment_code, operations_code, discarded_code, failing_comparison, compared_or, compared_of, slot_with, first_code, second_code, pair_code, condition_code, condition_of, return_code, declaration_code, statement_code, items_code, first_temporary, initial_word, lower_function, lower_global, lower_program, behind_left, pointer_code, outside_loops, inside_loop, index_of, first_two, pointer_instructions, stores_code, object_code, made_code, place_operand, place_offset, place_code, address_code, addressed_by, store_address_code, store_code, guard_code, blocks, leave_code, clause_code, caught_code, clauses_code, function_code, break_target, continue_target, right_slot, side_code, read_side, write_side, exchange_code, swap_code}
+
+-- ---- lists
+
+pub all_append : {X : Type 0} (P : X → Type 0) (xs ys : List X) → AllByRecursion P xs → AllByRecursion P ys → AllByRecursion P (xs ++ ys)
+all_append P [] ys all more = more
+all_append P (x ∷ xs) ys (first, rest) more = (first, all_append P xs ys rest more)
+
+pub all_of : {X : Type 0} (P : X → Type 0) (xs : List X) → AllByRecursion P xs → All P xs
+all_of P [] all k d below = absurd (omega arith)
+all_of P (x ∷ xs) (first, rest) zero d below = first
+all_of P (x ∷ xs) (first, rest) (suc k) d below = all_of P xs rest k d (omega arith)
+
+all_told : {X : Type 0} (P Q : X → Type 0) → ((x : X) → P x → Q x) → (xs : List X) → AllByRecursion P xs → AllByRecursion Q xs
+all_told P Q tells [] all = tt
+all_told P Q tells (x ∷ xs) (first, rest) = (tells x first, all_told P Q tells xs rest)
+
+-- ---- instructions
+
+-- an instruction that is made: it has words, and is no return that leaves handlers open
+abbrev IsMade : Instruction → Type 0
+IsMade (instructions.Return value) = ⊥
+IsMade i = HasWord i
+
+made_word : (i : Instruction) → IsMade i → HasWord i
+made_word (instructions.Return value) made = absurd made
+made_word i made = made
+
+made_no_return : (i : Instruction) → IsMade i → is_return i ≡ false
+made_no_return (instructions.Return value) made = absurd made
+made_no_return i made = refl
 
 abbrev HaveWords : List Instruction → Type 0
-HaveWords code = AllByRecursion HasWord code
+HaveWords code = AllByRecursion IsMade code
 
 append : (x y : List Instruction) → HaveWords x → HaveWords y → HaveWords (x ++ y)
-append x y first rest = all_append HasWord x y first rest
+append x y first rest = all_append IsMade x y first rest
 
 -- ---- operands
 
@@ -238,8 +268,13 @@ mutual
       append (store_code starts x c p t) (copy_code (passed_words c) o d)
       (append address _ (address_of_words starts x p t t first) (append value _ (converted_operand_words starts c (p + length address) (t + 1) second) ((tt, omega arith, word), tt)))
       (copy_words (is_in o d) (passed_words c) o d word)
+  expression_words starts (FreeUnique a) p d t words =
+      let slot = value_slot starts a t in
+      let inner = expression_code starts a p slot t in
+      let word = known_word starts a slot words in
+      append (code_unless (operand_of starts a) inner) _ (unless_words (operand_of starts a) inner (expression_words starts a p slot t words)) ((word, omega arith), ((word, tt), tt))
   expression_words starts (New OnHeap i ty) p d t words = made_words starts i HEAP p d t (omega arith) words
-  expression_words starts (New AsUnique i ty) p d t words = absurd words
+  expression_words starts (New AsUnique i ty) p d t words = made_words starts i UNIQUE p d t (omega arith) words
   expression_words starts (New (ByHandle h) i ty) p d t words = absurd words
   expression_words starts a p d t words = absurd words
 
@@ -397,26 +432,71 @@ module _ (starts : Starts) where
       let right = (compared_of a).right in
       (left_with_word starts (operand_of starts right) left (slot_with starts (operand_of starts right) left t) first, known_word starts right (value_slot starts right (suc t)) second)
 
-  return_words : (v : Option Converted) (p t : ℕ) → IsOfWordsInitial v → HaveWords (return_code starts v p t)
-  return_words None p t words = (tt, tt)
-  return_words (Some (Convert from to a)) p t words =
+  leave_words : (first t : ℕ) → HaveWords (leave_code first t)
+  leave_words first t = by (first == t)
+    where
+      by : (none : Bool) → HaveWords (if none then [] else instructions.Leave first ∷ [])
+      by true = tt
+      by false = (tt, tt)
+
+  return_words : (v : Option Converted) (p : ℕ) (exits : Exits) (t : ℕ) → IsOfWordsInitial v → HaveWords (return_code starts v p exits t)
+  return_words None p exits t words = append (leave_code exits.first_record t) _ (leave_words exits.first_record t) (tt, tt)
+  return_words (Some (Convert from to a)) p exits t words =
       let known = source_of starts (Convert from to a) in
       let inner = expression_code starts a p t t in
       let front = code_unless_slot known inner in
       let s = slot_or known t in
       let conversion = conversion_code starts to (operands.Slot s) (p + length front) in
-      append (front ++ conversion) _
-      (append front conversion (unless_slot_words known inner (expression_words starts a p t t words)) (conversion_words starts to (operands.Slot s) (p + length front) tt)) (tt, tt)
+      append ((front ++ conversion) ++ leave_code exits.first_record t) _
+      (append (front ++ conversion) (leave_code exits.first_record t)
+      (append front conversion (unless_slot_words known inner (expression_words starts a p t t words)) (conversion_words starts to (operands.Slot s) (p + length front) tt)) (leave_words exits.first_record t))
+      (tt, tt)
 
   declaration_words : (n : ℕ) (v : Option Converted) (p t : ℕ) → IsOfWordsInitial v → HaveWords (declaration_code starts n v p t)
   declaration_words n None p t words = tt
   declaration_words n (Some c) p t words = initial_words starts c p (slot_of starts n) t words
+
+  side_words : (a : Side) (p t : ℕ) → IsOfWordsSide a → HaveWords (side_code starts a p t)
+  side_words (VariableSide l ty) p t words = tt
+  side_words (CellSide x) p t words = address_of_words starts x p t t words
+
+  read_words : (a : Side) (s d : ℕ) → IsMade (read_side starts a s d)
+  read_words (VariableSide (Local w n) ty) s d = tt
+  read_words (VariableSide (Global n) ty) s d = tt
+  read_words (CellSide x) s d = (tt, omega arith)
+
+  write_words : (a : Side) (s v : ℕ) → IsMade (write_side starts a s v)
+  write_words (VariableSide (Local w n) ty) s v = tt
+  write_words (VariableSide (Global n) ty) s v = tt
+  write_words (CellSide x) s v = (tt, omega arith, tt)
+
+  swap_words : (x y : Side) (p t : ℕ) → IsOfWordsSide x → IsOfWordsSide y → HaveWords (swap_code starts x y p t)
+  swap_words x y p t words_x words_y =
+      let front = side_code starts x p t in
+      let middle = side_code starts y (p + length front) (right_slot x t) in
+      let back = exchange_code starts x y t in
+      append front (middle ++ back) (side_words x p t words_x)
+      (append middle back (side_words y (p + length front) (right_slot x t) words_y)
+      (read_words x t (t + 2), (read_words y (right_slot x t) (t + 3), (write_words x t (t + 3), (write_words y (right_slot x t) (t + 2), tt)))))
+
+  -- the number of an exception is less than 2 ^ 32 in an operand, whatever it is
+  throw_words : (tag : ℕ) (v : Option Expression) (p : ℕ) (exits : Exits) (t : ℕ) → IsOfWordsThrown v → HaveWords (statement_code starts (Throw tag v) p exits t)
+  throw_words tag None p exits t words = ((omega arith, omega arith), tt)
+  throw_words tag (Some a) p exits t words =
+      let slot = value_slot starts a t in
+      let inner = expression_code starts a p slot t in
+      append (code_unless (operand_of starts a) inner) _ (unless_words (operand_of starts a) inner (expression_words starts a p slot t words)) ((omega arith, known_word starts a slot words), tt)
+
+  caught_words : (x : Option ℕ) (t : ℕ) → HaveWords (caught_code starts x t)
+  caught_words None t = tt
+  caught_words (Some n) t = (tt, tt)
 
   mutual
     statement_words : (s : Statement) (p : ℕ) (exits : Exits) (t : ℕ) → IsOfWordsStatement s → HaveWords (statement_code starts s p exits t)
     statement_words (Block r js) p exits t words = items_words js p exits t words
     statement_words Empty p exits t words = tt
     statement_words (Evaluate a) p exits t words = discarded_words a p t words
+    statement_words (Swap x y) p exits t (words_x, words_y) = swap_words x y p t words_x words_y
     statement_words (If a s u) p exits t (first, second, third) =
         let condition = condition_code starts a p t in
         let m = p + length condition in
@@ -429,10 +509,15 @@ module _ (starts : Starts) where
         let m = p + 2 + length condition in
         let body = statement_code starts s (m + 1) (inside_loop p t exits) t in
         (tt, (tt, append (condition ++ _ ∷ body) _ (append condition (_ ∷ body) (condition_words a (p + 2) t first) (condition_word a t first, statement_words s (m + 1) (inside_loop p t exits) t second)) (tt, tt)))
-    statement_words (Return v) p exits t words = return_words v p t words
-    statement_words Break p exits t words = (tt, tt)
-    statement_words Continue p exits t words = (tt, tt)
-    statement_words s p exits t words = absurd words
+    statement_words (Return v) p exits t words = return_words v p exits t words
+    statement_words Break p exits t words = append (leave_code exits.loop_record t) _ (leave_words exits.loop_record t) (tt, tt)
+    statement_words Continue p exits t words = append (leave_code exits.loop_record t) _ (leave_words exits.loop_record t) (tt, tt)
+    statement_words (Throw tag v) p exits t words = throw_words tag v p exits t words
+    statement_words (Try s cs) p exits t (first, rest) =
+        let body = statement_code starts s (p + 1) exits (t + RECORD_WORDS) in
+        let close = instructions.Leave t ∷ [] in
+        let out = p + 1 + length (body ++ close) in
+        (tt, append (body ++ close) (_ ∷ clauses_code starts cs (out + 1) out exits t) (append body close (statement_words s (p + 1) exits (t + RECORD_WORDS) first) (tt, tt)) (tt, clauses_words cs (out + 1) out exits t rest))
 
     items_words : (js : Items) (p : ℕ) (exits : Exits) (t : ℕ) → AreOfWordsItems js → HaveWords (items_code starts js p exits t)
     items_words NoItems p exits t words = tt
@@ -444,13 +529,32 @@ module _ (starts : Starts) where
         append (declaration_code starts n v p t) (items_code starts js q exits t) (declaration_words n v p t first) (items_words js q exits t rest)
     items_words js p exits t words = absurd words
 
+    clauses_words : (cs : Clauses) (p out : ℕ) (exits : Exits) (t : ℕ) → AreOfWordsClauses cs → HaveWords (clauses_code starts cs p out exits t)
+    clauses_words NoClauses p out exits t words = ((tt, tt), tt)
+    clauses_words (Default r js) p out exits t words = items_words js p exits t words
+    clauses_words (Case tag x r js cs) p out exits t (first, rest) =
+        let caught = caught_code starts x t in
+        let items = items_code starts js (p + 1 + length caught) exits t in
+        let clause = clause_code tag t (caught ++ items) p out in
+        append clause (clauses_code starts cs (p + length clause) out exits t)
+        ((tt, omega arith), append (caught ++ items) (instructions.Jump out ∷ []) (append caught items (caught_words x t) (items_words js (p + 1 + length caught) exits t first)) (tt, tt))
+        (clauses_words cs (p + length clause) out exits t rest)
+
+function_words : (structs : List StructType) (h : Function) → AreOfWordsItems h.body → HaveWords (function_code structs h)
+function_words structs h words =
+    let d = first_temporary h in
+    let starts = starts_of (types_of structs h) in
+    append (items_code starts h.body 0 (outside_loops d) d) (instructions.Finish d ∷ blocks) (items_words starts h.body 0 (outside_loops d) d words) (tt, blocks_words)
+
+-- no function returns while handlers are open
+pub no_return : (structs : List StructType) (h : Function) → AreOfWordsItems h.body → All (λ i. is_return i ≡ false) (function_code structs h)
+no_return structs h words =
+    all_of (λ i. is_return i ≡ false) (function_code structs h) (all_told IsMade (λ i. is_return i ≡ false) made_no_return (function_code structs h) (function_words structs h words))
+
 functions_words : (structs : List StructType) (hs : List Function) → AreOfWordsFunctions hs → AllByRecursion (λ r. All HasWord r.code) (map (lower_function structs) hs)
 functions_words structs [] words = tt
 functions_words structs (h ∷ hs) (first, rest) =
-    let d = first_temporary h in
-    let starts = starts_of (types_of structs h) in
-    let body = items_code starts h.body 0 (outside_loops d) d in
-    (all_of HasWord (body ++ instructions.Return d ∷ blocks) (append body (instructions.Return d ∷ blocks) (items_words starts h.body 0 (outside_loops d) d first) (tt, blocks_words)), functions_words structs hs rest)
+    (all_of HasWord (function_code structs h) (all_told IsMade HasWord made_word (function_code structs h) (function_words structs h first)), functions_words structs hs rest)
 
 constant_word : (c : Constant) → IsOfWordsConstant c → IsWord (initial_word c)
 constant_word (Word n) word = word

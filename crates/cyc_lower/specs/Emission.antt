@@ -1,20 +1,21 @@
 -- What the code that emits says of itself: what it adds to the code made so far.
-use Rattle.std.specs.Prelude.{◌≡◌, ℕ, suc, ◌+◌, ◌^◌, ◌≤◌, ◌<◌, Bool, false, is_some, None, IfOk, List, [], ◌∷◌, ◌++◌, length, map, max, Some, option_map, Result, OnOk, slice_get}
+use Rattle.std.specs.Prelude.{◌≡◌, ℕ, suc, ◌+◌, ◌^◌, ◌≤◌, ◌<◌, Bool, false, is_some, Option, None, IfOk, List, [], ◌∷◌, ◌++◌, length, map, max, Some, option_map, Result, OnOk, slice_get}
 use Rattle.std.specs.declared.alloc.AllocError.{AllocError}
 use Rattle.cyc_types.specs.declared.typed.Operation.{Operation}
 use Rattle.cyc_types.specs.declared.typed.Operation.TheVariants as operation
 use Rattle.cyc_types.specs.declared.typed.PointerOperator.{PointerOperator}
 use Rattle.cyc_types.specs.declared.typed.Item.{Item}
+use Rattle.cyc_types.specs.declared.typed.Clause.{Clause}
 use Rattle.cyc_types.specs.declared.typed.Item.TheVariants as item
 use Rattle.cyc_types.specs.Types.{Ty, words_of}
-use Rattle.cyc_types.specs.TypedTrees.{Expression, Converted, Convert, Arguments, Operations, ThenCompute, Statement, Function, type_of, Binary}
-use Rattle.cyc_types.specs.TypedTreeView.{view_struct, view_expression, view_converted, view_statement}
+use Rattle.cyc_types.specs.TypedTrees.{Expression, Converted, Convert, Arguments, Operations, ThenCompute, Statement, Clauses, Items, Function, type_of, Binary}
+use Rattle.cyc_types.specs.TypedTreeView.{view_struct, view_expression, view_converted, view_statement, clauses_of}
 use Rattle.cyc_plain.specs.declared.instruction.Operand.{Operand}
 use Rattle.cyc_plain.specs.declared.instruction.Operand.TheVariants.{Slot, Word}
 use Rattle.cyc_plain.specs.declared.instruction.Instruction.{Instruction}
-use Rattle.cyc_plain.specs.declared.instruction.Instruction.TheVariants.{WriteByte}
+use Rattle.cyc_plain.specs.declared.instruction.Instruction.TheVariants.{WriteByte, Throw}
 use Rattle.cyc_lower.specs.Slots.{Starts}
-use Rattle.cyc_lower.specs.Lowering.{operand_of, source_of, source_slot, code_unless, slot_or, code_unless_slot, printed_operand, conversion_code, printed_code, left_of, value_slot, left_slot, value_operand, expression_code, compute_code, test_code, condition_code, failing_jump, while_code, statement_code, declaration_code, condition_of, behind_left, pointer_code, inside_loop}
+use Rattle.cyc_lower.specs.Lowering.{operand_of, source_of, source_slot, code_unless, slot_or, code_unless_slot, printed_operand, conversion_code, printed_code, left_of, value_slot, left_slot, value_operand, expression_code, compute_code, test_code, condition_code, failing_jump, while_code, statement_code, declaration_code, condition_of, behind_left, pointer_code, inside_loop, tag_operand, clause_code, thrown_operand, thrown_code, caught_code, items_code, clauses_code}
 use Rattle.cyc_meaning.specs.FrameCount.{operand_words, argument_words, arguments_need, expression_need, initial_need, statement_need, kept_by, frame_count}
 use Rattle.cyc_plain.specs.declared.instruction.Comparison.{Comparison}
 use Rattle.cyc_lower.specs.declared.emitter.Emitter.{Emitter}
@@ -105,11 +106,29 @@ module _ (starts : Starts) where
   operation_code (operation.Pointer o e) p l d t = pointer_operation_code o (view_expression e) p l d t
   operation_code (operation.PointerPeek n o e) p l d t = pointer_operation_code o (view_expression e) p l d t
 
+  -- an exception is thrown
+  abbrev pub throw_code : (tag : ℕ) → Option Expression → (p t : ℕ) → List Instruction
+  throw_code tag v p t = thrown_code starts v p t ++ Throw (tag_operand tag) (thrown_operand starts v t) ∷ []
+
+  -- what comes behind the jump over a clause
+  abbrev pub caught_items_code : (number : Option ℕ) → Items → (p : ℕ) → Exits → (t : ℕ) → List Instruction
+  caught_items_code x js p exits t = caught_code starts x t ++ items_code starts js (p + length (caught_code starts x t)) exits t
+
   -- one item of a block
   abbrev pub item_code : Item → (p : ℕ) → Exits → (t : ℕ) → List Instruction
   item_code (item.Execute s) p exits t = statement_code starts (view_statement s) p exits t
   item_code (item.Local n ty v) p exits t = declaration_code starts n (option_map view_converted v) p t
   item_code i p exits t = []
+
+  -- a clause of a `try`
+  abbrev pub case_code : (tag : ℕ) → (number : Option ℕ) → Items → (p out : ℕ) → Exits → (t : ℕ) → List Instruction
+  case_code tag x js p out exits t = clause_code tag t (caught_items_code x js (p + 1) exits t) p out
+
+  -- clauses were added behind what there was, before the default, whichever that is
+  abbrev pub BeginClauses : List Clause → (out : ℕ) → Exits → (t : ℕ) → (old new : List Instruction) → Type 0
+  BeginClauses cs out exits t old new =
+      (default : Clauses)
+      → new ++ clauses_code starts default (length new) out exits t ≡ old ++ clauses_code starts (clauses_of cs default) (length old) out exits t
 
   -- a loop
   abbrev pub loop_code : Expression → Statement → (p : ℕ) → Exits → (t : ℕ) → List Instruction

@@ -1,10 +1,11 @@
 -- Which typed trees are lowered: those whose forms have code. Each number that such a tree has names something that is there, each call passes
 -- as many arguments as its function has parameters, and a break or a continue stands in a loop. A tree of the int language is one.
-use Rattle.std.specs.Prelude.{◌≡◌, ℕ, ◌<◌, Bool, true, false, not, ◌&&◌, List, [], ◌∷◌, Option, Some, None, length, slice_get, ◌≤◌}
+use Rattle.std.specs.Prelude.{◌≡◌, ℕ, ◌<◌, Bool, true, false, not, ◌&&◌, List, [], ◌∷◌, Option, Some, None, length, slice_get, ◌≤◌, is_some}
 use Rattle.cyc_types.specs.declared.typed.PointerOperator.{PointerOperator}
 use Rattle.cyc_types.specs.declared.typed.PointerOperator.TheVariants as pointers
 use Rattle.cyc_types.specs.Types.{Ty, words_of}
-use Rattle.cyc_types.specs.TypedTrees.{Array, Counter, Load, New, OnHeap, Initial, Plain, Fields, Dereference, Target, Lvalue, Local, Global, Expression, Number, NullPointer, Copy, Call, Unary, Binary, Assign, Converted, Convert, Arguments, NoArguments, MoreArguments, Operations, NoOperations, ThenCompute, ThenTest, ThenPointer, Statement, Block, Empty, Evaluate, If, While, Return, Break, Continue, Items, NoItems, MoreItems, Execute, Declare, Signature, Function, Program, Move, Peek, ThenPointerPeek, AddressOfCell, Store, Member}
+use Rattle.cyc_types.specs.TypedTrees.{Array, Counter, Load, New, OnHeap, Initial, Plain, Fields, Dereference, Target, Lvalue, Local, Global, Expression, Number, NullPointer, Copy, Call, Unary, Binary, Assign, Converted, Convert, Arguments, NoArguments, MoreArguments, Operations, NoOperations, ThenCompute, ThenTest, ThenPointer, Statement, Block, Empty, Evaluate, If, While, Return, Break, Continue, Items, NoItems, MoreItems, Execute, Declare, Signature, Function, Program, Move, Peek, ThenPointerPeek, AddressOfCell, Store, Member, AsUnique, FreeUnique, Side, VariableSide, CellSide, Swap, peeked, Throw, Try, Clauses, NoClauses, Default, Case}
+use Rattle.cyc_words.specs.Word.{IsWord}
 use Rattle.cyc_types.specs.typing.Scopes.{signature_of_ints}
 use Rattle.cyc_types.specs.Numbered.{Numbering, IsSignature, IsWithin, argument_count, numbering_of, signatures_of}
 use Rattle.cyc_store.specs.declared.range.TheConstants.{MOST_BLOCK_WORDS}
@@ -48,7 +49,10 @@ abbrev mutual
   IsLowerable b (Binary a os t) = IsLowerable b a × AreLowerableOperations b os
   IsLowerable b (Assign l c t) = HasPlace b l (passed_words c) × IsLowerableConverted b c
   IsLowerable b (Load x) = IsLowerableCell b x
+  IsLowerable b (FreeUnique a) = IsLowerable b a
+  IsLowerable b (New OnHeap (Array w level n kind a) t) = (words_of_kind kind ≡ 1) × IsLowerable b n × IsLowerable b a
   IsLowerable b (New OnHeap i t) = IsLowerableObject b i
+  IsLowerable b (New AsUnique i t) = IsLowerableObject b i
   IsLowerable b (AddressOfCell x t) = IsLowerableCell b x
   IsLowerable b (Store x c t) = IsLowerableCell b x × IsLowerableConverted b c
   IsLowerable b a = ⊥
@@ -63,7 +67,7 @@ abbrev mutual
   IsLowerableObject b (Plain kind a) = (words_of_kind kind ≡ 1) × IsLowerable b a
   IsLowerableObject b (Fields cs) =
       (argument_count cs ≡ all_passed cs) × (1 ≤ argument_count cs) × (argument_count cs ≤ MOST_BLOCK_WORDS) × AreLowerableArguments b cs
-  IsLowerableObject b (Array w level n kind a) = (words_of_kind kind ≡ 1) × IsLowerable b n × IsLowerable b a
+  IsLowerableObject b i = ⊥
 
   pub IsLowerableConverted : Numbering → Converted → Type 0
   IsLowerableConverted b (Convert from to a) = (are_as_wide from to ≡ true) × IsLowerable b a
@@ -79,6 +83,22 @@ abbrev mutual
   AreLowerableOperations b (ThenPointer o a os) = (stands_alone o os ≡ true) × IsLowerable b a × AreLowerableOperations b os
   AreLowerableOperations b (ThenPointerPeek n o a os) = (stands_alone o os ≡ true) × IsLowerable b a × AreLowerableOperations b os
 
+-- ---- swaps
+
+-- A side of a swap has one word yet.
+abbrev pub IsLowerableSide : Numbering → Side → Type 0
+IsLowerableSide b (VariableSide l t) = (words_of t ≡ 1) × IsWithin b l
+IsLowerableSide b (CellSide x) = IsLowerableCell b x
+
+-- A cell on the left waits for one on the right only where it is reached by a peek: then it is told from a variable.
+abbrev pub waits_for : (peek : Option ℕ) → (right : Side) → Bool
+waits_for peek (VariableSide l t) = true
+waits_for peek (CellSide y) = is_some peek
+
+abbrev pub may_wait : (left right : Side) → Bool
+may_wait (VariableSide l t) b = true
+may_wait (CellSide x) b = waits_for (peeked x) b
+
 -- a value is returned exactly by a function with a result
 abbrev pub IsLowerableReturn : Numbering → Option Ty → Option Converted → Type 0
 IsLowerableReturn b None None = Unit {0}
@@ -90,23 +110,40 @@ abbrev pub IsLowerableInitial : Numbering → Option Converted → Type 0
 IsLowerableInitial b None = Unit {0}
 IsLowerableInitial b (Some c) = IsLowerableConverted b c
 
+-- what an exception tells, and the local of a clause that gets it
+abbrev pub IsLowerableThrown : Numbering → Option Expression → Type 0
+IsLowerableThrown b None = Unit {0}
+IsLowerableThrown b (Some a) = IsLowerable b a
+
+abbrev pub IsLowerableCaught : Numbering → Option ℕ → Type 0
+IsLowerableCaught b None = Unit {0}
+IsLowerableCaught b (Some n) = n < b.locals
+
+-- the numbers of exceptions are words
 abbrev mutual
   pub IsLowerableStatement : Numbering → (in_loop : Bool) → Statement → Type 0
   IsLowerableStatement b l (Block r js) = AreLowerableItems b l js
   IsLowerableStatement b l Empty = Unit {0}
   IsLowerableStatement b l (Evaluate a) = IsLowerable b a
+  IsLowerableStatement b l (Swap x y) = IsLowerableSide b x × IsLowerableSide b y × (may_wait x y ≡ true)
   IsLowerableStatement b l (If a s t) = IsLowerable b a × IsLowerableStatement b l s × IsLowerableStatement b l t
   IsLowerableStatement b l (While p a s) = IsLowerable b a × IsLowerableStatement b true s
   IsLowerableStatement b l (Return v) = IsLowerableReturn b b.result v
   IsLowerableStatement b l Break = l ≡ true
   IsLowerableStatement b l Continue = l ≡ true
-  IsLowerableStatement b l s = ⊥
+  IsLowerableStatement b l (Throw tag v) = IsWord tag × IsLowerableThrown b v
+  IsLowerableStatement b l (Try s cs) = IsLowerableStatement b l s × AreLowerableClauses b l cs
 
   pub AreLowerableItems : Numbering → Bool → Items → Type 0
   AreLowerableItems b l NoItems = Unit {0}
   AreLowerableItems b l (MoreItems (Execute s) js) = IsLowerableStatement b l s × AreLowerableItems b l js
   AreLowerableItems b l (MoreItems (Declare n t v) js) = (n < b.locals) × IsLowerableInitial b v × AreLowerableItems b l js
   AreLowerableItems b l js = ⊥
+
+  pub AreLowerableClauses : Numbering → Bool → Clauses → Type 0
+  AreLowerableClauses b l NoClauses = Unit {0}
+  AreLowerableClauses b l (Default r js) = AreLowerableItems b l js
+  AreLowerableClauses b l (Case tag x r js cs) = IsWord tag × IsLowerableCaught b x × AreLowerableItems b l js × AreLowerableClauses b l cs
 
 abbrev pub AreLowerableFunctions : ℕ → List Signature → List Function → Type 0
 AreLowerableFunctions globals functions [] = Unit {0}

@@ -4,7 +4,7 @@
 --
 -- A value has as many slots as its kind has words, one behind the other. A global has one word yet, the first of its value. There is
 -- code for the int language and more; a form that is not built has a constant in its place, which nothing runs.
-use Rattle.std.specs.Prelude.{ℕ, zero, suc, ◌+◌, max, ◌==◌, Bool, false, if◌then◌else◌, List, [], ◌∷◌, ◌++◌, length, map, Option, None, Some, slice_get}
+use Rattle.std.specs.Prelude.{ℕ, zero, suc, ◌+◌, max, ◌==◌, Bool, false, if◌then◌else◌, List, [], ◌∷◌, ◌++◌, length, map, Option, None, Some, slice_get, ◌%◌, ◌^◌}
 use Rattle.cyc_words.specs.declared.span.Span.{Span}
 use Rattle.cyc_syntax.specs.Symbols.{Place}
 use Rattle.cyc_types.specs.declared.typed.Kind.{Kind}
@@ -20,7 +20,7 @@ use Rattle.cyc_types.specs.declared.typed.LogicalOperator.{LogicalOperator}
 use Rattle.cyc_types.specs.declared.typed.LogicalOperator.TheVariants as logical
 use Rattle.cyc_types.specs.Types.{Ty, words_of}
 use Rattle.cyc_types.specs.Numbered.{argument_count}
-use Rattle.cyc_types.specs.TypedTrees.{Array, Counter, Load, New, OnHeap, Initial, Plain, Fields, Dereference, Target, Lvalue, Local, Global, Expression, Number, NullPointer, Copy, Call, Unary, Binary, Assign, Converted, Convert, Arguments, NoArguments, MoreArguments, Operations, NoOperations, ThenCompute, ThenTest, ThenPointer, ThenPointerPeek, Statement, Block, Empty, Evaluate, If, While, Return, Break, Continue, Items, NoItems, MoreItems, Execute, Declare, Constant, Word, Null, GlobalVariable, StructType, Function, Program, Move, Peek, AddressOfCell, Store, Member, Element}
+use Rattle.cyc_types.specs.TypedTrees.{Array, Counter, Load, New, OnHeap, Initial, Plain, Fields, Dereference, Target, Lvalue, Local, Global, Expression, Number, NullPointer, Copy, Call, Unary, Binary, Assign, Converted, Convert, Arguments, NoArguments, MoreArguments, Operations, NoOperations, ThenCompute, ThenTest, ThenPointer, ThenPointerPeek, Statement, Block, Empty, Evaluate, If, While, Return, Break, Continue, Items, NoItems, MoreItems, Execute, Declare, Constant, Word, Null, GlobalVariable, StructType, Function, Program, Move, Peek, AddressOfCell, Store, Member, Element, AsUnique, FreeUnique, Side, VariableSide, CellSide, Swap, Throw, Try, Clauses, NoClauses, Default, Case}
 use Rattle.cyc_plain.specs.declared.instruction.UnaryOperator.{UnaryOperator as PlainUnary}
 use Rattle.cyc_plain.specs.declared.instruction.UnaryOperator.TheVariants as plain_unary
 use Rattle.cyc_plain.specs.declared.instruction.BinaryOperator.{BinaryOperator as PlainBinary}
@@ -33,10 +33,11 @@ use Rattle.cyc_plain.specs.declared.instruction.Request.TheVariants as requests
 use Rattle.cyc_plain.specs.declared.instruction.Instruction.{Instruction}
 use Rattle.cyc_plain.specs.declared.instruction.Instruction.TheVariants as instructions
 use Rattle.cyc_plain.specs.Program.{Routine, Program as PlainProgram}
-use Rattle.cyc_store.specs.declared.range.TheConstants.{HEAP}
+use Rattle.cyc_store.specs.declared.range.TheConstants.{HEAP, UNIQUE}
+use Rattle.cyc_plain.specs.declared.limits.TheConstants.{RECORD_WORDS}
 use Rattle.cyc_meaning.specs.Values.{words_of_kind}
 use Rattle.cyc_meaning.specs.Operators.{null_exception, array_size, division_by_zero, array_bounds}
-use Rattle.cyc_meaning.specs.FrameCount.{frame_count, items_need, words_of_all}
+use Rattle.cyc_meaning.specs.FrameCount.{frame_count, items_need, words_of_all, kept_by_items}
 use Rattle.cyc_lower.specs.Slots.{Types, Starts, starts_of, slot_of, with_counter, counter_of, field_of}
 use Rattle.cyc_lower.specs.declared.operands.Condition.{Condition}
 use Rattle.cyc_lower.specs.declared.statements.Exits.{Exits}
@@ -155,7 +156,7 @@ jump_if_nonzero o target = instructions.Branch comparisons.NotEqual o (operands.
 
 -- what raises an exception, which tells 0
 abbrev pub raising : (tag : ℕ) → Instruction
-raising tag = instructions.Uncaught tag (operands.Word 0)
+raising tag = instructions.Throw (operands.Word tag) (operands.Word 0)
 
 -- Such an instruction stands behind a function's body for each exception that the language itself raises, in the order of their tags.
 abbrev pub blocks : List Instruction
@@ -360,6 +361,17 @@ abbrev pub array_code : Starts → (count : List Instruction) → (element : ℕ
 array_code starts count element handle p d t =
     count ++ (begun_code starts handle t ++ elements_code (element (p + length count + 6 + 1)) (p + length count + 6) d t)
 
+-- the unique block at an address is freed, where that is not 0
+abbrev pub free_code : Operand → (p : ℕ) → List Instruction
+free_code o p = jump_if_zero o (p + 2) ∷ instructions.Ask (requests.Free o) ∷ []
+
+-- ---- swaps
+
+-- the slot for the address of the right side of a swap, behind that of the left one
+abbrev pub right_slot : (left : Side) → (t : ℕ) → ℕ
+right_slot (VariableSide l ty) t = t
+right_slot (CellSide x) t = t + 1
+
 -- ---- conditions, branches and loops
 
 -- A condition compares two expressions, and this comparison of them holds where it fails.
@@ -412,6 +424,37 @@ while_code condition jump body p =
     ∷ body
     ++ instructions.Jump (continue_target p)
     ∷ []
+
+-- ---- handlers
+
+-- The slot of a handler's record is the first behind the locals and the records of those that are open round it, and temporaries begin
+-- behind the last record. So where the first of some records is not t, there are such, and one instruction closes all of them.
+abbrev pub leave_code : (first t : ℕ) → List Instruction
+leave_code first t = if first == t then [] else instructions.Leave first ∷ []
+
+-- the word of an exception's number, which is less than 2 ^ 32 in every text
+abbrev pub tag_operand : (tag : ℕ) → Operand
+tag_operand tag = operands.Word (tag % 2 ^ 32)
+
+-- A `try` at place p with its record in slot t. Behind its body stands the jump over its clauses, to which an exception comes.
+abbrev pub try_code : (t : ℕ) → (body clauses : List Instruction) → (p : ℕ) → List Instruction
+try_code t body clauses p =
+    instructions.Try t (p + 1 + length body + 1)
+    ∷ body
+    ++ instructions.Jump (p + 1 + length body + 1 + length clauses)
+    ∷ clauses
+
+-- the jump over a clause, where the number of the exception in slot t is another
+abbrev pub other_jump : (tag t target : ℕ) → Instruction
+other_jump tag t target = instructions.Branch comparisons.NotEqual (operands.Slot t) (tag_operand tag) target
+
+-- A clause at place p. Behind it is a jump to that over all clauses.
+abbrev pub clause_code : (tag t : ℕ) → (items : List Instruction) → (p out : ℕ) → List Instruction
+clause_code tag t items p out = other_jump tag t (p + 1 + length items + 1) ∷ items ++ instructions.Jump out ∷ []
+
+-- an exception that no clause catches goes on
+abbrev pub goes_on : (t : ℕ) → Instruction
+goes_on t = instructions.Throw (operands.Slot t) (operands.Slot (t + 1))
 
 -- The ways out of a statement: what is known of the loop and the function round it. Here they are outside any loop, and records of
 -- handlers begin at slot t.
@@ -531,7 +574,11 @@ abbrev mutual
       stored_by (addressed_by (place_code starts x p t) (place_operand starts x t) (place_offset starts x) t)
       (converted_operand_code starts c (p + length (addressed_by (place_code starts x p t) (place_operand starts x t) (place_offset starts x) t)) (t + 1)) t (converted_operand starts c (t + 1))
       ++ copy_code (passed_words c) (converted_operand starts c (t + 1)) d
+  expression_code starts (FreeUnique a) p d t =
+      code_unless (operand_of starts a) (expression_code starts a p (value_slot starts a t) t)
+      ++ free_code (value_operand starts a t) (p + length (code_unless (operand_of starts a) (expression_code starts a p (value_slot starts a t) t)))
   expression_code starts (New OnHeap i ty) p d t = made_code starts i HEAP p d t
+  expression_code starts (New AsUnique i ty) p d t = made_code starts i UNIQUE p d t
   expression_code starts a p d t = instructions.Move d (operands.Word 0) ∷ []
 
   -- a place that a pointer leads to, which is tested
@@ -651,19 +698,60 @@ module _ (starts : Starts) where
     right = value_operand starts (compared_of a).right (suc t);
   }
 
-  -- a value is returned from a slot: that of a local, or t
-  abbrev pub return_code : Option Converted → (p t : ℕ) → List Instruction
-  return_code None p t = instructions.Return t ∷ []
-  return_code (Some (Convert from to a)) p t =
+  -- A value is returned from a slot: that of a local, or t. It is converted before handlers are closed.
+  abbrev pub return_code : Option Converted → (p : ℕ) → Exits → (t : ℕ) → List Instruction
+  return_code None p exits t = leave_code exits.first_record t ++ instructions.Finish t ∷ []
+  return_code (Some (Convert from to a)) p exits t =
       code_unless_slot (source_of starts (Convert from to a)) (expression_code starts a p t t)
       ++ conversion_code starts to (operands.Slot (slot_or (source_of starts (Convert from to a)) t)) (p + length (code_unless_slot (source_of starts (Convert from to a)) (expression_code starts a p t t)))
-      ++ instructions.Return (slot_or (source_of starts (Convert from to a)) t)
+      ++ leave_code exits.first_record t
+      ++ instructions.Finish (slot_or (source_of starts (Convert from to a)) t)
       ∷ []
+
+  -- The address of a side of a swap that is a cell comes to slot t. A variable has no code.
+  abbrev pub side_code : Side → (p t : ℕ) → List Instruction
+  side_code (VariableSide l ty) p t = []
+  side_code (CellSide x) p t = store_address_code x p t
+
+  -- a word that a side holds comes to slot d
+  abbrev pub read_side : Side → (address d : ℕ) → Instruction
+  read_side (VariableSide (Local w n) ty) s d = instructions.Move d (operands.Slot (slot_of starts n))
+  read_side (VariableSide (Global n) ty) s d = instructions.LoadGlobal d n
+  read_side (CellSide x) s d = instructions.Load d (operands.Slot s) 0
+
+  -- the word in a slot comes to a side
+  abbrev pub write_side : Side → (address from : ℕ) → Instruction
+  write_side (VariableSide (Local w n) ty) s v = instructions.Move (slot_of starts n) (operands.Slot v)
+  write_side (VariableSide (Global n) ty) s v = instructions.StoreGlobal n (operands.Slot v)
+  write_side (CellSide x) s v = instructions.Store (operands.Slot s) 0 (operands.Slot v)
+
+  -- both sides are read, the left one first, and then written
+  abbrev pub exchange_code : (left right : Side) → (t : ℕ) → List Instruction
+  exchange_code a b t =
+      read_side a t (t + 2) ∷ read_side b (right_slot a t) (t + 3) ∷ write_side a t (t + 3) ∷ write_side b (right_slot a t) (t + 2) ∷ []
+
+  abbrev pub swap_code : (left right : Side) → (p t : ℕ) → List Instruction
+  swap_code a b p t =
+      side_code a p t ++ (side_code b (p + length (side_code a p t)) (right_slot a t) ++ exchange_code a b t)
 
   -- a local with an initial value gets it
   abbrev pub declaration_code : (number : ℕ) → Option Converted → (p t : ℕ) → List Instruction
   declaration_code n None p t = []
   declaration_code n (Some c) p t = initial_code starts c p (slot_of starts n) t
+
+  -- what an exception tells, which is 0 where it has no int
+  abbrev pub thrown_operand : Option Expression → (t : ℕ) → Operand
+  thrown_operand None t = operands.Word 0
+  thrown_operand (Some a) t = value_operand starts a t
+
+  abbrev pub thrown_code : Option Expression → (p t : ℕ) → List Instruction
+  thrown_code None p t = []
+  thrown_code (Some a) p t = code_unless (operand_of starts a) (expression_code starts a p (value_slot starts a t) t)
+
+  -- the local of a clause gets it
+  abbrev pub caught_code : (number : Option ℕ) → (t : ℕ) → List Instruction
+  caught_code None t = []
+  caught_code (Some n) t = instructions.Move (slot_of starts n) (operands.Slot (t + 1)) ∷ []
 
   -- The code of a statement that begins at place p, with its ways out and the first slot for temporaries.
   abbrev mutual
@@ -671,6 +759,7 @@ module _ (starts : Starts) where
     statement_code (Block r js) p exits t = items_code js p exits t
     statement_code Empty p exits t = []
     statement_code (Evaluate a) p exits t = discarded_code a p t
+    statement_code (Swap a b) p exits t = swap_code a b p t
     statement_code (If a s u) p exits t =
         if_code (condition_code a p t) (failing_jump (condition_of a t))
         (statement_code s (p + length (condition_code a p t) + 1) exits t)
@@ -678,10 +767,15 @@ module _ (starts : Starts) where
         p
     statement_code (While w a s) p exits t =
         while_code (condition_code a (p + 2) t) (failing_jump (condition_of a t)) (statement_code s (p + 2 + length (condition_code a (p + 2) t) + 1) (inside_loop p t exits) t) p
-    statement_code (Return v) p exits t = return_code v p t
-    statement_code Break p exits t = instructions.Jump (break_target exits.head) ∷ []
-    statement_code Continue p exits t = instructions.Jump (continue_target exits.head) ∷ []
-    statement_code s p exits t = []
+    statement_code (Return v) p exits t = return_code v p exits t
+    statement_code Break p exits t = leave_code exits.loop_record t ++ instructions.Jump (break_target exits.head) ∷ []
+    statement_code Continue p exits t = leave_code exits.loop_record t ++ instructions.Jump (continue_target exits.head) ∷ []
+    statement_code (Throw n v) p exits t = thrown_code v p t ++ instructions.Throw (tag_operand n) (thrown_operand v t) ∷ []
+    statement_code (Try s cs) p exits t =
+        try_code t (statement_code s (p + 1) exits (t + RECORD_WORDS) ++ instructions.Leave t ∷ [])
+        (clauses_code cs (p + 1 + length (statement_code s (p + 1) exits (t + RECORD_WORDS) ++ instructions.Leave t ∷ []) + 1)
+        (p + 1 + length (statement_code s (p + 1) exits (t + RECORD_WORDS) ++ instructions.Leave t ∷ [])) exits t)
+        p
 
     pub items_code : Items → (p : ℕ) → Exits → (t : ℕ) → List Instruction
     items_code NoItems p exits t = []
@@ -690,6 +784,16 @@ module _ (starts : Starts) where
     items_code (MoreItems (Declare n ty v) js) p exits t =
         declaration_code n v p t ++ items_code js (p + length (declaration_code n v p t)) exits t
     items_code (MoreItems j js) p exits t = items_code js p exits t
+
+    -- the clauses of a `try`, where an exception has its number and its word in the slots from t on
+    pub clauses_code : Clauses → (p out : ℕ) → Exits → (t : ℕ) → List Instruction
+    clauses_code NoClauses p out exits t = goes_on t ∷ []
+    clauses_code (Default r js) p out exits t = items_code js p exits t
+    clauses_code (Case n x r js cs) p out exits t =
+        clause_code n t (caught_code x t ++ items_code js (p + 1 + length (caught_code x t)) exits t) p out
+        ++ clauses_code cs
+        (p + length (clause_code n t (caught_code x t ++ items_code js (p + 1 + length (caught_code x t)) exits t) p out))
+        out exits t
 
 -- ---- programs
 
@@ -711,7 +815,7 @@ types_of structs h = types_with (raises_of structs h) structs h
 -- A body's code ends in a return, which is the end of a void function. In any other it is never reached, and stands there so that no
 -- code runs off its end. The blocks stand behind it.
 abbrev pub function_code : List StructType → Function → List Instruction
-function_code structs h = body_code (types_of structs h) h ++ instructions.Return (first_temporary h) ∷ blocks
+function_code structs h = body_code (types_of structs h) h ++ instructions.Finish (first_temporary h) ∷ blocks
 
 -- the words that a function returns
 abbrev pub results_of : Option Ty → ℕ
@@ -725,13 +829,14 @@ span_of_place p = record { line = p.line; column = p.column }
 abbrev pub spare_slots : ℕ
 spare_slots = 3
 
--- its slots are the locals and as many temporaries as its expressions need, and those of one value more, such as what it returns
+-- its slots are the locals, the records of its handlers, as many temporaries as its expressions need, and those of one value more,
+-- such as what it returns
 abbrev pub lower_function : List StructType → Function → Routine
 lower_function structs h = record {
   name = span_of_place h.place;
   parameters = words_of_all h.parameters;
   results = results_of h.result;
-  slots = first_temporary h + items_need h.body + spare_slots;
+  slots = first_temporary h + kept_by_items h.body + items_need h.body + spare_slots;
   frame_count = frame_count h;
   code = function_code structs h;
 }

@@ -4,7 +4,7 @@ use Rattle.std.specs.Prelude.{◌≤◌, List, [], ◌∷◌, Option, None, Some
 use Rattle.cyc_words.specs.Word.{IsWord}
 use Rattle.cyc_types.specs.Numbered.{argument_count}
 use Rattle.cyc_store.specs.declared.range.TheConstants.{MOST_BLOCK_WORDS}
-use Rattle.cyc_types.specs.TypedTrees.{Array, Counter, Load, New, OnHeap, Initial, Plain, Fields, Dereference, Target, Expression, Number, NullPointer, Copy, Call, Unary, Binary, Assign, Converted, Convert, Arguments, NoArguments, MoreArguments, Operations, NoOperations, ThenCompute, ThenTest, ThenPointer, Statement, Block, Empty, Evaluate, If, While, Return, Break, Continue, Items, NoItems, MoreItems, Execute, Declare, Constant, Word, Null, GlobalVariable, Function, Program, Move, Peek, ThenPointerPeek, AddressOfCell, Store, Member}
+use Rattle.cyc_types.specs.TypedTrees.{Array, Counter, Load, New, OnHeap, Initial, Plain, Fields, Dereference, Target, Expression, Number, NullPointer, Copy, Call, Unary, Binary, Assign, Converted, Convert, Arguments, NoArguments, MoreArguments, Operations, NoOperations, ThenCompute, ThenTest, ThenPointer, Statement, Block, Empty, Evaluate, If, While, Return, Break, Continue, Items, NoItems, MoreItems, Execute, Declare, Constant, Word, Null, GlobalVariable, Function, Program, Move, Peek, ThenPointerPeek, AddressOfCell, Store, Member, AsUnique, FreeUnique, Side, VariableSide, CellSide, Swap, Throw, Try, Clauses, NoClauses, Default, Case}
 
 abbrev mutual
   pub IsOfWords : Expression → Type 0
@@ -19,7 +19,9 @@ abbrev mutual
   IsOfWords (Binary a os t) = IsOfWords a × AreOfWordsOperations os
   IsOfWords (Assign l c t) = IsOfWordsConverted c
   IsOfWords (Load x) = IsOfWordsCell x
+  IsOfWords (FreeUnique a) = IsOfWords a
   IsOfWords (New OnHeap i t) = IsOfWordsObject i
+  IsOfWords (New AsUnique i t) = IsOfWordsObject i
   IsOfWords (AddressOfCell x t) = IsOfWordsCell x
   IsOfWords (Store x c t) = IsOfWordsCell x × IsOfWordsConverted c
   IsOfWords a = ⊥
@@ -49,27 +51,42 @@ abbrev mutual
   AreOfWordsOperations (ThenPointer o a os) = IsOfWords a × AreOfWordsOperations os
   AreOfWordsOperations (ThenPointerPeek n o a os) = IsOfWords a × AreOfWordsOperations os
 
+abbrev pub IsOfWordsSide : Side → Type 0
+IsOfWordsSide (VariableSide l t) = Unit {0}
+IsOfWordsSide (CellSide x) = IsOfWordsCell x
+
 abbrev pub IsOfWordsInitial : Option Converted → Type 0
 IsOfWordsInitial None = Unit {0}
 IsOfWordsInitial (Some c) = IsOfWordsConverted c
+
+abbrev pub IsOfWordsThrown : Option Expression → Type 0
+IsOfWordsThrown None = Unit {0}
+IsOfWordsThrown (Some a) = IsOfWords a
 
 abbrev mutual
   pub IsOfWordsStatement : Statement → Type 0
   IsOfWordsStatement (Block r js) = AreOfWordsItems js
   IsOfWordsStatement Empty = Unit {0}
   IsOfWordsStatement (Evaluate a) = IsOfWords a
+  IsOfWordsStatement (Swap x y) = IsOfWordsSide x × IsOfWordsSide y
   IsOfWordsStatement (If a s t) = IsOfWords a × IsOfWordsStatement s × IsOfWordsStatement t
   IsOfWordsStatement (While p a s) = IsOfWords a × IsOfWordsStatement s
   IsOfWordsStatement (Return v) = IsOfWordsInitial v
   IsOfWordsStatement Break = Unit {0}
   IsOfWordsStatement Continue = Unit {0}
-  IsOfWordsStatement s = ⊥
+  IsOfWordsStatement (Throw tag v) = IsOfWordsThrown v
+  IsOfWordsStatement (Try s cs) = IsOfWordsStatement s × AreOfWordsClauses cs
 
   pub AreOfWordsItems : Items → Type 0
   AreOfWordsItems NoItems = Unit {0}
   AreOfWordsItems (MoreItems (Execute s) js) = IsOfWordsStatement s × AreOfWordsItems js
   AreOfWordsItems (MoreItems (Declare n t v) js) = IsOfWordsInitial v × AreOfWordsItems js
   AreOfWordsItems js = ⊥
+
+  pub AreOfWordsClauses : Clauses → Type 0
+  AreOfWordsClauses NoClauses = Unit {0}
+  AreOfWordsClauses (Default r js) = AreOfWordsItems js
+  AreOfWordsClauses (Case tag n r js cs) = AreOfWordsItems js × AreOfWordsClauses cs
 
 abbrev pub IsOfWordsConstant : Constant → Type 0
 IsOfWordsConstant (Word n) = IsWord n

@@ -21,8 +21,8 @@ pub(crate) const DIVISION_BY_ZERO: u32 = 4;
 fn raising(tag: u32) -> Instruction
     ensures { result ≡ raising tag }
 {
-    Instruction::Uncaught {
-        tag,
+    Instruction::Throw {
+        tag: Operand::Word { word: tag },
         value: Operand::Word { word: 0 },
     }
 }

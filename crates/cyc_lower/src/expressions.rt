@@ -7,7 +7,7 @@ ghost use Rattle.cyc_types.specs.TypedTrees.{Call};
 ghost use Rattle.cyc_meaning.specs.Values.{words_of_kind};
 ghost use Rattle.cyc_plain.specs.declared.instruction.Operand.TheVariants as operands;
 ghost use Rattle.cyc_plain.specs.declared.instruction.Instruction.TheVariants as instructions;
-ghost use Rattle.cyc_lower.specs.Lowering.{operand_of, operand_or, left_of, left_slot, value_operand, converted_operand, printed_operand, check_code, conversion_code, divisor_code, operator_code, truth_code, copy_code, all_passed, expression_code, arguments_code, converted_operand_code, printed_code, initial_code, assignment_code, assigned_operand, operations_code, discarded_code, condition_of, condition_code, first_two, index_code, pointer_instructions, stores_code, object_code, made_code, address_code, place_operand, place_offset, place_code, addressed_by, measured_code, asked_code, begun_code, written_code, restarted_code, elements_code, last_element};
+ghost use Rattle.cyc_lower.specs.Lowering.{operand_of, operand_or, left_of, left_slot, value_operand, converted_operand, printed_operand, check_code, conversion_code, divisor_code, operator_code, truth_code, copy_code, all_passed, expression_code, arguments_code, converted_operand_code, printed_code, initial_code, assignment_code, assigned_operand, operations_code, discarded_code, condition_of, condition_code, first_two, index_code, pointer_instructions, stores_code, object_code, made_code, address_code, place_operand, place_offset, place_code, addressed_by, measured_code, asked_code, begun_code, written_code, restarted_code, elements_code, last_element, free_code};
 ghost use Rattle.cyc_lower.specs.Slots.{with_counter};
 ghost use Rattle.cyc_lower.specs.Emission.{Appends, Gives, HasRoom, HasRoomFor, most_locals, value_code, source_code, slot_code, print_code, converted_slot, converted_slot_code, left_code, operation_code, IsChain, zero_condition, view_starts, pointer_operation_code};
 
@@ -20,12 +20,12 @@ use crate::operands::{
     takes_operand, value_slot,
 };
 use crate::operators::{
-    binary_operator, failing_comparison, left_kind, move_of, pointer_operator, test_jump,
-    unary_operator,
+    binary_operator, failing_comparison, jump_if_zero, left_kind, move_of, pointer_operator,
+    test_jump, unary_operator,
 };
 use crate::starts::Starts;
 use cyc_plain::{BinaryOperator, Comparison, Instruction, Operand, Request, UnaryOperator};
-use cyc_store::HEAP;
+use cyc_store::{HEAP, UNIQUE};
 use cyc_types::typed;
 use cyc_types::typed::{
     Callee, Converted, Dereference, Expr, Initial, Kind, Lvalue, Operation, Operator, Placement,
@@ -319,6 +319,17 @@ impl Emitter {
         }
     }
 
+    /// The unique block at an address is freed, where that is not 0.
+    fn free_block(&mut self, address: Operand) -> Result<(), AllocError>
+        ensures { Appends result self.old self.new (free_code address (length self.old.code.items)) }
+    {
+        let behind = self.place() + 2;
+        self.emit(jump_if_zero(address, behind))?;
+        self.emit(Instruction::Ask {
+            request: Request::Free { address },
+        })
+    }
+
     /// What stands for a form that is not built yet, and is never run.
     fn emit_missing(&mut self, slot: usize) -> Result<(), AllocError>
         ensures { Appends result self.old self.new (instructions.Move slot (operands.Word 0) ∷ []) }
@@ -384,13 +395,18 @@ impl Emitter {
                 let stored = self.store(starts, value, free)?;
                 self.copy(value.to, stored, slot)
             }
+            Expr::FreeUnique { pointer } => {
+                let address = self.lower_operand(starts, pointer, free)?;
+                self.free_block(address)
+            }
             Expr::New {
                 placement,
                 initial,
                 ..
             } => match placement {
                 Placement::OnHeap => self.lower_object(starts, initial, HEAP, slot, free),
-                _ => self.emit_missing(slot),
+                Placement::AsUnique => self.lower_object(starts, initial, UNIQUE, slot, free),
+                Placement::ByHandle { .. } => self.emit_missing(slot),
             },
             Expr::Move {
                 span,
@@ -419,7 +435,6 @@ impl Emitter {
             | Expr::HeapRegion
             | Expr::AddressOf { .. }
             | Expr::NumberOfElements { .. }
-            | Expr::FreeUnique { .. }
             | Expr::FreeKey { .. } => self.emit_missing(slot),
         }
     }
@@ -450,7 +465,7 @@ impl Emitter {
 
     /// The address of a place comes to a slot.
     #[cycle(expression)]
-    fn take_address(
+    pub(crate) fn take_address(
         &mut self,
         starts: &Starts,
         place: &Dereference,

@@ -443,7 +443,7 @@ fn kept_by_item(item: &Item) -> usize
 }
 
 #[cycle(kept)]
-fn kept_by_items(items: &[Item]) -> usize
+pub(crate) fn kept_by_items(items: &[Item]) -> usize
     requires { kept_by_items (items_of items.now) ≤ most_frame_count }
     ensures { result ≡ kept_by_items (items_of items.now) }
 {

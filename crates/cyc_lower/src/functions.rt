@@ -1,18 +1,18 @@
 //! The plain functions and globals of a typed tree.
-ghost use Rattle.std.specs.Prelude.{◌≡◌, ◌≤◌, map, option_map, IfOk};
+ghost use Rattle.std.specs.Prelude.{◌≡◌, ◌+◌, ◌≤◌, map, option_map, IfOk};
 ghost use Rattle.cyc_syntax.specs.TokenRule.{max_tokens};
 ghost use Rattle.cyc_types.specs.TypeView.{view_ty};
-ghost use Rattle.cyc_types.specs.TypedTreeView.{view_constant, view_global, view_struct, view_function, view_program};
+ghost use Rattle.cyc_types.specs.TypedTreeView.{items_of, view_constant, view_global, view_struct, view_function, view_program};
 ghost use Rattle.cyc_types.specs.typing.WellTyped.{IsWellTypedProgram};
 ghost use Rattle.cyc_types.specs.Weight.{program_weight};
 ghost use Rattle.cyc_plain.specs.Program.{routine_of};
-ghost use Rattle.cyc_meaning.specs.FrameCount.{frame_count};
+ghost use Rattle.cyc_meaning.specs.FrameCount.{frame_count, kept_by_items};
 ghost use Rattle.cyc_lower.specs.Lowering.{items_code, outside_loops, results_of, initial_word, lower_function, lower_global, lower_program};
 ghost use Rattle.cyc_lower.specs.Emission.{most_frame_count, most_locals, view_starts, HaveFewWords};
 ghost use Rattle.cyc_lower.specs.Lowered.{CanBeLowered};
 
 use crate::emitter::Emitter;
-use crate::frame_count::{frame_count, items_need, words_of, words_of_all};
+use crate::frame_count::{frame_count, items_need, kept_by_items, words_of, words_of_all};
 use crate::locals::slots_of_locals;
 use crate::starts::Starts;
 use crate::statements::Exits;
@@ -51,7 +51,7 @@ fn lower_body(
     function: &typed::Function,
     free: usize,
 ) -> Result<Emitter, AllocError>
-    requires { free ≤ most_locals }
+    requires { free + kept_by_items (items_of function.now.body.items) ≤ most_locals }
     ensures { IfOk result (λ made. made.code.items ≡ items_code (view_starts starts.now) (view_function function.now).body 0 (outside_loops free) free) }
 {
     let mut emitter = Emitter::new(alloc);
@@ -64,8 +64,8 @@ fn lower_body(
     Ok(emitter)
 }
 
-/// A function. Its slots are its locals, and behind them the temporaries and one value more. How long its code is does not
-/// depend on where the blocks behind it stand: so that is made twice, and at first for any place.
+/// A function. Its slots are its locals, and behind them the records of handlers, the temporaries and one value more. How long
+/// its code is does not depend on where the blocks behind it stand: so that is made twice, and at first for any place.
 fn lower_function(
     alloc: Global,
     structs: &[StructType],
@@ -91,13 +91,16 @@ fn lower_function(
         alloc,
     };
     let mut emitter = lower_body(alloc, &starts, function, free)?;
-    emitter.emit(Instruction::Return { value: free })?;
+    emitter.emit(Instruction::Finish { value: free })?;
     emitter.lower_blocks()?;
     Ok(Function {
         name: function.span,
         parameters: words_of_all(&function.parameters),
         results: results_of(&function.result),
-        slots: free + items_need(&function.body) + SPARE_SLOTS,
+        slots: free
+            + kept_by_items(&function.body)
+            + items_need(&function.body)
+            + SPARE_SLOTS,
         frame_count: frame_count(function),
         code: emitter.code,
     })

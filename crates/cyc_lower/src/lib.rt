@@ -17,3 +17,4 @@ mod operators;
 mod program;
 mod starts;
 mod statements;
+mod swaps;

@@ -1,6 +1,7 @@
 //! What operators become.
-ghost use Rattle.std.specs.Prelude.{◌≡◌};
-ghost use Rattle.cyc_lower.specs.Lowering.{unary_operator, binary_operator, left_kind, pointer_operator, failing_comparison, move_of, failing_jump, jump_if_zero, jump_if_nonzero, test_jump};
+ghost use Rattle.std.specs.Prelude.{◌≡◌, ◌≤◌};
+ghost use Rattle.cyc_lower.specs.Lowering.{unary_operator, binary_operator, left_kind, pointer_operator, failing_comparison, move_of, failing_jump, jump_if_zero, jump_if_nonzero, test_jump, tag_operand, other_jump, goes_on};
+ghost use Rattle.cyc_lower.specs.Emission.{most_locals};
 
 use crate::operands::Condition;
 use cyc_plain::{BinaryOperator, Comparison, Instruction, Operand, UnaryOperator};
@@ -161,5 +162,37 @@ pub(crate) fn test_jump(operator: typed::LogicalOperator, slot: usize, target: u
     match operator {
         typed::LogicalOperator::AndThen => jump_if_zero(condition, target),
         typed::LogicalOperator::OrElse => jump_if_nonzero(condition, target),
+    }
+}
+
+/// The word of an exception's number, which is less than 2 ^ 32 in every text.
+pub(crate) fn tag_operand(tag: usize) -> Operand
+    ensures { result ≡ tag_operand tag }
+{
+    Operand::Word {
+        word: (tag % 0x1_0000_0000) as u32,
+    }
+}
+
+/// The jump over a clause, where the number of the exception in a slot is another.
+pub(crate) fn other_jump(tag: usize, slot: usize, target: usize) -> Instruction
+    ensures { result ≡ other_jump tag slot target }
+{
+    Instruction::Branch {
+        comparison: Comparison::NotEqual,
+        left: Operand::Slot { number: slot },
+        right: tag_operand(tag),
+        target,
+    }
+}
+
+/// An exception that no clause catches goes on.
+pub(crate) fn goes_on(slot: usize) -> Instruction
+    requires { slot ≤ most_locals }
+    ensures { result ≡ goes_on slot }
+{
+    Instruction::Throw {
+        tag: Operand::Slot { number: slot },
+        value: Operand::Slot { number: slot + 1 },
     }
 }

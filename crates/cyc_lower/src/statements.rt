@@ -1,15 +1,17 @@
 //! The code of statements. Each method adds its code behind what there is.
-ghost use Rattle.std.specs.Prelude.{◌≡◌, ◌+◌, ◌≤◌, [], ◌∷◌, length, option_map};
-ghost use Rattle.cyc_types.specs.TypedTreeView.{view_converted, view_expression, view_statement, items_of};
-ghost use Rattle.cyc_lower.specs.Lowering.{break_target, continue_target, inside_loop, return_code, declaration_code, statement_code, items_code};
-ghost use Rattle.cyc_lower.specs.Emission.{Appends, most_locals, item_code, loop_code, view_starts};
+ghost use Rattle.std.specs.Prelude.{◌≡◌, ◌+◌, ◌≤◌, ◌<◌, [], ◌∷◌, ◌++◌, length, set, option_map, IfOk, OnOk};
+ghost use Rattle.cyc_types.specs.TypedTrees.{NoClauses};
+ghost use Rattle.cyc_types.specs.TypedTreeView.{view_converted, view_expression, view_statement, items_of, clauses_of, default_of};
+ghost use Rattle.cyc_meaning.specs.FrameCount.{kept_by, kept_by_items, kept_by_clauses};
+ghost use Rattle.cyc_lower.specs.Lowering.{leave_code, other_jump, goes_on, clauses_code, caught_code, break_target, continue_target, inside_loop, return_code, declaration_code, statement_code, items_code};
+ghost use Rattle.cyc_lower.specs.Emission.{Appends, most_locals, throw_code, case_code, BeginClauses, item_code, kept_by_item, loop_code, view_starts};
 
 use crate::emitter::Emitter;
 use crate::locals::slot_of;
-use crate::operators::failing_jump;
+use crate::operators::{failing_jump, goes_on, other_jump, tag_operand};
 use crate::starts::Starts;
-use cyc_plain::Instruction;
-use cyc_types::typed::{Converted, Expr, Item, Stmt};
+use cyc_plain::{Instruction, Operand, RECORD_WORDS};
+use cyc_types::typed::{Body, Clause, Converted, Expr, Item, Stmt};
 use std::alloc::AllocError;
 
 /// The ways out of a statement: what those that leave a loop or a function must know of it.
@@ -24,21 +26,33 @@ pub(crate) struct Exits {
 }
 
 impl Emitter {
+    /// The handlers are closed whose records stand from a slot on, if there are some.
+    fn lower_leave(&mut self, first: usize, free: usize) -> Result<(), AllocError>
+        ensures { Appends result self.old self.new (leave_code first free) }
+    {
+        if first == free {
+            return Ok(());
+        }
+        self.emit(Instruction::Leave { first })
+    }
+
     /// A return of a value in a slot.
     fn lower_return(
         &mut self,
         starts: &Starts,
         value: &Option<Converted>,
+        exits: Exits,
         free: usize,
     ) -> Result<(), AllocError>
         requires { free ≤ most_locals + length self.old.code.items }
-        ensures { Appends result self.old self.new (return_code (view_starts starts.now) (option_map view_converted value.now) (length self.old.code.items) free) }
+        ensures { Appends result self.old self.new (return_code (view_starts starts.now) (option_map view_converted value.now) (length self.old.code.items) exits free) }
     {
         let from = match value {
             Some(value) => self.convert_to_slot(starts, value, free)?,
             None => free,
         };
-        self.emit(Instruction::Return { value: from })
+        self.lower_leave(exits.first_record, free)?;
+        self.emit(Instruction::Finish { value: from })
     }
 
     /// The declaration of a local, which gets its initial value if it has one.
@@ -56,6 +70,123 @@ impl Emitter {
             return Ok(());
         };
         self.lower_initial(starts, value, slot_of(starts, number), free)
+    }
+
+    /// An exception with what it tells, which is 0 where it has no int.
+    fn lower_throw(
+        &mut self,
+        starts: &Starts,
+        tag: usize,
+        value: &Option<Expr>,
+        free: usize,
+    ) -> Result<(), AllocError>
+        requires { free ≤ most_locals + length self.old.code.items }
+        ensures { Appends result self.old self.new (throw_code (view_starts starts.now) tag (option_map view_expression value.now) (length self.old.code.items) free) }
+    {
+        let value = match value {
+            Some(value) => self.lower_operand(starts, value, free)?,
+            None => Operand::Word { word: 0 },
+        };
+        self.emit(Instruction::Throw {
+            tag: tag_operand(tag),
+            value,
+        })
+    }
+
+    /// The local of a clause gets what the exception tells.
+    fn lower_caught(
+        &mut self,
+        starts: &Starts,
+        number: Option<usize>,
+        free: usize,
+    ) -> Result<(), AllocError>
+        requires { free ≤ most_locals }
+        ensures { Appends result self.old self.new (caught_code (view_starts starts.now) number free) }
+    {
+        let Some(number) = number else {
+            return Ok(());
+        };
+        self.emit(Instruction::Move {
+            destination: slot_of(starts, number),
+            source: Operand::Slot { number: free + 1 },
+        })
+    }
+
+    /// A clause. The jump behind it leads to that over all clauses.
+    #[cycle(statement)]
+    fn lower_clause(
+        &mut self,
+        starts: &Starts,
+        clause: &Clause,
+        out: usize,
+        exits: Exits,
+        free: usize,
+    ) -> Result<(), AllocError>
+        requires slots { free + kept_by_items (items_of clause.now.items.items) ≤ most_locals }
+        requires begun { exits.head ≤ length self.old.code.items }
+        ensures { Appends result self.old self.new (case_code (view_starts starts.now) clause.now.tag clause.now.number (items_of clause.now.items.items) (length self.old.code.items) out exits free) }
+    {
+        let over = self.reserve()?;
+        self.lower_caught(starts, clause.number, free)?;
+        self.lower_items(starts, &clause.items, exits, free)?;
+        self.emit(Instruction::Jump { target: out })?;
+        let target = self.place();
+        self.patch(over, other_jump(clause.tag, free, target));
+        Ok(())
+    }
+
+    /// The clauses of a `try` but its default, whichever that is.
+    #[cycle(statement)]
+    fn lower_clauses(
+        &mut self,
+        starts: &Starts,
+        clauses: &[Clause],
+        out: usize,
+        exits: Exits,
+        free: usize,
+    ) -> Result<(), AllocError>
+        requires slots { free + kept_by_clauses (clauses_of clauses.now NoClauses) ≤ most_locals }
+        requires begun { exits.head ≤ length self.old.code.items }
+        ensures { OnOk result (BeginClauses (view_starts starts.now) clauses.now out exits free self.old.code.items self.new.code.items) }
+    {
+        for clause in clauses {
+            self.lower_clause(starts, clause, out, exits, free)?;
+        }
+        Ok(())
+    }
+
+    /// The default of a `try`. Where there is none, an exception that no clause catches goes on.
+    #[cycle(statement)]
+    fn lower_default(
+        &mut self,
+        starts: &Starts,
+        default: &Option<Body>,
+        exits: Exits,
+        free: usize,
+    ) -> Result<(), AllocError>
+        requires slots { free + kept_by_clauses (default_of default.now) ≤ most_locals }
+        requires begun { exits.head ≤ length self.old.code.items }
+        ensures { Appends result self.old self.new (clauses_code (view_starts starts.now) (default_of default.now) (length self.old.code.items) 0 exits free) }
+    {
+        match default {
+            Some(body) => self.lower_items(starts, &body.items, exits, free),
+            None => self.emit(goes_on(free)),
+        }
+    }
+
+    /// The body of a `try` is done: its handler is closed, and its clauses are jumped over. At the place that was kept comes the opening.
+    fn end_body(&mut self, opening: usize, free: usize) -> Result<usize, AllocError>
+        requires { opening < length self.old.code.items }
+        ensures { IfOk result (λ out. (out ≡ length self.old.code.items + 1) × (self.new.code.items ≡ set (self.old.code.items ++ Instruction.Leave free ∷ Instruction.Jump 0 ∷ []) opening (Instruction.Try free (length self.old.code.items + 2)))) }
+    {
+        self.emit(Instruction::Leave { first: free })?;
+        let out = self.reserve()?;
+        let handler = self.place();
+        self.patch(opening, Instruction::Try {
+            first: free,
+            handler,
+        });
+        Ok(out)
     }
 
     /// A jump to the end of the loop that begins at this place, by the second of its two jumps.
@@ -85,7 +216,7 @@ impl Emitter {
         exits: Exits,
         free: usize,
     ) -> Result<(), AllocError>
-        requires { free ≤ most_locals + length self.old.code.items }
+        requires { free + kept_by (view_statement body.now) ≤ most_locals }
         ensures { Appends result self.old self.new (loop_code (view_starts starts.now) (view_expression condition.now) (view_statement body.now) (length self.old.code.items) exits free) }
     {
         let head = self.place();
@@ -113,7 +244,7 @@ impl Emitter {
         exits: Exits,
         free: usize,
     ) -> Result<(), AllocError>
-        requires slots { free ≤ most_locals + length self.old.code.items }
+        requires slots { free + kept_by (view_statement statement.now) ≤ most_locals }
         requires begun { exits.head ≤ length self.old.code.items }
         ensures { Appends result self.old self.new (statement_code (view_starts starts.now) (view_statement statement.now) (length self.old.code.items) exits free) }
     {
@@ -121,6 +252,7 @@ impl Emitter {
             Stmt::Block { items, .. } => self.lower_items(starts, items, exits, free),
             Stmt::Empty => Ok(()),
             Stmt::Evaluate { value } => self.discard(starts, value, free),
+            Stmt::Swap { left, right } => self.lower_swap(starts, left, right, free),
             Stmt::If {
                 condition,
                 then,
@@ -140,11 +272,29 @@ impl Emitter {
                 body,
                 ..
             } => self.lower_loop(starts, body, condition, exits, free),
-            Stmt::Return { value } => self.lower_return(starts, value, free),
-            Stmt::Break => self.lower_break(exits.head),
-            Stmt::Continue => self.lower_continue(exits.head),
-            // These are not built yet, and never run.
-            Stmt::Swap { .. } | Stmt::Throw { .. } | Stmt::Try { .. } => Ok(()),
+            Stmt::Return { value } => self.lower_return(starts, value, exits, free),
+            Stmt::Break => {
+                self.lower_leave(exits.loop_record, free)?;
+                self.lower_break(exits.head)
+            }
+            Stmt::Continue => {
+                self.lower_leave(exits.loop_record, free)?;
+                self.lower_continue(exits.head)
+            }
+            Stmt::Throw { tag, value } => self.lower_throw(starts, *tag, value, free),
+            Stmt::Try {
+                body,
+                clauses,
+                default,
+            } => {
+                let opening = self.reserve()?;
+                self.lower_statement(starts, body, exits, free + RECORD_WORDS)?;
+                let out = self.end_body(opening, free)?;
+                self.lower_clauses(starts, clauses, out, exits, free)?;
+                self.lower_default(starts, default, exits, free)?;
+                self.jump_here(out);
+                Ok(())
+            }
         }
     }
 
@@ -156,7 +306,7 @@ impl Emitter {
         exits: Exits,
         free: usize,
     ) -> Result<(), AllocError>
-        requires slots { free ≤ most_locals + length self.old.code.items }
+        requires slots { free + kept_by_item item.now ≤ most_locals }
         requires begun { exits.head ≤ length self.old.code.items }
         ensures { Appends result self.old self.new (item_code (view_starts starts.now) item.now (length self.old.code.items) exits free) }
     {
@@ -178,7 +328,7 @@ impl Emitter {
         exits: Exits,
         free: usize,
     ) -> Result<(), AllocError>
-        requires slots { free ≤ most_locals + length self.old.code.items }
+        requires slots { free + kept_by_items (items_of items.now) ≤ most_locals }
         requires begun { exits.head ≤ length self.old.code.items }
         ensures { Appends result self.old self.new (items_code (view_starts starts.now) (items_of items.now) (length self.old.code.items) exits free) }
     {

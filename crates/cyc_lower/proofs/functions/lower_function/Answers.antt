@@ -3,8 +3,8 @@ use Rattle.cyc_types.specs.declared.typed.Item.{Item}
 use Rattle.cyc_types.specs.TypeView.{view_ty}
 use Rattle.cyc_types.specs.TypedTreeView.{view_struct, view_function, items_of}
 use Rattle.cyc_types.specs.declared.ty.Ty.{Ty}
-use Rattle.cyc_meaning.specs.FrameCount.{items_need, words_of_all}
-use Rattle.cyc_lower.specs.Lowering.{first_temporary, function_code, span_of_place}
+use Rattle.cyc_meaning.specs.FrameCount.{items_need, kept_by_items, words_of_all}
+use Rattle.cyc_lower.specs.Lowering.{first_temporary, function_code, items_code, outside_loops, span_of_place}
 use Rattle.cyc_lower.proofs.Routines.{few_locals, function_made}
 use Rattle.cyc_lower.proofs.functions.lower_function.Goals as goal
 
@@ -22,25 +22,41 @@ words_of_all-requires c =
 pub overflow_add-result : goal.overflow_add-result
 overflow_add-result c =
     let f = c.args.function.now in
-    let body = ap (λ (js : List Item). items_need (items_of js)) c.deref-4.ensures.value in
-    omega (arith, (few_locals f c.requires).1, c.in_ok-locals.ensures.1, c.requires, body, c.items_need.ensures)
+    let kept = ap (λ (js : List Item). kept_by_items (items_of js)) c.deref-4.ensures.value in
+    omega (arith, (few_locals f c.requires).1, c.in_ok-locals.ensures.1, c.requires, kept, c.kept_by_items.ensures)
 
 pub overflow_add-result-2 : goal.overflow_add-result-2
 overflow_add-result-2 c =
     let f = c.args.function.now in
-    let body = ap (λ (js : List Item). items_need (items_of js)) c.deref-4.ensures.value in
-    omega (arith, (few_locals f c.requires).1, c.in_ok-locals.ensures.1, c.requires, body, c.items_need.ensures)
+    let kept = ap (λ (js : List Item). kept_by_items (items_of js)) c.deref-4.ensures.value in
+    let body = ap (λ (js : List Item). items_need (items_of js)) c.deref-5.ensures.value in
+    omega (arith, (few_locals f c.requires).1, c.in_ok-locals.ensures.1, c.requires, kept, c.kept_by_items.ensures, body, c.items_need.ensures)
+
+pub overflow_add-result-3 : goal.overflow_add-result-3
+overflow_add-result-3 c =
+    let f = c.args.function.now in
+    let kept = ap (λ (js : List Item). kept_by_items (items_of js)) c.deref-4.ensures.value in
+    let body = ap (λ (js : List Item). items_need (items_of js)) c.deref-5.ensures.value in
+    omega (arith, (few_locals f c.requires).1, c.in_ok-locals.ensures.1, c.requires, kept, c.kept_by_items.ensures, body, c.items_need.ensures)
 
 pub returns : goal.returns
 returns c =
     let f = c.args.function.now in
     let h = view_function f in
+    let structs = map view_struct c.args.structs.now in
+    let free = c.in_ok-locals.free in
+    let raises = c.place-raises.result in
     let parameters : c.words_of_all.result ≡ words_of_all h.parameters = c.words_of_all.ensures ∙ ap (λ (ts : List Ty). words_of_all (map view_ty ts)) c.deref-3.ensures.value in
-    let body = ap (λ (js : List Item). items_need (items_of js)) c.deref-4.ensures.value in
-    let slots : c.in_ok-locals.free + c.items_need.result + 3 ≡ first_temporary h + items_need h.body + 3 = omega (arith, c.in_ok-locals.ensures.1, c.items_need.ensures, body) in
-    let code : c.lower_blocks.new.self.code.items ≡ function_code (map view_struct c.args.structs.now) h =
-    function_made (map view_struct c.args.structs.now) h c.deref.result.now c.deref-2.result.now c.in_ok-locals.free c.place-raises.result c.in_ok-lower_body.field-0.code.items c.in_ok-emitter.emitter.code.items c.emit.new.self.code.items c.lower_blocks.new.self.code.items
-    (c.deref.ensures.value ∙ c.in_ok-locals.ensures.0) (c.deref-2.ensures.value ∙ c.in_ok-locals.ensures.0) c.in_ok-locals.ensures.1 c.in_ok-lower_body.ensures c.place-raises.ensures c.in_ok-emitter.ensures c.in_ok-emit.ensures c.in_ok-lower_blocks.ensures in
+    let body = ap (λ (js : List Item). items_need (items_of js)) c.deref-5.ensures.value in
+    let kept = ap (λ (js : List Item). kept_by_items (items_of js)) c.deref-4.ensures.value in
+    let slots : free + c.kept_by_items.result + c.items_need.result + 3 ≡ first_temporary h + kept_by_items h.body + items_need h.body + 3 = omega (arith, c.in_ok-locals.ensures.1, c.kept_by_items.ensures, kept, c.items_need.ensures, body) in
+    let code : c.lower_blocks.new.self.code.items ≡ function_code structs h =
+    function_made structs h c.in_ok-locals.locals.items free raises c.in_ok-lower_body.field-0.code.items c.in_ok-emitter.emitter.code.items c.emit.new.self.code.items c.lower_blocks.new.self.code.items
+    c.in_ok-locals.ensures.0 c.in_ok-locals.ensures.1
+    (c.in_ok-lower_body.ensures ∙ ap (λ (l : List ℕ). items_code (record { locals = l; structs = structs; raises = 0 }) h.body 0 (outside_loops free) free) c.deref.ensures.value)
+    c.place-raises.ensures
+    (c.in_ok-emitter.ensures ∙ ap (λ (l : List ℕ). items_code (record { locals = l; structs = structs; raises = raises }) h.body 0 (outside_loops free) free) c.deref-2.ensures.value)
+    c.in_ok-emit.ensures c.in_ok-lower_blocks.ensures in
     λ i. record {
       name = span_of_place h.place;
       parameters = parameters i;

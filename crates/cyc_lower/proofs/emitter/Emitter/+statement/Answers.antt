@@ -1,10 +1,21 @@
-use Rattle.std.proofs.Common.{[], ◌∷◌, ◌++◌, ◌∙◌, ap}
+use borrow.Author.Rules.{rules, get_or_read}
+use Rattle.std.proofs.Common.{◌≡◌, ℕ, ◌+◌, List, [], ◌∷◌, ◌++◌, length, set, Option, ◌∙◌, sym, ap, arith}
 use Rattle.std.proofs.lemmas.Result.{on_ok_weaker}
-use Rattle.cyc_types.specs.TypedTreeView.{view_expression, view_statement}
+use Rattle.cyc_types.specs.declared.ty.Ty.TheFolds as types
+use Rattle.cyc_types.specs.declared.typed.Item.{Item}
+use Rattle.cyc_types.specs.declared.typed.Item.TheFolds as statements
+use Rattle.cyc_types.specs.declared.typed.Body.{Body}
+use Rattle.cyc_types.specs.TypedTreeView.{view_expression, view_statement, items_of, clauses_of, default_of}
+use Rattle.cyc_meaning.specs.FrameCount.{kept_by_items, kept_by_clauses}
 use Rattle.cyc_plain.specs.declared.instruction.Instruction.{Instruction}
-use Rattle.cyc_plain.specs.declared.instruction.Instruction.TheVariants.{Jump}
+use Rattle.cyc_plain.specs.declared.instruction.Instruction.TheVariants.{Jump, Leave}
+use Rattle.cyc_lower.specs.Lowering.{items_code, clauses_code, other_jump}
 use Rattle.cyc_lower.specs.Emission.{view_starts}
 use Rattle.cyc_lower.proofs.Branching.{made_block, made_if, made_loop}
+use Rattle.cyc_lower.proofs.Handlers.{kept_of_item, kept_of_clause, made_clause, made_clauses, more_clauses, made_handler, clauses_longer, body_longer}
+use Rattle.cyc_lower.proofs.Emitting.{no_shorter_than}
+use Rattle.std.proofs.lemmas.List.{length-append}
+use Rattle.cyc_lower.proofs.NeedsFound.{block_keeps, try_keeps}
 use Rattle.cyc_lower.proofs.emitter.Emitter.+statement.Goals as goal
 
 pub lower_loop-returns : goal.lower_loop-returns
@@ -26,3 +37,79 @@ lower_statement-returns-in_ok-lower_statement-in-If-2 t c =
     c.lower_condition.new.self.code.items c.reserve.new.self.code.items c.lower_statement.new.self.code.items c.reserve-in-If.new.self.code.items c.jump_here_if_failing.new.self.code.items c.lower_statement-in-If.new.self.code.items c.jump_here.new.self.code.items
     c.in_ok-over_then-in-If.over_then c.in_ok-over_otherwise-in-If.over_otherwise
     c.in_ok-condition-in-If.ensures.1 c.in_ok-over_then-in-If.ensures.0 c.in_ok-over_then-in-If.ensures.1 c.in_ok-lower_statement-in-If.ensures c.in_ok-over_otherwise-in-If.ensures.0 c.in_ok-over_otherwise-in-If.ensures.1 c.jump_here_if_failing.ensures c.in_ok-lower_statement-in-If-2.ensures c.jump_here.ensures
+
+pub lower_clause-returns : goal.lower_clause-returns
+lower_clause-returns t c =
+    made_clause (view_starts c.args.starts.now) c.args.clause.now.tag c.args.clause.now.number (items_of c.args.clause.now.items.items) c.args.out c.args.exits c.args.free c.args.self.now.code.items (Jump 0)
+    c.reserve.new.self.code.items c.lower_caught.new.self.code.items c.lower_items.new.self.code.items c.emit.new.self.code.items c.patch.new.self.code.items c.in_ok-over.over
+    c.in_ok-over.ensures.0 c.in_ok-over.ensures.1 c.in_ok-lower_caught.ensures
+    (c.in_ok-lower_items.ensures ∙ ap (λ (js : List Item). c.lower_caught.new.self.code.items ++ items_code (view_starts c.args.starts.now) (items_of js) (length c.lower_caught.new.self.code.items) c.args.exits c.args.free) c.deref.ensures.value)
+    c.in_ok-emit.ensures
+    (c.patch.ensures ∙ ap (λ (i : Instruction). set c.emit.new.self.code.items c.in_ok-over.over i) (c.other_jump.ensures ∙ ap (other_jump c.args.clause.now.tag c.args.free) c.place-target.ensures))
+
+pub lower_clauses-lower_clause-requires : goal.lower_clauses-lower_clause-requires
+lower_clauses-lower_clause-requires t c =
+    let few = kept_of_clause c.args.clauses.now c.loop-clause.clause-index c.clause-item.result c.loop-clause-test.true c.clause-item.is in
+    (search (rules, types.the_lemmas, statements.the_lemmas, get_or_read), (omega (arith, few, c.requires.slots), c.loop-clause.invariant.1))
+
+pub lower_clauses-loop-clause-preserved : goal.lower_clauses-loop-clause-preserved
+lower_clauses-loop-clause-preserved t c = (
+  more_clauses (view_starts c.args.starts.now) c.args.out c.args.exits c.args.self.now.code.items c.args.clauses.now c.loop-clause.clause-index c.loop-clause.self.code.items c.lower_clause.new.self.code.items c.args.free c.clause-item.result c.loop-clause-test.true c.clause-item.is
+      c.in_ok-lower_clause.ensures c.loop-clause.invariant.0,
+  let longer = no_shorter_than c.loop-clause.self.code.items _ c.lower_clause.new.self.code.items c.in_ok-lower_clause.ensures in
+      omega (arith, longer, c.loop-clause.invariant.1),
+  c.requires.slots,
+)
+
+pub lower_clauses-returns : goal.lower_clauses-returns
+lower_clauses-returns t c =
+    made_clauses (view_starts c.args.starts.now) c.args.out c.args.exits c.args.self.now.code.items c.args.clauses.now c.loop-clause.clause-index c.loop-clause.self.code.items c.args.free c.loop-clause-test.false c.loop-clause.invariant.0
+
+pub lower_default-lower_items-requires : goal.lower_default-lower_items-requires
+lower_default-lower_items-requires t c =
+    let few = ap (λ (d : Option Body). kept_by_clauses (default_of d)) c.in-Some.is in
+    let same = ap (λ (js : List Item). kept_by_items (items_of js)) c.deref.ensures.value in
+    (search (rules, types.the_lemmas, statements.the_lemmas, get_or_read), (omega (arith, few, same, c.requires.slots), c.requires.begun))
+
+pub lower_items-lower_item-requires : goal.lower_items-lower_item-requires
+lower_items-lower_item-requires t c =
+    let few = kept_of_item c.args.items.now c.loop-item.item-index c.item-item.result c.loop-item-test.true c.item-item.is in
+    (search (rules, types.the_lemmas, statements.the_lemmas, get_or_read), (omega (arith, few, c.requires.slots), c.loop-item.invariant.2))
+
+pub lower_statement-lower_items-requires : goal.lower_statement-lower_items-requires
+lower_statement-lower_items-requires t c =
+    let e = block_keeps c.args.statement.now c.in-Block.region c.in-Block.items c.in-Block.is c.deref.result.now c.deref.ensures.value in
+    (search (rules, types.the_lemmas, statements.the_lemmas, get_or_read), (omega (arith, e, c.requires.slots), c.requires.begun))
+
+pub lower_statement-lower_clauses-requires : goal.lower_statement-lower_clauses-requires
+lower_statement-lower_clauses-requires t c =
+    let e = try_keeps c.args.statement.now c.in-Try.body c.in-Try.clauses c.in-Try.default c.in-Try.is c.deref-in-Try.result.now c.deref-in-Try.ensures c.deref-in-Try-2.result.now c.deref-in-Try-2.ensures.value in
+    let one : length c.reserve-in-Try.new.self.code.items ≡ length c.args.self.now.code.items + 1 = ap length c.in_ok-opening-in-Try.ensures.1 ∙ length-append c.args.self.now.code.items (Jump 0 ∷ []) in
+    let two = no_shorter_than c.reserve-in-Try.new.self.code.items _ c.lower_statement-in-Try.new.self.code.items c.in_ok-lower_statement-in-Try.ensures in
+    let three = body_longer c.lower_statement-in-Try.new.self.code.items c.end_body.new.self.code.items (Leave c.args.free) (Jump 0) _ c.in_ok-opening-in-Try.opening c.in_ok-out-in-Try.ensures.1 in
+    (search (rules, types.the_lemmas, statements.the_lemmas, get_or_read), (omega (arith, e, c.requires.slots), omega (arith, one, two, three, c.requires.begun)))
+
+pub lower_statement-lower_default-requires : goal.lower_statement-lower_default-requires
+lower_statement-lower_default-requires t c =
+    let e = try_keeps c.args.statement.now c.in-Try.body c.in-Try.clauses c.in-Try.default c.in-Try.is c.deref-in-Try.result.now c.deref-in-Try.ensures c.deref-in-Try-2.result.now c.deref-in-Try-2.ensures.value in
+    let one : length c.reserve-in-Try.new.self.code.items ≡ length c.args.self.now.code.items + 1 = ap length c.in_ok-opening-in-Try.ensures.1 ∙ length-append c.args.self.now.code.items (Jump 0 ∷ []) in
+    let two = no_shorter_than c.reserve-in-Try.new.self.code.items _ c.lower_statement-in-Try.new.self.code.items c.in_ok-lower_statement-in-Try.ensures in
+    let three = body_longer c.lower_statement-in-Try.new.self.code.items c.end_body.new.self.code.items (Leave c.args.free) (Jump 0) _ c.in_ok-opening-in-Try.opening c.in_ok-out-in-Try.ensures.1 in
+    let four = clauses_longer (view_starts c.args.starts.now) c.deref-in-Try-2.result.now c.in_ok-out-in-Try.out c.args.exits c.args.free c.end_body.new.self.code.items c.lower_clauses.new.self.code.items c.in_ok-lower_clauses-in-Try.ensures in
+    (search (rules, types.the_lemmas, statements.the_lemmas, get_or_read), (omega (arith, e, c.requires.slots), omega (arith, one, two, three, four, c.requires.begun)))
+
+pub lower_statement-jump_here-requires-in-Try : goal.lower_statement-jump_here-requires-in-Try
+lower_statement-jump_here-requires-in-Try t c =
+    let one : length c.reserve-in-Try.new.self.code.items ≡ length c.args.self.now.code.items + 1 = ap length c.in_ok-opening-in-Try.ensures.1 ∙ length-append c.args.self.now.code.items (Jump 0 ∷ []) in
+    let two = no_shorter_than c.reserve-in-Try.new.self.code.items _ c.lower_statement-in-Try.new.self.code.items c.in_ok-lower_statement-in-Try.ensures in
+    let three = body_longer c.lower_statement-in-Try.new.self.code.items c.end_body.new.self.code.items (Leave c.args.free) (Jump 0) _ c.in_ok-opening-in-Try.opening c.in_ok-out-in-Try.ensures.1 in
+    let four = clauses_longer (view_starts c.args.starts.now) c.deref-in-Try-2.result.now c.in_ok-out-in-Try.out c.args.exits c.args.free c.end_body.new.self.code.items c.lower_clauses.new.self.code.items c.in_ok-lower_clauses-in-Try.ensures in
+    let five = no_shorter_than c.lower_clauses.new.self.code.items _ c.lower_default.new.self.code.items c.in_ok-lower_default-in-Try.ensures in
+    omega (arith, three, four, five, c.in_ok-out-in-Try.ensures.0)
+
+pub lower_statement-returns-in_ok-lower_default-in-Try : goal.lower_statement-returns-in_ok-lower_default-in-Try
+lower_statement-returns-in_ok-lower_default-in-Try t c =
+    made_handler (view_starts c.args.starts.now) c.args.statement.now c.in-Try.body c.in-Try.clauses c.in-Try.default c.in-Try.is c.deref-in-Try.result.now c.deref-in-Try.ensures c.deref-in-Try-2.result.now c.deref-in-Try-2.ensures.value c.args.exits c.args.free c.args.self.now.code.items (Jump 0)
+    c.reserve-in-Try.new.self.code.items c.lower_statement-in-Try.new.self.code.items c.end_body.new.self.code.items c.lower_clauses.new.self.code.items c.lower_default.new.self.code.items c.jump_here-in-Try.new.self.code.items
+    c.in_ok-opening-in-Try.opening c.in_ok-out-in-Try.out
+    c.in_ok-opening-in-Try.ensures.0 c.in_ok-opening-in-Try.ensures.1 c.in_ok-lower_statement-in-Try.ensures c.in_ok-out-in-Try.ensures.0 c.in_ok-out-in-Try.ensures.1 c.in_ok-lower_clauses-in-Try.ensures c.in_ok-lower_default-in-Try.ensures c.jump_here-in-Try.ensures

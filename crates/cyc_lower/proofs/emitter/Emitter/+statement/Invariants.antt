@@ -1,10 +1,19 @@
 use Rattle.std.specs.Prelude.{◌+◌, ◌≤◌, length}
+use Rattle.cyc_types.specs.TypedTreeView.{items_of, clauses_of}
+use Rattle.cyc_types.specs.TypedTrees.{Clauses, NoClauses}
+use Rattle.cyc_meaning.specs.FrameCount.{kept_by_items, kept_by_clauses}
 use Rattle.cyc_lower.specs.Emission.{most_locals, view_starts}
 use Rattle.cyc_lower.proofs.Emitting.{Remains}
 use Rattle.cyc_lower.proofs.Branching.{all_items}
+use Rattle.cyc_lower.proofs.Handlers.{all_clauses}
 use Rattle.cyc_lower.proofs.emitter.Emitter.+statement.Given as goal
 
 abbrev pub invariant-lower_items-loop-item : goal.invariant-lower_items-loop-item
 invariant-lower_items-loop-item l =
     Remains (all_items (view_starts l.starts) l.exits) l.fn.self.code.items l.items l.fn.free l.item-index l.self.code.items l.free
-    × (l.free ≤ most_locals + length l.self.code.items) × (l.exits.head ≤ length l.self.code.items)
+    × (l.free + kept_by_items (items_of l.items) ≤ most_locals) × (l.exits.head ≤ length l.self.code.items)
+
+abbrev pub invariant-lower_clauses-loop-clause : goal.invariant-lower_clauses-loop-clause
+invariant-lower_clauses-loop-clause l =
+    ((default : Clauses) → Remains (all_clauses (view_starts l.starts) default l.out l.exits) l.fn.self.code.items l.clauses l.fn.free l.clause-index l.self.code.items l.free)
+    × (l.exits.head ≤ length l.self.code.items) × (l.free + kept_by_clauses (clauses_of l.clauses NoClauses) ≤ most_locals)
