@@ -223,8 +223,7 @@ module _ (source : Program) (pages calls : ℕ) where
       (record { active = record { function = n; next = 0; slots = slots; handlers = handlers }; frames = frames; globals = globals; store = store; output = output; input = input })
   entered stand n h arguments k w slots globals handlers frames store output input there shared facts least holds stack =
       let (m, items, end) = stand n h there in
-      let g = code_of source n in
-      (
+      let g = code_of source n in (
         shared,
         facts,
         (m, subst (λ t. ItemsAt g (bounds_at source n) (types_at source n) h.body (outside_loops (base_of source n)) t 0 m) (sym least) items, stack m end, holds, parameters_fit n h there),
@@ -308,8 +307,7 @@ module _ (source : Program) (pages calls : ℕ) where
                   variables = (shared.globals, shared.variables);
                   fits = fine;
                   counters = shared.counters;
-                })
-                (
+                }) (
                   data_called shared.tables source g n w.objects e (behind_records k) (held k) (callers k) c.active.slots slots c.globals frame c.frames refl refl (Holds-rest shared.tables c.active.slots base before (held k) holds) facts.0,
                   (refl, facts.1),
                 )

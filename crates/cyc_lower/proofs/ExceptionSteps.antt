@@ -143,13 +143,12 @@ module _ (source : Program) (pages calls : ℕ) where
       by_one source pages calls (is_declared (region_at w e.home) Proceeding n v.kind (Some v.value) (Rest js ∷ k) e w well) shared here
       (λ choice. subst (Matches source pages calls (Running Proceeding (Rest js ∷ k) (with_local e n (length w.objects)) (made w (variable e.home v.kind (Some v.value))))) (sym (moves (lower_program source) choice c words slot o)) (
         shared_declared source pages calls k e w (advanced (with_slots c slots)) shared n r v.kind (Some v.value) home,
-        behind_statement exits
-            (
-              data_declared grown source g w.objects e (callers k) c.active.slots slots c.globals c.frames n words (variable e.home v.kind (Some v.value)) local room (row_declared source pages calls k e w c shared) elsewhere
-                  (λ u has. subst (λ (x : Kinded). Is grown x.kind x.value slots slot × HasRoom (types_at source g) n x.kind) (same_Some v u has) (Is-grows grows v.kind v.value slots slot (moved_is shared.tables v c.active.slots slot o is), room))
-                  (data_grows shared.tables grown grows source g w.objects e.locals (callers k) c.active.slots c.globals c.frames facts.0),
-              handlers_beside source g c.active.slots slots c.active.handlers c.frames k slot words (omega (arith, slot-room (types_at source g) n local, room)) elsewhere facts.1,
-            )
+        behind_statement exits (
+          data_declared grown source g w.objects e (callers k) c.active.slots slots c.globals c.frames n words (variable e.home v.kind (Some v.value)) local room (row_declared source pages calls k e w c shared) elsewhere
+              (λ u has. subst (λ (x : Kinded). Is grown x.kind x.value slots slot × HasRoom (types_at source g) n x.kind) (same_Some v u has) (Is-grows grows v.kind v.value slots slot (moved_is shared.tables v c.active.slots slot o is), room))
+              (data_grows shared.tables grown grows source g w.objects e.locals (callers k) c.active.slots c.globals c.frames facts.0),
+          handlers_beside source g c.active.slots slots c.active.handlers c.frames k slot words (omega (arith, slot-room (types_at source g) n local, room)) elsewhere facts.1,
+        )
             (q, items, stack),
       ))
 

@@ -217,15 +217,14 @@ module _ (source : Program) (pages calls : ℕ) where
       by_one source pages calls refl shared here
       (λ choice. finished (Running (Given v) k outer w) c s choice none (
         shared_returned w (outer.home ∷ homes k) (AreCounted outer.counters k) output input store e.home (length frames) shared,
-        ahead d
-            (
-              f.caller.slots,
-              λ n out. sym (elsewhere n out),
-              (
-                data_returned shared.tables source active.function w.objects e.locals (record { locals = outer.locals; temporaries = behind_records k; values = held k }) (callers k) active.slots f.caller.slots globals f frames (λ n less. refl) facts,
-                stand,
-              ),
-            )
+        ahead d (
+          f.caller.slots,
+          λ n out. sym (elsewhere n out),
+          (
+            data_returned shared.tables source active.function w.objects e.locals (record { locals = outer.locals; temporaries = behind_records k; values = held k }) (callers k) active.slots f.caller.slots globals f frames (λ n less. refl) facts,
+            stand,
+          ),
+        )
             (copied_is shared.tables v active.slots f.caller.slots s results d (omega (arith, wide)) is)
             (Holds-above shared.tables f.caller.slots now base (held k) (λ n from. elsewhere n (inr (omega (arith, from, below, behind-least k (base_of source f.caller.function))))) holds)
             stack,

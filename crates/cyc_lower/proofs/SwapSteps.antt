@@ -271,11 +271,13 @@ module _ (source : Program) (pages calls : ℕ) where
       by_one source pages calls (does ∙ stored.gives) shared here
       (λ choice. (
         shared_written source pages calls k e w after shared object stored.at x.operand.value stored.object_there stored.cell_there (facts.0.2.rows n object found),
-        (data_assigned shared.tables source g w.objects next.objects e.locals (callers k) c.active.slots slots c.globals c.frames n object x.operand found
-            (written_here w object stored.at x.operand.value stored.object_there stored.cell_there x.operand.kind stored.same) (written_elsewhere w object stored.at x.operand.value stored.object_there stored.cell_there)
-            (written_length w object stored.at x.operand.value stored.object_there stored.cell_there) room
-            (IsWord-is shared.tables x.operand.kind x.operand.value (c.active.slots v) slots slot (put-same c.active.slots slot (c.active.slots v)) word) elsewhere facts.0,
-        handlers_beside source g c.active.slots slots c.active.handlers c.frames k slot (words_of_kind x.operand.kind) (omega (arith, inside, room)) elsewhere facts.1),
+        (
+          data_assigned shared.tables source g w.objects next.objects e.locals (callers k) c.active.slots slots c.globals c.frames n object x.operand found
+              (written_here w object stored.at x.operand.value stored.object_there stored.cell_there x.operand.kind stored.same) (written_elsewhere w object stored.at x.operand.value stored.object_there stored.cell_there)
+              (written_length w object stored.at x.operand.value stored.object_there stored.cell_there) room
+              (IsWord-is shared.tables x.operand.kind x.operand.value (c.active.slots v) slots slot (put-same c.active.slots slot (c.active.slots v)) word) elsewhere facts.0,
+          handlers_beside source g c.active.slots slots c.active.handlers c.frames k slot (words_of_kind x.operand.kind) (omega (arith, inside, room)) elsewhere facts.1,
+        ),
         (exits, q, writes_same shared.tables e.locals g c.active.slots slots writes (c.active.next + 1) q (λ m least. elsewhere m (inr (omega (arith, inside, room, least)))) rest, stack),
       ))
   writing_sides (x ∷ writes) k e w c words well (shared, facts, (exits, q, (VariableSide (Global n) ty, object, offset, s, v, here, few, single, high, above, place, (first, found), word, rest), stack)) =
@@ -288,11 +290,14 @@ module _ (source : Program) (pages calls : ℕ) where
       by_one source pages calls (does ∙ stored.gives) shared here
       (λ choice. (
         shared_written source pages calls k e w after shared object stored.at x.operand.value stored.object_there stored.cell_there (ap (slice_get shared.tables.rows) (sym same) ∙ (facts.0.4 n (global_there source pages calls g n few)).0),
-        (data_assigned_global shared.tables source g w.objects next.objects e.locals (callers k) c.active.slots c.globals c.frames n x.operand (c.active.slots v)
-            (global_there source pages calls g n few)
-            (ap (contents next.objects) same ∙ written_here w object stored.at x.operand.value stored.object_there stored.cell_there x.operand.kind stored.same)
-            (λ i other. written_elsewhere w object stored.at x.operand.value stored.object_there stored.cell_there i (λ equal. other (equal ∙ sym same)))
-            (written_length w object stored.at x.operand.value stored.object_there stored.cell_there) word facts.0, facts.1),
+        (
+          data_assigned_global shared.tables source g w.objects next.objects e.locals (callers k) c.active.slots c.globals c.frames n x.operand (c.active.slots v)
+              (global_there source pages calls g n few)
+              (ap (contents next.objects) same ∙ written_here w object stored.at x.operand.value stored.object_there stored.cell_there x.operand.kind stored.same)
+              (λ i other. written_elsewhere w object stored.at x.operand.value stored.object_there stored.cell_there i (λ equal. other (equal ∙ sym same)))
+              (written_length w object stored.at x.operand.value stored.object_there stored.cell_there) word facts.0,
+          facts.1,
+        ),
         (exits, q, rest, stack),
       ))
   writing_sides (x ∷ writes) k e w c words well (shared, facts, (exits, q, (CellSide y, object, offset, s, v, here, has, single, high, above, place, points, word, rest), stack)) =

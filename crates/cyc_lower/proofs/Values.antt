@@ -958,13 +958,12 @@ module _ (source : Program) (pages calls : ℕ) where
       by_one source pages calls (makes_local n kind js v k e w well) shared here
       (λ choice. subst (Matches source pages calls (Running Proceeding (Rest js ∷ k) (with_local e n (length w.objects)) (made w (variable e.home kind (Some v.value))))) (sym (moves (lower_program source) choice c words slot o)) (
         shared_declared source pages calls k e w (advanced (with_slots c slots)) shared n r kind (Some v.value) home,
-        behind_statement exits
-            (
-              data_declared grown source g w.objects e (callers k) c.active.slots slots c.globals c.frames n words (variable e.home kind (Some v.value)) local room (row_declared source pages calls k e w c shared) elsewhere
-                  (made_value grown n kind js v k e w slots slot (types_at source g) well room (Is-grows grows v.kind v.value slots slot (moved_is shared.tables v c.active.slots slot o is)))
-                  (data_grows shared.tables grown grows source g w.objects e.locals (callers k) c.active.slots c.globals c.frames facts.0),
-              handlers_beside source g c.active.slots slots c.active.handlers c.frames k slot words (omega (arith, slot-room (types_on source g k) n local, room)) elsewhere facts.1,
-            )
+        behind_statement exits (
+          data_declared grown source g w.objects e (callers k) c.active.slots slots c.globals c.frames n words (variable e.home kind (Some v.value)) local room (row_declared source pages calls k e w c shared) elsewhere
+              (made_value grown n kind js v k e w slots slot (types_at source g) well room (Is-grows grows v.kind v.value slots slot (moved_is shared.tables v c.active.slots slot o is)))
+              (data_grows shared.tables grown grows source g w.objects e.locals (callers k) c.active.slots c.globals c.frames facts.0),
+          handlers_beside source g c.active.slots slots c.active.handlers c.frames k slot words (omega (arith, slot-room (types_on source g k) n local, room)) elsewhere facts.1,
+        )
             (q, items, stack),
       ))
 
@@ -985,13 +984,12 @@ module _ (source : Program) (pages calls : ℕ) where
       (Running Proceeding (Rest js ∷ k) (with_local e n (length w.objects)) (made w (variable e.home kind (Some v.value)))) (plain.Running c)
       (makes_local n kind js v k e w well) (
         shared_declared source pages calls k e w c shared n r kind (Some v.value) home,
-        behind_statement exits
-            (
-              data_declared grown source g w.objects e (callers k) old c.active.slots c.globals c.frames n (words_of_kind v.kind) (variable e.home kind (Some v.value)) local room (row_declared source pages calls k e w c shared)
-                  (λ m out. sym (same m out)) (made_value grown n kind js v k e w c.active.slots slot (types_at source g) well room (Is-grows grows v.kind v.value c.active.slots slot is))
-                  (data_grows shared.tables grown grows source g w.objects e.locals (callers k) old c.globals c.frames facts.0),
-              handlers_beside source g old c.active.slots c.active.handlers c.frames k slot (words_of_kind v.kind) (omega (arith, slot-room (types_on source g k) n local, room)) (λ m out. sym (same m out)) facts.1,
-            )
+        behind_statement exits (
+          data_declared grown source g w.objects e (callers k) old c.active.slots c.globals c.frames n (words_of_kind v.kind) (variable e.home kind (Some v.value)) local room (row_declared source pages calls k e w c shared)
+              (λ m out. sym (same m out)) (made_value grown n kind js v k e w c.active.slots slot (types_at source g) well room (Is-grows grows v.kind v.value c.active.slots slot is))
+              (data_grows shared.tables grown grows source g w.objects e.locals (callers k) old c.globals c.frames facts.0),
+          handlers_beside source g old c.active.slots c.active.handlers c.frames k slot (words_of_kind v.kind) (omega (arith, slot-room (types_on source g k) n local, room)) (λ m out. sym (same m out)) facts.1,
+        )
             stack,
       )
       (omega arith)

@@ -1036,11 +1036,12 @@ module _ (program : PlainProgram) (r : Routine) (b : Numbering) (types : Types) 
         let long = length-append clause later in
         let long_clause = length-append (caught ++ items) leave in
         let long_inner = length-append caught items in
-        append program r b types locals levels globals called results behind clause later
-        ((omega (arith, few), tt, omega (arith, short, long, long_clause)),
-        append program r b types locals levels globals called results behind (caught ++ items) leave
-        (append program r b types locals levels globals called results behind caught items (caught_in x t caught_fits (omega (arith, few))) (items_in js in_loop (p + 1 + length caught) exits t numbered around outside (omega (arith, few)) (omega (arith, short, long, long_clause, long_inner))))
-        (there, tt))
+        append program r b types locals levels globals called results behind clause later (
+          (omega (arith, few), tt, omega (arith, short, long, long_clause)),
+          append program r b types locals levels globals called results behind (caught ++ items) leave
+              (append program r b types locals levels globals called results behind caught items (caught_in x t caught_fits (omega (arith, few))) (items_in js in_loop (p + 1 + length caught) exits t numbered around outside (omega (arith, few)) (omega (arith, short, long, long_clause, long_inner))))
+              (there, tt),
+        )
         (clauses_in cs in_loop (p + length clause) out exits t rest around outside (omega (arith, few)) there (omega (arith, short, long)))
 
 -- ---- functions

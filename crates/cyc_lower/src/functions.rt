@@ -97,10 +97,7 @@ fn lower_function(
         name: function.span,
         parameters: words_of_all(&function.parameters),
         results: results_of(&function.result),
-        slots: free
-            + kept_by_items(&function.body)
-            + items_need(&function.body)
-            + SPARE_SLOTS,
+        slots: free + kept_by_items(&function.body) + items_need(&function.body) + SPARE_SLOTS,
         frame_count: frame_count(function),
         code: emitter.code,
     })

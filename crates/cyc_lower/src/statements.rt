@@ -182,10 +182,13 @@ impl Emitter {
         self.emit(Instruction::Leave { first: free })?;
         let out = self.reserve()?;
         let handler = self.place();
-        self.patch(opening, Instruction::Try {
-            first: free,
-            handler,
-        });
+        self.patch(
+            opening,
+            Instruction::Try {
+                first: free,
+                handler,
+            },
+        );
         Ok(out)
     }
 
