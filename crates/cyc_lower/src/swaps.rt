@@ -5,7 +5,8 @@ ghost use Rattle.cyc_lower.specs.Lowering.{right_slot, side_code, read_side, wri
 ghost use Rattle.cyc_lower.specs.Emission.{Appends, most_locals, view_starts};
 
 use crate::emitter::Emitter;
-use crate::locals::{Starts, slot_of};
+use crate::locals::slot_of;
+use crate::starts::Starts;
 use cyc_plain::{Instruction, Operand};
 use cyc_types::typed::{Lvalue, Side};
 use std::alloc::AllocError;
