@@ -215,6 +215,7 @@ class Expressions:
             raise Refused(22, node.start)
 
     def compared(self, node, left, right):
+        # The comparison begins with its left operand, inside of brackets round it.
         for side, type in ((node.left, left), (node.right, right)):
             if type not in (INT, NULL) and not is_pointer(type):
                 raise Refused(22, side.start)
@@ -222,10 +223,10 @@ class Expressions:
             return
         if NULL in (left, right):
             if left == right or INT in (left, right):
-                raise Refused(22, node.start)
+                raise Refused(22, node.left.start)
             return
         if not (is_thin(left) and is_thin(right)) or left[2] != right[2]:
-            raise Refused(22, node.start)
+            raise Refused(22, node.left.start)
         faults = Faults()
         for side, type in ((node.left, left), (node.right, right)):
             if not self.regions.is_live(type[3]):
