@@ -46,8 +46,8 @@ use Rattle.cyc_objects.proofs.Making.{open-home, allocated, allocated-unique, re
 use Rattle.cyc_lower.specs.Lowering.{lower_program}
 use Rattle.cyc_lower.proofs.Widths.{kind_positive, Outside}
 use Rattle.cyc_lower.proofs.Stands.{StoresAt, ObjectAt}
-use Rattle.cyc_lower.proofs.Relation.{IsWord, IsIn, IsHandleOf, IsObject, words_held, height, Holds, HoldsFrom, held, callers, homes, silent, DataIn, SharedAt, in_temporary, into_slot, LandsStack, ValueStack, Matches, code_of, bounds_at, types_at, base_of, top, contents, floor}
-use Rattle.cyc_lower.proofs.Data.{Is-same, height-least, one_word, Holds-same, Holds-rest, Holds-grows, HoldsFrom-grows, in_order, words-reverse, data_grows, variables_grow, contents_made, data_written}
+use Rattle.cyc_lower.proofs.Relation.{types_on, starts_on, IsWord, IsIn, IsObject, words_held, height, Holds, HoldsFrom, held, callers, homes, silent, DataIn, SharedAt, in_temporary, into_slot, LandsStack, ValueStack, Matches, code_of, bounds_at, types_at, base_of, top, IsHandleOf, contents, floor}
+use Rattle.cyc_lower.proofs.Data.{Is-same, height-least, one_word, Holds-same, Holds-rest, Holds-grows, HoldsFrom-grows, in_order, words-reverse, data_above, data_grows, variables_grow, contents_made, data_written}
 use Rattle.cyc_lower.proofs.Accesses.{IsWell, is_fitting}
 use Rattle.cyc_lower.proofs.CellWrites.{SameVariables, data_beside, cell_is_there, saves_there, shared_saved, data_saved}
 use Rattle.cyc_lower.proofs.Matched.{IsMatched, below, silently, by_places, by_one, shared_way, shared_within, place_in, known, Executes}
@@ -165,11 +165,15 @@ module _ {t : Tables} {w : World} {s : StoreState} (related : objects.Related t 
 demand_is : {t : Tables} {w : World} {s : StoreState} → objects.Related t w s → demand s ≡ pages_of w
 demand_is {t} {w} {s} related = ap (λ l. demand_of l s.classes) (sym (counted-same related.regions)) ∙ ap (demand_of (counted w.regions)) related.classes
 
+-- what is more than all pages is not within them
+pub past_pages : (pages n : ℕ) (b : Bool) → nat_lt pages n ≡ true → (nat_le n pages && b) ≡ false
+past_pages pages n b over = ap (λ x. x && b) (false_from_ne_true (nat_le n pages) (λ h. absurd (omega (arith, leb-true n pages h, ltb-true pages n over))))
+
 module _ (source : Program) (pages calls : ℕ) where
   -- ---- by a call of the store
 
   -- one instruction calls the store, which serves it
-  by_asking : (focus : Focus) (k : List Entry) (e : Environment) (w : World) (c : Configuration) (next : State) (request : Request)
+  pub by_asking : (focus : Focus) (k : List Entry) (e : Environment) (w : World) (c : Configuration) (next : State) (request : Request)
       → step source (Running focus k e w) ≡ next → SharedAt source pages calls k e w c
       → At (code_of source c.active.function) c.active.next (instructions.Ask request)
       → refusal c.store (plain_step.call_in c.active.slots request) ≡ None
@@ -187,7 +191,7 @@ module _ (source : Program) (pages calls : ℕ) where
       )
 
   -- there is no room: both runs are full
-  by_full : (focus : Focus) (k : List Entry) (e : Environment) (w : World) (c : Configuration) (next : State) (request : Request)
+  pub by_full : (focus : Focus) (k : List Entry) (e : Environment) (w : World) (c : Configuration) (next : State) (request : Request)
       → step source (Running focus k e w) ≡ next → is_within pages calls next ≡ false → SharedAt source pages calls k e w c
       → At (code_of source c.active.function) c.active.next (instructions.Ask request)
       → refusal c.store (plain_step.call_in c.active.slots request) ≡ Some services.Full
@@ -247,6 +251,7 @@ module _ (source : Program) (pages calls : ℕ) where
       variables = variables_grow shared.tables grown grows (e.home ∷ homes k) shared.variables;
       few_pages = within_pages;
       fits = shared.fits;
+      counters = shared.counters;
     }
       where
         within_pages : demand after.store ≤ pages
@@ -298,7 +303,7 @@ module _ (source : Program) (pages calls : ℕ) where
       → step source (Running focus k₀ e w) ≡ makes_of owner vs k e w
       → IsWell (makes_of owner vs k e w) → SharedAt source pages calls k₀ e w c → (shared : SharedAt source pages calls k e w c) → DataIn source shared.tables c.active.slots k e w c
       → Holds shared.tables c.active.slots (floor source c.active.function k) (held k) → HoldsFrom shared.tables c.active.slots (top source c.active.function k) vs
-      → ObjectAt (code_of source c.active.function) (bounds_at source c.active.function) (types_at source c.active.function) handle (length vs) (words_held vs) (top source c.active.function k) d c.active.next q
+      → ObjectAt (code_of source c.active.function) (bounds_at source c.active.function) (types_on source c.active.function k) handle (length vs) (words_held vs) (top source c.active.function k) d c.active.next q
       → LandsStack source c.active.function e.locals kinds.NonNull d q c.frames k → IsMatched source pages calls (Running focus k₀ e w) (plain.Running c)
   made_object owner handle owned focus k₀ k e w c vs d q does well shared₀ shared facts holds values (m, single, some, few, ask, stores, move, end) lands =
       let t = top source c.active.function k in
@@ -313,7 +318,7 @@ module _ (source : Program) (pages calls : ℕ) where
       elim (cases_Bool (nat_lt c.store.pages (pages_of new))) [
         | inl over ↦
             by_full focus k₀ e w c next request is_next
-            (past_pages (pages_of new) _ (subst (λ p. nat_lt p (pages_of new) ≡ true) shared.same_pages over))
+            (past_pages pages (pages_of new) _ (subst (λ p. nat_lt p (pages_of new) ≡ true) shared.same_pages over))
             shared₀ here (makes.refuses ∙ ap full_at over)
         | inr room ↦
             let free = makes.refuses ∙ ap full_at room in
@@ -347,9 +352,6 @@ module _ (source : Program) (pages calls : ℕ) where
               shared_within source pages calls k e new (served_to choice c (t + words_held vs) (Allocate handle (block_size cells))) made,
             ))
       ]
-    where
-      past_pages : (n : ℕ) (b : Bool) → nat_lt pages n ≡ true → (nat_le n pages && b) ≡ false
-      past_pages n b over = ap (λ x. x && b) (false_from_ne_true (nat_le n pages) (λ h. absurd (omega (arith, leb-true n pages h, ltb-true pages n over))))
 
   -- ---- what waits for the values of an object
 
@@ -367,7 +369,7 @@ module _ (source : Program) (pages calls : ℕ) where
       let words : words_of_kind v.kind ≡ words_held (v ∷ []) = omega arith in
       made_object owner handle owned (Given v) (Needs (MakePlain owner kind) ∷ k) k e w c (v ∷ []) d q does (subst IsWell does well) shared shared facts holds
       (subst (IsIn shared.tables v c.active.slots) there is, tt)
-      (subst (λ n. ObjectAt (code_of source g) (bounds_at source g) (types_at source g) handle 1 n t d c.active.next q) words (m, single, some, few, ask, stores, move, end))
+      (subst (λ n. ObjectAt (code_of source g) (bounds_at source g) (types_on source g k) handle 1 n t d c.active.next q) words (m, single, some, few, ask, stores, move, end))
       lands
 
   -- the next of its fields is evaluated, or it is made of all
@@ -386,9 +388,9 @@ module _ (source : Program) (pages calls : ℕ) where
       let count : length earlier + suc 0 ≡ length values = omega (arith, length-reverse (v ∷ earlier)) in
       made_object owner handle owned (Given v) (Needs (MakeFields owner earlier NoArguments) ∷ k) k e w c values d q refl well shared shared facts (Holds-rest shared.tables c.active.slots base (v ∷ earlier) (held k) held_all)
       (in_order shared.tables c.active.slots base (v ∷ earlier) (held k) held_all)
-      (subst (λ n. ObjectAt (code_of source g) (bounds_at source g) (types_at source g) handle n (words_held values) t d c.active.next q) count
-      (subst (λ n. ObjectAt (code_of source g) (bounds_at source g) (types_at source g) handle (length earlier + suc 0) n t d c.active.next q) words
-      (subst (λ x. ObjectAt (code_of source g) (bounds_at source g) (types_at source g) handle (length earlier + suc 0) all t d x q) (sym none) (m, single, some, few, ask, stores, move, end))))
+      (subst (λ n. ObjectAt (code_of source g) (bounds_at source g) (types_on source g k) handle n (words_held values) t d c.active.next q) count
+      (subst (λ n. ObjectAt (code_of source g) (bounds_at source g) (types_on source g k) handle (length earlier + suc 0) n t d c.active.next q) words
+      (subst (λ x. ObjectAt (code_of source g) (bounds_at source g) (types_on source g k) handle (length earlier + suc 0) all t d x q) (sym none) (m, single, some, few, ask, stores, move, end))))
       lands
   fields_made owner earlier (MoreArguments (Convert from to a) cs) v o k e w c well shared facts is holds (handle, d, p, q, all, owned, there, (r, (s, at_a, at_to), at_cs), (m, single, some, few, ask, stores, move, end), long, lands) =
       let g = c.active.function in
@@ -445,7 +447,7 @@ module _ (source : Program) (pages calls : ℕ) where
       let points : Points tables object (length done) place = cell_next tables object (slots address) done rest u.kind there in
       let single_cell : words_of_kind cell.cell.kind ≡ 1 = ap words_of_kind same ∙ one in
       let is_word : IsWord tables cell.cell.kind u.value word = subst (λ i. IsWord tables i u.value word) (sym same) (one_word tables u.kind u.value slots slot one is_u) in
-      let (store, more) = subst (λ n. StoresAt (code_of source g) (bounds_at source g) (types_at source g) n address (4 * words_of_kinds done) slot c.active.next m) (let e : words_held us + words_of_kind u.kind ≡ suc (words_held us) = omega (arith, one) in e) at in
+      let (store, more) = subst (λ n. StoresAt (code_of source g) (bounds_at source g) (types_on source g k) n address (4 * words_of_kinds done) slot c.active.next m) (let e : words_held us + words_of_kind u.kind ≡ suc (words_held us) = omega (arith, one) in e) at in
       let after : Configuration = advanced (with_memory c place word) in
       let later = shared_saved source pages calls k e w c shared object (length done) place word cell u.value found points single_cell is_word (words.0 slot) in
       let longer : length (done ++ u.kind ∷ []) ≡ suc (length done) = omega (arith, length-append done (u.kind ∷ [])) in
@@ -469,7 +471,7 @@ module _ (source : Program) (pages calls : ℕ) where
           subst (IsObject tables object (slots address)) (sym (append_assoc done (u.kind ∷ []) rest)) there,
           ones,
           subst (λ n. HoldsFrom tables slots n us) (let e : slot + words_of_kind u.kind ≡ suc slot = omega (arith, one) in e) held_in,
-          subst (λ n. StoresAt (code_of source g) (bounds_at source g) (types_at source g) (words_held us) address n (suc slot) (c.active.next + 1) m) (sym wider) more,
+          subst (λ n. StoresAt (code_of source g) (bounds_at source g) (types_on source g k) (words_held us) address n (suc slot) (c.active.next + 1) m) (sym wider) more,
           move,
           end,
           holds,

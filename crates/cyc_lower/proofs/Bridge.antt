@@ -1,8 +1,8 @@
 -- The code of a construct stands where its list of instructions does.
 use Rattle.std.proofs.Common.{◌≡◌, ℕ, zero, suc, ◌+◌, ◌≤◌, ◌<◌, Bool, true, false, List, [], ◌∷◌, ◌++◌, length, map, Option, None, Some, slice_get, refl, sym, ap, subst, ◌∙◌, arith, length-append}
 use Rattle.std.proofs.lemmas.Option.{same_Some, none-some, get_or_from_slice_get, slice_get-map}
-use Rattle.std.specs.Prelude.{option_map, if◌then◌else◌, ◌==◌}
-use Rattle.cyc_meaning.specs.Operators.{null_exception, division_by_zero}
+use Rattle.std.specs.Prelude.{unwrap_or, option_map, if◌then◌else◌, ◌==◌}
+use Rattle.cyc_meaning.specs.Operators.{array_size, null_exception, division_by_zero}
 use Rattle.cyc_types.specs.declared.typed.Kind.{Kind}
 use Rattle.cyc_types.specs.declared.typed.Kind.TheVariants as kinds
 use Rattle.cyc_types.specs.declared.typed.Callee.TheVariants as callees
@@ -12,8 +12,11 @@ use Rattle.cyc_types.specs.declared.typed.Operator.TheVariants as operators
 use Rattle.cyc_types.specs.declared.typed.PointerOperator.{PointerOperator}
 use Rattle.cyc_types.specs.declared.typed.PointerOperator.TheVariants as pointers
 use Rattle.cyc_types.specs.Types.{Ty, words_of}
-use Rattle.cyc_types.specs.TypedTrees.{Load, New, OnHeap, AsUnique, ByHandle, Initial, Plain, Fields, Dereference, Target, Lvalue, Local, Global, Expression, Number, NullPointer, Copy, Call, Unary, Binary, Assign, Converted, Convert, Arguments, NoArguments, MoreArguments, Operations, NoOperations, ThenCompute, ThenTest, ThenPointer, Statement, Block, Empty, Evaluate, If, While, Return, Break, Continue, Items, NoItems, MoreItems, Execute, Declare, Signature, StructType, Function, Program, Move, Peek, ThenPointerPeek, type_of, AddressOfCell, Store, Member, type_of_place, FreeUnique, Side, VariableSide, CellSide, Swap, Throw, Try, Clauses, NoClauses, Default, Case}
+use Rattle.cyc_types.specs.TypedTrees.{Array, Counter, Load, New, OnHeap, AsUnique, ByHandle, Initial, Plain, Fields, Dereference, Target, Lvalue, Local, Global, Expression, Number, NullPointer, Copy, Call, Unary, Binary, Assign, Converted, Convert, Arguments, NoArguments, MoreArguments, Operations, NoOperations, ThenCompute, ThenTest, ThenPointer, Statement, Block, Empty, Evaluate, If, While, Return, Break, Continue, Items, NoItems, MoreItems, Execute, Declare, Signature, StructType, Function, Program, Move, Peek, ThenPointerPeek, type_of, AddressOfCell, Store, Member, type_of_place, FreeUnique, Side, VariableSide, CellSide, Swap, Throw, Try, Clauses, NoClauses, Default, Case}
 use Rattle.cyc_types.specs.Numbered.{Numbering, argument_count, numbering_of, signatures_of}
+use Rattle.cyc_plain.specs.declared.instruction.UnaryOperator.TheVariants as plain_unary
+use Rattle.cyc_plain.specs.declared.instruction.BinaryOperator.TheVariants as plain_binary
+use Rattle.cyc_plain.specs.declared.instruction.Request.TheVariants as requests
 use Rattle.cyc_plain.specs.declared.limits.TheConstants.{RECORD_WORDS}
 use Rattle.cyc_plain.specs.declared.instruction.Comparison.{Comparison}
 use Rattle.cyc_plain.specs.declared.instruction.Comparison.TheVariants as comparisons
@@ -27,10 +30,11 @@ use Rattle.cyc_plain.proofs.Straight.{has_front, has_back, has_whole}
 use Rattle.cyc_store.specs.declared.range.TheConstants.{MOST_BLOCK_WORDS, HEAP, UNIQUE}
 use Rattle.cyc_meaning.specs.Values.{kind_of, words_of_kind}
 use Rattle.cyc_meaning.specs.FrameCount.{words_of_all, operand_words}
-use Rattle.cyc_lower.specs.Slots.{Types, starts_of, slot_of}
-use Rattle.cyc_lower.specs.Lowering.{types_of, are_as_wide, converts_there, passed_words, source_of, source_slot, moved_by, move_of, operand_of, operand_or, code_unless, slot_or, code_unless_slot, left_with, left_of, value_slot, next_slot, slot_with, left_slot, value_operand, converted_operand, printed_operand, jump_if_nonzero, check_code, conversion_code, divisor_code, checked_code, operator_code, truth_code, load_code, low_byte, test_code, is_in, copy_code, expression_code, arguments_code, converted_code, converted_operand_code, printed_code, initial_code, assignment_code, assigned_operand, operations_code, discarded_code, failing_comparison, compared_or, compared_of, first_operand, first_code, second_code, pair_code, condition_code, condition_of, failing_jump, break_target, continue_target, return_code, declaration_code, statement_code, items_code, function_code, first_temporary, results_of, lower_function, lower_program, behind_left, pointer_code, outside_loops, inside_loop, pointer_operator, index_code, pointer_instructions, stores_code, object_code, made_code, place_operand, place_offset, place_code, address_code, raising, blocks, guard_code, body_code, free_code, jump_if_zero, right_slot, side_code, read_side, write_side, exchange_code, swap_code, leave_code, tag_operand, other_jump, goes_on, clause_code, thrown_code, thrown_operand, caught_code, clauses_code}
+use Rattle.cyc_objects.proofs.NumberLemmas.{slice_get-there}
+use Rattle.cyc_lower.specs.Slots.{counted, Types, starts_of, slot_of}
+use Rattle.cyc_lower.specs.Lowering.{most_elements, begun_code, filled_code, ended_code, elements_code, array_code, types_of, are_as_wide, converts_there, passed_words, source_of, source_slot, moved_by, move_of, operand_of, operand_or, code_unless, slot_or, code_unless_slot, left_with, left_of, value_slot, next_slot, slot_with, left_slot, value_operand, converted_operand, printed_operand, jump_if_nonzero, check_code, conversion_code, divisor_code, checked_code, operator_code, truth_code, load_code, low_byte, test_code, is_in, copy_code, expression_code, arguments_code, converted_code, converted_operand_code, printed_code, initial_code, assignment_code, assigned_operand, operations_code, discarded_code, failing_comparison, compared_or, compared_of, first_operand, first_code, second_code, pair_code, condition_code, condition_of, failing_jump, break_target, continue_target, return_code, declaration_code, statement_code, items_code, function_code, first_temporary, results_of, lower_function, lower_program, behind_left, pointer_code, outside_loops, inside_loop, pointer_operator, index_code, pointer_instructions, stores_code, object_code, made_code, place_operand, place_offset, place_code, address_code, raising, blocks, guard_code, body_code, free_code, jump_if_zero, right_slot, side_code, read_side, write_side, exchange_code, swap_code, leave_code, tag_operand, other_jump, goes_on, clause_code, thrown_code, thrown_operand, caught_code, clauses_code}
 use Rattle.cyc_lower.specs.declared.statements.Exits.{Exits}
-use Rattle.cyc_lower.proofs.Stands.{OperandBy, CheckAt, ConversionBy, ConversionAt, DivisorAt, CheckedAt, OperatorAt, LoadAt, CopyBy, ExpressionAt, InitialAt, InitialBy, ConvertedAt, ConvertedOperandAt, PrintedAt, ArgumentsAt, OperationsAt, PairAt, ConditionAt, AssignmentAt, DiscardedAt, ReturnedAt, ReturnAt, DeclarationAt, StatementAt, ItemsAt, FirstTwoAt, IndexAt, PointerAt, StoresAt, ObjectAt, MadeAt, AddressAt, PlaceAt, GuardAt, FreedAt, HasSide, SideAt, ReadAt, WriteAt, SwapAt, LeaveBy, LeaveAt, ThrownAt, CaughtAt, ClausesAt}
+use Rattle.cyc_lower.proofs.Stands.{BegunAt, FilledAt, OperandBy, CheckAt, ConversionBy, ConversionAt, DivisorAt, CheckedAt, OperatorAt, LoadAt, CopyBy, ExpressionAt, InitialAt, InitialBy, ConvertedAt, ConvertedOperandAt, PrintedAt, ArgumentsAt, OperationsAt, PairAt, ConditionAt, AssignmentAt, DiscardedAt, ReturnedAt, ReturnAt, DeclarationAt, StatementAt, ItemsAt, FirstTwoAt, IndexAt, PointerAt, StoresAt, ObjectAt, MadeAt, AddressAt, PlaceAt, GuardAt, FreedAt, HasSide, SideAt, ReadAt, WriteAt, SwapAt, LeaveBy, LeaveAt, ThrownAt, CaughtAt, ClausesAt}
 use Rattle.cyc_lower.proofs.Lengths.{body_long}
 use Rattle.cyc_types.specs.typing.Expressions.{type_of_side}
 use Rattle.cyc_lower.specs.Lowerable.{may_wait}
@@ -181,6 +185,13 @@ module _ (code : List Instruction) (b : Numbering) (types : Types) (raised : Blo
       let (here, none) = has_back code (p + 1) stores move rest in
       (m, refl, some, few, ask, stores_stand words (t + words) 0 t (p + 1) m refl (has_front code (p + 1) stores move rest), here, omega (arith, end, length-append stores move))
 
+  begun_stands : (handle t p q : ℕ) → p + 6 ≡ q → HasAt code p (begun_code (starts_of types) handle t) → BegunAt code b types handle t p q
+  begun_stands handle t p q end (guard, (count, (index, (none, (size, (ask, rest)))))) =
+      (p + 1, guard_stands array_size comparisons.GreaterOrEqualUnsigned (operands.Slot t) (operands.Word (most_elements + 1)) p (p + 1) (omega arith) (omega arith) refl (guard, tt), count, index, none, size, ask, omega (arith, end))
+
+  filled_stands : (t head p q : ℕ) → p + 5 ≡ q → HasAt code p (filled_code head t) → FilledAt code b types t head p q
+  filled_stands t head p q end (scaled, (address, (store, (next, (again, rest))))) = (scaled, address, store, next, again, end)
+
   copy_by : (is : Bool) (words : ℕ) (o : Operand) (d p q : ℕ) → p + length (if is then [] else move_of words d o ∷ []) ≡ q → HasAt code p (if is then [] else move_of words d o ∷ []) → CopyBy code is words o d p q
   copy_by true words o d p q end has = omega (arith, end)
   copy_by false words o d p q end (here, none) = (here, end)
@@ -217,47 +228,51 @@ module _ (code : List Instruction) (b : Numbering) (types : Types) (raised : Blo
       let (here, none) = has_back code p both _ has in
       (o, m, r, operand_by known _ inner slot p m refl (has_front code p front conversion has_both) (λ e h. stands slot m e h), conversion_stands from to o m r wide (cut p r front conversion refl) (has_back code p front conversion has_both), here, cut p q both _ end)
 
+module _ (code : List Instruction) (b : Numbering) where
   mutual
-    expression_stands : (a : Expression) (d t p q : ℕ) → Fits b types a → p + length (expression_code (starts_of types) a p d t) ≡ q → HasAt code p (expression_code (starts_of types) a p d t) → ExpressionAt code b types a d t p q
-    expression_stands (Number n) d t p q numbered end (here, none) = (here, end)
-    expression_stands NullPointer d t p q numbered end (here, none) = (here, end)
-    expression_stands (Copy l ty) d t p q numbered end has = load_stands l (kind_of ty) (words_of ty) d p q numbered end has
-    expression_stands (Move w n ty) d t p q numbered end has = load_stands (Local w n) (kind_of ty) (words_of ty) d p q numbered end has
-    expression_stands (Peek w n ty) d t p q numbered end has = load_stands (Local w n) (kind_of ty) (words_of ty) d p q numbered end has
-    expression_stands (Call callees.Putchar cs ty) d t p q (s, signature, many, passed, result, numbered) end has =
+    expression_stands : (types : Types) (raised : BlocksStand code types.raises) → (a : Expression) (d t p q : ℕ) → Fits b types a → p + length (expression_code (starts_of types) a p d t) ≡ q → HasAt code p (expression_code (starts_of types) a p d t) → ExpressionAt code b types a d t p q
+    expression_stands types raised (Number n) d t p q numbered end (here, none) = (here, end)
+    expression_stands types raised NullPointer d t p q numbered end (here, none) = (here, end)
+    expression_stands types raised (Counter l) d t p q few end (here, none) =
+        let (slot, there) = slice_get-there types.counters l few in
+        (slot, there, subst (λ (s : Option ℕ). At code p (instructions.Move d (operands.Slot (unwrap_or s 0)))) there here, end)
+    expression_stands types raised (Copy l ty) d t p q numbered end has = load_stands code b types raised l (kind_of ty) (words_of ty) d p q numbered end has
+    expression_stands types raised (Move w n ty) d t p q numbered end has = load_stands code b types raised (Local w n) (kind_of ty) (words_of ty) d p q numbered end has
+    expression_stands types raised (Peek w n ty) d t p q numbered end has = load_stands code b types raised (Local w n) (kind_of ty) (words_of ty) d p q numbered end has
+    expression_stands types raised (Call callees.Putchar cs ty) d t p q (s, signature, many, passed, result, numbered) end has =
         let front = printed_code (starts_of types) cs p t in
         let (write, (low, none)) = has_back code p front _ has in
         let single : argument_count cs ≡ 1 = many ∙ ap (λ (x : Signature). length x.parameters) signature in
         let long = cut p q front (instructions.WriteByte (printed_operand (starts_of types) cs (operands.Slot t) t) ∷ low_byte (printed_operand (starts_of types) cs (operands.Slot t) t) d ∷ []) end in
-        (printed_operand (starts_of types) cs (operands.Slot t) t, p + length front, printed_stands cs (operands.Slot t) t p (p + length front) single numbered refl (has_front code p front _ has), write, low, omega (arith, long))
-    expression_stands (Call callees.Getchar cs ty) d t p q (s, signature, many, passed, result, numbered) end has =
+        (printed_operand (starts_of types) cs (operands.Slot t) t, p + length front, printed_stands types raised cs (operands.Slot t) t p (p + length front) single numbered refl (has_front code p front _ has), write, low, omega (arith, long))
+    expression_stands types raised (Call callees.Getchar cs ty) d t p q (s, signature, many, passed, result, numbered) end has =
         let front = arguments_code (starts_of types) cs p t in
         let (here, none) = has_back code p front _ has in
-        (p + length front, arguments_stand cs t p (p + length front) numbered refl (has_front code p front _ has), here, cut p q front _ end)
-    expression_stands (Call (callees.Function n) cs ty) d t p q (s, signature, many, passed, result, numbered) end has =
+        (p + length front, arguments_stand types raised cs t p (p + length front) numbered refl (has_front code p front _ has), here, cut p q front _ end)
+    expression_stands types raised (Call (callees.Function n) cs ty) d t p q (s, signature, many, passed, result, numbered) end has =
         let front = arguments_code (starts_of types) cs p t in
         let (here, none) = has_back code p front _ has in
-        (p + length front, arguments_stand cs t p (p + length front) numbered refl (has_front code p front _ has), here, cut p q front _ end)
-    expression_stands (Unary o a) d t p q numbered end has =
+        (p + length front, arguments_stand types raised cs t p (p + length front) numbered refl (has_front code p front _ has), here, cut p q front _ end)
+    expression_stands types raised (Unary o a) d t p q numbered end has =
         let inner = expression_code (starts_of types) a p (value_slot (starts_of types) a t) t in
         let front = code_unless (operand_of (starts_of types) a) inner in
         let m = p + length front in
         let (here, none) = has_back code p front _ has in
-        (value_operand (starts_of types) a t, m, operand_by (operand_of (starts_of types) a) _ inner (value_slot (starts_of types) a t) p m refl (has_front code p front _ has) (λ e h. expression_stands a (value_slot (starts_of types) a t) t p m numbered e h), here, cut p q front _ end)
-    expression_stands (Binary a os ty) d t p q (numbered, rest) end has =
+        (value_operand (starts_of types) a t, m, operand_by code b types raised (operand_of (starts_of types) a) _ inner (value_slot (starts_of types) a t) p m refl (has_front code p front _ has) (λ e h. expression_stands types raised a (value_slot (starts_of types) a t) t p m numbered e h), here, cut p q front _ end)
+    expression_stands types raised (Binary a os ty) d t p q (numbered, rest) end has =
         let inner = expression_code (starts_of types) a p (left_slot (starts_of types) a os d t) t in
         let front = code_unless (left_of (starts_of types) a os) inner in
         let m = p + length front in
         let l = operand_or (left_of (starts_of types) a os) (left_slot (starts_of types) a os d t) in
         let back = operations_code (starts_of types) os m l d t in
-        (l, m, operand_by (left_of (starts_of types) a os) _ inner (left_slot (starts_of types) a os d t) p m refl (has_front code p front back has) (λ e h. expression_stands a (left_slot (starts_of types) a os d t) t p m numbered e h), operations_stand os l d t m q (operand_words (type_of a)) ty rest (first_left a os d t) (cut p q front back end) (has_back code p front back has))
-    expression_stands (Assign (Local w n) c ty) d t p q ((few, room), numbered) end has =
+        (l, m, operand_by code b types raised (left_of (starts_of types) a os) _ inner (left_slot (starts_of types) a os d t) p m refl (has_front code p front back has) (λ e h. expression_stands types raised a (left_slot (starts_of types) a os d t) t p m numbered e h), operations_stand types raised os l d t m q (operand_words (type_of a)) ty rest (first_left code b types raised a os d t) (cut p q front back end) (has_back code p front back has))
+    expression_stands types raised (Assign (Local w n) c ty) d t p q ((few, room), numbered) end has =
         let o = operands.Slot (slot_of (starts_of types) n) in
         let front = initial_code (starts_of types) c p (slot_of (starts_of types) n) t in
         let back = copy_code (passed_words c) o d in
         let m = p + length front in
-        (o, m, (refl, room, initial_stands c (slot_of (starts_of types) n) t p m numbered refl (has_front code p front back has)), copy_by (is_in o d) (passed_words c) o d m q (cut p q front back end) (has_back code p front back has))
-    expression_stands (Assign (Global n) c ty) d t p q ((few, single), numbered) end has =
+        (o, m, (refl, room, initial_stands types raised c (slot_of (starts_of types) n) t p m numbered refl (has_front code p front back has)), copy_by code b types raised (is_in o d) (passed_words c) o d m q (cut p q front back end) (has_back code p front back has))
+    expression_stands types raised (Assign (Global n) c ty) d t p q ((few, single), numbered) end has =
         let o = converted_operand (starts_of types) c t in
         let front = converted_operand_code (starts_of types) c p t in
         let both = front ++ instructions.StoreGlobal n o ∷ [] in
@@ -265,19 +280,19 @@ module _ (code : List Instruction) (b : Numbering) (types : Types) (raised : Blo
         let m = p + length both in
         let has_both = has_front code p both back has in
         let (here, none) = has_back code p front _ has_both in
-        (o, m, (p + length front, converted_operand_stands c t p (p + length front) numbered refl (has_front code p front _ has_both), few, single, here, cut p m front _ refl), copy_by (is_in o d) (passed_words c) o d m q (cut p q both back end) (has_back code p both back has))
-    expression_stands (Load x) d t p q numbered end has =
+        (o, m, (p + length front, converted_operand_stands types raised c t p (p + length front) numbered refl (has_front code p front _ has_both), few, single, here, cut p m front _ refl), copy_by code b types raised (is_in o d) (passed_words c) o d m q (cut p q both back end) (has_back code p both back has))
+    expression_stands types raised (Load x) d t p q numbered end has =
         let front = place_code (starts_of types) x p t in
         let r = p + length front in
         let (here, none) = has_back code p front _ has in
-        (place_operand (starts_of types) x t, place_offset (starts_of types) x, r, place_stands x t p r numbered refl (has_front code p front _ has), cell_single x numbered, here, cut p q front _ end)
-    expression_stands (AddressOfCell x ty) d t p q numbered end has =
+        (place_operand (starts_of types) x t, place_offset (starts_of types) x, r, place_stands types raised x t p r numbered refl (has_front code p front _ has), cell_single code b types raised x numbered, here, cut p q front _ end)
+    expression_stands types raised (AddressOfCell x ty) d t p q numbered end has =
         let o = place_operand (starts_of types) x t in
         let front = place_code (starts_of types) x p t in
         let back = address_code o (place_offset (starts_of types) x) d in
         let r = p + length front in
-        (o, place_offset (starts_of types) x, r, place_stands x t p r numbered refl (has_front code p front back has), address_stands o (place_offset (starts_of types) x) d r q (cut p q front back end) (has_back code p front back has))
-    expression_stands (Store x c ty) d t p q (place, single, numbered) end has =
+        (o, place_offset (starts_of types) x, r, place_stands types raised x t p r numbered refl (has_front code p front back has), address_stands code b types raised o (place_offset (starts_of types) x) d r q (cut p q front back end) (has_back code p front back has))
+    expression_stands types raised (Store x c ty) d t p q (place, single, numbered) end has =
         let a = place_operand (starts_of types) x t in
         let bytes = place_offset (starts_of types) x in
         let o = converted_operand (starts_of types) c (t + 1) in
@@ -304,30 +319,64 @@ module _ (code : List Instruction) (b : Numbering) (types : Types) (raised : Blo
             r,
             s,
             u,
-            place_stands x t p r place refl (has_front code p front bring has_address),
-            address_stands a bytes t r s (cut p s front bring refl) (has_back code p front bring has_address),
-            converted_operand_stands c (t + 1) s u numbered refl (has_front code s value write has_value),
+            place_stands types raised x t p r place refl (has_front code p front bring has_address),
+            address_stands code b types raised a bytes t r s (cut p s front bring refl) (has_back code p front bring has_address),
+            converted_operand_stands types raised c (t + 1) s u numbered refl (has_front code s value write has_value),
             single,
             here,
             cut s m value write (cut p m address (value ++ write) refl),
           ),
-          copy_by (is_in o d) (passed_words c) o d m q (cut p q both back end) (has_back code p both back has),
+          copy_by code b types raised (is_in o d) (passed_words c) o d m q (cut p q both back end) (has_back code p both back has),
         )
-    expression_stands (FreeUnique a) d t p q numbered end has =
+    expression_stands types raised (FreeUnique a) d t p q numbered end has =
         let o = value_operand (starts_of types) a t in
         let inner = expression_code (starts_of types) a p (value_slot (starts_of types) a t) t in
         let front = code_unless (operand_of (starts_of types) a) inner in
         let m = p + length front in
         let back = free_code o m in
-        (o, m, operand_by (operand_of (starts_of types) a) _ inner (value_slot (starts_of types) a t) p m refl (has_front code p front back has) (λ e h. expression_stands a (value_slot (starts_of types) a t) t p m numbered e h), freed_stands o m q (cut p q front back end) (has_back code p front back has))
-    expression_stands (New OnHeap i ty) d t p q numbered end has = made_stands i HEAP d t p q numbered end has
-    expression_stands (New AsUnique i ty) d t p q numbered end has = made_stands i UNIQUE d t p q numbered end has
-    expression_stands (New (ByHandle h) i ty) d t p q numbered end has = absurd numbered
-    expression_stands a d t p q numbered end has = absurd numbered
+        (o, m, operand_by code b types raised (operand_of (starts_of types) a) _ inner (value_slot (starts_of types) a t) p m refl (has_front code p front back has) (λ e h. expression_stands types raised a (value_slot (starts_of types) a t) t p m numbered e h), freed_stands code b types raised o m q (cut p q front back end) (has_back code p front back has))
+    expression_stands types raised (New OnHeap (Array w level n kind a) ty) d t p q (level_is, single, kind_is, fits_n, fits_a) end has =
+        let count = expression_code (starts_of types) n p t t in
+        let m = p + length count in
+        let h = m + 6 in
+        let begun = begun_code (starts_of types) HEAP t in
+        let element = expression_code (starts_of (counted types (t + 2))) a (h + 1) (t + 3) (t + 3) in
+        let filled = filled_code h t in
+        let ended = ended_code d t in
+        let both = element ++ filled in
+        let elements = elements_code element h d t in
+        let has_rest = has_back code p count (begun ++ elements) has in
+        let (branch, has_behind) = has_back code m begun elements has_rest in
+        let has_both = has_front code (h + 1) both ended has_behind in
+        let s = h + 1 + length both in
+        let (first_index, has_copy) = has_back code (h + 1) both ended has_behind in
+        let r = h + 1 + length element in (
+          m,
+          h,
+          r,
+          s,
+          expression_stands types raised n t t p m fits_n refl (has_front code p count (begun ++ elements) has),
+          begun_stands code b types raised HEAP t m h refl (has_front code m begun elements has_rest),
+          level_is,
+          single,
+          (
+            branch,
+            omega arith,
+            expression_stands (counted types (t + 2)) raised a (t + 3) (t + 3) (h + 1) r (fits_a (t + 2)) refl (has_front code (h + 1) element filled has_both),
+            filled_stands code b types raised t h r s (omega (arith, length-append element filled)) (has_back code (h + 1) element filled has_both),
+            first_index,
+            copy_by code b types raised (is_in (operands.Slot t) d) 3 (operands.Slot t) d (s + 1) q
+                (omega (arith, cut m q begun elements (cut p q count (begun ++ elements) end), length-append both ended)) has_copy,
+          ),
+        )
+    expression_stands types raised (New OnHeap i ty) d t p q numbered end has = made_stands types raised i HEAP d t p q numbered end has
+    expression_stands types raised (New AsUnique i ty) d t p q numbered end has = made_stands types raised i UNIQUE d t p q numbered end has
+    expression_stands types raised (New (ByHandle h) i ty) d t p q numbered end has = absurd numbered
+    expression_stands types raised a d t p q numbered end has = absurd numbered
 
-    place_stands : (x : Dereference) (t p q : ℕ) → FitsCell b types x → p + length (place_code (starts_of types) x p t) ≡ q → HasAt code p (place_code (starts_of types) x p t)
+    place_stands : (types : Types) (raised : BlocksStand code types.raises) → (x : Dereference) (t p q : ℕ) → FitsCell b types x → p + length (place_code (starts_of types) x p t) ≡ q → HasAt code p (place_code (starts_of types) x p t)
         → PlaceAt code b types x (place_operand (starts_of types) x t) (place_offset (starts_of types) x) t p q
-    place_stands (Target k a ty) t p q (thin, single, numbered) end has =
+    place_stands types raised (Target k a ty) t p q (thin, single, numbered) end has =
         let slot = value_slot (starts_of types) a t in
         let o = value_operand (starts_of types) a t in
         let inner = expression_code (starts_of types) a p slot t in
@@ -335,12 +384,12 @@ module _ (code : List Instruction) (b : Numbering) (types : Types) (raised : Blo
         let m = p + length front in
         let check = check_code (starts_of types) null_exception o in (
           m,
-          operand_by (operand_of (starts_of types) a) _ inner slot p m refl (has_front code p front check has) (λ e h. expression_stands a slot t p m numbered e h),
+          operand_by code b types raised (operand_of (starts_of types) a) _ inner slot p m refl (has_front code p front check has) (λ e h. expression_stands types raised a slot t p m numbered e h),
           thin,
-          check_stands null_exception o m q (omega arith) (omega arith) (cut p q front check end) (has_back code p front check has),
+          check_stands code b types raised null_exception o m q (omega arith) (omega arith) (cut p q front check end) (has_back code p front check has),
           refl,
         )
-    place_stands (Member k a s f ty) t p q (thin, single, there, numbered) end has =
+    place_stands types raised (Member k a s f ty) t p q (thin, single, there, numbered) end has =
         let slot = value_slot (starts_of types) a t in
         let o = value_operand (starts_of types) a t in
         let inner = expression_code (starts_of types) a p slot t in
@@ -348,71 +397,71 @@ module _ (code : List Instruction) (b : Numbering) (types : Types) (raised : Blo
         let m = p + length front in
         let check = check_code (starts_of types) null_exception o in (
           m,
-          operand_by (operand_of (starts_of types) a) _ inner slot p m refl (has_front code p front check has) (λ e h. expression_stands a slot t p m numbered e h),
+          operand_by code b types raised (operand_of (starts_of types) a) _ inner slot p m refl (has_front code p front check has) (λ e h. expression_stands types raised a slot t p m numbered e h),
           thin,
-          check_stands null_exception o m q (omega arith) (omega arith) (cut p q front check end) (has_back code p front check has),
+          check_stands code b types raised null_exception o m q (omega arith) (omega arith) (cut p q front check end) (has_back code p front check has),
           there,
           refl,
         )
-    place_stands x t p q numbered end has = absurd numbered
+    place_stands types raised x t p q numbered end has = absurd numbered
 
-    made_stands : (i : Initial) (handle d t p q : ℕ) → FitsObject b types i → p + length (made_code (starts_of types) i handle p d t) ≡ q → HasAt code p (made_code (starts_of types) i handle p d t) → MadeAt code b types i handle d t p q
-    made_stands (Plain kind a) handle d t p q (single, kind_is, numbered) end has =
+    made_stands : (types : Types) (raised : BlocksStand code types.raises) → (i : Initial) (handle d t p q : ℕ) → FitsObject b types i → p + length (made_code (starts_of types) i handle p d t) ≡ q → HasAt code p (made_code (starts_of types) i handle p d t) → MadeAt code b types i handle d t p q
+    made_stands types raised (Plain kind a) handle d t p q (single, kind_is, numbered) end has =
         let front = expression_code (starts_of types) a p t t in
         let back = object_code handle 1 d t in
         let m = p + length front in (
           m,
-          expression_stands a t t p m numbered refl (has_front code p front back has),
+          expression_stands types raised a t t p m numbered refl (has_front code p front back has),
           ap words_of_kind (sym kind_is),
-          subst (λ n. ObjectAt code b types handle 1 n t d m q) (sym single) (object_stands handle 1 d t m q (omega arith) (omega arith) (cut p q front back end) (has_back code p front back has)),
+          subst (λ n. ObjectAt code b types handle 1 n t d m q) (sym single) (object_stands code b types raised handle 1 d t m q (omega arith) (omega arith) (cut p q front back end) (has_back code p front back has)),
         )
-    made_stands (Fields cs) handle d t p q (single, some, few, numbered) end has =
+    made_stands types raised (Fields cs) handle d t p q (single, some, few, numbered) end has =
         let front = arguments_code (starts_of types) cs p t in
         let back = object_code handle (argument_count cs) d t in
         let m = p + length front in (
           m,
-          arguments_stand cs t p m numbered refl (has_front code p front back has),
-          subst (λ n. ObjectAt code b types handle (argument_count cs) n t d m q) single (object_stands handle (argument_count cs) d t m q some few (cut p q front back end) (has_back code p front back has)),
+          arguments_stand types raised cs t p m numbered refl (has_front code p front back has),
+          subst (λ n. ObjectAt code b types handle (argument_count cs) n t d m q) single (object_stands code b types raised handle (argument_count cs) d t m q some few (cut p q front back end) (has_back code p front back has)),
         )
-    made_stands i handle d t p q numbered end has = absurd numbered
+    made_stands types raised i handle d t p q numbered end has = absurd numbered
 
-    initial_stands : (c : Converted) (d t p q : ℕ) → FitsConverted b types c → p + length (initial_code (starts_of types) c p d t) ≡ q → HasAt code p (initial_code (starts_of types) c p d t) → InitialAt code b types c d t p q
-    initial_stands (Convert from to a) d t p q (kind, wide, numbered) end has =
-        initial_by (converts_there from to) from to a d t p q kind wide refl (λ slot r e h. expression_stands a slot t p r numbered e h) end has
+    initial_stands : (types : Types) (raised : BlocksStand code types.raises) → (c : Converted) (d t p q : ℕ) → FitsConverted b types c → p + length (initial_code (starts_of types) c p d t) ≡ q → HasAt code p (initial_code (starts_of types) c p d t) → InitialAt code b types c d t p q
+    initial_stands types raised (Convert from to a) d t p q (kind, wide, numbered) end has =
+        initial_by code b types raised (converts_there from to) from to a d t p q kind wide refl (λ slot r e h. expression_stands types raised a slot t p r numbered e h) end has
 
-    converted_stands : (c : Converted) (t p q : ℕ) → FitsConverted b types c → p + length (converted_code (starts_of types) c p t) ≡ q → HasAt code p (converted_code (starts_of types) c p t) → ConvertedAt code b types c t p q
-    converted_stands (Convert from to a) t p q (kind, wide, numbered) end has =
+    converted_stands : (types : Types) (raised : BlocksStand code types.raises) → (c : Converted) (t p q : ℕ) → FitsConverted b types c → p + length (converted_code (starts_of types) c p t) ≡ q → HasAt code p (converted_code (starts_of types) c p t) → ConvertedAt code b types c t p q
+    converted_stands types raised (Convert from to a) t p q (kind, wide, numbered) end has =
         let front = expression_code (starts_of types) a p t t in
         let back = conversion_code (starts_of types) to (operands.Slot t) (p + length front) in
-        (p + length front, expression_stands a t t p (p + length front) numbered refl (has_front code p front back has), conversion_stands from to (operands.Slot t) (p + length front) q wide (cut p q front back end) (has_back code p front back has))
+        (p + length front, expression_stands types raised a t t p (p + length front) numbered refl (has_front code p front back has), conversion_stands code b types raised from to (operands.Slot t) (p + length front) q wide (cut p q front back end) (has_back code p front back has))
 
-    converted_operand_stands : (c : Converted) (t p q : ℕ) → FitsConverted b types c → p + length (converted_operand_code (starts_of types) c p t) ≡ q → HasAt code p (converted_operand_code (starts_of types) c p t) → ConvertedOperandAt code b types c t (converted_operand (starts_of types) c t) p q
-    converted_operand_stands (Convert from to a) t p q (kind, wide, numbered) end has =
+    converted_operand_stands : (types : Types) (raised : BlocksStand code types.raises) → (c : Converted) (t p q : ℕ) → FitsConverted b types c → p + length (converted_operand_code (starts_of types) c p t) ≡ q → HasAt code p (converted_operand_code (starts_of types) c p t) → ConvertedOperandAt code b types c t (converted_operand (starts_of types) c t) p q
+    converted_operand_stands types raised (Convert from to a) t p q (kind, wide, numbered) end has =
         let slot = source_slot (starts_of types) (Convert from to a) t in
         let known = source_of (starts_of types) (Convert from to a) in
         let inner = expression_code (starts_of types) a p slot t in
         let front = code_unless known inner in
         let m = p + length front in
         let back = conversion_code (starts_of types) to (converted_operand (starts_of types) (Convert from to a) t) m in
-        (m, operand_by known _ inner slot p m refl (has_front code p front back has) (λ e h. expression_stands a slot t p m numbered e h), conversion_stands from to (converted_operand (starts_of types) (Convert from to a) t) m q wide (cut p q front back end) (has_back code p front back has))
+        (m, operand_by code b types raised known _ inner slot p m refl (has_front code p front back has) (λ e h. expression_stands types raised a slot t p m numbered e h), conversion_stands code b types raised from to (converted_operand (starts_of types) (Convert from to a) t) m q wide (cut p q front back end) (has_back code p front back has))
 
-    printed_stands : (cs : Arguments) (o : Operand) (t p q : ℕ) → argument_count cs ≡ 1 → FitArguments b types cs → p + length (printed_code (starts_of types) cs p t) ≡ q → HasAt code p (printed_code (starts_of types) cs p t) → PrintedAt code b types cs t (printed_operand (starts_of types) cs o t) p q
-    printed_stands NoArguments o t p q single numbered end has = absurd (omega (arith, single))
-    printed_stands (MoreArguments c NoArguments) o t p q single (numbered, rest) end has =
+    printed_stands : (types : Types) (raised : BlocksStand code types.raises) → (cs : Arguments) (o : Operand) (t p q : ℕ) → argument_count cs ≡ 1 → FitArguments b types cs → p + length (printed_code (starts_of types) cs p t) ≡ q → HasAt code p (printed_code (starts_of types) cs p t) → PrintedAt code b types cs t (printed_operand (starts_of types) cs o t) p q
+    printed_stands types raised NoArguments o t p q single numbered end has = absurd (omega (arith, single))
+    printed_stands types raised (MoreArguments c NoArguments) o t p q single (numbered, rest) end has =
         let front = converted_operand_code (starts_of types) c p t in
-        converted_operand_stands c t p q numbered (omega (arith, cut p q front [] end)) (has_front code p front [] has)
-    printed_stands (MoreArguments c (MoreArguments c' cs)) o t p q single numbered end has = absurd (omega (arith, single))
+        converted_operand_stands types raised c t p q numbered (omega (arith, cut p q front [] end)) (has_front code p front [] has)
+    printed_stands types raised (MoreArguments c (MoreArguments c' cs)) o t p q single numbered end has = absurd (omega (arith, single))
 
-    arguments_stand : (cs : Arguments) (t p q : ℕ) → FitArguments b types cs → p + length (arguments_code (starts_of types) cs p t) ≡ q → HasAt code p (arguments_code (starts_of types) cs p t) → ArgumentsAt code b types cs t p q
-    arguments_stand NoArguments t p q numbered end has = omega (arith, end)
-    arguments_stand (MoreArguments c cs) t p q (numbered, rest) end has =
+    arguments_stand : (types : Types) (raised : BlocksStand code types.raises) → (cs : Arguments) (t p q : ℕ) → FitArguments b types cs → p + length (arguments_code (starts_of types) cs p t) ≡ q → HasAt code p (arguments_code (starts_of types) cs p t) → ArgumentsAt code b types cs t p q
+    arguments_stand types raised NoArguments t p q numbered end has = omega (arith, end)
+    arguments_stand types raised (MoreArguments c cs) t p q (numbered, rest) end has =
         let front = converted_code (starts_of types) c p t in
         let back = arguments_code (starts_of types) cs (p + length front) (t + passed_words c) in
-        (p + length front, converted_stands c t p (p + length front) numbered refl (has_front code p front back has), arguments_stand cs (t + passed_words c) (p + length front) q rest (cut p q front back end) (has_back code p front back has))
+        (p + length front, converted_stands types raised c t p (p + length front) numbered refl (has_front code p front back has), arguments_stand types raised cs (t + passed_words c) (p + length front) q rest (cut p q front back end) (has_back code p front back has))
 
-    operations_stand : (os : Operations) (l : Operand) (d t p q left : ℕ) (ty : Ty) → FitOperations b types left ty os → IsLeft os l d t → p + length (operations_code (starts_of types) os p l d t) ≡ q → HasAt code p (operations_code (starts_of types) os p l d t) → OperationsAt code b types os l d t p q
-    operations_stand NoOperations l d t p q words ty numbered left end has = (left, omega (arith, end))
-    operations_stand (ThenCompute o a os) l d t p q words ty (numbered, rest) left end has =
+    operations_stand : (types : Types) (raised : BlocksStand code types.raises) → (os : Operations) (l : Operand) (d t p q left : ℕ) (ty : Ty) → FitOperations b types left ty os → IsLeft code b types raised os l d t → p + length (operations_code (starts_of types) os p l d t) ≡ q → HasAt code p (operations_code (starts_of types) os p l d t) → OperationsAt code b types os l d t p q
+    operations_stand types raised NoOperations l d t p q words ty numbered left end has = (left, omega (arith, end))
+    operations_stand types raised (ThenCompute o a os) l d t p q words ty (numbered, rest) left end has =
         let inner = expression_code (starts_of types) a p (value_slot (starts_of types) a (suc t)) (suc t) in
         let operand = code_unless (operand_of (starts_of types) a) inner in
         let r = value_operand (starts_of types) a (suc t) in
@@ -425,11 +474,11 @@ module _ (code : List Instruction) (b : Numbering) (types : Types) (raised : Blo
           r,
           m,
           s,
-          right_by (operand_of (starts_of types) a) (l ≡ operands.Slot t) _ inner (value_slot (starts_of types) a (suc t)) p m left refl (has_front code p operand operator front_has) (λ e h. expression_stands a (value_slot (starts_of types) a (suc t)) (suc t) p m numbered e h),
-          operator_stands o l r next m s (cut p s operand operator refl) (has_back code p operand operator front_has),
-          operations_stand os (operands.Slot next) d t s q (words_of ty) ty rest (next_left os d t) (cut p q (operand ++ operator) back end) (has_back code p (operand ++ operator) back has),
+          right_by code b types raised (operand_of (starts_of types) a) (l ≡ operands.Slot t) _ inner (value_slot (starts_of types) a (suc t)) p m left refl (has_front code p operand operator front_has) (λ e h. expression_stands types raised a (value_slot (starts_of types) a (suc t)) (suc t) p m numbered e h),
+          operator_stands code b types raised o l r next m s (cut p s operand operator refl) (has_back code p operand operator front_has),
+          operations_stand types raised os (operands.Slot next) d t s q (words_of ty) ty rest (next_left code b types raised os d t) (cut p q (operand ++ operator) back end) (has_back code p (operand ++ operator) back has),
         )
-    operations_stand (ThenTest o a os) l d t p q words ty (numbered, rest) left end has =
+    operations_stand types raised (ThenTest o a os) l d t p q words ty (numbered, rest) left end has =
         let operand = expression_code (starts_of types) a (p + 1) t t in
         let next = next_slot os d t in
         let front = test_code o operand p next t in
@@ -441,11 +490,11 @@ module _ (code : List Instruction) (b : Numbering) (types : Types) (raised : Blo
           p + length front,
           left,
           jump,
-          expression_stands a t t (p + 1) (p + 1 + length operand) numbered refl (has_front code (p + 1) operand (truth_code t next) inner),
+          expression_stands types raised a t t (p + 1) (p + 1 + length operand) numbered refl (has_front code (p + 1) operand (truth_code t next) inner),
           (first, second, omega (arith, long)),
-          operations_stand os (operands.Slot next) d t (p + length front) q (words_of ty) ty rest (next_left os d t) (cut p q front back end) (has_back code p front back has),
+          operations_stand types raised os (operands.Slot next) d t (p + length front) q (words_of ty) ty rest (next_left code b types raised os d t) (cut p q front back end) (has_back code p front back has),
         )
-    operations_stand (ThenPointer o a os) l d t p q words ty (wide, numbered, rest) left end has =
+    operations_stand types raised (ThenPointer o a os) l d t p q words ty (wide, numbered, rest) left end has =
         let inner = expression_code (starts_of types) a p (value_slot (starts_of types) a (behind_left o t)) (behind_left o t) in
         let next = next_slot os d t in
         let r = value_operand (starts_of types) a (behind_left o t) in
@@ -459,11 +508,11 @@ module _ (code : List Instruction) (b : Numbering) (types : Types) (raised : Blo
           m,
           s,
           left,
-          operand_by (operand_of (starts_of types) a) _ inner (value_slot (starts_of types) a (behind_left o t)) p m refl (has_front code p operand _ front_has) (λ e h. expression_stands a (value_slot (starts_of types) a (behind_left o t)) (behind_left o t) p m numbered e h),
-          pointer_stands o l r t next m s left (cut p s operand (pointer_instructions o l r next) refl) (has_back code p operand _ front_has),
-          operations_stand os (operands.Slot next) d t s q (words_of ty) ty rest (next_left os d t) (cut p q both back end) (has_back code p both back has),
+          operand_by code b types raised (operand_of (starts_of types) a) _ inner (value_slot (starts_of types) a (behind_left o t)) p m refl (has_front code p operand _ front_has) (λ e h. expression_stands types raised a (value_slot (starts_of types) a (behind_left o t)) (behind_left o t) p m numbered e h),
+          pointer_stands code b types raised o l r t next m s left (cut p s operand (pointer_instructions o l r next) refl) (has_back code p operand _ front_has),
+          operations_stand types raised os (operands.Slot next) d t s q (words_of ty) ty rest (next_left code b types raised os d t) (cut p q both back end) (has_back code p both back has),
         )
-    operations_stand (ThenPointerPeek n o a os) l d t p q words ty (wide, numbered, rest) left end has =
+    operations_stand types raised (ThenPointerPeek n o a os) l d t p q words ty (wide, numbered, rest) left end has =
         let inner = expression_code (starts_of types) a p (value_slot (starts_of types) a (behind_left o t)) (behind_left o t) in
         let next = next_slot os d t in
         let r = value_operand (starts_of types) a (behind_left o t) in
@@ -477,24 +526,25 @@ module _ (code : List Instruction) (b : Numbering) (types : Types) (raised : Blo
           m,
           s,
           left,
-          operand_by (operand_of (starts_of types) a) _ inner (value_slot (starts_of types) a (behind_left o t)) p m refl (has_front code p operand _ front_has) (λ e h. expression_stands a (value_slot (starts_of types) a (behind_left o t)) (behind_left o t) p m numbered e h),
-          pointer_stands o l r t next m s left (cut p s operand (pointer_instructions o l r next) refl) (has_back code p operand _ front_has),
-          operations_stand os (operands.Slot next) d t s q (words_of ty) ty rest (next_left os d t) (cut p q both back end) (has_back code p both back has),
+          operand_by code b types raised (operand_of (starts_of types) a) _ inner (value_slot (starts_of types) a (behind_left o t)) p m refl (has_front code p operand _ front_has) (λ e h. expression_stands types raised a (value_slot (starts_of types) a (behind_left o t)) (behind_left o t) p m numbered e h),
+          pointer_stands code b types raised o l r t next m s left (cut p s operand (pointer_instructions o l r next) refl) (has_back code p operand _ front_has),
+          operations_stand types raised os (operands.Slot next) d t s q (words_of ty) ty rest (next_left code b types raised os d t) (cut p q both back end) (has_back code p both back has),
         )
 
+module _ (code : List Instruction) (b : Numbering) (types : Types) (raised : BlocksStand code types.raises) where
   assignment_stands : (l : Lvalue) (c : Converted) (t p q : ℕ) → FitsStored b types l (passed_kind c) → FitsConverted b types c → p + length (assignment_code (starts_of types) l c p t) ≡ q → HasAt code p (assignment_code (starts_of types) l c p t) → AssignmentAt code b types l c (assigned_operand (starts_of types) l c t) t p q
-  assignment_stands (Local w n) c t p q (few, room) numbered end has = (refl, room, initial_stands c (slot_of (starts_of types) n) t p q numbered end has)
+  assignment_stands (Local w n) c t p q (few, room) numbered end has = (refl, room, initial_stands code b types raised c (slot_of (starts_of types) n) t p q numbered end has)
   assignment_stands (Global n) c t p q (few, single) numbered end has =
       let front = converted_operand_code (starts_of types) c p t in
       let (here, none) = has_back code p front _ has in
-      (p + length front, converted_operand_stands c t p (p + length front) numbered refl (has_front code p front _ has), few, single, here, cut p q front _ end)
+      (p + length front, converted_operand_stands code b types raised c t p (p + length front) numbered refl (has_front code p front _ has), few, single, here, cut p q front _ end)
 
   discarded_stands : (a : Expression) (t p q : ℕ) → Fits b types a → p + length (discarded_code (starts_of types) a p t) ≡ q → HasAt code p (discarded_code (starts_of types) a p t) → DiscardedAt code b types a t p q
   discarded_stands (Call callees.Putchar cs ty) t p q (s, signature, many, passed, result, numbered) end has =
       let front = printed_code (starts_of types) cs p t in
       let (write, none) = has_back code p front _ has in
       let single : argument_count cs ≡ 1 = many ∙ ap (λ (x : Signature). length x.parameters) signature in
-      (printed_operand (starts_of types) cs (operands.Slot t) t, p + length front, printed_stands cs (operands.Slot t) t p (p + length front) single numbered refl (has_front code p front _ has), write, cut p q front _ end)
+      (printed_operand (starts_of types) cs (operands.Slot t) t, p + length front, printed_stands code b types raised cs (operands.Slot t) t p (p + length front) single numbered refl (has_front code p front _ has), write, cut p q front _ end)
   discarded_stands (Assign l c ty) t p q (few, numbered) end has = (assigned_operand (starts_of types) l c t, assignment_stands l c t p q few numbered end has)
   discarded_stands (Store x c ty) t p q (place, single, numbered) end has =
       let a = place_operand (starts_of types) x t in
@@ -518,16 +568,16 @@ module _ (code : List Instruction) (b : Numbering) (types : Types) (raised : Blo
           r,
           s,
           u,
-          place_stands x t p r place refl (has_front code p front bring has_address),
-          address_stands a bytes t r s (cut p s front bring refl) (has_back code p front bring has_address),
-          converted_operand_stands c (t + 1) s u numbered refl (has_front code s value write has_value),
+          place_stands code b types raised x t p r place refl (has_front code p front bring has_address),
+          address_stands code b types raised a bytes t r s (cut p s front bring refl) (has_back code p front bring has_address),
+          converted_operand_stands code b types raised c (t + 1) s u numbered refl (has_front code s value write has_value),
           single,
           here,
           cut s q value write (cut p q address (value ++ write) end),
         ),
       )
   discarded_stands a t p q numbered end has =
-      (operand_or (operand_of (starts_of types) a) t, operand_by (operand_of (starts_of types) a) _ (expression_code (starts_of types) a p t t) t p q end has (λ e h. expression_stands a t t p q numbered e h))
+      (operand_or (operand_of (starts_of types) a) t, operand_by code b types raised (operand_of (starts_of types) a) _ (expression_code (starts_of types) a p t t) t p q end has (λ e h. expression_stands code b types raised a t t p q numbered e h))
 
   -- two operands that are compared
   pair_stands : (a c : Expression) (t p q : ℕ) → Fits b types a → Fits b types c → p + length (pair_code (starts_of types) a c p t) ≡ q → HasAt code p (pair_code (starts_of types) a c p t)
@@ -538,9 +588,9 @@ module _ (code : List Instruction) (b : Numbering) (types : Types) (raised : Blo
       let m = p + length front in
       let back = second_code (starts_of types) c m t in (
         m,
-        operand_by (left_with (operand_of (starts_of types) c) (operand_of (starts_of types) a)) _ (expression_code (starts_of types) a p slot t) slot p m refl (has_front code p front back has) (λ e h. expression_stands a slot t p m numbered_a e h),
-        right_by (operand_of (starts_of types) c) (first_operand (starts_of types) a c t ≡ operands.Slot t) _ (expression_code (starts_of types) c m (value_slot (starts_of types) c (suc t)) (suc t)) (value_slot (starts_of types) c (suc t)) m q (left_first (operand_of (starts_of types) c) a t)
-            (cut p q front back end) (has_back code p front back has) (λ e h. expression_stands c (value_slot (starts_of types) c (suc t)) (suc t) m q numbered_c e h),
+        operand_by code b types raised (left_with (operand_of (starts_of types) c) (operand_of (starts_of types) a)) _ (expression_code (starts_of types) a p slot t) slot p m refl (has_front code p front back has) (λ e h. expression_stands code b types raised a slot t p m numbered_a e h),
+        right_by code b types raised (operand_of (starts_of types) c) (first_operand (starts_of types) a c t ≡ operands.Slot t) _ (expression_code (starts_of types) c m (value_slot (starts_of types) c (suc t)) (suc t)) (value_slot (starts_of types) c (suc t)) m q (left_first code b types raised (operand_of (starts_of types) c) a t)
+            (cut p q front back end) (has_back code p front back has) (λ e h. expression_stands code b types raised c (value_slot (starts_of types) c (suc t)) (suc t) m q numbered_c e h),
       )
 
   compared_numbered : (a : Expression) → Fits b types a → Fits b types (compared_of a).left × Fits b types (compared_of a).right
@@ -602,8 +652,8 @@ module _ (code : List Instruction) (b : Numbering) (types : Types) (raised : Blo
         m,
         r,
         u,
-        returned_by known _ inner t p m refl (has_front code p front conversion has_both) (λ e h. expression_stands a t t p m fitting e h),
-        conversion_stands from to (operands.Slot s) m r wide (cut p r front conversion refl) (has_back code p front conversion has_both),
+        returned_by code b types raised known _ inner t p m refl (has_front code p front conversion has_both) (λ e h. expression_stands code b types raised a t t p m fitting e h),
+        conversion_stands code b types raised from to (operands.Slot s) m r wide (cut p r front conversion refl) (has_back code p front conversion has_both),
         leave_stands exits.first_record t r u (cut p u both leave refl) (has_back code p both leave has_left),
         here,
         words,
@@ -612,7 +662,7 @@ module _ (code : List Instruction) (b : Numbering) (types : Types) (raised : Blo
 
   declaration_stands : (n : ℕ) (v : Option Converted) (t p q : ℕ) → n < b.locals → FitsInitial b types n v → p + length (declaration_code (starts_of types) n v p t) ≡ q → HasAt code p (declaration_code (starts_of types) n v p t) → DeclarationAt code b types n v t p q
   declaration_stands n None t p q few numbered end has = (few, omega (arith, end))
-  declaration_stands n (Some c) t p q few (room, numbered) end has = (few, room, initial_stands c (slot_of (starts_of types) n) t p q numbered end has)
+  declaration_stands n (Some c) t p q few (room, numbered) end has = (few, room, initial_stands code b types raised c (slot_of (starts_of types) n) t p q numbered end has)
 
   -- ---- swaps
 
@@ -629,7 +679,7 @@ module _ (code : List Instruction) (b : Numbering) (types : Types) (raised : Blo
       let bytes = place_offset (starts_of types) x in
       let back = address_code o bytes t in
       let r = p + length front in
-      (o, bytes, r, place_stands x t p r numbered refl (has_front code p front back has), address_stands o bytes t r q (cut p q front back end) (has_back code p front back has))
+      (o, bytes, r, place_stands code b types raised x t p r numbered refl (has_front code p front back has), address_stands code b types raised o bytes t r q (cut p q front back end) (has_back code p front back has))
 
   read_stands : (a : Side) (s d p : ℕ) → At code p (read_side (starts_of types) a s d) → ReadAt code b types a s d p
   read_stands (VariableSide (Local w n) ty) s d p here = here
@@ -674,7 +724,7 @@ module _ (code : List Instruction) (b : Numbering) (types : Types) (raised : Blo
   thrown_stands None t p q numbered end has = (refl, omega (arith, end))
   thrown_stands (Some a) t p q numbered end has =
       let slot = value_slot (starts_of types) a t in
-      operand_by (operand_of (starts_of types) a) _ (expression_code (starts_of types) a p slot t) slot p q end has (λ e h. expression_stands a slot t p q numbered e h)
+      operand_by code b types raised (operand_of (starts_of types) a) _ (expression_code (starts_of types) a p slot t) slot p q end has (λ e h. expression_stands code b types raised a slot t p q numbered e h)
 
   caught_stands : (x : Option ℕ) (t p q : ℕ) → FitsCaught b types x → p + length (caught_code (starts_of types) x t) ≡ q → HasAt code p (caught_code (starts_of types) x t) → CaughtAt code b types x t p q
   caught_stands None t p q numbered end has = omega (arith, end)

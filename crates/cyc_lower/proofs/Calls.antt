@@ -38,7 +38,7 @@ use Rattle.cyc_lower.proofs.Values.{of_kind, int_is}
 use Rattle.cyc_objects.specs.Tables.{Variable, with_row, with_handle}
 use Rattle.cyc_objects.specs.Words.{Is}
 use Rattle.cyc_objects.proofs.Values.{Grows-row, Grows-handle, Is-grows}
-use Rattle.cyc_lower.proofs.Relation.{behind_records, in_place, IsIn, words_held, Holds, HoldsFrom, held, callers, homes, Shared, DataAt, DataIn, SharedAt, prints_only, gives_byte, StatementStack, LandsStack, PrintsStack, nowhere, behind_statement, Related, Matches, code_of, types_in, types_at, starts_at, parameters_in, parameters_at, bounds_in, bounds_at, called_at, returned_at, base_of, floor, HandlersStand, top}
+use Rattle.cyc_lower.proofs.Relation.{AreCounted, IsIn, words_held, Holds, HoldsFrom, held, callers, homes, Shared, DataAt, DataIn, SharedAt, prints_only, gives_byte, StatementStack, LandsStack, PrintsStack, nowhere, behind_statement, Related, Matches, code_of, types_in, types_at, starts_at, parameters_in, parameters_at, bounds_in, bounds_at, called_at, returned_at, base_of, top, behind_records, in_place, floor, HandlersStand}
 use Rattle.cyc_lower.proofs.Data.{words-reverse, Holds-rest, in_order, arguments_copied, data_declared, data_called, data_grows, HoldsFrom-grows, calls_counted}
 use Rattle.cyc_lower.proofs.Accesses.{IsWell, is_fitting, is_declared, home_there}
 use Rattle.cyc_lower.proofs.Matched.{IsMatched, above, below, matching, silently, by_one, by_two_known, shared_within, shared_way, steps_to, place_in, known}
@@ -65,6 +65,7 @@ module _ (source : Program) (pages calls : ℕ) where
         globals = shared.globals;
         variables = shared.variables;
         fits = shared.fits;
+        counters = shared.counters;
       } in
       by_one source pages calls refl shared here
       (λ choice. landed_word source pages calls byte word d k e next read q (ap (λ (l : List ℕ). unwrap_or (slice_get l 0) (2 ^ 32 - 1)) shared.same_input) shared_read facts holds end lands)
@@ -84,6 +85,7 @@ module _ (source : Program) (pages calls : ℕ) where
     globals = shared.globals;
     variables = shared.variables;
     fits = shared.fits;
+    counters = shared.counters;
   }
 
   -- the byte is printed, and then its value is dropped, or comes to a slot
@@ -133,7 +135,7 @@ module _ (source : Program) (pages calls : ℕ) where
   parameter_in None first rest t own = absurd (omega (arith, ap length own, length-append first (t ∷ rest)))
   parameter_in (Some h) first rest t own = (
     omega (arith, slot_types-many h, ap length own, length-append first (t ∷ rest)),
-    ap (λ (ts : List Ty). slot_of (starts_of (record { locals = ts ++ h.locals; structs = source.structs; raises = raises_of source.structs h })) (length first)) own ∙ slot-parameter source.structs (raises_of source.structs h) first rest t h.locals,
+    ap (λ (ts : List Ty). slot_of (starts_of (record { locals = ts ++ h.locals; structs = source.structs; raises = raises_of source.structs h; counters = [] })) (length first)) own ∙ slot-parameter source.structs (raises_of source.structs h) first rest t h.locals,
     ap (λ (ts : List Ty). words_in (ts ++ h.locals) (length first)) own ∙ words-parameter first rest t h.locals,
   )
 
@@ -214,7 +216,7 @@ module _ (source : Program) (pages calls : ℕ) where
   -- a function has been called, with its arguments in the first slots
   pub entered : FunctionsStand → (n : ℕ) (h : Function) (arguments : List Kinded) (k : List Entry) (w : World) (slots globals : Words) (handlers : List Handler) (frames : List Frame) (store : StoreState) (output input : List ℕ)
       → slice_get source.functions n ≡ Some h
-      → (shared : Shared pages calls w (no_locals.home ∷ homes k) output input store (length frames))
+      → (shared : Shared pages calls w (no_locals.home ∷ homes k) (AreCounted no_locals.counters k) output input store (length frames))
       → DataAt source shared.tables n w.objects (λ (number : ℕ). None) (callers k) slots globals frames × HandlersStand source n slots handlers frames k → floor source n k ≡ base_of source n
       → HoldsFrom shared.tables slots 0 arguments → ((m : ℕ) → At (code_of source n) m (instructions.Finish (base_of source n)) → StatementStack source n (outside_loops (base_of source n)) m frames k)
       → Related source pages calls (Entering h arguments) k no_locals w
@@ -304,6 +306,7 @@ module _ (source : Program) (pages calls : ℕ) where
                   globals = shared.globals;
                   variables = (shared.globals, shared.variables);
                   fits = fine;
+                  counters = shared.counters;
                 }) (
                   data_called shared.tables source g n w.objects e (behind_records k) (held k) (callers k) c.active.slots slots c.globals frame c.frames refl refl (Holds-rest shared.tables c.active.slots base before (held k) holds) facts.0,
                   (refl, facts.1),

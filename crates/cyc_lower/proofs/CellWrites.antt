@@ -118,6 +118,7 @@ module _ (source : Program) (pages calls : ℕ) (k : List Entry) (e : Environmen
     variables = shared.variables;
     few_pages = subst (λ (s : StoreState). demand s ≤ pages) (sym saved_there) shared.few_pages;
     fits = shared.fits;
+    counters = shared.counters;
   }
 
   -- and so do the data of all calls, whose objects are variables

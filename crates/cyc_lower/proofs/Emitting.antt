@@ -1,5 +1,5 @@
 -- Code that is made piece by piece: lists of nodes, nodes with lists, and jumps whose targets are written back.
-use Rattle.std.proofs.Common.{◌≡◌, ℕ, zero, suc, ◌+◌, ◌*◌, ◌<◌, ◌≤◌, Bool, true, false, List, [], ◌∷◌, ◌++◌, length, get_or, drop, set, Option, Some, None, refl, sym, ap, ◌∙◌, arith, append_assoc, append-nil}
+use Rattle.std.proofs.Common.{◌≡◌, ℕ, zero, suc, ◌+◌, ◌-◌, ◌*◌, ◌<◌, ◌≤◌, Bool, true, false, List, [], ◌∷◌, ◌++◌, length, get_or, drop, set, Option, Some, None, refl, sym, ap, ◌∙◌, arith, append_assoc, append-nil}
 use Rattle.std.specs.Prelude.{◌==◌, is_some, if◌then◌else◌}
 use Rattle.std.proofs.lemmas.Bool.{eqb-true, eq-eqb}
 use Rattle.std.proofs.lemmas.List.{drop_all, drop_more, length-append, length-drop}
@@ -38,8 +38,9 @@ use Rattle.cyc_plain.specs.declared.instruction.Operand.{Operand}
 use Rattle.cyc_plain.specs.declared.instruction.Operand.TheVariants as operands
 use Rattle.cyc_plain.specs.declared.instruction.Instruction.{Instruction}
 use Rattle.cyc_plain.specs.declared.instruction.Instruction.TheVariants as instructions
-use Rattle.cyc_lower.specs.Slots.{slot_of, Starts}
-use Rattle.cyc_lower.specs.Lowering.{passed_words, all_passed, converts_there, source_of, source_slot, converted_by, moved_by, move_of, operand_of, operand_or, code_unless, left_with, left_of, slot_with, left_slot, low_byte, value_operand, next_slot, converted_operand, printed_operand, operator_code, load_code, compute_code, test_jump, truth_code, test_code, copy_code, expression_code, value_slot, arguments_code, converted_code, converted_operand_code, printed_code, initial_code, assignment_code, assigned_operand, operations_code, discarded_code, binary_operator, behind_left, pointer_instructions, stores_code, object_code, made_code, address_code, addressed_by, place_operand, place_offset, place_code, store_address_code, store_code}
+use Rattle.cyc_lower.specs.Slots.{with_counter, slot_of, Starts}
+use Rattle.cyc_lower.specs.declared.operands.Condition.{Condition}
+use Rattle.cyc_lower.specs.Lowering.{measured_code, asked_code, begun_code, written_code, filled_code, restarted_code, ended_code, elements_code, last_element, failing_jump, passed_words, all_passed, converts_there, source_of, source_slot, converted_by, moved_by, move_of, operand_of, operand_or, code_unless, left_with, left_of, slot_with, left_slot, low_byte, value_operand, next_slot, converted_operand, printed_operand, operator_code, load_code, compute_code, test_jump, truth_code, test_code, copy_code, expression_code, value_slot, arguments_code, converted_code, converted_operand_code, printed_code, initial_code, assignment_code, assigned_operand, operations_code, discarded_code, binary_operator, behind_left, pointer_instructions, stores_code, object_code, made_code, address_code, addressed_by, place_operand, place_offset, place_code, store_address_code, store_code}
 use Rattle.cyc_lower.specs.Emission.{most_locals, value_code, print_code, left_code, takes_operand, HasRoom, operation_code}
 
 behind : (xs ys : List Instruction) → 0 < length ys → 0 < length (xs ++ ys)
@@ -209,6 +210,48 @@ pub stores_end : (old code : List Instruction) (many address first i : ℕ) → 
 stores_end old code many address first i done (zero, count, made) = sym (append-nil code) ∙ made
 stores_end old code many address first i done (suc left, count, made) = absurd (omega (arith, count, done))
 
+-- ---- arrays
+
+pub made_begun : (starts : Starts) (old m1 m2 : List Instruction) (handle behind t : ℕ) → behind ≡ t + 3 → m1 ≡ old ++ measured_code starts (behind - 2) (behind - 1) t → m2 ≡ m1 ++ asked_code handle behind t
+    → m2 ≡ old ++ begun_code starts handle t
+made_begun starts old m1 m2 handle behind t is e1 e2 =
+    let x : behind - 2 ≡ t + 1 = omega (arith, is) in
+    let y : behind - 1 ≡ t + 2 = omega (arith, is) in
+    e2
+    ∙ ap (λ (s : ℕ). m1 ++ asked_code handle s t) is
+    ∙ ap (λ (l : List Instruction). l ++ asked_code handle (t + 3) t) (e1 ∙ ap (λ (n : ℕ). old ++ measured_code starts n (behind - 1) t) x ∙ ap (λ (n : ℕ). old ++ measured_code starts (t + 1) n t) y)
+    ∙ append_assoc old (measured_code starts (t + 1) (t + 2) t) (asked_code handle (t + 3) t)
+
+-- the elements, whose loop begins at place head
+pub made_elements : (starts : Starts) (counters : List ℕ) (a : Expression) (old begun made filled patched new : List Instruction) (x : Instruction) (last : Condition) (head behind d t : ℕ) → behind ≡ t + 3
+    → counters ≡ starts.counters ++ (behind - 1) ∷ [] → head ≡ length old → begun ≡ old ++ x ∷ []
+    → made ≡ begun ++ expression_code (record { locals = starts.locals; structs = starts.structs; raises = starts.raises; counters = counters }) a (length begun) behind behind
+    → filled ≡ made ++ written_code head (behind - 1) behind (behind + 1) t → last ≡ last_element (behind - 2) (behind - 1)
+    → patched ≡ set filled head (failing_jump last (length filled)) → new ≡ patched ++ restarted_code d (behind - 1) t
+    → new ≡ old ++ elements_code (expression_code (with_counter starts (t + 2)) a (length old + 1) (t + 3) (t + 3)) (length old) d t
+made_elements starts counters a old begun made filled patched new i last head behind d t is counters_are here e0 e1 e2 last_is e3 e4 =
+    let x : behind - 2 ≡ t + 1 = omega (arith, is) in
+    let y : behind - 1 ≡ t + 2 = omega (arith, is) in
+    let z : behind + 1 ≡ t + 4 = omega (arith, is) in
+    let first : made ≡ begun ++ expression_code (with_counter starts (t + 2)) a (length begun) (t + 3) (t + 3)
+    = e1
+    ∙ ap (λ (cs : List ℕ). begun ++ expression_code (record { locals = starts.locals; structs = starts.structs; raises = starts.raises; counters = cs }) a (length begun) behind behind) (counters_are ∙ ap (λ (n : ℕ). starts.counters ++ n ∷ []) y)
+    ∙ ap (λ (n : ℕ). begun ++ expression_code (with_counter starts (t + 2)) a (length begun) n n) is in
+    let second : filled ≡ made ++ filled_code (length old) t
+    = e2
+    ∙ ap (λ (n : ℕ). made ++ written_code n (behind - 1) behind (behind + 1) t) here
+    ∙ ap (λ (n : ℕ). made ++ written_code (length old) n behind (behind + 1) t) y
+    ∙ ap (λ (n : ℕ). made ++ written_code (length old) (t + 2) n (behind + 1) t) is
+    ∙ ap (λ (n : ℕ). made ++ written_code (length old) (t + 2) (t + 3) n t) z in
+    let element = λ (p : ℕ). expression_code (with_counter starts (t + 2)) a p (t + 3) (t + 3) in
+    let third : patched ≡ set filled head (failing_jump (last_element (t + 1) (t + 2)) (length filled))
+    = e3
+    ∙ ap (λ (c : Condition). set filled head (failing_jump c (length filled))) (last_is ∙ ap (λ (n : ℕ). last_element n (behind - 1)) x ∙ ap (λ (n : ℕ). last_element (t + 1) n) y) in
+    tested old i (λ (p : ℕ). element p ++ filled_code (length old) t) (λ (q : ℕ). failing_jump (last_element (t + 1) (t + 2)) q) begun filled patched new (ended_code d t) head here (length filled)
+    e0
+    (second ∙ ap (λ (l : List Instruction). l ++ filled_code (length old) t) first ∙ append_assoc begun (element (length begun)) (filled_code (length old) t))
+    refl third (e4 ∙ ap (λ (n : ℕ). patched ++ restarted_code d n t) y)
+
 -- a list of fields has as many as it is long
 fields_counted : (cs : List ConvertedCode) → argument_count (arguments_of cs) ≡ length cs
 fields_counted [] = refl
@@ -274,7 +317,7 @@ module _ (starts : Starts) where
     made_some : (i : Initial) (handle p d t : ℕ) → 0 < length (made_code starts i handle p d t)
     made_some (Plain kind a) handle p d t = behind (expression_code starts a p t t) (object_code handle 1 d t) (omega arith)
     made_some (Fields cs) handle p d t = behind (arguments_code starts cs p t) (object_code handle (argument_count cs) d t) (omega arith)
-    made_some (Array w level n kind a) handle p d t = omega arith
+    made_some (Array w level n kind a) handle p d t = behind (expression_code starts n p t t) _ (omega arith)
 
     initial_some : (c : Converted) (p d t : ℕ) → 0 < length (initial_code starts c p d t)
     initial_some (Convert from to a) p d t =
@@ -441,6 +484,18 @@ module _ (starts : Starts) where
         ap operands.Slot slot ∙ sym (ap (λ (k : Option Operand). operand_or k there) unknown),
         is ∙ ap (λ (n : ℕ). old ++ expression_code starts a (length old) n t) slot ∙ sym (ap (λ (k : Option Operand). old ++ code_unless k (expression_code starts a (length old) there t)) unknown),
       )
+
+  -- a left operand that is taken without code
+  pub made_left_operand : (a : Expression) (os : Operations) (old : List Instruction) (d t : ℕ) → takes_operand starts os ≡ true
+      → (value_operand starts a t ≡ operand_or (left_of starts a os) (left_slot starts a os d t)) × (value_code starts a (length old) t ≡ left_code starts a os (length old) d t)
+  made_left_operand a (ThenCompute o b os) old d t takes = by (operand_of starts b) takes
+    where
+      by : (k : Option Operand) → is_some k ≡ true
+          → (value_operand starts a t ≡ operand_or (left_with k (operand_of starts a)) (slot_with starts k a t))
+          × (value_code starts a (length old) t ≡ code_unless (left_with k (operand_of starts a)) (expression_code starts a (length old) (slot_with starts k a t) t))
+      by (Some k) takes = (refl, refl)
+      by None takes = absurd (let f : false ≡ true = takes in cc)
+  made_left_operand a os old d t takes = absurd (let f : false ≡ true = takes in cc)
 
   pub made_left_alone : (a : Expression) (os : List Operation) (old new : List Instruction) (d t to : ℕ) → takes_operand starts (operations_of os) ≡ false → (length os == 0) ≡ true → to ≡ d
       → new ≡ old ++ expression_code starts a (length old) to t

@@ -26,22 +26,23 @@ use Rattle.cyc_plain.proofs.SlotLaws.{put-same}
 use Rattle.cyc_meaning.specs.Values.{Int, Null, Thin, Operand as Kinded, kind_of, words_of_kind}
 use Rattle.cyc_store.specs.declared.range.TheConstants.{HEAP, UNIQUE}
 use Rattle.cyc_meaning.specs.SourceMachine.{status_in}
+use Rattle.cyc_meaning.specs.State.{status_of, InRegion, World, heap_number, Environment, ConvertTo, Operate, Chain, Apply, Store, Pass, MakePlain, MakeFields, MakeArray, Choose, Test, Follow, LoadFrom, Entry, Needs, NeedsPlace, Discard, Focus, Evaluating, Locating, Given, Running, FollowMember, TakeAddress, StoreTo, Owner, Unique, FreeObject}
+use Rattle.cyc_lower.proofs.Counters.{CountersHold, counters_hold}
+use Rattle.cyc_meaning.specs.Step.{counts, target_of, target_by, object_of, assigned, passes, step, loaded_from}
 use Rattle.cyc_meaning.specs.Allocation.{makes, allocates}
-use Rattle.cyc_meaning.specs.State.{status_of, Owner, InRegion, Unique, World, heap_number, Environment, ConvertTo, Operate, Chain, Apply, Store, Pass, MakePlain, MakeFields, Choose, Test, Follow, LoadFrom, Entry, Needs, NeedsPlace, Discard, Focus, Evaluating, Locating, Given, Running, FollowMember, TakeAddress, StoreTo, FreeObject}
-use Rattle.cyc_meaning.specs.Step.{target_of, target_by, object_of, assigned, passes, step, loaded_from}
 use Rattle.cyc_lower.specs.Slots.{slot_of, field_in}
 use Rattle.cyc_meaning.specs.Places.{locates_member}
 use Rattle.cyc_lower.proofs.PlaceWords.{field_bytes}
 use Rattle.cyc_lower.proofs.Slots.{slot-room}
 use Rattle.cyc_lower.proofs.Widths.{kind_positive, type_words, made_kind, HasRoom, Outside}
 use Rattle.cyc_lower.proofs.Moves.{moved_slots, moves, put_elsewhere, moved_elsewhere, moved_is}
-use Rattle.cyc_lower.specs.Lowering.{failing_comparison, operand_of, value_slot, source_of, source_slot, are_as_wide, converts_there, all_passed, move_of, left_with, slot_with, compared_or, compared_of, lower_program}
+use Rattle.cyc_lower.specs.Lowering.{counter_operand, failing_comparison, operand_of, value_slot, source_of, source_slot, are_as_wide, converts_there, all_passed, move_of, left_with, slot_with, compared_or, compared_of, lower_program}
 use Rattle.cyc_lower.proofs.Weights.{weight, stack_weight, expression_weight, arguments_weight}
 use Rattle.cyc_lower.proofs.Stands.{CopyBy, CopyAt, OperandBy, InitialBy, ExpressionAt, ArgumentsAt, ObjectAt, MadeAt, ValueAt, PairAt, ConditionAt, AssignmentAt, PrintedAt, DiscardedAt, StoredAt}
 use Rattle.cyc_objects.specs.Tables.{Tables}
 use Rattle.cyc_objects.specs.Words.{Is}
-use Rattle.cyc_lower.proofs.Relation.{IsIn, IsHandleOf, types_at, starts_at, given_at, called_at, words_held, height, Holds, held, contents, callers, in_temporary, in_local, drops, leaves, copies, prints_only, gives_byte, DataIn, SharedAt, CallAt, to_slot, to_jump, ValueStack, PlaceStack, ConditionStack, DroppedStack, AheadStack, LandsStack, HandsOnStack, PrintsStack, RightAt, EvaluatingAt, as_operand, into_slot, for_effect, as_right, as_condition, in_operand, ahead, with_left, Related, Matches, code_of, bounds_in, bounds_at, base_of, top, floor}
-use Rattle.cyc_lower.proofs.Data.{IsWord-is, height-least, Holds-same, Holds-above, behind-least, data_written}
+use Rattle.cyc_lower.proofs.Relation.{counters_of, types_on, starts_on, IsIn, types_at, starts_at, given_at, called_at, words_held, height, Holds, held, contents, callers, in_temporary, in_local, drops, leaves, copies, prints_only, gives_byte, DataIn, SharedAt, CallAt, to_slot, to_jump, ValueStack, PlaceStack, ConditionStack, DroppedStack, AheadStack, LandsStack, HandsOnStack, PrintsStack, RightAt, EvaluatingAt, as_operand, into_slot, for_effect, as_right, as_condition, in_operand, ahead, with_left, Related, Matches, code_of, bounds_in, bounds_at, base_of, top, IsHandleOf, floor}
+use Rattle.cyc_lower.proofs.Data.{IsWord-is, height-least, Holds-same, Holds-above, data_above, behind-least, data_written}
 use Rattle.cyc_lower.proofs.Accesses.{IsWell, is_loaded}
 use Rattle.cyc_lower.proofs.Matched.{IsMatched, silently, by_one}
 
@@ -122,7 +123,7 @@ module _ (source : Program) (pages calls : ℕ) where
   -- such as that of a local
   reads_local : (tables : Tables) (a : Expression) (n : ℕ) (t : Ty) (o : Operand) (k : List Entry) (e : Environment) (w : World) (c : Configuration)
       → step source (Running (Evaluating a) k e w) ≡ loaded_from (kind_of t) (e.locals n) k e w → kind_of t ≡ given_at source c.active.function a → expression_weight a ≡ 1
-      → Some (operands.Slot (slot_of (starts_at source c.active.function) n)) ≡ Some o → IsWell (loaded_from (kind_of t) (e.locals n) k e w)
+      → Some (operands.Slot (slot_of (starts_on source c.active.function k) n)) ≡ Some o → IsWell (loaded_from (kind_of t) (e.locals n) k e w)
       → DataIn source tables c.active.slots k e w c → IsRead tables a o k e w c
   reads_local tables a n t o k e w c does same some known well ((low, below, hold, waiting, words), handlers) =
       let found = is_loaded (kind_of t) (e.locals n) k e w well in
@@ -130,14 +131,14 @@ module _ (source : Program) (pages calls : ℕ) where
       record {
         value = v;
         gives = does ∙ found.gives;
-        is = subst (IsIn tables v c.active.slots) (same_Some (operands.Slot (slot_of (starts_at source c.active.function) n)) o known) (hold.holds n found.number v found.there found.has).0;
+        is = subst (IsIn tables v c.active.slots) (same_Some (operands.Slot (slot_of (starts_on source c.active.function k) n)) o known) (hold.holds n found.number v found.there found.has).0;
         same = same;
         some = some;
       }
 
-  pub reads : (tables : Tables) (a : Expression) (o : Operand) (k : List Entry) (e : Environment) (w : World) (c : Configuration) → operand_of (starts_at source c.active.function) a ≡ Some o → IsWell (step source (Running (Evaluating a) k e w))
-      → DataIn source tables c.active.slots k e w c → IsRead tables a o k e w c
-  reads tables (Number n) o k e w c known well facts =
+  pub reads : (tables : Tables) (a : Expression) (o : Operand) (k : List Entry) (e : Environment) (w : World) (c : Configuration) → operand_of (starts_on source c.active.function k) a ≡ Some o → IsWell (step source (Running (Evaluating a) k e w))
+      → CountersHold e.counters c.active.slots (floor source c.active.function k) k → DataIn source tables c.active.slots k e w c → IsRead tables a o k e w c
+  reads tables (Number n) o k e w c known well count facts =
       record {
         value = record { kind = kinds.Int; value = Int n };
         gives = refl;
@@ -145,7 +146,7 @@ module _ (source : Program) (pages calls : ℕ) where
         same = refl;
         some = refl;
       }
-  reads tables typed.NullPointer o k e w c known well facts =
+  reads tables typed.NullPointer o k e w c known well count facts =
       record {
         value = record { kind = kinds.Nullable; value = Null };
         gives = refl;
@@ -153,17 +154,30 @@ module _ (source : Program) (pages calls : ℕ) where
         same = refl;
         some = refl;
       }
-  reads tables (Copy (Local p n) t) o k e w c known well facts = reads_local tables (Copy (Local p n) t) n t o k e w c refl refl refl known well facts
-  reads tables (typed.Move p n t) o k e w c known well facts = reads_local tables (typed.Move p n t) n t o k e w c refl refl refl known well facts
-  reads tables (typed.Peek p n t) o k e w c known well facts = reads_local tables (typed.Peek p n t) n t o k e w c refl refl refl known well facts
-  reads tables a o k e w c known well facts = absurd (none-some o known)
+  reads tables (Copy (Local p n) t) o k e w c known well count facts = reads_local tables (Copy (Local p n) t) n t o k e w c refl refl refl known well facts
+  reads tables (typed.Move p n t) o k e w c known well count facts = reads_local tables (typed.Move p n t) n t o k e w c refl refl refl known well facts
+  reads tables (typed.Peek p n t) o k e w c known well count facts = reads_local tables (typed.Peek p n t) n t o k e w c refl refl refl known well facts
+  reads tables (typed.Counter l) o k e w c known well count facts = read_counter (slice_get (counters_of (floor source c.active.function k) k) l) refl known
+    where
+      read_counter : (slot : Option ℕ) → slice_get (counters_of (floor source c.active.function k) k) l ≡ slot → counter_operand slot ≡ Some o → IsRead tables (typed.Counter l) o k e w c
+      read_counter None none known = absurd (none-some o known)
+      read_counter (Some slot) there known =
+          let (index, counts_now, is) = count l slot there in
+          record {
+            value = record { kind = kinds.Int; value = Int index };
+            gives = ap (λ (i : Option ℕ). counts i k e w) counts_now;
+            is = subst (IsIn tables (record { kind = kinds.Int; value = Int index }) c.active.slots) (same_Some (operands.Slot slot) o known) is;
+            same = refl;
+            some = refl;
+          }
+  reads tables a o k e w c known well count facts = absurd (none-some o known)
 
   -- ---- calls
 
   -- the next argument is evaluated, or the call is made
   pub passes_related : (f : Callee) (before : List Kinded) (cs : Arguments) (k : List Entry) (e : Environment) (w : World) (c : Configuration) (d m q all : ℕ)
       → (shared : SharedAt source pages calls k e w c) → DataIn source shared.tables c.active.slots k e w c
-      → ArgumentsAt (code_of source c.active.function) (bounds_at source c.active.function) (types_at source c.active.function) cs (height (floor source c.active.function k) (before ++ held k)) c.active.next m
+      → ArgumentsAt (code_of source c.active.function) (bounds_at source c.active.function) (types_on source c.active.function k) cs (height (floor source c.active.function k) (before ++ held k)) c.active.next m
       → CallAt source c.active.function f all (top source c.active.function k) d m q
       → words_held before + all_passed cs ≡ all
       → Holds shared.tables c.active.slots (floor source c.active.function k) (before ++ held k) → LandsStack source c.active.function e.locals (called_at source c.active.function f) d q c.frames k
@@ -213,10 +227,10 @@ module _ (source : Program) (pages calls : ℕ) where
   abbrev IsBegun : Expression → List Entry → Environment → World → Configuration → Type 0
   IsBegun a k e w c = IsMatched source pages calls (Running (Evaluating a) k e w) (plain.Running c)
 
-  known_operand : (a : Expression) (o : Operand) (k : List Entry) (e : Environment) (w : World) (c : Configuration) (q : ℕ) → operand_of (starts_at source c.active.function) a ≡ Some o → c.active.next ≡ q → At_step a k e w c
+  known_operand : (a : Expression) (o : Operand) (k : List Entry) (e : Environment) (w : World) (c : Configuration) (q : ℕ) → operand_of (starts_on source c.active.function k) a ≡ Some o → c.active.next ≡ q → At_step a k e w c
       → ValueStack source c.active.function e.locals (given_at source c.active.function a) o q c.frames k → IsBegun a k e w c
   known_operand a o k e w c q known end (well, shared, facts, holds) stack =
-      let found = reads shared.tables a o k e w c known well facts in
+      let found = reads shared.tables a o k e w c known well (counters_hold shared.tables e.counters c.active.slots (floor source c.active.function k) k shared.counters holds) facts in
       silently source pages calls (Running (Evaluating a) k e w) (Running (Given found.value) k e w) (plain.Running c) found.gives (
         shared,
         in_operand o facts found.is holds
@@ -227,17 +241,17 @@ module _ (source : Program) (pages calls : ℕ) where
 
   -- a value that is to be converted: in an operand, or in a temporary where its words change
   pub sources : (t : Tables) (from to : Kind) (a : Expression) (k : List Entry) (e : Environment) (w : World) (c : Configuration) (o : Operand) (m : ℕ)
-      → OperandBy (code_of source c.active.function) (bounds_at source c.active.function) (types_at source c.active.function) (source_of (starts_at source c.active.function) (Convert from to a))
-      (ExpressionAt (code_of source c.active.function) (bounds_at source c.active.function) (types_at source c.active.function) a (source_slot (starts_at source c.active.function) (Convert from to a) (top source c.active.function k)) (top source c.active.function k) c.active.next m)
-      (source_slot (starts_at source c.active.function) (Convert from to a) (top source c.active.function k)) o c.active.next m
+      → OperandBy (code_of source c.active.function) (bounds_at source c.active.function) (types_on source c.active.function k) (source_of (starts_on source c.active.function k) (Convert from to a))
+      (ExpressionAt (code_of source c.active.function) (bounds_at source c.active.function) (types_on source c.active.function k) a (source_slot (starts_on source c.active.function k) (Convert from to a) (top source c.active.function k)) (top source c.active.function k) c.active.next m)
+      (source_slot (starts_on source c.active.function k) (Convert from to a) (top source c.active.function k)) o c.active.next m
       → Holds t c.active.slots (floor source c.active.function k) (held k) → ValueStack source c.active.function e.locals (given_at source c.active.function a) o m c.frames k
       → EvaluatingAt source t a e.locals c.active.function c.active.next c.active.slots c.frames k
   sources t from to a k e w c o m at holds stack = by (are_as_wide from to) at
     where
       by : (same : Bool)
-          → OperandBy (code_of source c.active.function) (bounds_at source c.active.function) (types_at source c.active.function) (if same then operand_of (starts_at source c.active.function) a else None)
-          (ExpressionAt (code_of source c.active.function) (bounds_at source c.active.function) (types_at source c.active.function) a (if same then value_slot (starts_at source c.active.function) a (top source c.active.function k) else top source c.active.function k) (top source c.active.function k) c.active.next m)
-          (if same then value_slot (starts_at source c.active.function) a (top source c.active.function k) else top source c.active.function k) o c.active.next m
+          → OperandBy (code_of source c.active.function) (bounds_at source c.active.function) (types_on source c.active.function k) (if same then operand_of (starts_on source c.active.function k) a else None)
+          (ExpressionAt (code_of source c.active.function) (bounds_at source c.active.function) (types_on source c.active.function k) a (if same then value_slot (starts_on source c.active.function k) a (top source c.active.function k) else top source c.active.function k) (top source c.active.function k) c.active.next m)
+          (if same then value_slot (starts_on source c.active.function k) a (top source c.active.function k) else top source c.active.function k) o c.active.next m
           → EvaluatingAt source t a e.locals c.active.function c.active.next c.active.slots c.frames k
       by true at = as_operand o m at holds stack
       by false (is, at) = into_slot (top source c.active.function k) m at holds (in_temporary (omega arith) (subst (λ x. ValueStack source c.active.function e.locals (given_at source c.active.function a) x m c.frames k) is stack))
@@ -247,15 +261,15 @@ module _ (source : Program) (pages calls : ℕ) where
       → converts_there from to ≡ there → e.locals n ≡ Some object → (shared : SharedAt source pages calls k e w c) → DataIn source shared.tables c.active.slots k e w c
       → Holds shared.tables c.active.slots (floor source c.active.function k) (held k)
       → o ≡ operands.Slot (slot_of (starts_at source c.active.function) n) → HasRoom (types_at source c.active.function) n to
-      → InitialBy (code_of source c.active.function) (bounds_at source c.active.function) (types_at source c.active.function) there from to a (slot_of (starts_at source c.active.function) n) (top source c.active.function k) c.active.next m
+      → InitialBy (code_of source c.active.function) (bounds_at source c.active.function) (types_on source c.active.function k) there from to a (slot_of (starts_on source c.active.function k) n) (top source c.active.function k) c.active.next m
       → HandsOnStack source c.active.function e.locals to o m c.frames k
       → Related source pages calls (Evaluating a) (Needs (ConvertTo from to (target_by a)) ∷ Needs (Store (Thin object 0)) ∷ k) e w c
   assigns_local true n from to a k e w c object o m lands found shared facts holds there room (wide, at_a) hands =
       let g = c.active.function in
-      let inside = slot-room (types_at source g) n (facts.0.2.within n object found).0 in (
+      let inside = slot-room (types_on source g k) n (facts.0.2.within n object found).0 in (
         shared,
         facts,
-        into_slot (slot_of (starts_at source g) n) m at_a holds
+        into_slot (slot_of (starts_on source g k) n) m at_a holds
             (in_local (omega (arith, inside, room, wide)) (lands, (n, object, refl, found, refl, room, subst (λ x. HandsOnStack source g e.locals to x m c.frames k) there hands))),
       )
   assigns_local false n from to a k e w c object o m lands found shared facts holds there room (x, r, s, at_a, at_to, move, end) hands =
@@ -265,7 +279,7 @@ module _ (source : Program) (pages calls : ℕ) where
   -- a place is assigned, and then the value of the assignment is handed on
   assigns : (l : Lvalue) (from to : Kind) (a : Expression) (t : ValueType) (k : List Entry) (e : Environment) (w : World) (c : Configuration) (object : Option ℕ) (o : Operand) (m : ℕ)
       → object_of e l ≡ object → At_step (Assign l (Convert from to a) t) k e w c
-      → AssignmentAt (code_of source c.active.function) (bounds_at source c.active.function) (types_at source c.active.function) l (Convert from to a) o (top source c.active.function k) c.active.next m
+      → AssignmentAt (code_of source c.active.function) (bounds_at source c.active.function) (types_on source c.active.function k) l (Convert from to a) o (top source c.active.function k) c.active.next m
       → HandsOnStack source c.active.function e.locals to o m c.frames k → IsBegun (Assign l (Convert from to a) t) k e w c
   assigns l from to a t k e w c None o m found (well, shared, facts, holds) at hands =
       absurd (well (ap (λ x. status_in (status_of (assigned x (Convert from to a) k e w))) found))
@@ -285,7 +299,7 @@ module _ (source : Program) (pages calls : ℕ) where
   -- a cell that is stored to: its place is found first
   cell_begins : (x : Dereference) (from to : Kind) (a : Expression) (t : ValueType) (k : List Entry) (e : Environment) (w : World) (c : Configuration) (o : Operand) (m : ℕ)
       → At_step (typed.Store x (Convert from to a) t) k e w c
-      → StoredAt (code_of source c.active.function) (bounds_at source c.active.function) (types_at source c.active.function) x (Convert from to a) (top source c.active.function k) o c.active.next m
+      → StoredAt (code_of source c.active.function) (bounds_at source c.active.function) (types_on source c.active.function k) x (Convert from to a) (top source c.active.function k) o c.active.next m
       → HandsOnStack source c.active.function e.locals to o m c.frames k → IsBegun (typed.Store x (Convert from to a) t) k e w c
   cell_begins x from to a t k e w c o m (well, shared, facts, holds) (b, offset, r, s, u, at, address, at_a, single, store, end) hands =
       silently source pages calls (Running (Evaluating (typed.Store x (Convert from to a) t)) k e w) (Running (Locating x) (NeedsPlace (StoreTo (peeked x) (Convert from to a)) ∷ k) e w) (plain.Running c) refl
@@ -294,7 +308,7 @@ module _ (source : Program) (pages calls : ℕ) where
 
   -- a byte is printed
   prints : (cs : Arguments) (t : ValueType) (k : List Entry) (e : Environment) (w : World) (c : Configuration) (o : Operand) (m : ℕ) → At_step (Call callees.Putchar cs t) k e w c
-      → PrintedAt (code_of source c.active.function) (bounds_at source c.active.function) (types_at source c.active.function) cs (top source c.active.function k) o c.active.next m
+      → PrintedAt (code_of source c.active.function) (bounds_at source c.active.function) (types_on source c.active.function k) cs (top source c.active.function k) o c.active.next m
       → PrintsStack source c.active.function e.locals o m c.frames k → IsBegun (Call callees.Putchar cs t) k e w c
   prints NoArguments t k e w c o m known at stack = absurd at
   prints (MoreArguments (Convert from to a) NoArguments) t k e w c o m (well, shared, facts, holds) (s, at_a, at_to) (write, stack) =
@@ -305,7 +319,7 @@ module _ (source : Program) (pages calls : ℕ) where
   prints (MoreArguments c' (MoreArguments c'' cs)) t k e w c o m known at stack = absurd at
 
   calls_out : (f : Callee) (cs : Arguments) (t : ValueType) (k : List Entry) (e : Environment) (w : World) (c : Configuration) (d m q : ℕ) → At_step (Call f cs t) k e w c
-      → ArgumentsAt (code_of source c.active.function) (bounds_at source c.active.function) (types_at source c.active.function) cs (top source c.active.function k) c.active.next m
+      → ArgumentsAt (code_of source c.active.function) (bounds_at source c.active.function) (types_on source c.active.function k) cs (top source c.active.function k) c.active.next m
       → CallAt source c.active.function f (all_passed cs) (top source c.active.function k) d m q
       → LandsStack source c.active.function e.locals (called_at source c.active.function f) d q c.frames k → IsBegun (Call f cs t) k e w c
   calls_out f cs t k e w c d m q (well, shared, facts, holds) at call lands =
@@ -315,9 +329,9 @@ module _ (source : Program) (pages calls : ℕ) where
 
   -- the first operand of a chain: it may be without code where the second is
   chain_begins : (right : Option Operand) (a : Expression) (os : Operations) (t : Ty) (k : List Entry) (e : Environment) (w : World) (c : Configuration) (l : Operand) (m : ℕ) → At_step (Binary a os t) k e w c
-      → OperandBy (code_of source c.active.function) (bounds_at source c.active.function) (types_at source c.active.function) (left_with right (operand_of (starts_at source c.active.function) a))
-      (ExpressionAt (code_of source c.active.function) (bounds_at source c.active.function) (types_at source c.active.function) a (slot_with (starts_at source c.active.function) right a (top source c.active.function k)) (top source c.active.function k) c.active.next m)
-      (slot_with (starts_at source c.active.function) right a (top source c.active.function k)) l c.active.next m
+      → OperandBy (code_of source c.active.function) (bounds_at source c.active.function) (types_on source c.active.function k) (left_with right (operand_of (starts_on source c.active.function k) a))
+      (ExpressionAt (code_of source c.active.function) (bounds_at source c.active.function) (types_on source c.active.function k) a (slot_with (starts_on source c.active.function k) right a (top source c.active.function k)) (top source c.active.function k) c.active.next m)
+      (slot_with (starts_on source c.active.function k) right a (top source c.active.function k)) l c.active.next m
       → ValueStack source c.active.function e.locals (given_at source c.active.function a) l m c.frames (Needs (Chain os) ∷ k) → IsBegun (Binary a os t) k e w c
   chain_begins (Some r) a os t k e w c l m (well, shared, facts, holds) at stack =
       silently source pages calls (Running (Evaluating (Binary a os t)) k e w) (Running (Evaluating a) (Needs (Chain os) ∷ k) e w) (plain.Running c) refl
@@ -333,20 +347,20 @@ module _ (source : Program) (pages calls : ℕ) where
   comes_from : (a : Expression) (n : ℕ) (t : Ty) (k : List Entry) (e : Environment) (w : World) (c : Configuration) (d q : ℕ)
       → step source (Running (Evaluating a) k e w) ≡ loaded_from (kind_of t) (e.locals n) k e w → IsWell (loaded_from (kind_of t) (e.locals n) k e w)
       → (shared : SharedAt source pages calls k e w c) → DataIn source shared.tables c.active.slots k e w c → Holds shared.tables c.active.slots (floor source c.active.function k) (held k)
-      → CodeAt (code_of source c.active.function) c.active.next (move_of (words_of t) d (operands.Slot (slot_of (starts_at source c.active.function) n))) → c.active.next + 1 ≡ q
+      → CodeAt (code_of source c.active.function) c.active.next (move_of (words_of t) d (operands.Slot (slot_of (starts_on source c.active.function k) n))) → c.active.next + 1 ≡ q
       → LandsStack source c.active.function e.locals (kind_of t) d q c.frames k → IsBegun a k e w c
   comes_from a n t k e w c d q does well shared facts holds at end lands =
       let g = c.active.function in
       let found = is_loaded (kind_of t) (e.locals n) k e w well in
       let v : Kinded = record { kind = kind_of t; value = found.value } in
-      let o = operands.Slot (slot_of (starts_at source g) n) in
+      let o = operands.Slot (slot_of (starts_on source g k) n) in
       by_one source pages calls (does ∙ found.gives) shared (subst (λ x. CodeAt (code_of source g) c.active.next (move_of x d o)) (sym (type_words t)) at)
       (λ choice. landed_moved v o d k e w c q choice shared (facts.0.2.holds n found.number v found.there found.has).0 facts holds end lands)
 
   -- the values of a new object come to slots, in the region of this handle
   made_of : (placement : Placement) (owner : Owner) (handle : ℕ) (i : Initial) (t : Ty) (k : List Entry) (e : Environment) (w : World) (c : Configuration) (d q : ℕ) → allocates placement i k e w ≡ makes owner i k e w
       → IsHandleOf owner handle → At_step (typed.New placement i t) k e w c
-      → MadeAt (code_of source c.active.function) (bounds_at source c.active.function) (types_at source c.active.function) i handle d (top source c.active.function k) c.active.next q
+      → MadeAt (code_of source c.active.function) (bounds_at source c.active.function) (types_on source c.active.function k) i handle d (top source c.active.function k) c.active.next q
       → LandsStack source c.active.function e.locals (made_kind i) d q c.frames k → IsBegun (typed.New placement i t) k e w c
   made_of placement owner handle (typed.Plain kind a) t k e w c d q does owned (well, shared, facts, holds) (m, at_a, wide, object) lands =
       let g = c.active.function in
@@ -354,7 +368,7 @@ module _ (source : Program) (pages calls : ℕ) where
         shared,
         facts,
         into_slot (top source g k) m at_a holds
-            (in_temporary (omega arith) (handle, d, q, owned, refl, subst (λ n. ObjectAt (code_of source g) (bounds_at source g) (types_at source g) handle 1 n (top source g k) d m q) (sym wide) object, lands)),
+            (in_temporary (omega arith) (handle, d, q, owned, refl, subst (λ n. ObjectAt (code_of source g) (bounds_at source g) (types_on source g k) handle 1 n (top source g k) d m q) (sym wide) object, lands)),
       )
       (omega arith)
   made_of placement owner handle (typed.Fields NoArguments) t k e w c d q does owned known (p, at_cs, (m, single, some, few, ask, stores, move, there)) lands = absurd (omega (arith, some))
@@ -370,13 +384,17 @@ module _ (source : Program) (pages calls : ℕ) where
   made_of placement owner handle (typed.Array p level n kind a) t k e w c d q does owned known at lands = absurd at
 
   comes : (a : Expression) (k : List Entry) (e : Environment) (w : World) (c : Configuration) (d q : ℕ) → At_step a k e w c
-      → ExpressionAt (code_of source c.active.function) (bounds_at source c.active.function) (types_at source c.active.function) a d (top source c.active.function k) c.active.next q
+      → ExpressionAt (code_of source c.active.function) (bounds_at source c.active.function) (types_on source c.active.function k) a d (top source c.active.function k) c.active.next q
       → LandsStack source c.active.function e.locals (given_at source c.active.function a) d q c.frames k → IsBegun a k e w c
   comes (Number n) k e w c d q (well, shared, facts, holds) (at, end) lands =
       by_one source pages calls refl shared at (λ choice. landed_word n n d k e w c q refl shared facts holds end lands)
   comes typed.NullPointer k e w c d q (well, shared, facts, holds) (at, end) lands =
       let v : Kinded = record { kind = kinds.Nullable; value = Null } in
       by_one source pages calls refl shared at (λ choice. landed_moved v (operands.Word 0) d k e w c q choice shared refl facts holds end lands)
+  comes (typed.Counter l) k e w c d q (well, shared, facts, holds) (slot, there, at, end) lands =
+      let (index, now, is) = counters_hold shared.tables e.counters c.active.slots (floor source c.active.function k) k shared.counters holds l slot there in
+      by_one source pages calls (ap (λ (i : Option ℕ). counts i k e w) now) shared at
+      (λ choice. landed_word index (c.active.slots slot) d k e w c q is shared facts holds end lands)
   comes (Copy (Local p n) t) k e w c d q (well, shared, facts, holds) (at, end) lands = comes_from (Copy (Local p n) t) n t k e w c d q refl well shared facts holds at end lands
   comes (typed.Move p n t) k e w c d q (well, shared, facts, holds) (at, end) lands = comes_from (typed.Move p n t) n t k e w c d q refl well shared facts holds at end lands
   comes (typed.Peek p n t) k e w c d q (well, shared, facts, holds) (at, end) lands = comes_from (typed.Peek p n t) n t k e w c d q refl well shared facts holds at end lands
@@ -402,7 +420,7 @@ module _ (source : Program) (pages calls : ℕ) where
       (shared, facts, into_slot d m at_a holds (lands_at c.active.function e.locals (given_at source c.active.function a) d m q c.frames k end lands))
       (omega arith)
   comes (Binary a (ThenCompute o b os) t) k e w c d q known (l, m, at_a, at) lands =
-      chain_begins (operand_of (starts_at source c.active.function) b) a (ThenCompute o b os) t k e w c l m known at_a (to_slot (d, q, at, lands))
+      chain_begins (operand_of (starts_on source c.active.function k) b) a (ThenCompute o b os) t k e w c l m known at_a (to_slot (d, q, at, lands))
   comes (Binary a (ThenTest o b os) t) k e w c d q known (l, m, at_a, at) lands =
       chain_begins None a (ThenTest o b os) t k e w c l m known at_a (to_slot (d, q, at, lands))
   comes (Binary a (ThenPointer o b os) t) k e w c d q known (l, m, at_a, at) lands = chain_begins None a (ThenPointer o b os) t k e w c l m known at_a (to_slot (d, q, at, lands))
@@ -424,6 +442,11 @@ module _ (source : Program) (pages calls : ℕ) where
       silently source pages calls (Running (Evaluating (typed.FreeUnique a)) k e w) (Running (Evaluating a) (Needs FreeObject ∷ k) e w) (plain.Running c) refl
       (shared, facts, as_operand o m at_a holds (d, q, (jump, ask, end), lands))
       (omega arith)
+  comes (typed.New typed.OnHeap (typed.Array p level n kind a) t) k e w c d q (well, shared, facts, holds) (m, h, r, s, at_n, begun, level_is, single, at_a) lands =
+      let g = c.active.function in
+      silently source pages calls (Running (Evaluating (typed.New typed.OnHeap (typed.Array p level n kind a) t)) k e w) (Running (Evaluating n) (Needs (MakeArray (InRegion heap_number) level kind a) ∷ k) e w) (plain.Running c) refl
+      (shared, facts, into_slot (top source g k) m at_n holds (in_temporary (omega arith) (HEAP, d, h, r, s, q, (refl, refl), refl, begun, level_is, single, at_a, lands)))
+      (omega arith)
   comes (typed.New typed.OnHeap i t) k e w c d q known at lands = made_of typed.OnHeap (InRegion heap_number) HEAP i t k e w c d q refl (refl, refl) known at lands
   comes (typed.New typed.AsUnique i t) k e w c d q known at lands = made_of typed.AsUnique (Unique true) UNIQUE i t k e w c d q refl refl known at lands
   comes (typed.New (typed.ByHandle h) i t) k e w c d q known at lands = absurd at
@@ -435,15 +458,24 @@ module _ (source : Program) (pages calls : ℕ) where
 
   in_top : (a : Expression) (k : List Entry) (e : Environment) (w : World) (c : Configuration) (o : Operand) (q : ℕ) → At_step a k e w c
       → (o ≡ operands.Slot (top source c.active.function k))
-      × ExpressionAt (code_of source c.active.function) (bounds_at source c.active.function) (types_at source c.active.function) a (top source c.active.function k) (top source c.active.function k) c.active.next q
+      × ExpressionAt (code_of source c.active.function) (bounds_at source c.active.function) (types_on source c.active.function k) a (top source c.active.function k) (top source c.active.function k) c.active.next q
       → ValueStack source c.active.function e.locals (given_at source c.active.function a) o q c.frames k → IsBegun a k e w c
   in_top a k e w c o q known (is, at) stack =
       comes a k e w c (top source c.active.function k) q known at (in_temporary (omega arith) (subst (λ x. ValueStack source c.active.function e.locals (given_at source c.active.function a) x q c.frames k) is stack))
 
   operand : (a : Expression) (k : List Entry) (e : Environment) (w : World) (c : Configuration) (o : Operand) (q : ℕ) → At_step a k e w c
-      → ValueAt (code_of source c.active.function) (bounds_at source c.active.function) (types_at source c.active.function) a (top source c.active.function k) o c.active.next q
+      → ValueAt (code_of source c.active.function) (bounds_at source c.active.function) (types_on source c.active.function k) a (top source c.active.function k) o c.active.next q
       → ValueStack source c.active.function e.locals (given_at source c.active.function a) o q c.frames k → IsBegun a k e w c
   operand (Number n) k e w c o q known (is, end) stack = known_operand (Number n) o k e w c q (ap Some (sym is)) end known stack
+  operand (typed.Counter l) k e w c o q known at stack = in_counter (slice_get (counters_of (floor source c.active.function k) k) l) refl at
+    where
+      in_counter : (slot : Option ℕ) → slice_get (counters_of (floor source c.active.function k) k) l ≡ slot
+          → OperandBy (code_of source c.active.function) (bounds_at source c.active.function) (types_on source c.active.function k) (counter_operand slot)
+          (ExpressionAt (code_of source c.active.function) (bounds_at source c.active.function) (types_on source c.active.function k) (typed.Counter l) (top source c.active.function k) (top source c.active.function k) c.active.next q)
+          (top source c.active.function k) o c.active.next q
+          → IsBegun (typed.Counter l) k e w c
+      in_counter None none at = in_top (typed.Counter l) k e w c o q known at stack
+      in_counter (Some slot) there (is, end) = known_operand (typed.Counter l) o k e w c q (ap counter_operand there ∙ ap Some (sym is)) end known stack
   operand typed.NullPointer k e w c o q known (is, end) stack = known_operand typed.NullPointer o k e w c q (ap Some (sym is)) end known stack
   operand (Copy (Local p n) t) k e w c o q known (is, end) stack = known_operand (Copy (Local p n) t) o k e w c q (ap Some (sym is)) end known stack
   operand (typed.Move p n t) k e w c o q known (is, end) stack = known_operand (typed.Move p n t) o k e w c q (ap Some (sym is)) end known stack
@@ -454,7 +486,7 @@ module _ (source : Program) (pages calls : ℕ) where
   operand (Binary a os t) k e w c o q known at stack = in_top (Binary a os t) k e w c o q known at stack
   operand (Assign (Local p n) (Convert from to a) t) k e w c o q known (is, (there, m, (is_there, room, at), copy)) stack =
       let g = c.active.function in
-      let slot = slot_of (starts_at source g) n in
+      let slot = slot_of (starts_on source g k) n in
       let end : m ≡ q = copy_none (code_of source g) (words_of_kind to) slot m q (subst (λ x. CopyAt (code_of source g) (words_of_kind to) x slot m q) is_there copy) in
       assigns (Local p n) from to a t k e w c (object_of e (Local p n)) there m refl known (is_there, room, at)
       (leaves (subst (λ x. ValueStack source g e.locals to x m c.frames k) (is ∙ sym is_there) (subst (λ r. ValueStack source g e.locals to o r c.frames k) (sym end) stack)))
@@ -467,7 +499,7 @@ module _ (source : Program) (pages calls : ℕ) where
   operand a k e w c o q known (is, at) stack = absurd at
 
   for_its_effect : (a : Expression) (k : List Entry) (e : Environment) (w : World) (c : Configuration) (q : ℕ) → At_step a k e w c
-      → DiscardedAt (code_of source c.active.function) (bounds_at source c.active.function) (types_at source c.active.function) a (top source c.active.function k) c.active.next q
+      → DiscardedAt (code_of source c.active.function) (bounds_at source c.active.function) (types_on source c.active.function k) a (top source c.active.function k) c.active.next q
       → DroppedStack source c.active.function q c.frames k → IsBegun a k e w c
   for_its_effect (Call callees.Putchar cs t) k e w c q known (o, m, at, write, end) stack =
       prints cs t k e w c o m known at (write, prints_only (subst (λ r. DroppedStack source c.active.function r c.frames k) (sym end) stack))
@@ -481,7 +513,7 @@ module _ (source : Program) (pages calls : ℕ) where
   for_its_effect (Binary a os t) k e w c q known (o, at) stack = in_top (Binary a os t) k e w c o q known at (dropped_value c.active.function e.locals (given_at source c.active.function (Binary a os t)) o q c.frames k stack)
   for_its_effect typed.NullPointer k e w c q known (o, at) stack = operand typed.NullPointer k e w c o q known at (dropped_value c.active.function e.locals (given_at source c.active.function typed.NullPointer) o q c.frames k stack)
   for_its_effect typed.HeapRegion k e w c q known (o, (is, at)) stack = absurd at
-  for_its_effect (typed.Counter level) k e w c q known (o, (is, at)) stack = absurd at
+  for_its_effect (typed.Counter l) k e w c q known (o, at) stack = operand (typed.Counter l) k e w c o q known at (dropped_value c.active.function e.locals (given_at source c.active.function (typed.Counter l)) o q c.frames k stack)
   for_its_effect (typed.Move p n t) k e w c q known (o, at) stack = operand (typed.Move p n t) k e w c o q known at (dropped_value c.active.function e.locals (given_at source c.active.function (typed.Move p n t)) o q c.frames k stack)
   for_its_effect (typed.Peek p n t) k e w c q known (o, at) stack = operand (typed.Peek p n t) k e w c o q known at (dropped_value c.active.function e.locals (given_at source c.active.function (typed.Peek p n t)) o q c.frames k stack)
   for_its_effect (typed.Load x) k e w c q known (o, at) stack = in_top (typed.Load x) k e w c o q known at (dropped_value c.active.function e.locals (given_at source c.active.function (typed.Load x)) o q c.frames k stack)
@@ -497,7 +529,7 @@ module _ (source : Program) (pages calls : ℕ) where
   beside_left : (a : Expression) (k : List Entry) (e : Environment) (w : World) (c : Configuration) → IsWell (step source (Running (Evaluating a) k e w)) → (shared : SharedAt source pages calls k e w c) → DataIn source shared.tables c.active.slots k e w c
       → RightAt source shared.tables a e.locals c.active.function c.active.next c.active.slots c.frames k → IsBegun a k e w c
   beside_left a (Needs (Apply u left) ∷ k) e w c well shared facts (l, r, known, is_left, holds, applied) =
-      let found = reads shared.tables a r (Needs (Apply u left) ∷ k) e w c known well facts in
+      let found = reads shared.tables a r (Needs (Apply u left) ∷ k) e w c known well (counters_hold shared.tables e.counters c.active.slots (floor source c.active.function k) k shared.counters holds) facts in
       silently source pages calls (Running (Evaluating a) (Needs (Apply u left) ∷ k) e w) (Running (Given found.value) (Needs (Apply u left) ∷ k) e w) (plain.Running c) found.gives
       (shared, with_left facts (l, r, is_left, found.is, holds, applied))
       (omega (arith, found.some))
@@ -517,22 +549,22 @@ module _ (source : Program) (pages calls : ℕ) where
       subst (λ x. ConditionStack source g failing l x p frames k) is (subst (λ x. ConditionStack source g failing l r x frames k) (sym end) stack)
 
   not_zero : (a : Expression) (k : List Entry) (e : Environment) (w : World) (c : Configuration) (l r : Operand) (q : ℕ) → At_step a k e w c
-      → PairAt (code_of source c.active.function) (bounds_at source c.active.function) (types_at source c.active.function) a (Number 0) l r (top source c.active.function k) c.active.next q
+      → PairAt (code_of source c.active.function) (bounds_at source c.active.function) (types_on source c.active.function k) a (Number 0) l r (top source c.active.function k) c.active.next q
       → ConditionStack source c.active.function comparisons.Equal l r q c.frames k → IsBegun a k e w c
   not_zero a k e w c l r q known (m, at_a, (is, end)) stack =
       operand a k e w c l m known at_a (tested_value c.active.function e.locals (given_at source c.active.function a) l m c.frames k (alone c.active.function comparisons.Equal l r m q c.frames k is end stack))
 
   compares : (f : Option Comparison) (o : Operator) (a b : Expression) (t : Ty) (k : List Entry) (e : Environment) (w : World) (c : Configuration) (l r : Operand) (q : ℕ) → failing_comparison o ≡ f
       → At_step (Binary a (ThenCompute o b NoOperations) t) k e w c
-      → PairAt (code_of source c.active.function) (bounds_at source c.active.function) (types_at source c.active.function) (compared_or f a b (Binary a (ThenCompute o b NoOperations) t)).left
+      → PairAt (code_of source c.active.function) (bounds_at source c.active.function) (types_on source c.active.function k) (compared_or f a b (Binary a (ThenCompute o b NoOperations) t)).left
       (compared_or f a b (Binary a (ThenCompute o b NoOperations) t)).right l r (top source c.active.function k) c.active.next q
       → ConditionStack source c.active.function (compared_or f a b (Binary a (ThenCompute o b NoOperations) t)).failing l r q c.frames k → IsBegun (Binary a (ThenCompute o b NoOperations) t) k e w c
   compares (Some failing) o a b t k e w c l r q is known (m, at_a, at_b) stack =
-      chain_begins (operand_of (starts_at source c.active.function) b) a (ThenCompute o b NoOperations) t k e w c l m known at_a (to_jump (failing, r, q, (is, at_b), stack))
+      chain_begins (operand_of (starts_on source c.active.function k) b) a (ThenCompute o b NoOperations) t k e w c l m known at_a (to_jump (failing, r, q, (is, at_b), stack))
   compares None o a b t k e w c l r q is known at stack = not_zero (Binary a (ThenCompute o b NoOperations) t) k e w c l r q known at stack
 
   condition : (a : Expression) (k : List Entry) (e : Environment) (w : World) (c : Configuration) (l r : Operand) (q : ℕ) → At_step a k e w c
-      → ConditionAt (code_of source c.active.function) (bounds_at source c.active.function) (types_at source c.active.function) a l r (top source c.active.function k) c.active.next q
+      → ConditionAt (code_of source c.active.function) (bounds_at source c.active.function) (types_on source c.active.function k) a l r (top source c.active.function k) c.active.next q
       → ConditionStack source c.active.function (compared_of a).failing l r q c.frames k → IsBegun a k e w c
   condition (Unary unary.Not a) k e w c l r q (well, shared, facts, holds) (m, at_a, (is, end)) stack =
       silently source pages calls (Running (Evaluating (Unary unary.Not a)) k e w) (Running (Evaluating a) (Needs (Operate unary.Not) ∷ k) e w) (plain.Running c) refl

@@ -36,8 +36,8 @@ use Rattle.cyc_lower.proofs.Slots.{slot-room, room-inside}
 use Rattle.cyc_lower.proofs.Widths.{kind_positive, HasRoom, Outside}
 use Rattle.cyc_lower.proofs.Moves.{moved_slots, moves, moved_is, moved_elsewhere}
 use Rattle.cyc_lower.proofs.Stands.{ThrownAt, CaughtAt, ItemsAt, ClausesAt}
-use Rattle.cyc_lower.proofs.Sharing.{shared_declared, row_declared, shared_opened, shared_closed, shared_left}
-use Rattle.cyc_lower.proofs.Relation.{behind_records, IsIntact, Opened, HandlersStand, CatchesAt, CaughtBy, DataIn, types_at, starts_at, held, callers, homes, Shared, SharedAt, StatementStack, Related, Matches, as_operand, behind_statement, in_place, by_jumps, code_of, bounds_at, base_of, floor, Arrives, DataAt}
+use Rattle.cyc_lower.proofs.Sharing.{shared_less, shared_declared, row_declared, shared_opened, shared_closed, shared_left}
+use Rattle.cyc_lower.proofs.Relation.{AreCounted, behind_records, IsIntact, Opened, HandlersStand, CatchesAt, CaughtBy, DataIn, types_at, starts_at, held, callers, homes, Shared, SharedAt, StatementStack, Related, Matches, as_operand, behind_statement, in_place, by_jumps, code_of, bounds_at, base_of, floor, Arrives, DataAt}
 use Rattle.cyc_lower.proofs.Data.{behind-least, handlers_same, handlers_beside, data_written, data_declared, data_returned, data_grows}
 use Rattle.cyc_lower.proofs.Accesses.{IsWell, is_declared, is_closed, home_there}
 use Rattle.cyc_lower.proofs.Matched.{IsMatched, silently, by_one, by_two, by_two_places, place_in, shared_within, shared_way}
@@ -124,7 +124,7 @@ module _ (source : Program) (pages calls : ℕ) where
   pub throws_some : (tag : ℕ) (a : Expression) (k : List Entry) (e : Environment) (w : World) (c : Configuration) → IsStep source pages calls (Executing (typed.Throw tag (Some a))) k e w c
   throws_some tag a k e w c well (shared, facts, (exits, q, (word, o, m, at_a, here), stack)) =
       silently source pages calls (Running (Executing (typed.Throw tag (Some a))) k e w) (Running (Evaluating a) (Needs (ThrowWith tag) ∷ k) e w) (plain.Running c) refl
-      (shared, facts, as_operand o m at_a tt (word, here))
+      (shared, facts, as_operand o m at_a tt (exits, q, word, here, stack))
       (omega arith)
 
   -- ---- the clauses of a handler
@@ -181,7 +181,7 @@ module _ (source : Program) (pages calls : ℕ) where
 
   -- fewer calls are under way
   abbrev shared_fewer : (k : List Entry) (e : Environment) (w : World) (c : Configuration) (many : ℕ) → many ≤ length c.frames → SharedAt source pages calls k e w c
-      → Shared pages calls w (e.home ∷ homes k) c.output c.input c.store many
+      → Shared pages calls w (e.home ∷ homes k) (AreCounted e.counters k) c.output c.input c.store many
   shared_fewer k e w c many less s = record {
     tables = s.tables;
     same_output = s.same_output;
@@ -192,6 +192,7 @@ module _ (source : Program) (pages calls : ℕ) where
     variables = s.variables;
     few_pages = s.few_pages;
     fits = omega (arith, less, s.fits);
+    counters = s.counters;
   }
 
   comes_to : (tag value : ℕ) (handler : Clauses) (k : List Entry) (e : Environment) (w : World) (c : Configuration) (x o : Operand) (a : Activation) (rest : List Frame)
@@ -230,7 +231,7 @@ module _ (source : Program) (pages calls : ℕ) where
       (λ choice. subst (Matches source pages calls (Ended (Uncaught tag (signed value)) w.output w.input)) (sym (thrown tag value c x o choice x_is o_is ∙ same ∙ beyond_all tag value c a rest none last)) (refl, shared.same_output))
   throwing tag value (Needs awaiting ∷ k) e w c well (shared, fits, word, x, o, here, x_is, o_is, a, rest, less, same, facts, stand) =
       silently source pages calls (Running (Throwing tag value) (Needs awaiting ∷ k) e w) (Running (Throwing tag value) k e w) (plain.Running c) refl
-      (shared, fits, word, x, o, here, x_is, o_is, a, rest, less, same, facts, caught_by source a rest k stand)
+      (shared_less source pages calls awaiting k e w c shared, fits, word, x, o, here, x_is, o_is, a, rest, less, same, facts, caught_by source a rest k stand)
       (omega arith)
   throwing tag value (Discard ∷ k) e w c well (shared, fits, word, x, o, here, x_is, o_is, a, rest, less, same, facts, stand) =
       silently source pages calls (Running (Throwing tag value) (Discard ∷ k) e w) (Running (Throwing tag value) k e w) (plain.Running c) refl

@@ -1,6 +1,6 @@
 -- What lowering asks of a tree: each number that it has names something that is there, and each value has room where it comes to. The tree
 -- of a well typed program whose numbers are in range has it.
-use Rattle.std.proofs.Common.{◌≡◌, ◌⊎◌, ℕ, ◌≤◌, ◌<◌, Bool, true, false, List, [], ◌∷◌, length, map, Option, None, Some, slice_get, refl, sym, ap, subst, ◌∙◌, arith, inl, inr}
+use Rattle.std.proofs.Common.{◌≡◌, ◌⊎◌, ℕ, ◌≤◌, ◌<◌, Bool, true, false, List, [], ◌∷◌, length, map, Option, None, Some, slice_get, refl, sym, ap, subst, ◌∙◌, arith, inl, inr, suc, length-append}
 use Rattle.std.specs.Prelude.{option_map, if◌then◌else◌, not, ◌&&◌}
 use Rattle.std.proofs.lemmas.Option.{same_Some}
 use Rattle.cyc_words.specs.Word.{IsWord}
@@ -20,14 +20,14 @@ use Rattle.cyc_types.specs.TypedTrees.{Load, New, OnHeap, AsUnique, ByHandle, In
 use Rattle.cyc_types.specs.typing.Scopes.{signature_of_ints}
 use Rattle.cyc_types.specs.typing.Tests as tests
 use Rattle.cyc_types.specs.typing.Expressions.{instantiated, type_of_side}
-use Rattle.cyc_types.specs.typing.WellTyped.{Context, PointerOperation, adds, subtracts, equals, differs, thin_null, thin_there, fat_null, fat_there, null_is, null_is_not, IsCallee, Converts, IsPeek, WellTyped, IsCell, IsConverted, ArePassed, IsChain, IsCondition, IsReturned, IsInitial, WellTypedStatement, WellTypedItems, behind, in_block, in_body, with_local, body_context, AreWellTypedFunctions, AreWellTypedGlobals, IsWellTypedProgram, IsLeft, IsMade, IsSide, IsThrown, IsCaught, WellTypedClauses, with_caught, behind_clause}
+use Rattle.cyc_types.specs.typing.WellTyped.{with_counter, Context, PointerOperation, adds, subtracts, equals, differs, thin_null, thin_there, fat_null, fat_there, null_is, null_is_not, IsCallee, Converts, IsPeek, WellTyped, IsCell, IsConverted, ArePassed, IsChain, IsCondition, IsReturned, IsInitial, WellTypedStatement, WellTypedItems, behind, in_block, in_body, with_local, body_context, AreWellTypedFunctions, AreWellTypedGlobals, IsWellTypedProgram, IsLeft, IsMade, IsSide, IsThrown, IsCaught, WellTypedClauses, with_caught, behind_clause}
 use Rattle.cyc_types.specs.Numbered.{Numbering, signatures_of, IsSignature, argument_count, numbering_of}
 use Rattle.cyc_meaning.specs.Pointers.{result_kind as operator_kind}
 use Rattle.cyc_lower.specs.Lowerable.{IsLowerable, IsLowerableConverted, AreLowerableArguments, AreLowerableOperations, IsLowerableReturn, IsLowerableInitial, IsLowerableStatement, AreLowerableItems, AreLowerableFunctions, IsLowerableProgram, is_comparison, are_sums, stands_alone, IsLowerableCell, IsLowerableObject, IsLowerableSide, may_wait, IsLowerableThrown, IsLowerableCaught, AreLowerableClauses}
 use Rattle.cyc_store.specs.declared.range.TheConstants.{MOST_BLOCK_WORDS}
 use Rattle.cyc_meaning.specs.Values.{kind_of, is_thin, words_of_kind}
 use Rattle.cyc_meaning.specs.FrameCount.{result_words, words_of_all, operand_words}
-use Rattle.cyc_lower.specs.Slots.{Types}
+use Rattle.cyc_lower.specs.Slots.{Types, counted}
 use Rattle.cyc_lower.specs.Lowering.{types_of, are_as_wide, passed_words, all_passed, results_of, left_kind}
 use Rattle.cyc_lower.proofs.Widths.{kind_of_result, result_kind, called_kind, given, passed_kind, type_words, HasRoom, chain_kind, HasField}
 use Rattle.cyc_lower.proofs.Slots.{words-there, words_positive}
@@ -45,71 +45,76 @@ module _ (b : Numbering) (types : Types) where
   FitsStored (Local p n) kind = (n < b.locals) × HasRoom types n kind
   FitsStored (Global n) kind = (n < b.globals) × (words_of_kind kind ≡ 1)
 
+module _ (b : Numbering) where
   abbrev mutual
-    pub Fits : Expression → Type 0
-    Fits (Number n) = Unit {0}
-    Fits NullPointer = Unit {0}
-    Fits (Copy l t) = FitsPlace l (kind_of t)
-    Fits (Move p n t) = FitsPlace (Local p n) (kind_of t)
-    Fits (Peek p n t) = FitsPlace (Local p n) (kind_of t)
-    Fits (Call f cs t) =
+    pub Fits : (types : Types) → Expression → Type 0
+    Fits types (Number n) = Unit {0}
+    Fits types NullPointer = Unit {0}
+    Fits types (Counter l) = l < length types.counters
+    Fits types (Copy l t) = FitsPlace b types l (kind_of t)
+    Fits types (Move p n t) = FitsPlace b types (Local p n) (kind_of t)
+    Fits types (Peek p n t) = FitsPlace b types (Local p n) (kind_of t)
+    Fits types (Call f cs t) =
         (s : Signature) × IsSignature b f s × (argument_count cs ≡ length s.parameters) × (all_passed cs ≡ words_of_all s.parameters)
-        × (results_of s.result ≤ result_words t) × FitArguments cs
-    Fits (Unary o a) = Fits a
-    Fits (Binary a os t) = Fits a × FitOperations (operand_words (type_of a)) t os
-    Fits (Assign l c t) = FitsStored l (passed_kind c) × FitsConverted c
-    Fits (Load x) = FitsCell x
-    Fits (FreeUnique a) = Fits a
-    Fits (New OnHeap i t) = FitsObject i
-    Fits (New AsUnique i t) = FitsObject i
-    Fits (AddressOfCell x t) = FitsCell x
-    Fits (Store x c t) = FitsCell x × (words_of_kind (passed_kind c) ≡ 1) × FitsConverted c
-    Fits a = ⊥
+        × (results_of s.result ≤ result_words t) × FitArguments types cs
+    Fits types (Unary o a) = Fits types a
+    Fits types (Binary a os t) = Fits types a × FitOperations types (operand_words (type_of a)) t os
+    Fits types (Assign l c t) = FitsStored b types l (passed_kind c) × FitsConverted types c
+    Fits types (Load x) = FitsCell types x
+    Fits types (FreeUnique a) = Fits types a
+    Fits types (New OnHeap (Array w level n kind a) t) =
+        (level ≡ length types.counters) × (words_of_kind kind ≡ 1) × (kind ≡ given b.functions a) × Fits types n × ((slot : ℕ) → Fits (counted types slot) a)
+    Fits types (New OnHeap i t) = FitsObject types i
+    Fits types (New AsUnique i t) = FitsObject types i
+    Fits types (AddressOfCell x t) = FitsCell types x
+    Fits types (Store x c t) = FitsCell types x × (words_of_kind (passed_kind c) ≡ 1) × FitsConverted types c
+    Fits types a = ⊥
 
-    pub FitsCell : Dereference → Type 0
-    FitsCell (Target k a t) = (is_thin k ≡ true) × (words_of t ≡ 1) × Fits a
-    FitsCell (Member k a s f t) = (is_thin k ≡ true) × (words_of t ≡ 1) × HasField types s f × Fits a
-    FitsCell x = ⊥
+    pub FitsCell : (types : Types) → Dereference → Type 0
+    FitsCell types (Target k a t) = (is_thin k ≡ true) × (words_of t ≡ 1) × Fits types a
+    FitsCell types (Member k a s f t) = (is_thin k ≡ true) × (words_of t ≡ 1) × HasField types s f × Fits types a
+    FitsCell types x = ⊥
 
     -- what a new object holds
-    pub FitsObject : Initial → Type 0
-    FitsObject (Plain kind a) = (words_of_kind kind ≡ 1) × (kind ≡ given b.functions a) × Fits a
-    FitsObject (Fields cs) = (argument_count cs ≡ all_passed cs) × (1 ≤ argument_count cs) × (argument_count cs ≤ MOST_BLOCK_WORDS) × FitArguments cs
-    FitsObject i = ⊥
+    pub FitsObject : (types : Types) → Initial → Type 0
+    FitsObject types (Plain kind a) = (words_of_kind kind ≡ 1) × (kind ≡ given b.functions a) × Fits types a
+    FitsObject types (Fields cs) = (argument_count cs ≡ all_passed cs) × (1 ≤ argument_count cs) × (argument_count cs ≤ MOST_BLOCK_WORDS) × FitArguments types cs
+    FitsObject types i = ⊥
 
-    pub FitsConverted : Converted → Type 0
-    FitsConverted (Convert from to a) = (from ≡ given b.functions a) × (are_as_wide from to ≡ true) × Fits a
+    pub FitsConverted : (types : Types) → Converted → Type 0
+    FitsConverted types (Convert from to a) = (from ≡ given b.functions a) × (are_as_wide from to ≡ true) × Fits types a
 
-    pub FitArguments : Arguments → Type 0
-    FitArguments NoArguments = Unit {0}
-    FitArguments (MoreArguments c cs) = FitsConverted c × FitArguments cs
+    pub FitArguments : (types : Types) → Arguments → Type 0
+    FitArguments types NoArguments = Unit {0}
+    FitArguments types (MoreArguments c cs) = FitsConverted types c × FitArguments types cs
 
     -- behind a left operand of so many words, in a chain of this type
-    pub FitOperations : (left : ℕ) → Ty → Operations → Type 0
-    FitOperations left t NoOperations = Unit {0}
-    FitOperations left t (ThenCompute o a os) = Fits a × FitOperations (words_of t) t os
-    FitOperations left t (ThenTest o a os) = Fits a × FitOperations (words_of t) t os
-    FitOperations left t (ThenPointer o a os) = (words_of_kind (left_kind o) ≤ left) × Fits a × FitOperations (words_of t) t os
-    FitOperations left t (ThenPointerPeek n o a os) = (words_of_kind (left_kind o) ≤ left) × Fits a × FitOperations (words_of t) t os
+    pub FitOperations : (types : Types) → (left : ℕ) → Ty → Operations → Type 0
+    FitOperations types left t NoOperations = Unit {0}
+    FitOperations types left t (ThenCompute o a os) = Fits types a × FitOperations types (words_of t) t os
+    FitOperations types left t (ThenTest o a os) = Fits types a × FitOperations types (words_of t) t os
+    FitOperations types left t (ThenPointer o a os) = (words_of_kind (left_kind o) ≤ left) × Fits types a × FitOperations types (words_of t) t os
+    FitOperations types left t (ThenPointerPeek n o a os) = (words_of_kind (left_kind o) ≤ left) × Fits types a × FitOperations types (words_of t) t os
 
+module _ (b : Numbering) (types : Types) where
   -- a side of a swap of values of this kind
   abbrev pub FitsSide : Side → Kind → Type 0
-  FitsSide (VariableSide l t) kind = FitsPlace l kind
-  FitsSide (CellSide x) kind = FitsCell x
+  FitsSide (VariableSide l t) kind = FitsPlace b types l kind
+  FitsSide (CellSide x) kind = FitsCell b types x
 
   abbrev pub FitsReturn : Option Ty → Option Converted → Type 0
   FitsReturn None None = Unit {0}
   FitsReturn None (Some c) = ⊥
   FitsReturn (Some t) None = ⊥
-  FitsReturn (Some t) (Some c) = (passed_kind c ≡ kind_of t) × FitsConverted c
+  FitsReturn (Some t) (Some c) = (passed_kind c ≡ kind_of t) × FitsConverted b types c
 
   abbrev pub FitsInitial : (number : ℕ) → Option Converted → Type 0
   FitsInitial n None = Unit {0}
-  FitsInitial n (Some c) = HasRoom types n (passed_kind c) × FitsConverted c
+  FitsInitial n (Some c) = HasRoom types n (passed_kind c) × FitsConverted b types c
 
   abbrev pub FitsThrown : Option Expression → Type 0
   FitsThrown None = Unit {0}
-  FitsThrown (Some a) = Fits a
+  FitsThrown (Some a) = Fits b types a
 
   abbrev pub FitsCaught : (number : Option ℕ) → Type 0
   FitsCaught None = Unit {0}
@@ -119,11 +124,11 @@ module _ (b : Numbering) (types : Types) where
     pub FitsStatement : (in_loop : Bool) → Statement → Type 0
     FitsStatement l (Block r js) = FitItems l js
     FitsStatement l Empty = Unit {0}
-    FitsStatement l (Evaluate a) = Fits a
+    FitsStatement l (Evaluate a) = Fits b types a
     FitsStatement l (Swap x y) =
         (words_of (type_of_side x) ≡ 1) × FitsSide x (kind_of (type_of_side x)) × FitsSide y (kind_of (type_of_side x)) × (may_wait x y ≡ true)
-    FitsStatement l (If a s t) = Fits a × FitsStatement l s × FitsStatement l t
-    FitsStatement l (While p a s) = Fits a × FitsStatement true s
+    FitsStatement l (If a s t) = Fits b types a × FitsStatement l s × FitsStatement l t
+    FitsStatement l (While p a s) = Fits b types a × FitsStatement true s
     FitsStatement l (Return v) = FitsReturn b.result v
     FitsStatement l Break = l ≡ true
     FitsStatement l Continue = l ≡ true
@@ -313,6 +318,7 @@ module _ (b : Numbering) (types : Types) where
     functions : c.functions ≡ b.functions
     structs : c.structs ≡ types.structs
     variables : c.variables ≡ types.locals
+    counters : c.counters ≡ length types.counters
     result : c.result ≡ b.result
 
   room_in : (c : Context) (n : ℕ) (t : Ty) (kind : Kind) → Suits c → slice_get c.variables n ≡ Some t → kind ≡ kind_of t → HasRoom types n kind
@@ -341,6 +347,9 @@ module _ (b : Numbering) (types : Types) where
   pointer_given : (mark : PointerKind) (u : Ty) (r : Region) (t : Ty) (v : ValueType) → mark ≡ marks.NonNull → t ≡ type_forms.Pointer mark u r → v ≡ Value t → IsGiven kinds.NonNull v
   pointer_given mark u r t v mark_is t_is is = subst (IsGiven kinds.NonNull) (sym is) (sym (ap kind_of (t_is ∙ ap (λ m. type_forms.Pointer m u r) mark_is)))
 
+  array_given : (mark : PointerKind) (u : Ty) (r : Region) (t : Ty) (v : ValueType) → mark ≡ marks.Fat → t ≡ type_forms.Pointer mark u r → v ≡ Value t → IsGiven kinds.Fat v
+  array_given mark u r t v mark_is t_is is = subst (IsGiven kinds.Fat) (sym is) (sym (ap kind_of (t_is ∙ ap (λ m. type_forms.Pointer m u r) mark_is)))
+
   stored_given : (x : Dereference) (d : Converted) (u : ValueType) (t : Ty) (v : ValueType) → passed_kind d ≡ kind_of t → v ≡ (if tests.is_moved t then Void else Value t) → IsGiven (given b.functions (Store x d u)) v
   stored_given x (Convert from to a) u t v kind is = assigned_given (Global 0) (Convert from to a) u t v kind is
 
@@ -359,19 +368,31 @@ module _ (b : Numbering) (types : Types) where
   looked_fits a c v suits few well_fits (inl well) = well_fits well
   looked_fits a c v suits few well_fits (inr peek) = absurd peek
 
+module _ (b : Numbering) where
+  -- the elements of an array have one counter more
+  suits_inside : (types : Types) (c : Context) (slot : ℕ) → Suits b types c → Suits b (counted types slot) (with_counter c)
+  suits_inside types c slot suits = record {
+    functions = suits.functions;
+    structs = suits.structs;
+    variables = suits.variables;
+    counters = ap suc suits.counters ∙ sym (length-append types.counters (slot ∷ []) ∙ omega arith);
+    result = suits.result;
+  }
+
   mutual
-    fits : (a : Expression) (c : Context) (v : ValueType) → Suits c → IsLowerable b a → WellTyped c a v → IsGiven (given b.functions a) v × Fits b types a
-    fits (Number n) c v suits numbered is = (subst (IsGiven kinds.Int) (sym is) refl, tt)
-    fits NullPointer c v suits numbered is = (subst (IsGiven kinds.Nullable) (sym is) refl, tt)
-    fits (Copy (Local p n) t) c v suits few (there, stays, is) = (subst (IsGiven (kind_of t)) (sym is) refl, (few, room_in c n t (kind_of t) suits there.1 refl))
-    fits (Move p n t) c v suits few (there, moved, is) = (subst (IsGiven (kind_of t)) (sym is) refl, (few, room_in c n t (kind_of t) suits there.1 refl))
-    fits (Peek p n t) c v suits few well = absurd well
-    fits (Copy (Global n) t) c v suits few (there, stays, is) = (subst (IsGiven (kind_of t)) (sym is) refl, few)
-    fits (Call f cs u) c v suits (s, signature, many, numbered) (s', m, callee, long, regions, passed, live, outliving, u_is, v_is) =
-        let agree = same_signature f c s' s suits callee signature in
+    fits : (types : Types) → (a : Expression) (c : Context) (v : ValueType) → Suits b types c → IsLowerable b a → WellTyped c a v → IsGiven (given b.functions a) v × Fits b types a
+    fits types (Number n) c v suits numbered is = (subst (IsGiven kinds.Int) (sym is) refl, tt)
+    fits types NullPointer c v suits numbered is = (subst (IsGiven kinds.Nullable) (sym is) refl, tt)
+    fits types (Copy (Local p n) t) c v suits few (there, stays, is) = (subst (IsGiven (kind_of t)) (sym is) refl, (few, room_in b types c n t (kind_of t) suits there.1 refl))
+    fits types (Move p n t) c v suits few (there, moved, is) = (subst (IsGiven (kind_of t)) (sym is) refl, (few, room_in b types c n t (kind_of t) suits there.1 refl))
+    fits types (Peek p n t) c v suits few well = absurd well
+    fits types (Counter l) c v suits numbered (few, is) = (subst (IsGiven kinds.Int) (sym is) refl, omega (arith, few, suits.counters))
+    fits types (Copy (Global n) t) c v suits few (there, stays, is) = (subst (IsGiven (kind_of t)) (sym is) refl, few)
+    fits types (Call f cs u) c v suits (s, signature, many, numbered) (s', m, callee, long, regions, passed, live, outliving, u_is, v_is) =
+        let agree = same_signature b types f c s' s suits callee signature in
         let u_result : u ≡ result_type (option_map (substituted_ty m) s.result) = u_is ∙ ap (λ (x : Signature). result_type (option_map (substituted_ty m) x.result)) agree in
-        let (words, fitting) = fit_arguments cs c (instantiated m s').parameters suits numbered passed in (
-          subst (λ kind. IsGiven kind v) (sym (called_is f s signature)) (given_result m s.result v (v_is ∙ u_result)),
+        let (words, fitting) = fit_arguments types cs c (instantiated m s').parameters suits numbered passed in (
+          subst (λ kind. IsGiven kind v) (sym (called_is b types f s signature)) (given_result m s.result v (v_is ∙ u_result)),
           (
             s,
             signature,
@@ -381,71 +402,73 @@ module _ (b : Numbering) (types : Types) where
             fitting,
           ),
         )
-    fits (Unary unary.Not a) c v suits numbered (w, (well, tested), is) = (subst (IsGiven kinds.Int) (sym is) refl, (looked_fits a c w suits numbered (λ h. fits a c w suits numbered h) well).1)
-    fits (Unary unary.Negate a) c v suits numbered (w, (well, int), is) = (subst (IsGiven kinds.Int) (sym is) refl, (fits a c w suits numbered well).1)
-    fits (Unary unary.Complement a) c v suits numbered (w, (well, int), is) = (subst (IsGiven kinds.Int) (sym is) refl, (fits a c w suits numbered well).1)
-    fits (Binary a os u) c v suits (numbered, all) (w, left, chain, is) =
+    fits types (Unary unary.Not a) c v suits numbered (w, (well, tested), is) = (subst (IsGiven kinds.Int) (sym is) refl, (looked_fits b types a c w suits numbered (λ h. fits types a c w suits numbered h) well).1)
+    fits types (Unary unary.Negate a) c v suits numbered (w, (well, int), is) = (subst (IsGiven kinds.Int) (sym is) refl, (fits types a c w suits numbered well).1)
+    fits types (Unary unary.Complement a) c v suits numbered (w, (well, int), is) = (subst (IsGiven kinds.Int) (sym is) refl, (fits types a c w suits numbered well).1)
+    fits types (Binary a os u) c v suits (numbered, all) (w, left, chain, is) =
         let seen = seen_left os a c w left in
-        let (kind, fitting) = looked_fits a c w suits numbered (λ h. fits a c w suits numbered h) seen in (
+        let (kind, fitting) = looked_fits b types a c w suits numbered (λ h. fits types a c w suits numbered h) seen in (
           subst (IsGiven (given b.functions (Binary a os u))) (sym is) (chain_given os c w (given b.functions a) u chain kind),
-          (fitting, fit_operations os c w u (operand_words (type_of a)) suits all chain (omega (arith, ap operand_words (type_given a c w seen)))),
+          (fitting, fit_operations types os c w u (operand_words (type_of a)) suits all chain (omega (arith, ap operand_words (type_given a c w seen)))),
         )
-    fits (Assign (Local p n) d u) c v suits (few, numbered) (t, r, (m, place, home, there), converted, u_is, is) =
-        let (kind, fitting) = fits_converted d c t suits numbered converted in
-        (assigned_given (Local p n) d u t v kind (is ∙ u_is), ((few, room_in c n t (passed_kind d) suits there kind), fitting))
-    fits (Assign (Global n) d u) c v suits ((few, single), numbered) (t, r, (home, there), converted, u_is, is) =
-        let (kind, fitting) = fits_converted d c t suits numbered converted in
-        (assigned_given (Global n) d u t v kind (is ∙ u_is), ((few, sym (passed_is d) ∙ single), fitting))
-    fits (Load x) c v suits numbered (u, r, cell, flat, shared, is) =
-        let (same, fitting) = fits_cell x c u r suits numbered cell in
+    fits types (Assign (Local p n) d u) c v suits (few, numbered) (t, r, (m, place, home, there), converted, u_is, is) =
+        let (kind, fitting) = fits_converted types d c t suits numbered converted in
+        (assigned_given b types (Local p n) d u t v kind (is ∙ u_is), ((few, room_in b types c n t (passed_kind d) suits there kind), fitting))
+    fits types (Assign (Global n) d u) c v suits ((few, single), numbered) (t, r, (home, there), converted, u_is, is) =
+        let (kind, fitting) = fits_converted types d c t suits numbered converted in
+        (assigned_given b types (Global n) d u t v kind (is ∙ u_is), ((few, sym (passed_is b types d) ∙ single), fitting))
+    fits types (Load x) c v suits numbered (u, r, cell, flat, shared, is) =
+        let (same, fitting) = fits_cell types x c u r suits numbered cell in
         (subst (IsGiven (kind_of (type_of_place x))) (sym (is ∙ ap Value same)) refl, fitting)
-    fits (AddressOfCell x t) c v suits numbered (u, r, cell, stays, shared, t_is, is) =
-        (subst (IsGiven kinds.NonNull) (sym (is ∙ ap Value t_is)) refl, (fits_cell x c u r suits numbered cell).1)
-    fits (Store x d u) c v suits (place, numbered) (t, r, cell, converted, u_is, is) =
-        let (same, fits_place) = fits_cell x c t r suits place cell in
-        let (kind, fitting) = fits_converted d c t suits numbered converted in
-        let single = ap words_of_kind kind ∙ type_words t ∙ ap words_of same ∙ cell_single x place in
-        (stored_given x d u t v kind (is ∙ u_is), (fits_place, single, fitting))
-    fits (FreeUnique a) c v suits numbered (k, u, well, is) = (subst (IsGiven kinds.Int) (sym is) tt, (fits a c _ suits numbered well).1)
-    fits (New OnHeap (Plain kind a) t) c v suits numbered (mark, u, r, place, made, t_is, is) =
-        (pointer_given mark u r t v made.3 t_is is, fits_object (Plain kind a) c mark u suits numbered made)
-    fits (New OnHeap (Fields cs) t) c v suits numbered (mark, u, r, place, (n, rs, s, there, many, passed, u_is, mark_is), t_is, is) =
-        (pointer_given mark u r t v mark_is t_is is, fits_object (Fields cs) c mark u suits numbered (n, rs, s, there, many, passed, u_is, mark_is))
-    fits (New OnHeap (Array p level n kind a) t) c v suits numbered well = absurd numbered
-    fits (New AsUnique (Plain kind a) t) c v suits numbered (mark, u, r, place, made, t_is, is) =
-        (pointer_given mark u r t v made.3 t_is is, fits_object (Plain kind a) c mark u suits numbered made)
-    fits (New AsUnique (Fields cs) t) c v suits numbered (mark, u, r, place, (n, rs, s, there, many, passed, u_is, mark_is), t_is, is) =
-        (pointer_given mark u r t v mark_is t_is is, fits_object (Fields cs) c mark u suits numbered (n, rs, s, there, many, passed, u_is, mark_is))
-    fits (New AsUnique (Array p level n kind a) t) c v suits numbered well = absurd numbered
-    fits (New (ByHandle h) i t) c v suits numbered well = absurd numbered
-    fits a c v suits numbered well = absurd numbered
+    fits types (AddressOfCell x t) c v suits numbered (u, r, cell, stays, shared, t_is, is) =
+        (subst (IsGiven kinds.NonNull) (sym (is ∙ ap Value t_is)) refl, (fits_cell types x c u r suits numbered cell).1)
+    fits types (Store x d u) c v suits (place, numbered) (t, r, cell, converted, u_is, is) =
+        let (same, fits_place) = fits_cell types x c t r suits place cell in
+        let (kind, fitting) = fits_converted types d c t suits numbered converted in
+        let single = ap words_of_kind kind ∙ type_words t ∙ ap words_of same ∙ cell_single b types x place in
+        (stored_given b types x d u t v kind (is ∙ u_is), (fits_place, single, fitting))
+    fits types (FreeUnique a) c v suits numbered (k, u, well, is) = (subst (IsGiven kinds.Int) (sym is) tt, (fits types a c _ suits numbered well).1)
+    fits types (New OnHeap (Plain kind a) t) c v suits numbered (mark, u, r, place, made, t_is, is) =
+        (pointer_given b types mark u r t v made.3 t_is is, fits_object types (Plain kind a) c mark u suits numbered made)
+    fits types (New OnHeap (Fields cs) t) c v suits numbered (mark, u, r, place, (n, rs, s, there, many, passed, u_is, mark_is), t_is, is) =
+        (pointer_given b types mark u r t v mark_is t_is is, fits_object types (Fields cs) c mark u suits numbered (n, rs, s, there, many, passed, u_is, mark_is))
+    fits types (New OnHeap (Array p level n kind a) t) c v suits (single, count, numbered) (mark, u, r, place, (level_is, length, well, unlocked, kind_is, mark_is), t_is, is) =
+        let inside = λ (slot : ℕ). fits (counted types slot) a (with_counter c) (Value u) (suits_inside types c slot suits) numbered well in
+        (array_given b types mark u r t v mark_is t_is is, (level_is ∙ suits.counters, single, kind_is ∙ sym (kinds_same u) ∙ sym (inside 0).0, (fits types n c (Value type_forms.Int) suits count length).1, λ slot. (inside slot).1))
+    fits types (New AsUnique (Plain kind a) t) c v suits numbered (mark, u, r, place, made, t_is, is) =
+        (pointer_given b types mark u r t v made.3 t_is is, fits_object types (Plain kind a) c mark u suits numbered made)
+    fits types (New AsUnique (Fields cs) t) c v suits numbered (mark, u, r, place, (n, rs, s, there, many, passed, u_is, mark_is), t_is, is) =
+        (pointer_given b types mark u r t v mark_is t_is is, fits_object types (Fields cs) c mark u suits numbered (n, rs, s, there, many, passed, u_is, mark_is))
+    fits types (New AsUnique (Array p level n kind a) t) c v suits numbered well = absurd numbered
+    fits types (New (ByHandle h) i t) c v suits numbered well = absurd numbered
+    fits types a c v suits numbered well = absurd numbered
 
-    fits_object : (i : Initial) (c : Context) (mark : PointerKind) (u : Ty) → Suits c → IsLowerableObject b i → IsMade c i mark u → FitsObject b types i
-    fits_object (Plain kind a) c mark u suits (single, numbered) (well, unlocked, kind_is, mark_is) =
-        let (given_is, fitting) = fits a c (Value u) suits numbered well in
+    fits_object : (types : Types) → (i : Initial) (c : Context) (mark : PointerKind) (u : Ty) → Suits b types c → IsLowerableObject b i → IsMade c i mark u → FitsObject b types i
+    fits_object types (Plain kind a) c mark u suits (single, numbered) (well, unlocked, kind_is, mark_is) =
+        let (given_is, fitting) = fits types a c (Value u) suits numbered well in
         (single, kind_is ∙ sym (kinds_same u) ∙ sym given_is, fitting)
-    fits_object (Fields cs) c mark u suits (single, some, few, numbered) (n, rs, s, there, many, passed, u_is, mark_is) =
-        (single, some, few, (fit_arguments cs c (map (substituted_ty rs) s.fields) suits numbered passed).1)
-    fits_object (Array p level n kind a) c mark u suits numbered made = absurd numbered
+    fits_object types (Fields cs) c mark u suits (single, some, few, numbered) (n, rs, s, there, many, passed, u_is, mark_is) =
+        (single, some, few, (fit_arguments types cs c (map (substituted_ty rs) s.fields) suits numbered passed).1)
+    fits_object types (Array p level n kind a) c mark u suits numbered made = absurd numbered
 
-    fits_cell : (x : Dereference) (c : Context) (t : Ty) (r : Region) → Suits c → IsLowerableCell b x → IsCell c x t r → (t ≡ type_of_place x) × FitsCell b types x
-    fits_cell (Target k a u) c t r suits (thin, single, numbered) (m, well, live, kind, same) =
-        (same, (thin, single, (looked_fits a c (Value (type_forms.Pointer m u r)) suits numbered (λ h. fits a c (Value (type_forms.Pointer m u r)) suits numbered h) well).1))
-    fits_cell (Member k a s f u) c t r suits (thin, single, numbered) (m, rs, st, w, well, mark, live, kind, there, field, is_u, same) =
+    fits_cell : (types : Types) → (x : Dereference) (c : Context) (t : Ty) (r : Region) → Suits b types c → IsLowerableCell b x → IsCell c x t r → (t ≡ type_of_place x) × FitsCell b types x
+    fits_cell types (Target k a u) c t r suits (thin, single, numbered) (m, well, live, kind, same) =
+        (same, (thin, single, (looked_fits b types a c (Value (type_forms.Pointer m u r)) suits numbered (λ h. fits types a c (Value (type_forms.Pointer m u r)) suits numbered h) well).1))
+    fits_cell types (Member k a s f u) c t r suits (thin, single, numbered) (m, rs, st, w, well, mark, live, kind, there, field, is_u, same) =
         let pointer = Value (type_forms.Pointer m (type_forms.Struct s rs) r) in (
           same,
           (
             thin,
             single,
             (st, ap (λ (ss : List StructType). slice_get ss s) (sym suits.structs) ∙ there, below_of_get st.fields f w field),
-            (looked_fits a c pointer suits numbered (λ h. fits a c pointer suits numbered h) well).1,
+            (looked_fits b types a c pointer suits numbered (λ h. fits types a c pointer suits numbered h) well).1,
           ),
         )
-    fits_cell x c t r suits numbered cell = absurd numbered
+    fits_cell types x c t r suits numbered cell = absurd numbered
 
-    fits_converted : (d : Converted) (c : Context) (t : Ty) → Suits c → IsLowerableConverted b d → IsConverted c d t → (passed_kind d ≡ kind_of t) × FitsConverted b types d
-    fits_converted (Convert from to a) c t suits (wide, numbered) (v, well, converts, from_is, to_is) =
-        let (kind, fitting) = fits a c v suits numbered well in
+    fits_converted : (types : Types) → (d : Converted) (c : Context) (t : Ty) → Suits b types c → IsLowerableConverted b d → IsConverted c d t → (passed_kind d ≡ kind_of t) × FitsConverted b types d
+    fits_converted types (Convert from to a) c t suits (wide, numbered) (v, well, converts, from_is, to_is) =
+        let (kind, fitting) = fits types a c v suits numbered well in
         (to_is ∙ sym (kinds_same t), (from_given v converts from_is kind, wide, fitting))
       where
         from_given : (w : ValueType) → Converts c w t → from ≡ tests.kind_of_value w → IsGiven (given b.functions a) w → from ≡ given b.functions a
@@ -453,78 +476,79 @@ module _ (b : Numbering) (types : Types) where
         from_given type_forms.Null can is kind = is ∙ sym kind
         from_given (Value u) can is kind = is ∙ sym (kinds_same u) ∙ sym kind
 
-    fit_arguments : (ds : Arguments) (c : Context) (ts : List Ty) → Suits c → AreLowerableArguments b ds → ArePassed c ts ds → (all_passed ds ≡ words_of_all ts) × FitArguments b types ds
-    fit_arguments NoArguments c [] suits numbered passed = (refl, tt)
-    fit_arguments NoArguments c (t ∷ ts) suits numbered passed = absurd passed
-    fit_arguments (MoreArguments d ds) c [] suits numbered passed = absurd passed
-    fit_arguments (MoreArguments d ds) c (t ∷ ts) suits (one, all) (passed, rest) =
-        let (kind, fitting) = fits_converted d c t suits one passed in
-        let (words, others) = fit_arguments ds c ts suits all rest in
-        (omega (arith, words, passed_is d, ap words_of_kind kind, type_words t), (fitting, others))
+    fit_arguments : (types : Types) → (ds : Arguments) (c : Context) (ts : List Ty) → Suits b types c → AreLowerableArguments b ds → ArePassed c ts ds → (all_passed ds ≡ words_of_all ts) × FitArguments b types ds
+    fit_arguments types NoArguments c [] suits numbered passed = (refl, tt)
+    fit_arguments types NoArguments c (t ∷ ts) suits numbered passed = absurd passed
+    fit_arguments types (MoreArguments d ds) c [] suits numbered passed = absurd passed
+    fit_arguments types (MoreArguments d ds) c (t ∷ ts) suits (one, all) (passed, rest) =
+        let (kind, fitting) = fits_converted types d c t suits one passed in
+        let (words, others) = fit_arguments types ds c ts suits all rest in
+        (omega (arith, words, passed_is b types d, ap words_of_kind kind, type_words t), (fitting, others))
 
     -- behind a left operand of at most so many words
-    fit_operations : (os : Operations) (c : Context) (left : ValueType) (u : Ty) (words : ℕ) → Suits c → AreLowerableOperations b os → IsChain c left os u → operand_words left ≤ words → FitOperations b types words u os
-    fit_operations NoOperations c left u words suits all is few = tt
-    fit_operations (ThenCompute o x os) c left u words suits (one, all) (is, right, rest) few =
-        ((fits x c (Value type_forms.Int) suits one right).1, fit_operations os c (Value type_forms.Int) u (words_of u) suits all rest (words_positive u))
-    fit_operations (ThenTest o x os) c left u words suits (one, all) (is, (y, right, tested), rest) few =
-        ((looked_fits x c y suits one (λ h. fits x c y suits one h) right).1, fit_operations os c (Value type_forms.Int) u (words_of u) suits all rest (words_positive u))
-    fit_operations (ThenPointer o x os) c left u words suits (alone, one, all) (v, w, right, operation, rest) few = (
+    fit_operations : (types : Types) → (os : Operations) (c : Context) (left : ValueType) (u : Ty) (words : ℕ) → Suits b types c → AreLowerableOperations b os → IsChain c left os u → operand_words left ≤ words → FitOperations b types words u os
+    fit_operations types NoOperations c left u words suits all is few = tt
+    fit_operations types (ThenCompute o x os) c left u words suits (one, all) (is, right, rest) few =
+        ((fits types x c (Value type_forms.Int) suits one right).1, fit_operations types os c (Value type_forms.Int) u (words_of u) suits all rest (words_positive u))
+    fit_operations types (ThenTest o x os) c left u words suits (one, all) (is, (y, right, tested), rest) few =
+        ((looked_fits b types x c y suits one (λ h. fits types x c y suits one h) right).1, fit_operations types os c (Value type_forms.Int) u (words_of u) suits all rest (words_positive u))
+    fit_operations types (ThenPointer o x os) c left u words suits (alone, one, all) (v, w, right, operation, rest) few = (
       omega (arith, left_least o c left v w operation, few),
-      (looked_fits x c v suits one (λ h. fits x c v suits one h) right).1,
-      fit_operations os c w u (words_of u) suits all rest (next_words o os c left v w u alone operation rest),
+      (looked_fits b types x c v suits one (λ h. fits types x c v suits one h) right).1,
+      fit_operations types os c w u (words_of u) suits all rest (next_words o os c left v w u alone operation rest),
     )
-    fit_operations (ThenPointerPeek n o x os) c left u words suits (alone, one, all) (v, w, right, operation, rest) few = (
+    fit_operations types (ThenPointerPeek n o x os) c left u words suits (alone, one, all) (v, w, right, operation, rest) few = (
       omega (arith, left_least o c left v w operation, few),
-      (looked_fits x c v suits one (λ h. fits x c v suits one h) right).1,
-      fit_operations os c w u (words_of u) suits all rest (next_words o os c left v w u alone operation rest),
+      (looked_fits b types x c v suits one (λ h. fits types x c v suits one h) right).1,
+      fit_operations types os c w u (words_of u) suits all rest (next_words o os c left v w u alone operation rest),
     )
 
-  fits_condition : (a : Expression) (c : Context) → Suits c → IsLowerable b a → IsCondition c a → Fits b types a
-  fits_condition a c suits numbered (v, well, tested) = (looked_fits a c v suits numbered (λ h. fits a c v suits numbered h) well).1
+module _ (b : Numbering) (types : Types) where
+  fits_condition : (a : Expression) (c : Context) → Suits b types c → IsLowerable b a → IsCondition c a → Fits b types a
+  fits_condition a c suits numbered (v, well, tested) = (looked_fits b types a c v suits numbered (λ h. fits b types a c v suits numbered h) well).1
 
-  fits_return : (result : Option Ty) (v : Option Converted) (c : Context) → Suits c → IsLowerableReturn b result v → IsReturned c result v → FitsReturn b types result v
+  fits_return : (result : Option Ty) (v : Option Converted) (c : Context) → Suits b types c → IsLowerableReturn b result v → IsReturned c result v → FitsReturn b types result v
   fits_return None None c suits numbered well = tt
   fits_return None (Some d) c suits numbered well = absurd numbered
   fits_return (Some t) None c suits numbered well = absurd numbered
-  fits_return (Some t) (Some d) c suits numbered well = fits_converted d c t suits numbered well
+  fits_return (Some t) (Some d) c suits numbered well = fits_converted b types d c t suits numbered well
 
-  fits_initial : (v : Option Converted) (n : ℕ) (t : Ty) (c : Context) → Suits c → slice_get c.variables n ≡ Some t → IsLowerableInitial b v → IsInitial c v t → FitsInitial b types n v
+  fits_initial : (v : Option Converted) (n : ℕ) (t : Ty) (c : Context) → Suits b types c → slice_get c.variables n ≡ Some t → IsLowerableInitial b v → IsInitial c v t → FitsInitial b types n v
   fits_initial None n t c suits there numbered well = tt
   fits_initial (Some d) n t c suits there numbered well =
-      let (kind, fitting) = fits_converted d c t suits numbered well in
-      (room_in c n t (passed_kind d) suits there kind, fitting)
+      let (kind, fitting) = fits_converted b types d c t suits numbered well in
+      (room_in b types c n t (passed_kind d) suits there kind, fitting)
 
-  suits_behind : (s : Statement) (c : Context) → Suits c → Suits (behind c s)
-  suits_behind s c suits = record { functions = suits.functions; structs = suits.structs; variables = suits.variables; result = suits.result }
+  suits_behind : (s : Statement) (c : Context) → Suits b types c → Suits b types (behind c s)
+  suits_behind s c suits = record { functions = suits.functions; structs = suits.structs; variables = suits.variables; counters = suits.counters; result = suits.result }
 
-  fits_side : (x : Side) (c : Context) (t : Ty) → Suits c → IsLowerableSide b x → IsSide c x t → (t ≡ type_of_side x) × (words_of (type_of_side x) ≡ 1) × FitsSide b types x (kind_of t)
-  fits_side (VariableSide (Local p n) u) c t suits (single, within) (r, (m, place, home, there), is) = (is, single, (within, room_in c n u (kind_of t) suits there (ap kind_of is)))
+  fits_side : (x : Side) (c : Context) (t : Ty) → Suits b types c → IsLowerableSide b x → IsSide c x t → (t ≡ type_of_side x) × (words_of (type_of_side x) ≡ 1) × FitsSide b types x (kind_of t)
+  fits_side (VariableSide (Local p n) u) c t suits (single, within) (r, (m, place, home, there), is) = (is, single, (within, room_in b types c n u (kind_of t) suits there (ap kind_of is)))
   fits_side (VariableSide (Global n) u) c t suits (single, within) (r, place, is) = (is, single, within)
   fits_side (CellSide x) c t suits numbered (r, cell) =
-      let (same, fitting) = fits_cell x c t r suits numbered cell in
-      (same, cell_single x numbered, fitting)
+      let (same, fitting) = fits_cell b types x c t r suits numbered cell in
+      (same, cell_single b types x numbered, fitting)
 
-  suits_caught : (x : Option ℕ) (c : Context) → Suits c → Suits (with_caught x (in_block c))
-  suits_caught None c suits = record { functions = suits.functions; structs = suits.structs; variables = suits.variables; result = suits.result }
-  suits_caught (Some n) c suits = record { functions = suits.functions; structs = suits.structs; variables = suits.variables; result = suits.result }
+  suits_caught : (x : Option ℕ) (c : Context) → Suits b types c → Suits b types (with_caught x (in_block c))
+  suits_caught None c suits = record { functions = suits.functions; structs = suits.structs; variables = suits.variables; counters = suits.counters; result = suits.result }
+  suits_caught (Some n) c suits = record { functions = suits.functions; structs = suits.structs; variables = suits.variables; counters = suits.counters; result = suits.result }
 
-  fits_thrown : (v : Option Expression) (has : Bool) (c : Context) → Suits c → IsLowerableThrown b v → IsThrown c has v → FitsThrown b types v
+  fits_thrown : (v : Option Expression) (has : Bool) (c : Context) → Suits b types c → IsLowerableThrown b v → IsThrown c has v → FitsThrown b types v
   fits_thrown None has c suits numbered well = tt
-  fits_thrown (Some a) true c suits numbered well = (fits a c (Value type_forms.Int) suits numbered well).1
+  fits_thrown (Some a) true c suits numbered well = (fits b types a c (Value type_forms.Int) suits numbered well).1
   fits_thrown (Some a) false c suits numbered well = absurd well
 
-  fits_caught : (x : Option ℕ) (has : Bool) (c : Context) → Suits c → IsLowerableCaught b x → IsCaught c has x → FitsCaught b types x
+  fits_caught : (x : Option ℕ) (has : Bool) (c : Context) → Suits b types c → IsLowerableCaught b x → IsCaught c has x → FitsCaught b types x
   fits_caught None has c suits numbered well = tt
-  fits_caught (Some n) true c suits numbered (next, there) = (numbered, room_in c n type_forms.Int kinds.Int suits there refl)
+  fits_caught (Some n) true c suits numbered (next, there) = (numbered, room_in b types c n type_forms.Int kinds.Int suits there refl)
   fits_caught (Some n) false c suits numbered well = absurd well
 
   mutual
-    fits_statement : (s : Statement) (l : Bool) (c : Context) → Suits c → IsLowerableStatement b l s → WellTypedStatement c s → FitsStatement b types l s
+    fits_statement : (s : Statement) (l : Bool) (c : Context) → Suits b types c → IsLowerableStatement b l s → WellTypedStatement c s → FitsStatement b types l s
     fits_statement (Block r js) l c suits numbered (next, well) =
-        fit_items js l (in_block c) (record { functions = suits.functions; structs = suits.structs; variables = suits.variables; result = suits.result }) numbered well
+        fit_items js l (in_block c) (record { functions = suits.functions; structs = suits.structs; variables = suits.variables; counters = suits.counters; result = suits.result }) numbered well
     fits_statement Empty l c suits numbered well = tt
-    fits_statement (Evaluate a) l c suits numbered (t, well) = (fits a c t suits numbered well).1
+    fits_statement (Evaluate a) l c suits numbered (t, well) = (fits b types a c t suits numbered well).1
     fits_statement (Swap x y) l c suits (low_x, low_y, waits) (t, side_x, side_y, flat) =
         let (same, single, fits_x) = fits_side x c t suits low_x side_x in
         let (same_y, single_y, fits_y) = fits_side y c t suits low_y side_y in
@@ -533,7 +557,7 @@ module _ (b : Numbering) (types : Types) where
         (fits_condition a c suits numbered_a well_a, fits_statement s l c suits numbered_s well_s, fits_statement t l (behind c s) (suits_behind s c suits) numbered_t well_t)
     fits_statement (While p a s) l c suits (numbered_a, numbered_s) (well_a, well_s) = (
       fits_condition a c suits numbered_a well_a,
-      fits_statement s true (in_body c) (record { functions = suits.functions; structs = suits.structs; variables = suits.variables; result = suits.result }) numbered_s well_s,
+      fits_statement s true (in_body c) (record { functions = suits.functions; structs = suits.structs; variables = suits.variables; counters = suits.counters; result = suits.result }) numbered_s well_s,
     )
     fits_statement (Return v) l c suits numbered well = fits_return b.result v c suits numbered (subst (λ (r : Option Ty). IsReturned c r v) suits.result well)
     fits_statement Break l c suits numbered well = numbered
@@ -541,37 +565,37 @@ module _ (b : Numbering) (types : Types) where
     fits_statement (Throw tag v) l c suits (word, numbered) (has, known, well) = (word, fits_thrown v has c suits numbered well)
     fits_statement (Try s cs) l c suits (numbered_s, numbered) (well_s, well) = (fits_statement s l c suits numbered_s well_s, fit_clauses cs l (behind c s) (suits_behind s c suits) numbered well)
 
-    fit_items : (js : Items) (l : Bool) (c : Context) → Suits c → AreLowerableItems b l js → WellTypedItems c js → FitItems b types l js
+    fit_items : (js : Items) (l : Bool) (c : Context) → Suits b types c → AreLowerableItems b l js → WellTypedItems c js → FitItems b types l js
     fit_items NoItems l c suits numbered well = tt
     fit_items (MoreItems (Execute s) js) l c suits (one, all) (well, rest) =
         (fits_statement s l c suits one well, fit_items js l (behind c s) (suits_behind s c suits) all rest)
     fit_items (MoreItems (Declare n t v) js) l c suits (few, one, all) ((next, there, live), well, rest) = (
       few,
       fits_initial v n t c suits there one well,
-      fit_items js l (with_local true t c) (record { functions = suits.functions; structs = suits.structs; variables = suits.variables; result = suits.result }) all rest,
+      fit_items js l (with_local true t c) (record { functions = suits.functions; structs = suits.structs; variables = suits.variables; counters = suits.counters; result = suits.result }) all rest,
     )
     fit_items js l c suits numbered well = absurd numbered
 
-    fit_clauses : (cs : Clauses) (l : Bool) (c : Context) → Suits c → AreLowerableClauses b l cs → WellTypedClauses c cs → FitClauses b types l cs
+    fit_clauses : (cs : Clauses) (l : Bool) (c : Context) → Suits b types c → AreLowerableClauses b l cs → WellTypedClauses c cs → FitClauses b types l cs
     fit_clauses NoClauses l c suits numbered well = tt
     fit_clauses (Default r js) l c suits numbered (next, well) =
-        fit_items js l (in_block c) (record { functions = suits.functions; structs = suits.structs; variables = suits.variables; result = suits.result }) numbered well
+        fit_items js l (in_block c) (record { functions = suits.functions; structs = suits.structs; variables = suits.variables; counters = suits.counters; result = suits.result }) numbered well
     fit_clauses (Case tag x r js cs) l c suits (word, few, one, all) (has, known, caught, next, well, rest) = (
       word,
       fits_caught x has c suits few caught,
       fit_items js l (with_caught x (in_block c)) (suits_caught x c suits) one well,
-      fit_clauses cs l (behind_clause c x js) (record { functions = suits.functions; structs = suits.structs; variables = suits.variables; result = suits.result }) all rest,
+      fit_clauses cs l (behind_clause c x js) (record { functions = suits.functions; structs = suits.structs; variables = suits.variables; counters = suits.counters; result = suits.result }) all rest,
     )
 
-  pub body_fits : (js : Items) (c : Context) → c.functions ≡ b.functions → c.structs ≡ types.structs → c.variables ≡ types.locals → c.result ≡ b.result → AreLowerableItems b false js → WellTypedItems c js → FitItems b types false js
-  body_fits js c functions structs variables result numbered well = fit_items js false c (record { functions = functions; structs = structs; variables = variables; result = result }) numbered well
+  pub body_fits : (js : Items) (c : Context) → c.functions ≡ b.functions → c.structs ≡ types.structs → c.variables ≡ types.locals → c.counters ≡ length types.counters → c.result ≡ b.result → AreLowerableItems b false js → WellTypedItems c js → FitItems b types false js
+  body_fits js c functions structs variables counters result numbered well = fit_items js false c (record { functions = functions; structs = structs; variables = variables; counters = counters; result = result }) numbered well
 
 -- ---- programs
 
 functions_fit : (p : Program) (hs : List Function) → AreLowerableFunctions (length p.globals) (signatures_of p.functions) hs → AreWellTypedFunctions p hs → AreFitting p.structs (length p.globals) (signatures_of p.functions) hs
 functions_fit p [] numbered well = tt
 functions_fit p (h ∷ hs) (one, all) (well, rest) =
-    (body_fits (numbering_of (length p.globals) (signatures_of p.functions) h) (types_of p.structs h) h.body (body_context p h) refl refl refl refl one well.body, functions_fit p hs all rest)
+    (body_fits (numbering_of (length p.globals) (signatures_of p.functions) h) (types_of p.structs h) h.body (body_context p h) refl refl refl refl refl one well.body, functions_fit p hs all rest)
 
 pub is_fitting_program : (p : Program) → IsLowerableProgram p → IsWellTypedProgram p → IsFitting p
 is_fitting_program p numbered well = record {

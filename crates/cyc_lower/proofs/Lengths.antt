@@ -9,7 +9,7 @@ use Rattle.cyc_types.specs.declared.typed.Operator.{Operator}
 use Rattle.cyc_types.specs.declared.typed.Operator.TheVariants as operators
 use Rattle.cyc_types.specs.declared.typed.PointerOperator.{PointerOperator}
 use Rattle.cyc_types.specs.declared.typed.PointerOperator.TheVariants as pointers
-use Rattle.cyc_types.specs.TypedTrees.{Load, New, OnHeap, Initial, Plain, Fields, Dereference, Target, Member, Element, Lvalue, Local, Global, Expression, Number, NullPointer, Copy, Call, Unary, Binary, Assign, Converted, Convert, Arguments, NoArguments, MoreArguments, Operations, NoOperations, ThenCompute, ThenTest, ThenPointer, ThenPointerPeek, Statement, Block, Empty, Evaluate, If, While, Return, Break, Continue, Items, NoItems, MoreItems, Execute, Declare, StructType, Function, Move, Peek, AddressOfCell, Store, AsUnique, FreeUnique, Side, VariableSide, CellSide, Swap, Throw, Try, Clauses, NoClauses, Default, Case}
+use Rattle.cyc_types.specs.TypedTrees.{Load, New, OnHeap, Initial, Plain, Fields, Array, Dereference, Target, Member, Element, Lvalue, Local, Global, Expression, Number, NullPointer, Copy, Call, Unary, Binary, Assign, Converted, Convert, Arguments, NoArguments, MoreArguments, Operations, NoOperations, ThenCompute, ThenTest, ThenPointer, ThenPointerPeek, Statement, Block, Empty, Evaluate, If, While, Return, Break, Continue, Items, NoItems, MoreItems, Execute, Declare, StructType, Function, Move, Peek, AddressOfCell, Store, AsUnique, FreeUnique, Side, VariableSide, CellSide, Swap, Throw, Try, Clauses, NoClauses, Default, Case}
 use Rattle.cyc_types.specs.Types.{words_of}
 use Rattle.cyc_types.specs.Numbered.{argument_count}
 use Rattle.cyc_plain.specs.declared.instruction.Operand.{Operand}
@@ -17,8 +17,8 @@ use Rattle.cyc_plain.specs.declared.instruction.Operand.TheVariants as operands
 use Rattle.cyc_plain.specs.declared.instruction.Instruction.{Instruction}
 use Rattle.cyc_store.specs.declared.range.TheConstants.{HEAP, UNIQUE}
 use Rattle.cyc_lower.specs.declared.statements.Exits.{Exits}
-use Rattle.cyc_lower.specs.Slots.{Starts, starts_of, slot_of}
-use Rattle.cyc_lower.specs.Lowering.{types_with, types_of, raises_of, body_code, first_temporary, outside_loops, are_as_wide, converts_there, passed_words, operand_of, operand_or, code_unless, code_unless_slot, left_with, left_of, value_slot, slot_with, left_slot, value_operand, next_slot, source_of, source_slot, converted_operand, converted_by, moved_by, conversion_code, divisor_code, operator_code, pointer_instructions, first_two, load_code, copy_code, address_code, object_code, place_operand, place_offset, expression_code, place_code, made_code, arguments_code, converted_code, converted_operand_code, printed_code, initial_code, operations_code, assignment_code, discarded_code, first_code, second_code, pair_code, condition_code, return_code, declaration_code, statement_code, items_code, behind_left, if_code, while_code, condition_of, failing_jump, compared_of, inside_loop, checked_code, right_slot, side_code, swap_code, thrown_code, caught_code, clauses_code, leave_code, try_code, clause_code, break_target, continue_target}
+use Rattle.cyc_lower.specs.Slots.{with_counter, Starts, starts_of, slot_of}
+use Rattle.cyc_lower.specs.Lowering.{begun_code, filled_code, elements_code, ended_code, types_with, types_of, raises_of, body_code, first_temporary, outside_loops, are_as_wide, converts_there, passed_words, operand_of, operand_or, code_unless, code_unless_slot, left_with, left_of, value_slot, slot_with, left_slot, value_operand, next_slot, source_of, source_slot, converted_operand, converted_by, moved_by, conversion_code, divisor_code, operator_code, pointer_instructions, first_two, load_code, copy_code, address_code, object_code, place_operand, place_offset, expression_code, place_code, made_code, arguments_code, converted_code, converted_operand_code, printed_code, initial_code, operations_code, assignment_code, discarded_code, first_code, second_code, pair_code, condition_code, return_code, declaration_code, statement_code, items_code, behind_left, if_code, while_code, condition_of, failing_jump, compared_of, inside_loop, checked_code, right_slot, side_code, swap_code, thrown_code, caught_code, clauses_code, leave_code, try_code, clause_code, break_target, continue_target}
 use Rattle.cyc_plain.specs.declared.instruction.Instruction.TheVariants as instructions
 use Rattle.cyc_plain.specs.declared.limits.TheConstants.{RECORD_WORDS}
 
@@ -151,142 +151,156 @@ module _ (starts : Starts) (raises : ℕ) where
       → length (code_unless (operand_of starts a) (expression_code starts a p (value_slot starts a t) t)) ≡ length (code_unless (operand_of other a) (expression_code other a q (value_slot other a t) t))
   operand_by a p q t long = unless_long _ _ _ _ (same_operand a) long
 
+module _ (raises : ℕ) where
   mutual
-    expression_long : (a : Expression) (p q d e t : ℕ) → d ≡ e → length (expression_code starts a p d t) ≡ length (expression_code other a q e t)
-    expression_long (Copy l ty) p q d e t same = load_long (words_of ty) l d e
-    expression_long (Move w n ty) p q d e t same = refl
-    expression_long (Peek w n ty) p q d e t same = refl
-    expression_long (Call callees.Putchar cs ty) p q d e t same = joined _ _ _ _ (printed_long cs p q t) refl
-    expression_long (Call callees.Getchar cs ty) p q d e t same = joined _ _ _ _ (arguments_long cs p q t) refl
-    expression_long (Call (callees.Function n) cs ty) p q d e t same = joined _ _ _ _ (arguments_long cs p q t) refl
-    expression_long (Unary o a) p q d e t same = joined _ _ _ _ (operand_by a p q t (expression_long a p q _ _ t (same_slot a t))) refl
-    expression_long (Binary a os ty) p q d e t same =
-        joined _ _ _ _ (unless_long _ _ _ _ (same_left a os) (expression_long a p q _ _ t (same_left_slot a os d e t same)))
-        (operations_long os _ _ _ _ d e t (λ i. operand_or (same_left a os i) (same_left_slot a os d e t same i)) same)
-    expression_long (Assign (Local w n) c ty) p q d e t same =
-        joined _ _ _ _ (initial_long c p q (slot_of starts n) (slot_of starts n) t refl) (λ i. length (copy_code (passed_words c) (operands.Slot (slot_of starts n)) (same i)))
-    expression_long (Assign (Global n) c ty) p q d e t same =
-        joined _ _ _ _ (joined _ _ _ _ (converted_operand_long c p q t) refl) (λ i. length (copy_code (passed_words c) (same_converted c t i) (same i)))
-    expression_long (Load x) p q d e t same = joined _ _ _ _ (place_long x p q t) refl
-    expression_long (AddressOfCell x ty) p q d e t same = joined _ _ _ _ (place_long x p q t) (λ i. length (address_code (same_place x t i) (same_offset x i) (same i)))
-    expression_long (Store x c ty) p q d e t same =
+    expression_long : (starts : Starts) → (a : Expression) (p q d e t : ℕ) → d ≡ e → length (expression_code starts a p d t) ≡ length (expression_code (other starts raises) a q e t)
+    expression_long starts (Copy l ty) p q d e t same = load_long starts raises (words_of ty) l d e
+    expression_long starts (Move w n ty) p q d e t same = refl
+    expression_long starts (Peek w n ty) p q d e t same = refl
+    expression_long starts (Call callees.Putchar cs ty) p q d e t same = joined _ _ _ _ (printed_long starts cs p q t) refl
+    expression_long starts (Call callees.Getchar cs ty) p q d e t same = joined _ _ _ _ (arguments_long starts cs p q t) refl
+    expression_long starts (Call (callees.Function n) cs ty) p q d e t same = joined _ _ _ _ (arguments_long starts cs p q t) refl
+    expression_long starts (Unary o a) p q d e t same = joined _ _ _ _ (operand_by starts raises a p q t (expression_long starts a p q _ _ t (same_slot starts raises a t))) refl
+    expression_long starts (Binary a os ty) p q d e t same =
+        joined _ _ _ _ (unless_long _ _ _ _ (same_left starts raises a os) (expression_long starts a p q _ _ t (same_left_slot starts raises a os d e t same)))
+        (operations_long starts os _ _ _ _ d e t (λ i. operand_or (same_left starts raises a os i) (same_left_slot starts raises a os d e t same i)) same)
+    expression_long starts (Assign (Local w n) c ty) p q d e t same =
+        joined _ _ _ _ (initial_long starts c p q (slot_of starts n) (slot_of starts n) t refl) (λ i. length (copy_code (passed_words c) (operands.Slot (slot_of starts n)) (same i)))
+    expression_long starts (Assign (Global n) c ty) p q d e t same =
+        joined _ _ _ _ (joined _ _ _ _ (converted_operand_long starts c p q t) refl) (λ i. length (copy_code (passed_words c) (same_converted starts raises c t i) (same i)))
+    expression_long starts (Load x) p q d e t same = joined _ _ _ _ (place_long starts x p q t) refl
+    expression_long starts (AddressOfCell x ty) p q d e t same = joined _ _ _ _ (place_long starts x p q t) (λ i. length (address_code (same_place starts raises x t i) (same_offset starts raises x i) (same i)))
+    expression_long starts (Store x c ty) p q d e t same =
         joined _ _ _ _
-        (joined _ _ _ _ (joined _ _ _ _ (place_long x p q t) (λ i. length (address_code (same_place x t i) (same_offset x i) t))) (joined _ _ _ _ (converted_operand_long c _ _ (t + 1)) refl))
-        (λ i. length (copy_code (passed_words c) (same_converted c (t + 1) i) (same i)))
-    expression_long (New OnHeap x ty) p q d e t same = made_long x HEAP p q d e t same
-    expression_long (New AsUnique x ty) p q d e t same = made_long x UNIQUE p q d e t same
-    expression_long (FreeUnique a) p q d e t same = joined _ _ _ _ (operand_by a p q t (expression_long a p q _ _ t (same_slot a t))) refl
-    expression_long a p q d e t same = refl
+        (joined _ _ _ _ (joined _ _ _ _ (place_long starts x p q t) (λ i. length (address_code (same_place starts raises x t i) (same_offset starts raises x i) t))) (joined _ _ _ _ (converted_operand_long starts c _ _ (t + 1)) refl))
+        (λ i. length (copy_code (passed_words c) (same_converted starts raises c (t + 1) i) (same i)))
+    expression_long starts (New OnHeap x ty) p q d e t same = made_long starts x HEAP p q d e t same
+    expression_long starts (New AsUnique x ty) p q d e t same = made_long starts x UNIQUE p q d e t same
+    expression_long starts (FreeUnique a) p q d e t same = joined _ _ _ _ (operand_by starts raises a p q t (expression_long starts a p q _ _ t (same_slot starts raises a t))) refl
+    expression_long starts a p q d e t same = refl
 
-    place_long : (x : Dereference) (p q t : ℕ) → length (place_code starts x p t) ≡ length (place_code other x q t)
-    place_long (Target k a ty) p q t = joined _ _ _ _ (operand_by a p q t (expression_long a p q _ _ t (same_slot a t))) refl
-    place_long (Member k a s f ty) p q t = joined _ _ _ _ (operand_by a p q t (expression_long a p q _ _ t (same_slot a t))) refl
-    place_long (Element a x ty) p q t = refl
+    place_long : (starts : Starts) → (x : Dereference) (p q t : ℕ) → length (place_code starts x p t) ≡ length (place_code (other starts raises) x q t)
+    place_long starts (Target k a ty) p q t = joined _ _ _ _ (operand_by starts raises a p q t (expression_long starts a p q _ _ t (same_slot starts raises a t))) refl
+    place_long starts (Member k a s f ty) p q t = joined _ _ _ _ (operand_by starts raises a p q t (expression_long starts a p q _ _ t (same_slot starts raises a t))) refl
+    place_long starts (Element a x ty) p q t = refl
 
-    made_long : (x : Initial) (handle p q d e t : ℕ) → d ≡ e → length (made_code starts x handle p d t) ≡ length (made_code other x handle q e t)
-    made_long (Plain kind a) handle p q d e t same = joined _ _ _ _ (expression_long a p q t t t refl) (λ i. length (object_code handle 1 (same i) t))
-    made_long (Fields cs) handle p q d e t same = joined _ _ _ _ (arguments_long cs p q t) (λ i. length (object_code handle (argument_count cs) (same i) t))
-    made_long x handle p q d e t same = refl
+    made_long : (starts : Starts) → (x : Initial) (handle p q d e t : ℕ) → d ≡ e → length (made_code starts x handle p d t) ≡ length (made_code (other starts raises) x handle q e t)
+    made_long starts (Plain kind a) handle p q d e t same = joined _ _ _ _ (expression_long starts a p q t t t refl) (λ i. length (object_code handle 1 (same i) t))
+    made_long starts (Fields cs) handle p q d e t same = joined _ _ _ _ (arguments_long starts cs p q t) (λ i. length (object_code handle (argument_count cs) (same i) t))
+    made_long starts (Array w level n kind a) handle p q d e t same =
+        let first = expression_code starts n p t t in
+        let second = expression_code (other starts raises) n q t t in
+        let h = p + length first + 6 in
+        let i = q + length second + 6 in
+        let inner = expression_code (with_counter starts (t + 2)) a (h + 1) (t + 3) (t + 3) in
+        let alike = expression_code (with_counter (other starts raises) (t + 2)) a (i + 1) (t + 3) (t + 3) in
+        joined first (begun_code starts handle t ++ elements_code inner h d t) second (begun_code (other starts raises) handle t ++ elements_code alike i e t) (expression_long starts n p q t t t refl)
+        (joined (begun_code starts handle t) (elements_code inner h d t) (begun_code (other starts raises) handle t) (elements_code alike i e t) refl
+        (ap suc
+        (joined (inner ++ filled_code h t) (ended_code d t) (alike ++ filled_code i t) (ended_code e t)
+        (joined inner (filled_code h t) alike (filled_code i t) (expression_long (with_counter starts (t + 2)) a (h + 1) (i + 1) (t + 3) (t + 3) (t + 3) refl) refl)
+        (λ z. length (ended_code (same z) t)))))
 
-    arguments_long : (cs : Arguments) (p q t : ℕ) → length (arguments_code starts cs p t) ≡ length (arguments_code other cs q t)
-    arguments_long NoArguments p q t = refl
-    arguments_long (MoreArguments c cs) p q t = joined _ _ _ _ (converted_long c p q t) (arguments_long cs _ _ (t + passed_words c))
+    arguments_long : (starts : Starts) → (cs : Arguments) (p q t : ℕ) → length (arguments_code starts cs p t) ≡ length (arguments_code (other starts raises) cs q t)
+    arguments_long starts NoArguments p q t = refl
+    arguments_long starts (MoreArguments c cs) p q t = joined _ _ _ _ (converted_long starts c p q t) (arguments_long starts cs _ _ (t + passed_words c))
 
-    converted_long : (c : Converted) (p q t : ℕ) → length (converted_code starts c p t) ≡ length (converted_code other c q t)
-    converted_long (Convert from to a) p q t = joined _ _ _ _ (expression_long a p q t t t refl) (conversion_long to _ _ _ _)
+    converted_long : (starts : Starts) → (c : Converted) (p q t : ℕ) → length (converted_code starts c p t) ≡ length (converted_code (other starts raises) c q t)
+    converted_long starts (Convert from to a) p q t = joined _ _ _ _ (expression_long starts a p q t t t refl) (conversion_long starts raises to _ _ _ _)
 
-    converted_operand_long : (c : Converted) (p q t : ℕ) → length (converted_operand_code starts c p t) ≡ length (converted_operand_code other c q t)
-    converted_operand_long (Convert from to a) p q t =
-        converted_by_long _ _ _ _ to _ _ p q (same_source (Convert from to a)) (expression_long a p q _ _ t (same_source_slot (Convert from to a) t))
+    converted_operand_long : (starts : Starts) → (c : Converted) (p q t : ℕ) → length (converted_operand_code starts c p t) ≡ length (converted_operand_code (other starts raises) c q t)
+    converted_operand_long starts (Convert from to a) p q t =
+        converted_by_long starts raises _ _ _ _ to _ _ p q (same_source starts raises (Convert from to a)) (expression_long starts a p q _ _ t (same_source_slot starts raises (Convert from to a) t))
 
-    printed_long : (cs : Arguments) (p q t : ℕ) → length (printed_code starts cs p t) ≡ length (printed_code other cs q t)
-    printed_long NoArguments p q t = refl
-    printed_long (MoreArguments c cs) p q t = joined _ _ _ _ (converted_operand_long c p q t) (printed_long cs _ _ t)
+    printed_long : (starts : Starts) → (cs : Arguments) (p q t : ℕ) → length (printed_code starts cs p t) ≡ length (printed_code (other starts raises) cs q t)
+    printed_long starts NoArguments p q t = refl
+    printed_long starts (MoreArguments c cs) p q t = joined _ _ _ _ (converted_operand_long starts c p q t) (printed_long starts cs _ _ t)
 
-    initial_long : (c : Converted) (p q d e t : ℕ) → d ≡ e → length (initial_code starts c p d t) ≡ length (initial_code other c q e t)
-    initial_long (Convert from to a) p q d e t same =
-        either_long (converts_there from to) _ _ _ _ (expression_long a p q d e t same)
-        (joined _ _ _ _ (converted_by_long _ _ _ _ to _ _ p q (same_source (Convert from to a)) (expression_long a p q _ _ t (same_source_slot (Convert from to a) t))) refl)
+    initial_long : (starts : Starts) → (c : Converted) (p q d e t : ℕ) → d ≡ e → length (initial_code starts c p d t) ≡ length (initial_code (other starts raises) c q e t)
+    initial_long starts (Convert from to a) p q d e t same =
+        either_long (converts_there from to) _ _ _ _ (expression_long starts a p q d e t same)
+        (joined _ _ _ _ (converted_by_long starts raises _ _ _ _ to _ _ p q (same_source starts raises (Convert from to a)) (expression_long starts a p q _ _ t (same_source_slot starts raises (Convert from to a) t))) refl)
 
-    operations_long : (os : Operations) (p q : ℕ) (l m : Operand) (d e t : ℕ) → l ≡ m → d ≡ e → length (operations_code starts os p l d t) ≡ length (operations_code other os q m e t)
-    operations_long NoOperations p q l m d e t left same = refl
-    operations_long (ThenCompute o a os) p q l m d e t left same =
-        joined _ _ _ _ (joined _ _ _ _ (operand_by a p q (suc t) (expression_long a p q _ _ (suc t) (same_slot a (suc t)))) (operator_long o l m _ _ _ _ left (same_value a (suc t))))
-        (operations_long os _ _ _ _ d e t (λ i. operands.Slot (next_slot os (same i) t)) same)
-    operations_long (ThenTest o a os) p q l m d e t left same =
+    operations_long : (starts : Starts) → (os : Operations) (p q : ℕ) (l m : Operand) (d e t : ℕ) → l ≡ m → d ≡ e → length (operations_code starts os p l d t) ≡ length (operations_code (other starts raises) os q m e t)
+    operations_long starts NoOperations p q l m d e t left same = refl
+    operations_long starts (ThenCompute o a os) p q l m d e t left same =
+        joined _ _ _ _ (joined _ _ _ _ (operand_by starts raises a p q (suc t) (expression_long starts a p q _ _ (suc t) (same_slot starts raises a (suc t)))) (operator_long starts raises o l m _ _ _ _ left (same_value starts raises a (suc t))))
+        (operations_long starts os _ _ _ _ d e t (λ i. operands.Slot (next_slot os (same i) t)) same)
+    operations_long starts (ThenTest o a os) p q l m d e t left same =
         ap suc
-        (joined _ _ _ _ (joined _ _ _ _ (expression_long a (p + 1) (q + 1) t t t refl) refl)
-        (operations_long os _ _ _ _ d e t (λ i. operands.Slot (next_slot os (same i) t)) same))
-    operations_long (ThenPointer o a os) p q l m d e t left same =
-        joined _ _ _ _ (joined _ _ _ _ (operand_by a p q (behind_left o t) (expression_long a p q _ _ (behind_left o t) (same_slot a (behind_left o t)))) (pointer_long o l m _ _ _ _ left (λ i. next_slot os (same i) t)))
-        (operations_long os _ _ _ _ d e t (λ i. operands.Slot (next_slot os (same i) t)) same)
-    operations_long (ThenPointerPeek n o a os) p q l m d e t left same =
-        joined _ _ _ _ (joined _ _ _ _ (operand_by a p q (behind_left o t) (expression_long a p q _ _ (behind_left o t) (same_slot a (behind_left o t)))) (pointer_long o l m _ _ _ _ left (λ i. next_slot os (same i) t)))
-        (operations_long os _ _ _ _ d e t (λ i. operands.Slot (next_slot os (same i) t)) same)
+        (joined _ _ _ _ (joined _ _ _ _ (expression_long starts a (p + 1) (q + 1) t t t refl) refl)
+        (operations_long starts os _ _ _ _ d e t (λ i. operands.Slot (next_slot os (same i) t)) same))
+    operations_long starts (ThenPointer o a os) p q l m d e t left same =
+        joined _ _ _ _ (joined _ _ _ _ (operand_by starts raises a p q (behind_left o t) (expression_long starts a p q _ _ (behind_left o t) (same_slot starts raises a (behind_left o t)))) (pointer_long o l m _ _ _ _ left (λ i. next_slot os (same i) t)))
+        (operations_long starts os _ _ _ _ d e t (λ i. operands.Slot (next_slot os (same i) t)) same)
+    operations_long starts (ThenPointerPeek n o a os) p q l m d e t left same =
+        joined _ _ _ _ (joined _ _ _ _ (operand_by starts raises a p q (behind_left o t) (expression_long starts a p q _ _ (behind_left o t) (same_slot starts raises a (behind_left o t)))) (pointer_long o l m _ _ _ _ left (λ i. next_slot os (same i) t)))
+        (operations_long starts os _ _ _ _ d e t (λ i. operands.Slot (next_slot os (same i) t)) same)
 
-  assignment_long : (l : Lvalue) (c : Converted) (p q t : ℕ) → length (assignment_code starts l c p t) ≡ length (assignment_code other l c q t)
-  assignment_long (Local w n) c p q t = initial_long c p q (slot_of starts n) (slot_of starts n) t refl
-  assignment_long (Global n) c p q t = joined _ _ _ _ (converted_operand_long c p q t) refl
+module _ (starts : Starts) (raises : ℕ) where
+  assignment_long : (l : Lvalue) (c : Converted) (p q t : ℕ) → length (assignment_code starts l c p t) ≡ length (assignment_code (other starts raises) l c q t)
+  assignment_long (Local w n) c p q t = initial_long raises starts c p q (slot_of starts n) (slot_of starts n) t refl
+  assignment_long (Global n) c p q t = joined _ _ _ _ (converted_operand_long raises starts c p q t) refl
 
-  discarded_long : (a : Expression) (p q t : ℕ) → length (discarded_code starts a p t) ≡ length (discarded_code other a q t)
-  discarded_long (Call callees.Putchar cs ty) p q t = joined _ _ _ _ (printed_long cs p q t) refl
+  discarded_long : (a : Expression) (p q t : ℕ) → length (discarded_code starts a p t) ≡ length (discarded_code (other starts raises) a q t)
+  discarded_long (Call callees.Putchar cs ty) p q t = joined _ _ _ _ (printed_long raises starts cs p q t) refl
   discarded_long (Assign l c ty) p q t = assignment_long l c p q t
   discarded_long (Store x c ty) p q t =
-      joined _ _ _ _ (joined _ _ _ _ (place_long x p q t) (λ i. length (address_code (same_place x t i) (same_offset x i) t))) (joined _ _ _ _ (converted_operand_long c _ _ (t + 1)) refl)
-  discarded_long a p q t = unless_long (operand_of starts a) (operand_of other a) (expression_code starts a p t t) (expression_code other a q t t) (same_operand a) (expression_long a p q t t t refl)
+      joined _ _ _ _ (joined _ _ _ _ (place_long raises starts x p q t) (λ i. length (address_code (same_place starts raises x t i) (same_offset starts raises x i) t))) (joined _ _ _ _ (converted_operand_long raises starts c _ _ (t + 1)) refl)
+  discarded_long a p q t = unless_long (operand_of starts a) (operand_of (other starts raises) a) (expression_code starts a p t t) (expression_code (other starts raises) a q t t) (same_operand starts raises a) (expression_long raises starts a p q t t t refl)
 
-  condition_long : (a b : Expression) (p q t : ℕ) → length (pair_code starts a b p t) ≡ length (pair_code other a b q t)
+  condition_long : (a b : Expression) (p q t : ℕ) → length (pair_code starts a b p t) ≡ length (pair_code (other starts raises) a b q t)
   condition_long a b p q t =
       joined _ _ _ _
-      (unless_long _ _ _ _ (λ i. left_with (same_operand b i) (same_operand a i)) (expression_long a p q _ _ t (same_with (operand_of starts b) (operand_of other b) a t (same_operand b))))
-      (operand_by b _ _ (suc t) (expression_long b _ _ _ _ (suc t) (same_slot b (suc t))))
+      (unless_long _ _ _ _ (λ i. left_with (same_operand starts raises b i) (same_operand starts raises a i)) (expression_long raises starts a p q _ _ t (same_with starts raises (operand_of starts b) (operand_of (other starts raises) b) a t (same_operand starts raises b))))
+      (operand_by starts raises b _ _ (suc t) (expression_long raises starts b _ _ _ _ (suc t) (same_slot starts raises b (suc t))))
 
-  return_long : (v : Option Converted) (p q head : ℕ) (exits : Exits) (t : ℕ) → length (return_code starts v p exits t) ≡ length (return_code other v q (record exits { head = head }) t)
+  return_long : (v : Option Converted) (p q head : ℕ) (exits : Exits) (t : ℕ) → length (return_code starts v p exits t) ≡ length (return_code (other starts raises) v q (record exits { head = head }) t)
   return_long None p q head exits t = refl
   return_long (Some (Convert from to a)) p q head exits t =
-      joined _ _ _ _ (joined _ _ _ _ (joined _ _ _ _ (unless_slot_long _ _ _ _ (same_source (Convert from to a)) (expression_long a p q t t t refl)) (conversion_long to _ _ _ _)) refl) refl
+      joined _ _ _ _ (joined _ _ _ _ (joined _ _ _ _ (unless_slot_long _ _ _ _ (same_source starts raises (Convert from to a)) (expression_long raises starts a p q t t t refl)) (conversion_long starts raises to _ _ _ _)) refl) refl
 
-  declaration_long : (n : ℕ) (v : Option Converted) (p q t : ℕ) → length (declaration_code starts n v p t) ≡ length (declaration_code other n v q t)
+  declaration_long : (n : ℕ) (v : Option Converted) (p q t : ℕ) → length (declaration_code starts n v p t) ≡ length (declaration_code (other starts raises) n v q t)
   declaration_long n None p q t = refl
-  declaration_long n (Some c) p q t = initial_long c p q (slot_of starts n) (slot_of starts n) t refl
+  declaration_long n (Some c) p q t = initial_long raises starts c p q (slot_of starts n) (slot_of starts n) t refl
 
-  side_long : (x : Side) (p q t : ℕ) → length (side_code starts x p t) ≡ length (side_code other x q t)
+  side_long : (x : Side) (p q t : ℕ) → length (side_code starts x p t) ≡ length (side_code (other starts raises) x q t)
   side_long (VariableSide l ty) p q t = refl
-  side_long (CellSide x) p q t = joined _ _ _ _ (place_long x p q t) (λ i. length (address_code (same_place x t i) (same_offset x i) t))
+  side_long (CellSide x) p q t = joined _ _ _ _ (place_long raises starts x p q t) (λ i. length (address_code (same_place starts raises x t i) (same_offset starts raises x i) t))
 
-  swap_long : (x y : Side) (p q t : ℕ) → length (swap_code starts x y p t) ≡ length (swap_code other x y q t)
+  swap_long : (x y : Side) (p q t : ℕ) → length (swap_code starts x y p t) ≡ length (swap_code (other starts raises) x y q t)
   swap_long x y p q t = joined _ _ _ _ (side_long x p q t) (joined _ _ _ _ (side_long y _ _ (right_slot x t)) refl)
 
-  thrown_long : (v : Option Expression) (p q t : ℕ) → length (thrown_code starts v p t) ≡ length (thrown_code other v q t)
+  thrown_long : (v : Option Expression) (p q t : ℕ) → length (thrown_code starts v p t) ≡ length (thrown_code (other starts raises) v q t)
   thrown_long None p q t = refl
-  thrown_long (Some a) p q t = operand_by a p q t (expression_long a p q _ _ t (same_slot a t))
+  thrown_long (Some a) p q t = operand_by starts raises a p q t (expression_long raises starts a p q _ _ t (same_slot starts raises a t))
 
-  caught_long : (x : Option ℕ) (t : ℕ) → length (caught_code starts x t) ≡ length (caught_code other x t)
+  caught_long : (x : Option ℕ) (t : ℕ) → length (caught_code starts x t) ≡ length (caught_code (other starts raises) x t)
   caught_long None t = refl
   caught_long (Some n) t = refl
 
   -- with loops that begin at any places
   mutual
-    statement_long : (s : Statement) (p q head : ℕ) (exits : Exits) (t : ℕ) → length (statement_code starts s p exits t) ≡ length (statement_code other s q (record exits { head = head }) t)
+    statement_long : (s : Statement) (p q head : ℕ) (exits : Exits) (t : ℕ) → length (statement_code starts s p exits t) ≡ length (statement_code (other starts raises) s q (record exits { head = head }) t)
     statement_long (Block r js) p q head exits t = items_long js p q head exits t
     statement_long Empty p q head exits t = refl
     statement_long (Evaluate a) p q head exits t = discarded_long a p q t
     statement_long (If a s u) p q head exits t =
         let others = record exits { head = head } in
         let m = p + length (condition_code starts a p t) in
-        let n = q + length (condition_code other a q t) in
+        let n = q + length (condition_code (other starts raises) a q t) in
         let first = statement_code starts s (m + 1) exits t in
-        let same_first = statement_code other s (n + 1) others t in
+        let same_first = statement_code (other starts raises) s (n + 1) others t in
         let second = statement_code starts u (m + 1 + length first + 1) exits t in
-        let same_second = statement_code other u (n + 1 + length same_first + 1) others t in
-        if_long (condition_code starts a p t) first second (condition_code other a q t) same_first same_second (failing_jump (condition_of starts a t)) (failing_jump (condition_of other a t)) p q
+        let same_second = statement_code (other starts raises) u (n + 1 + length same_first + 1) others t in
+        if_long (condition_code starts a p t) first second (condition_code (other starts raises) a q t) same_first same_second (failing_jump (condition_of starts a t)) (failing_jump (condition_of (other starts raises) a t)) p q
         (condition_long (compared_of a).left (compared_of a).right p q t) (statement_long s (m + 1) (n + 1) head exits t) (statement_long u (m + 1 + length first + 1) (n + 1 + length same_first + 1) head exits t)
     statement_long (While w a s) p q head exits t =
         let m = p + 2 + length (condition_code starts a (p + 2) t) in
-        let n = q + 2 + length (condition_code other a (q + 2) t) in
+        let n = q + 2 + length (condition_code (other starts raises) a (q + 2) t) in
         let around = inside_loop p t exits in
-        while_long (condition_code starts a (p + 2) t) (statement_code starts s (m + 1) around t) (condition_code other a (q + 2) t) (statement_code other s (n + 1) (record around { head = q }) t)
-        (failing_jump (condition_of starts a t)) (failing_jump (condition_of other a t)) p q
+        while_long (condition_code starts a (p + 2) t) (statement_code starts s (m + 1) around t) (condition_code (other starts raises) a (q + 2) t) (statement_code (other starts raises) s (n + 1) (record around { head = q }) t)
+        (failing_jump (condition_of starts a t)) (failing_jump (condition_of (other starts raises) a t)) p q
         (condition_long (compared_of a).left (compared_of a).right (p + 2) (q + 2) t) (statement_long s (m + 1) (n + 1) q around t)
     statement_long (Return v) p q head exits t = return_long v p q head exits t
     statement_long Break p q head exits t =
@@ -297,32 +311,32 @@ module _ (starts : Starts) (raises : ℕ) where
     statement_long (Try s cs) p q head exits t =
         let close = instructions.Leave t ∷ [] in
         let a = statement_code starts s (p + 1) exits (t + RECORD_WORDS) in
-        let x = statement_code other s (q + 1) (record exits { head = head }) (t + RECORD_WORDS) in
+        let x = statement_code (other starts raises) s (q + 1) (record exits { head = head }) (t + RECORD_WORDS) in
         let out = p + 1 + length (a ++ close) in
         let aim = q + 1 + length (x ++ close) in
-        try_long (a ++ close) (clauses_code starts cs (out + 1) out exits t) (x ++ close) (clauses_code other cs (aim + 1) aim (record exits { head = head }) t) t p q
+        try_long (a ++ close) (clauses_code starts cs (out + 1) out exits t) (x ++ close) (clauses_code (other starts raises) cs (aim + 1) aim (record exits { head = head }) t) t p q
         (joined a close x close (statement_long s (p + 1) (q + 1) head exits (t + RECORD_WORDS)) refl) (clauses_long cs (out + 1) (aim + 1) out aim head exits t)
     statement_long (Swap x y) p q head exits t = swap_long x y p q t
 
-    items_long : (js : Items) (p q head : ℕ) (exits : Exits) (t : ℕ) → length (items_code starts js p exits t) ≡ length (items_code other js q (record exits { head = head }) t)
+    items_long : (js : Items) (p q head : ℕ) (exits : Exits) (t : ℕ) → length (items_code starts js p exits t) ≡ length (items_code (other starts raises) js q (record exits { head = head }) t)
     items_long NoItems p q head exits t = refl
     items_long (MoreItems (Execute s) js) p q head exits t = joined _ _ _ _ (statement_long s p q head exits t) (items_long js _ _ head exits t)
     items_long (MoreItems (Declare n ty v) js) p q head exits t = joined _ _ _ _ (declaration_long n v p q t) (items_long js _ _ head exits t)
     items_long (MoreItems j js) p q head exits t = items_long js p q head exits t
 
-    clauses_long : (cs : Clauses) (p q out aim head : ℕ) (exits : Exits) (t : ℕ) → length (clauses_code starts cs p out exits t) ≡ length (clauses_code other cs q aim (record exits { head = head }) t)
+    clauses_long : (cs : Clauses) (p q out aim head : ℕ) (exits : Exits) (t : ℕ) → length (clauses_code starts cs p out exits t) ≡ length (clauses_code (other starts raises) cs q aim (record exits { head = head }) t)
     clauses_long NoClauses p q out aim head exits t = refl
     clauses_long (Default r js) p q out aim head exits t = items_long js p q head exits t
     clauses_long (Case tag x r js cs) p q out aim head exits t =
         let others = record exits { head = head } in
         let a = caught_code starts x t ++ items_code starts js (p + 1 + length (caught_code starts x t)) exits t in
-        let b = caught_code other x t ++ items_code other js (q + 1 + length (caught_code other x t)) others t in
+        let b = caught_code (other starts raises) x t ++ items_code (other starts raises) js (q + 1 + length (caught_code (other starts raises) x t)) others t in
         let m = p + length (clause_code tag t a p out) in
         let n = q + length (clause_code tag t b q aim) in
-        joined (clause_code tag t a p out) (clauses_code starts cs m out exits t) (clause_code tag t b q aim) (clauses_code other cs n aim others t)
+        joined (clause_code tag t a p out) (clauses_code starts cs m out exits t) (clause_code tag t b q aim) (clauses_code (other starts raises) cs n aim others t)
         (clause_long a b tag t p q out aim
-        (joined (caught_code starts x t) (items_code starts js (p + 1 + length (caught_code starts x t)) exits t) (caught_code other x t) (items_code other js (q + 1 + length (caught_code other x t)) others t)
-        (caught_long x t) (items_long js (p + 1 + length (caught_code starts x t)) (q + 1 + length (caught_code other x t)) head exits t)))
+        (joined (caught_code starts x t) (items_code starts js (p + 1 + length (caught_code starts x t)) exits t) (caught_code (other starts raises) x t) (items_code (other starts raises) js (q + 1 + length (caught_code (other starts raises) x t)) others t)
+        (caught_long x t) (items_long js (p + 1 + length (caught_code starts x t)) (q + 1 + length (caught_code (other starts raises) x t)) head exits t)))
         (clauses_long cs m n out aim head exits t)
 
 -- so the blocks stand behind the place that the checks are told

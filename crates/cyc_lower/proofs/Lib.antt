@@ -18,6 +18,7 @@ pub mod Data
 pub mod Sharing
 pub mod CellWrites
 pub mod Allocations
+pub mod Arrays
 pub mod UniqueBlocks
 pub mod PlaceWords
 pub mod CellReads
@@ -31,10 +32,12 @@ pub mod Accesses
 pub mod Branching
 pub mod Handlers
 pub mod Conditions
+pub mod Counters
 pub mod Calls
 pub mod ExceptionSteps
 pub mod StatementSteps
 pub mod Keeping
+pub mod Levels
 pub mod Whole
 -- the rest of the promise: it is well formed, of words, and small
 pub mod WellFormed

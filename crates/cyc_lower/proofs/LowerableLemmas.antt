@@ -18,7 +18,7 @@ use Rattle.cyc_types.specs.declared.typed.UnaryOperator.TheVariants as unary
 use Rattle.cyc_syntax.specs.declared.tree.PointerKind.{PointerKind}
 use Rattle.cyc_syntax.specs.declared.tree.PointerKind.TheVariants as marks
 use Rattle.cyc_types.specs.Types.{Ty, Int, Pointer, Struct, ValueType, Value, substituted_ty, words_of}
-use Rattle.cyc_types.specs.TypedTrees.{Lvalue, Local, Global, Expression, Number, NullPointer, Copy, Peek, Load, AddressOfCell, Call, Unary, Binary, Assign, Store, New, Dereference, Target, Member, OnHeap, Initial, Plain, Fields, Converted, Convert, Arguments, NoArguments, MoreArguments, Operations, NoOperations, ThenCompute, ThenTest, ThenPointer, Statement, Block, Empty, Evaluate, If, While, Return, Break, Continue, Items, NoItems, MoreItems, Execute, Declare, GlobalVariable, Signature, Function, Program, Throw, Try, Clauses, NoClauses, Default, Case}
+use Rattle.cyc_types.specs.TypedTrees.{Lvalue, Local, Global, Expression, Number, NullPointer, Copy, Peek, Load, AddressOfCell, Call, Unary, Binary, Assign, Store, New, Dereference, Target, Member, OnHeap, Initial, Plain, Fields, Converted, Convert, Arguments, NoArguments, MoreArguments, Operations, NoOperations, ThenCompute, ThenTest, ThenPointer, Statement, Block, Empty, Evaluate, If, While, Return, Break, Continue, Items, NoItems, MoreItems, Execute, Declare, GlobalVariable, Signature, Function, Program, Throw, Try, Clauses, NoClauses, Default, Case, Array}
 use Rattle.cyc_types.specs.Built.{is_built_type, is_built_result, is_built_value_type, is_built_kind, is_built_operator, is_built_expression, is_built_place, is_built_size, is_built_initial, is_built_converted, are_built_arguments, are_built_operations, is_built_value, is_built_statement, are_built_items, is_built_struct, is_built_global, is_built_function, is_built, is_built_tag, is_built_thrown, are_built_clauses}
 use Rattle.cyc_types.specs.Numbered.{signatures_of, Numbering, IsSignature, argument_count, IsWithin, numbering_of}
 use Rattle.cyc_types.specs.typing.Tests.{kind_of_mark}
@@ -149,6 +149,7 @@ module _ (b : Numbering) where
         let (place, more) = and_parts (is_built_place d) (is_built_converted e && is_built_value_type u) i in
         let (value, of_type) = and_parts (is_built_converted e) (is_built_value_type u) more in
         (cell_lowerable c k d v r place cell, converted_lowerable c k e v value w)
+    lowerable c k (New OnHeap (Array p level n kind a) u) t i (l, v, r, placed, made, is, eq) = absurd (let f : false ≡ true = (and_parts false (is_built_type u) i).0 in cc)
     lowerable c k (New OnHeap m u) t i (l, v, r, placed, made, is, eq) = made_lowerable c k m l v (and_parts (is_built_initial m) (is_built_type u) i).0 made
     lowerable c k a t i w = absurd (cc)
 

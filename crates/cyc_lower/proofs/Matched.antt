@@ -27,7 +27,7 @@ use Rattle.cyc_words.proofs.Matching.{by_none, way_before}
 use Rattle.cyc_plain.proofs.Steps.{step_performs, place_known}
 use Rattle.cyc_plain.specs.Straight.{At}
 use Rattle.cyc_words.specs.Demand.{demand_of}
-use Rattle.cyc_meaning.specs.State.{World, Environment, ConvertTo, Operate, Chain, Apply, ApplyPointer, Follow, LoadFrom, Decide, Store, Pass, MakePlain, MakeFields, Initialise, Choose, Test, Return, Entry, Needs, NeedsPlace, Discard, Rest, Join, Loop, CloseRegion, Caller, Main, counted, calls_in, Focus, Evaluating, Locating, Given, Executing, Proceeding, Calling, Entering, Binding, Writing, Breaking, Continuing, Returning, Throwing, State, Running, Ended, Dead, Wrong, output_of, input_of, status_of, GivenPlace, FollowMember, TakeAddress, StoreTo, StoreCell, FreeObject, SwapLeft, SwapRight, Swapping}
+use Rattle.cyc_meaning.specs.State.{World, Environment, ConvertTo, Operate, Chain, Apply, ApplyPointer, Follow, LoadFrom, Decide, Store, Pass, MakePlain, MakeFields, MakeArray, FillElement, Initialise, Choose, Test, Return, Entry, Needs, NeedsPlace, Discard, Rest, Join, Loop, CloseRegion, Caller, Main, counted, calls_in, Focus, Evaluating, Locating, Given, Executing, Proceeding, Calling, Entering, Binding, Writing, Beginning, Repeating, Breaking, Continuing, Returning, Throwing, State, Running, Ended, Dead, Wrong, output_of, input_of, status_of, GivenPlace, FollowMember, TakeAddress, StoreTo, StoreCell, FreeObject, SwapLeft, SwapRight, Swapping}
 use Rattle.cyc_meaning.specs.Step.{step}
 use Rattle.cyc_meaning.specs.Run.{is_within, limited_step}
 use Rattle.cyc_objects.specs.Tables.{Tables}
@@ -48,13 +48,13 @@ module _ (source : Program) where
   by_lands (in_temporary least stack) first second = first stack
   by_lands (in_local below stack) first second = second stack
 
-  by_hands : {code : List Instruction} {words : ℕ} {o : Operand} {p : ℕ} {dropped stays : Type 0} {comes : (d q : ℕ) → Type 0} {X : Type 0} → HandsOn source code words o p dropped stays comes
+  pub by_hands : {code : List Instruction} {words : ℕ} {o : Operand} {p : ℕ} {dropped stays : Type 0} {comes : (d q : ℕ) → Type 0} {X : Type 0} → HandsOn source code words o p dropped stays comes
       → (dropped → X) → (stays → X) → ((d q : ℕ) → comes d q → X) → X
   by_hands (drops stack) first second third = first stack
   by_hands (leaves stack) first second third = second stack
   by_hands (copies d q at stack) first second third = third d q stack
 
-  by_prints : {code : List Instruction} {o : Operand} {p : ℕ} {dropped : Type 0} {comes : (d : ℕ) → Type 0} {X : Type 0} → Prints source code o p dropped comes
+  pub by_prints : {code : List Instruction} {o : Operand} {p : ℕ} {dropped : Type 0} {comes : (d : ℕ) → Type 0} {X : Type 0} → Prints source code o p dropped comes
       → (dropped → X) → ((d : ℕ) → comes d → X) → X
   by_prints (prints_only stack) first second = first stack
   by_prints (gives_byte d at stack) first second = second d stack

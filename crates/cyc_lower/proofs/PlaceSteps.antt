@@ -27,8 +27,8 @@ use Rattle.cyc_objects.proofs.Cells.{found-alive, cell-live, cell-read}
 use Rattle.cyc_lower.specs.Lowering.{is_in, move_of, source_of, source_slot, lower_program, right_slot}
 use Rattle.cyc_lower.proofs.Widths.{kind_positive, same_kind}
 use Rattle.cyc_lower.proofs.Moves.{put_elsewhere}
-use Rattle.cyc_lower.proofs.Relation.{Matches, held, callers, types_at, starts_at, Holds, DataIn, SharedAt, LandsStack, HandsOnStack, Related, code_of, bounds_at, base_of, floor, top}
-use Rattle.cyc_lower.proofs.Data.{Is-same, height-least, Holds-same, data_written}
+use Rattle.cyc_lower.proofs.Relation.{types_on, starts_on, Matches, held, callers, types_at, starts_at, Holds, DataIn, SharedAt, LandsStack, HandsOnStack, Related, code_of, bounds_at, base_of, top, floor}
+use Rattle.cyc_lower.proofs.Data.{Is-same, height-least, Holds-same, data_above, data_written}
 use Rattle.cyc_lower.proofs.Stands.{CopyBy, AddressAt, OperandBy, ExpressionAt, ConvertedOperandAt}
 use Rattle.cyc_lower.proofs.CellReads.{word_read}
 use Rattle.cyc_lower.proofs.AddressSteps.{Brought, in_slot, by_word, brought}
@@ -85,7 +85,7 @@ module _ (source : Program) (pages calls : ℕ) where
   -- the right side, with the address in the temporary before its own
   abbrev StoresBehind : (from to : Kind) → Expression → List Entry → Environment → Configuration → (s : ℕ) → Type 0
   StoresBehind from to a k e c s =
-      (x : Operand) × (u : ℕ) × ConvertedOperandAt (code_of source c.active.function) (bounds_at source c.active.function) (types_at source c.active.function) (Convert from to a) (top source c.active.function k + 1) x s u
+      (x : Operand) × (u : ℕ) × ConvertedOperandAt (code_of source c.active.function) (bounds_at source c.active.function) (types_on source c.active.function k) (Convert from to a) (top source c.active.function k + 1) x s u
       × At (code_of source c.active.function) u (instructions.Store (operands.Slot (top source c.active.function k)) 0 x) × (words_of_kind to ≡ 1)
       × HandsOnStack source c.active.function e.locals to x (u + 1) c.frames k
 
@@ -103,9 +103,9 @@ module _ (source : Program) (pages calls : ℕ) where
         facts,
         sources source pages calls shared.tables from to a entries e w c x m
             (subst
-            (λ p. OperandBy (code_of source g) (bounds_at source g) (types_at source g) (source_of (starts_at source g) (Convert from to a))
-            (ExpressionAt (code_of source g) (bounds_at source g) (types_at source g) a (source_slot (starts_at source g) (Convert from to a) (top source g entries)) (top source g entries) p m)
-            (source_slot (starts_at source g) (Convert from to a) (top source g entries)) x p m)
+            (λ p. OperandBy (code_of source g) (bounds_at source g) (types_on source g k) (source_of (starts_on source g k) (Convert from to a))
+            (ExpressionAt (code_of source g) (bounds_at source g) (types_on source g k) a (source_slot (starts_on source g k) (Convert from to a) (top source g entries)) (top source g entries) p m)
+            (source_slot (starts_on source g k) (Convert from to a) (top source g entries)) x p m)
             (sym start) at_a)
             (points, holds) (u, at_to, (store, single, hands)),
       )

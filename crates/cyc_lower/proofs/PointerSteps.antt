@@ -34,8 +34,8 @@ use Rattle.cyc_lower.specs.Lowering.{left_kind, behind_left, pointer_operator, l
 use Rattle.cyc_lower.proofs.Widths.{same_kind, Outside}
 use Rattle.cyc_lower.proofs.Moves.{copied_elsewhere}
 use Rattle.cyc_lower.proofs.Stands.{FirstTwoAt, IndexAt, PointerAt, ValueAt}
-use Rattle.cyc_lower.proofs.Relation.{IsIn, types_at, silent, Holds, held, DataIn, SharedAt, LandsStack, in_temporary, in_local, EvaluatingAt, as_operand, Matches, code_of, bounds_at, base_of, floor, top}
-use Rattle.cyc_lower.proofs.Data.{behind-least, height-least, in_words}
+use Rattle.cyc_lower.proofs.Relation.{types_on, starts_on, IsIn, types_at, silent, Holds, held, DataIn, SharedAt, LandsStack, in_temporary, in_local, EvaluatingAt, as_operand, Matches, code_of, bounds_at, base_of, top, floor}
+use Rattle.cyc_lower.proofs.Data.{height-least, in_words, behind-least}
 use Rattle.cyc_lower.proofs.Accesses.{IsWell}
 use Rattle.cyc_lower.proofs.Matched.{IsMatched, by_one, by_two}
 use Rattle.cyc_lower.proofs.Evaluations.{landed, landed_word}
@@ -323,7 +323,7 @@ module _ (source : Program) (pages calls : ℕ) where
       → ((after : Words) → after d ≡ c.active.slots (top source c.active.function k) → after (d + 1) ≡ c.active.slots (top source c.active.function k + 1) → after (d + 2) ≡ x → Is shared.tables kinds.Fat value after d)
       → Holds shared.tables c.active.slots (floor source c.active.function k) (held k)
       → At (code_of source c.active.function) c.active.next (instructions.Binary (pointer_operator u) (d + 2) (operands.Slot (top source c.active.function k + 2)) o)
-      → FirstTwoAt (code_of source c.active.function) (bounds_at source c.active.function) (types_at source c.active.function) there (top source c.active.function k) d (c.active.next + 1) q
+      → FirstTwoAt (code_of source c.active.function) (bounds_at source c.active.function) (types_on source c.active.function k) there (top source c.active.function k) d (c.active.next + 1) q
       → LandsStack source c.active.function e.locals kinds.Fat d q c.frames k
       → IsMatched source pages calls (Running (Given v) (Needs (ApplyPointer peek u left) ∷ k) e w) (plain.Running c)
   index_moves true u peek x left v value o d q k e w c told does performs shared facts is holds here end lands =
@@ -358,7 +358,7 @@ module _ (source : Program) (pages calls : ℕ) where
       ≡ plain.Running (advanced (with_slots c (put c.active.slots (d + 2) (change (c.active.slots (top source c.active.function k + 2)))))))
       → (shared : SharedAt source pages calls k e w c) → DataIn source shared.tables c.active.slots k e w c
       → Is shared.tables left.kind left.value c.active.slots (top source c.active.function k) → Holds shared.tables c.active.slots (floor source c.active.function k) (held k)
-      → IndexAt (code_of source c.active.function) (bounds_at source c.active.function) (types_at source c.active.function) u o (top source c.active.function k) d c.active.next q
+      → IndexAt (code_of source c.active.function) (bounds_at source c.active.function) (types_on source c.active.function k) u o (top source c.active.function k) d c.active.next q
       → LandsStack source c.active.function e.locals kinds.Fat d q c.frames k
       → IsMatched source pages calls (Running (Given v) (Needs (ApplyPointer peek u left) ∷ k) e w) (plain.Running c)
   moves_index u peek change left v o d q k e w c does well performs shared facts is_left holds (here, rest) lands =
@@ -373,7 +373,7 @@ module _ (source : Program) (pages calls : ℕ) where
       → IsWell (applies_pointer pointers.AddFat left.value v k e w)
       → (shared : SharedAt source pages calls k e w c) → DataIn source shared.tables c.active.slots k e w c → IsIn shared.tables (record { kind = j; value = v }) c.active.slots o
       → Is shared.tables left.kind left.value c.active.slots (top source c.active.function k) → Holds shared.tables c.active.slots (floor source c.active.function k) (held k)
-      → IndexAt (code_of source c.active.function) (bounds_at source c.active.function) (types_at source c.active.function) pointers.AddFat o (top source c.active.function k) d c.active.next q
+      → IndexAt (code_of source c.active.function) (bounds_at source c.active.function) (types_on source c.active.function k) pointers.AddFat o (top source c.active.function k) d c.active.next q
       → LandsStack source c.active.function e.locals kinds.Fat d q c.frames k
       → IsMatched source pages calls (Running (Given (record { kind = j; value = v })) (Needs (ApplyPointer peek pointers.AddFat left) ∷ k) e w) (plain.Running c)
   adds_to peek left j (Int n) o d q k e w c well shared facts is is_left holds here lands =
@@ -389,7 +389,7 @@ module _ (source : Program) (pages calls : ℕ) where
       → IsWell (applies_pointer pointers.SubtractFat left.value v k e w)
       → (shared : SharedAt source pages calls k e w c) → DataIn source shared.tables c.active.slots k e w c → IsIn shared.tables (record { kind = j; value = v }) c.active.slots o
       → Is shared.tables left.kind left.value c.active.slots (top source c.active.function k) → Holds shared.tables c.active.slots (floor source c.active.function k) (held k)
-      → IndexAt (code_of source c.active.function) (bounds_at source c.active.function) (types_at source c.active.function) pointers.SubtractFat o (top source c.active.function k) d c.active.next q
+      → IndexAt (code_of source c.active.function) (bounds_at source c.active.function) (types_on source c.active.function k) pointers.SubtractFat o (top source c.active.function k) d c.active.next q
       → LandsStack source c.active.function e.locals kinds.Fat d q c.frames k
       → IsMatched source pages calls (Running (Given (record { kind = j; value = v })) (Needs (ApplyPointer peek pointers.SubtractFat left) ∷ k) e w) (plain.Running c)
   takes_from peek left j (Int n) o d q k e w c well shared facts is is_left holds here lands =
@@ -406,7 +406,7 @@ module _ (source : Program) (pages calls : ℕ) where
       → IsWell (step source (Running (Given v) (Needs (ApplyPointer peek u left) ∷ k) e w))
       → (shared : SharedAt source pages calls k e w c) → DataIn source shared.tables c.active.slots k e w c → IsIn shared.tables v c.active.slots o
       → Is shared.tables left.kind left.value c.active.slots (top source c.active.function k) → Holds shared.tables c.active.slots (floor source c.active.function k) (held k)
-      → PointerAt (code_of source c.active.function) (bounds_at source c.active.function) (types_at source c.active.function) u o (top source c.active.function k) d c.active.next q
+      → PointerAt (code_of source c.active.function) (bounds_at source c.active.function) (types_on source c.active.function k) u o (top source c.active.function k) d c.active.next q
       → LandsStack source c.active.function e.locals (operator_kind u) d q c.frames k
       → IsMatched source pages calls (Running (Given v) (Needs (ApplyPointer peek u left) ∷ k) e w) (plain.Running c)
   applies_pointers pointers.AddFat peek left v o d q k e w c well shared facts is is_left holds here lands = adds_to peek left v.kind v.value o d q k e w c well shared facts is is_left holds here lands
@@ -423,12 +423,12 @@ module _ (source : Program) (pages calls : ℕ) where
   -- the right operand stands behind the left one
   pub right_follows : (peek : Option ℕ) (u : PointerOperator) (b : Expression) (os : Operations) (v : Kinded) (k : List Entry) (e : Environment) (w : World) (c : Configuration) (r : Operand) (m d q : ℕ) → takes_kind u v.kind ≡ true
       → (t : Tables) → Is t v.kind v.value c.active.slots (top source c.active.function k) → Holds t c.active.slots (floor source c.active.function k) (held k)
-      → ValueAt (code_of source c.active.function) (bounds_at source c.active.function) (types_at source c.active.function) b (behind_left u (top source c.active.function k)) r c.active.next m
-      → PointerAt (code_of source c.active.function) (bounds_at source c.active.function) (types_at source c.active.function) u r (top source c.active.function k) d m q
+      → ValueAt (code_of source c.active.function) (bounds_at source c.active.function) (types_on source c.active.function k) b (behind_left u (top source c.active.function k)) r c.active.next m
+      → PointerAt (code_of source c.active.function) (bounds_at source c.active.function) (types_on source c.active.function k) u r (top source c.active.function k) d m q
       → LandsStack source c.active.function e.locals (operator_kind u) d q c.frames (Needs (Chain os) ∷ k)
       → EvaluatingAt source t b e.locals c.active.function c.active.next c.active.slots c.frames (Needs (ApplyPointer peek u v) ∷ Needs (Chain os) ∷ k)
   right_follows peek u b os v k e w c r m d q takes t is holds at_b here lands =
       let g = c.active.function in
       as_operand r m
-      (subst (λ n. ValueAt (code_of source g) (bounds_at source g) (types_at source g) b n r c.active.next m) (ap (λ n. top source g k + n) (sym (taken_words u v.kind takes))) at_b)
+      (subst (λ n. ValueAt (code_of source g) (bounds_at source g) (types_on source g k) b n r c.active.next m) (ap (λ n. top source g k + n) (sym (taken_words u v.kind takes))) at_b)
       (is, holds) (d, q, here, lands)

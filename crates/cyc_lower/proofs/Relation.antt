@@ -1,5 +1,5 @@
 -- What a state of the source and one of the plain program have in common while the one is matched by the other.
-use Rattle.std.proofs.Common.{◌≡◌, ℕ, suc, ◌+◌, ◌*◌, ◌≤◌, ◌<◌, true, List, [], ◌∷◌, ◌++◌, length, Option, None, Some, slice_get, ◌^◌, false, Bool}
+use Rattle.std.proofs.Common.{max, ◌≡◌, ℕ, suc, ◌+◌, ◌*◌, ◌≤◌, ◌<◌, true, List, [], ◌∷◌, ◌++◌, length, Option, None, Some, slice_get, ◌^◌, false, Bool}
 use Rattle.cyc_words.specs.Word.{add_of, IsWord as IsNumber}
 use Rattle.std.specs.Prelude.{if◌then◌else◌}
 use Rattle.cyc_types.specs.declared.typed.Kind.{Kind}
@@ -21,6 +21,7 @@ use Rattle.cyc_plain.specs.declared.instruction.Comparison.TheVariants as compar
 use Rattle.cyc_plain.specs.Operators.{compares}
 use Rattle.cyc_plain.specs.declared.instruction.Operand.{Operand}
 use Rattle.cyc_plain.specs.declared.instruction.Operand.TheVariants as operands
+use Rattle.cyc_plain.specs.declared.instruction.Request.TheVariants as requests
 use Rattle.cyc_plain.specs.declared.instruction.Instruction.{Instruction}
 use Rattle.cyc_plain.specs.declared.instruction.Instruction.TheVariants as instructions
 use Rattle.cyc_plain.specs.declared.limits.TheConstants.{RECORD_WORDS}
@@ -29,19 +30,19 @@ use Rattle.cyc_plain.specs.State.{Words, Activation, Frame, Configuration}
 use Rattle.cyc_plain.specs.Step.{operand_word, throws}
 use Rattle.cyc_plain.specs.State as plain
 use Rattle.cyc_plain.specs.Straight.{At}
-use Rattle.cyc_meaning.specs.Values.{Value, Null, Thin, Operand as Kinded, Cell, kinds_of, words_of_kind, is_thin}
+use Rattle.cyc_meaning.specs.Values.{Fat, Value, Null, Thin, Operand as Kinded, Cell, kinds_of, words_of_kind, is_thin}
 use Rattle.cyc_meaning.specs.Allocation.{writes_from, blanks_of}
-use Rattle.cyc_meaning.specs.State.{Owner, InRegion, Unique, Object, World, heap_number, globals_number, Environment, ConvertTo, Operate, Chain, Apply, ApplyPointer, Follow, LoadFrom, Decide, Store, Pass, MakePlain, MakeFields, Initialise, Choose, Test, Return, Entry, Needs, NeedsPlace, Discard, Rest, Join, Loop, CloseRegion, CloseLexical, EndLoan, Handler, Caller, Main, calls_in, Focus, Evaluating, Locating, Given, Executing, Proceeding, Calling, Entering, Binding, Writing, Breaking, Continuing, Returning, Throwing, State, Running, Ended, GivenPlace, FollowMember, TakeAddress, StoreTo, StoreCell, FreeObject, SwapLeft, SwapRight, Write, Swapping, ThrowWith, Naming, Catching}
+use Rattle.cyc_meaning.specs.State.{Owner, InRegion, Unique, Object, World, heap_number, globals_number, Environment, ConvertTo, Operate, Chain, Apply, ApplyPointer, Follow, LoadFrom, Decide, Store, Pass, MakePlain, MakeFields, MakeArray, FillElement, Initialise, Choose, Test, Return, Entry, Needs, NeedsPlace, Discard, Rest, Join, Loop, CloseRegion, CloseLexical, EndLoan, Handler, Caller, Main, calls_in, Focus, Evaluating, Locating, Given, Executing, Proceeding, Calling, Entering, Binding, Writing, Beginning, Repeating, Breaking, Continuing, Returning, Throwing, State, Running, Ended, GivenPlace, FollowMember, TakeAddress, StoreTo, StoreCell, FreeObject, SwapLeft, SwapRight, Write, Swapping, ThrowWith, Naming, Catching}
 use Rattle.cyc_meaning.specs.Step.{object_of}
 use Rattle.cyc_meaning.specs.Operators.{null_exception, is_zero}
 use Rattle.cyc_meaning.specs.FrameCount.{words_of_all}
 use Rattle.cyc_lower.specs.declared.statements.Exits.{Exits}
 use Rattle.cyc_meaning.specs.Pointers.{result_kind as operator_kind}
 use Rattle.cyc_lower.specs.Slots.{Types, Starts, starts_of, slot_of}
-use Rattle.cyc_lower.specs.Lowering.{unary_operator, failing_comparison, operand_of, move_of, low_byte, converts_there, all_passed, compared_of, break_target, continue_target, results_of, lower_program, outside_loops, slot_types, raises_of, right_slot, tag_operand}
-use Rattle.cyc_lower.specs.Lowerable.{waits_for}
+use Rattle.cyc_lower.specs.Lowering.{most_elements, unary_operator, failing_comparison, operand_of, move_of, low_byte, converts_there, all_passed, compared_of, break_target, continue_target, results_of, lower_program, outside_loops, slot_types, raises_of, right_slot, tag_operand}
 use Rattle.cyc_lower.proofs.Widths.{kind_of_result, given, called_kind, HasRoom, Outside, chain_kind}
-use Rattle.cyc_lower.proofs.Stands.{CheckAt, ConversionAt, PlaceAt, OperatorAt, TruthAt, CopyAt, ExpressionAt, ArgumentsAt, OperationsAt, ValueAt, ConditionAt, FailingAt, ComparesAt, DiscardedAt, StatementAt, ItemsAt, PointerAt, StoresAt, ObjectAt, AddressAt, ConvertedOperandAt, FreedAt, HasSide, SideAt, ReadAt, WriteAt, ExchangeAt, LeaveAt, ClausesAt}
+use Rattle.cyc_lower.proofs.Stands.{BegunAt, ElementsAt, CheckAt, ConversionAt, PlaceAt, OperatorAt, TruthAt, CopyAt, ExpressionAt, ArgumentsAt, OperationsAt, ValueAt, ConditionAt, FailingAt, ComparesAt, DiscardedAt, StatementAt, ItemsAt, PointerAt, StoresAt, ObjectAt, AddressAt, ConvertedOperandAt, FreedAt, HasSide, SideAt, ReadAt, WriteAt, ExchangeAt, LeaveAt, ClausesAt}
+use Rattle.cyc_lower.specs.Lowerable.{waits_for}
 
 -- ---- values in slots
 
@@ -89,6 +90,8 @@ held (Needs (StoreCell peek place) ∷ k) = record { kind = kinds.NonNull; value
 held (Needs (Pass callee before rest) ∷ k) = before ++ held k
 held (Needs (MakePlain owner kind) ∷ k) = held k
 held (Needs (MakeFields owner before fields) ∷ k) = before ++ held k
+held (Needs (MakeArray owner level kind element) ∷ k) = held k
+held (Needs (FillElement object count index level kind element) ∷ k) = record { kind = kinds.Fat; value = Fat object 0 count index } ∷ held k
 held (Needs (Initialise number kind items) ∷ k) = []
 held (Needs (Choose first second) ∷ k) = []
 held (Needs (Test condition body) ∷ k) = []
@@ -102,6 +105,45 @@ held (NeedsPlace (SwapRight kind (Some n) left) ∷ k) = record { kind = kinds.N
 held (NeedsPlace a ∷ k) = held k
 held (entry ∷ k) = []
 
+-- The slots of the counters of the running call, the outermost first: each is the index of the pointer that an array holds.
+abbrev pub counters_of : (base : ℕ) → List Entry → List ℕ
+counters_of base [] = []
+counters_of base (Needs (ConvertTo from to target) ∷ k) = counters_of base k
+counters_of base (Needs (Operate operator) ∷ k) = counters_of base k
+counters_of base (Needs (Chain rest) ∷ k) = counters_of base k
+counters_of base (Needs (Apply operator left) ∷ k) = counters_of base k
+counters_of base (Needs (ApplyPointer peek operator left) ∷ k) = counters_of base k
+counters_of base (Needs Decide ∷ k) = counters_of base k
+counters_of base (Needs (Store place) ∷ k) = counters_of base k
+counters_of base (Needs (StoreCell peek place) ∷ k) = counters_of base k
+counters_of base (Needs (Pass callee before rest) ∷ k) = counters_of base k
+counters_of base (Needs (MakePlain owner kind) ∷ k) = counters_of base k
+counters_of base (Needs (MakeFields owner before fields) ∷ k) = counters_of base k
+counters_of base (Needs (MakeArray owner level kind element) ∷ k) = counters_of base k
+counters_of base (Needs (FillElement object count index level kind element) ∷ k) = counters_of base k ++ (height base (held k) + 2) ∷ []
+counters_of base (Needs (Follow pointer target) ∷ k) = counters_of base k
+counters_of base (Needs (FollowMember pointer fields field) ∷ k) = counters_of base k
+counters_of base (Needs FreeObject ∷ k) = counters_of base k
+counters_of base (NeedsPlace (LoadFrom cell) ∷ k) = counters_of base k
+counters_of base (NeedsPlace TakeAddress ∷ k) = counters_of base k
+counters_of base (NeedsPlace (StoreTo peek c) ∷ k) = counters_of base k
+counters_of base (entry ∷ k) = []
+
+-- how many arrays of the running call are being filled
+abbrev pub arrays_in : List Entry → ℕ
+arrays_in [] = 0
+arrays_in (Needs (FillElement object count index level kind element) ∷ k) = suc (arrays_in k)
+arrays_in (Caller e ∷ k) = 0
+arrays_in (entry ∷ k) = arrays_in k
+
+-- the counter of each array that is being filled, of the running call and of those that wait, is where the array is
+abbrev pub AreCounted : (ℕ → Option ℕ) → List Entry → Type 0
+AreCounted counters [] = Unit {0}
+AreCounted counters (Needs (FillElement object count index level kind element) ∷ k) =
+    ((level ≡ arrays_in k) × (level ≡ length (counters_of 0 k)) × (counters level ≡ Some index)) × AreCounted counters k
+AreCounted counters (Caller e ∷ k) = AreCounted e.counters k
+AreCounted counters (entry ∷ k) = AreCounted counters k
+
 -- ---- new objects
 
 -- the handle of the region where an object with this owner is made
@@ -109,6 +151,11 @@ abbrev pub IsHandleOf : Owner → (handle : ℕ) → Type 0
 IsHandleOf (InRegion region) handle = (region ≡ heap_number) × (handle ≡ HEAP)
 IsHandleOf (Unique true) handle = handle ≡ UNIQUE
 IsHandleOf (Unique false) handle = ⊥
+
+-- the same for an array, which is made in the heap alone yet
+abbrev pub IsInHeap : Owner → (handle : ℕ) → Type 0
+IsInHeap (InRegion region) handle = (region ≡ heap_number) × (handle ≡ HEAP)
+IsInHeap (Unique live) handle = ⊥
 
 -- a new object has cells of these kinds, which stand from this address on
 pub record IsObject (t : Tables) (object address : ℕ) (kinds : List Kind) : Type 0 where
@@ -212,8 +259,8 @@ abbrev pub silent : World → World
 silent w = record w { output = []; input = [] }
 
 -- What all calls share, but for the globals: what is printed and read, the tables by which objects and regions stand in the store, and
--- the calls that wait. Demand and calls are within limits.
-pub record Shared (pages calls : ℕ) (w : World) (regions : List ℕ) (plain_output plain_input : List ℕ) (store : StoreState) (waiting : ℕ) : Type 0 where
+-- the calls that wait. Demand and calls are within limits. What is said of the counters of arrays goes with it.
+pub record Shared (pages calls : ℕ) (w : World) (regions : List ℕ) (counting : Type 0) (plain_output plain_input : List ℕ) (store : StoreState) (waiting : ℕ) : Type 0 where
   pub tables : Tables
   pub same_output : plain_output ≡ w.output
   pub same_input : plain_input ≡ w.input
@@ -224,6 +271,8 @@ pub record Shared (pages calls : ℕ) (w : World) (regions : List ℕ) (plain_ou
   pub variables : AreOfVariables tables regions
   pub few_pages : demand store ≤ pages
   pub fits : suc waiting ≤ calls
+  -- the counters of arrays
+  pub counters : counting
 
 module _ (source : Program) where
   -- ---- functions of the program
@@ -248,13 +297,20 @@ module _ (source : Program) where
   raises_in (Some h) = raises_of source.structs h
 
   abbrev pub types_in : Option Function → Types
-  types_in h = record { locals = local_types h; structs = source.structs; raises = raises_in h }
+  types_in h = record { locals = local_types h; structs = source.structs; raises = raises_in h; counters = [] }
 
   abbrev pub types_at : ℕ → Types
   types_at g = types_in (slice_get source.functions g)
 
   abbrev pub starts_at : ℕ → Starts
   starts_at g = starts_of (types_at g)
+
+  -- the same where these entries wait, of which some are arrays that are being filled
+  abbrev pub types_on : ℕ → List Entry → Types
+  types_on g k = record { locals = local_types (slice_get source.functions g); structs = source.structs; raises = raises_in (slice_get source.functions g); counters = counters_of (behind_records k (words_of_all (local_types (slice_get source.functions g)))) k }
+
+  abbrev pub starts_on : ℕ → List Entry → Starts
+  starts_on g k = starts_of (types_on g k)
 
   abbrev pub parameters_in : Option Function → List Ty
   parameters_in None = []
@@ -417,26 +473,26 @@ module _ (source : Program) where
     pub ValueStack : (g : ℕ) → (ℕ → Option ℕ) → Kind → Operand → (p : ℕ) → List Frame → List Entry → Type 0
     ValueStack g locals kind o p frames [] = ⊥
     ValueStack g locals kind o p frames (Needs (ConvertTo from to target) ∷ k) =
-        (q : ℕ) × ConversionAt (code_of g) (bounds_at g) (types_at g) from to o p q × ValueStack g locals to o q frames k
+        (q : ℕ) × ConversionAt (code_of g) (bounds_at g) (types_on g k) from to o p q × ValueStack g locals to o q frames k
     ValueStack g locals kind o p frames (Needs (Operate operator) ∷ k) =
         Yields ((d : ℕ) × At (code_of g) p (instructions.Unary (unary_operator operator) d o)
         × Lands (base_of g) (top g k) d 1 (ValueStack g locals kinds.Int (operands.Slot d) (p + 1) frames k) (AheadStack g locals kinds.Int d (p + 1) frames k))
         ((operator ≡ unary.Not) × ConditionStack g comparisons.NotEqual o (operands.Word 0) p frames k)
     ValueStack g locals kind o p frames (Needs (Chain NoOperations) ∷ k) = ValueStack g locals kind o p frames k
     ValueStack g locals kind o p frames (Needs (Chain operations) ∷ k) =
-        Yields ((d : ℕ) × (q : ℕ) × OperationsAt (code_of g) (bounds_at g) (types_at g) operations o d (top g k) p q
+        Yields ((d : ℕ) × (q : ℕ) × OperationsAt (code_of g) (bounds_at g) (types_on g k) operations o d (top g k) p q
         × Lands (base_of g) (top g k) d (words_of_kind (chain_kind kind operations)) (ValueStack g locals (chain_kind kind operations) (operands.Slot d) q frames k) (AheadStack g locals (chain_kind kind operations) d q frames k))
-        ((failing : Comparison) × (r : Operand) × (q : ℕ) × ComparesAt (code_of g) (bounds_at g) (types_at g) operations failing o r (top g k) p q × ConditionStack g failing o r q frames k)
+        ((failing : Comparison) × (r : Operand) × (q : ℕ) × ComparesAt (code_of g) (bounds_at g) (types_on g k) operations failing o r (top g k) p q × ConditionStack g failing o r q frames k)
     ValueStack g locals kind o p frames (Needs (Apply operator left) ∷ k) =
-        Yields ((d : ℕ) × (q : ℕ) × OperatorAt (code_of g) (bounds_at g) (types_at g) operator d (operands.Slot (top g k)) o p q
+        Yields ((d : ℕ) × (q : ℕ) × OperatorAt (code_of g) (bounds_at g) (types_on g k) operator d (operands.Slot (top g k)) o p q
         × Lands (base_of g) (top g k) d 1 (ValueStack g locals kinds.Int (operands.Slot d) q frames k) (AheadStack g locals kinds.Int d q frames k))
         ((failing : Comparison) × (failing_comparison operator ≡ Some failing) × ConditionStack g failing (operands.Slot (top g k)) o p frames k)
     ValueStack g locals kind o p frames (Needs (ApplyPointer peek operator left) ∷ k) =
-        (d : ℕ) × (q : ℕ) × PointerAt (code_of g) (bounds_at g) (types_at g) operator o (top g k) d p q
+        (d : ℕ) × (q : ℕ) × PointerAt (code_of g) (bounds_at g) (types_on g k) operator o (top g k) d p q
         × Lands (base_of g) (top g k) d (words_of_kind (operator_kind operator)) (ValueStack g locals (operator_kind operator) (operands.Slot d) q frames k)
         (AheadStack g locals (operator_kind operator) d q frames k)
     ValueStack g locals kind o p frames (Needs Decide ∷ k) =
-        (d : ℕ) × (q : ℕ) × (o ≡ operands.Slot (top g k)) × TruthAt (code_of g) (bounds_at g) (types_at g) (top g k) d p q
+        (d : ℕ) × (q : ℕ) × (o ≡ operands.Slot (top g k)) × TruthAt (code_of g) (bounds_at g) (types_on g k) (top g k) d p q
         × Lands (base_of g) (top g k) d 1 (ValueStack g locals kinds.Int (operands.Slot d) q frames k) (AheadStack g locals kinds.Int d q frames k)
     ValueStack g locals kind o p frames (Needs (Store place) ∷ k) =
         (l : Lvalue) × (to : Operand) × (q : ℕ) × StoreAt g kind l o to p q × IsPlaceOf locals l place
@@ -452,18 +508,27 @@ module _ (source : Program) where
         (λ d. Lands (base_of g) (top g k) d 1 (ValueStack g locals kinds.Int (operands.Slot d) (p + 1 + 1) frames k) (AheadStack g locals kinds.Int d (p + 1 + 1) frames k))
     ValueStack g locals kind o p frames (Needs (Pass callee before arguments) ∷ k) =
         (d : ℕ) × (m : ℕ) × (q : ℕ) × (all : ℕ) × (o ≡ operands.Slot (height (floor g k) (before ++ held k)))
-        × ArgumentsAt (code_of g) (bounds_at g) (types_at g) arguments (height (floor g k) (before ++ held k) + words_of_kind kind) p m
+        × ArgumentsAt (code_of g) (bounds_at g) (types_on g k) arguments (height (floor g k) (before ++ held k) + words_of_kind kind) p m
         × CallAt g callee all (top g k) d m q × (words_held before + (words_of_kind kind + all_passed arguments) ≡ all)
         × Lands (base_of g) (top g k) d (words_of_kind (called_at g callee)) (ValueStack g locals (called_at g callee) (operands.Slot d) q frames k) (AheadStack g locals (called_at g callee) d q frames k)
     ValueStack g locals kind o p frames (Needs (MakePlain owner wanted) ∷ k) =
-        (handle : ℕ) × (d : ℕ) × (q : ℕ) × IsHandleOf owner handle × (o ≡ operands.Slot (top g k)) × ObjectAt (code_of g) (bounds_at g) (types_at g) handle 1 (words_of_kind kind) (top g k) d p q
+        (handle : ℕ) × (d : ℕ) × (q : ℕ) × IsHandleOf owner handle × (o ≡ operands.Slot (top g k)) × ObjectAt (code_of g) (bounds_at g) (types_on g k) handle 1 (words_of_kind kind) (top g k) d p q
         × Lands (base_of g) (top g k) d 1 (ValueStack g locals kinds.NonNull (operands.Slot d) q frames k) (AheadStack g locals kinds.NonNull d q frames k)
     ValueStack g locals kind o p frames (Needs (MakeFields owner before fields) ∷ k) =
         (handle : ℕ) × (d : ℕ) × (m : ℕ) × (q : ℕ) × (all : ℕ) × IsHandleOf owner handle × (o ≡ operands.Slot (height (floor g k) (before ++ held k)))
-        × ArgumentsAt (code_of g) (bounds_at g) (types_at g) fields (height (floor g k) (before ++ held k) + words_of_kind kind) p m
-        × ObjectAt (code_of g) (bounds_at g) (types_at g) handle (length before + suc (argument_count fields)) all (top g k) d m q
+        × ArgumentsAt (code_of g) (bounds_at g) (types_on g k) fields (height (floor g k) (before ++ held k) + words_of_kind kind) p m
+        × ObjectAt (code_of g) (bounds_at g) (types_on g k) handle (length before + suc (argument_count fields)) all (top g k) d m q
         × (words_held before + (words_of_kind kind + all_passed fields) ≡ all)
         × Lands (base_of g) (top g k) d 1 (ValueStack g locals kinds.NonNull (operands.Slot d) q frames k) (AheadStack g locals kinds.NonNull d q frames k)
+    ValueStack g locals kind o p frames (Needs (MakeArray owner level wanted element) ∷ k) =
+        (handle : ℕ) × (d : ℕ) × (h : ℕ) × (r : ℕ) × (s : ℕ) × (q : ℕ) × IsInHeap owner handle × (o ≡ operands.Slot (top g k))
+        × BegunAt (code_of g) (bounds_at g) (types_on g k) handle (top g k) p h
+        × (level ≡ length (counters_of (floor g k) k)) × (words_of_kind wanted ≡ 1) × ElementsAt (code_of g) (bounds_at g) (types_on g k) element (top g k) d h r s q
+        × Lands (base_of g) (top g k) d 3 (ValueStack g locals kinds.Fat (operands.Slot d) q frames k) (AheadStack g locals kinds.Fat d q frames k)
+    ValueStack g locals kind o p frames (Needs (FillElement object count index level wanted element) ∷ k) =
+        (d : ℕ) × (h : ℕ) × (s : ℕ) × (q : ℕ) × (o ≡ operands.Slot (top g k + 3)) × (index < count) × (count ≤ most_elements)
+        × (level ≡ length (counters_of (floor g k) k)) × (words_of_kind wanted ≡ 1) × ElementsAt (code_of g) (bounds_at g) (types_on g k) element (top g k) d h p s q
+        × Lands (base_of g) (top g k) d 3 (ValueStack g locals kinds.Fat (operands.Slot d) q frames k) (AheadStack g locals kinds.Fat d q frames k)
     ValueStack g locals kind o p frames (Needs (Initialise number wanted items) ∷ k) =
         (exits : Exits) × (q : ℕ) × At (code_of g) p (move_of (words_of_kind kind) (slot_of (starts_at g) number) o) × HasRoom (types_at g) number kind
         × ItemsAt (code_of g) (bounds_at g) (types_at g) items exits (floor g k) (p + 1) q × StatementStack g exits q frames k
@@ -476,13 +541,14 @@ module _ (source : Program) where
         × At (code_of g) r (instructions.Finish s) × IsReturned g kind
         × StatementStack g exits q frames k
     ValueStack g locals kind o p frames (Needs FreeObject ∷ k) =
-        (d : ℕ) × (q : ℕ) × FreedAt (code_of g) (bounds_at g) (types_at g) o p q
+        (d : ℕ) × (q : ℕ) × FreedAt (code_of g) (bounds_at g) (types_on g k) o p q
         × Lands (base_of g) (top g k) d 1 (ValueStack g locals kinds.Int (operands.Slot d) q frames k) (AheadStack g locals kinds.Int d q frames k)
-    ValueStack g locals kind o p frames (Needs (ThrowWith tag) ∷ k) = IsNumber tag × At (code_of g) p (instructions.Throw (tag_operand tag) o)
+    ValueStack g locals kind o p frames (Needs (ThrowWith tag) ∷ k) =
+        (exits : Exits) × (q : ℕ) × IsNumber tag × At (code_of g) p (instructions.Throw (tag_operand tag) o) × StatementStack g exits q frames k
     ValueStack g locals kind o p frames (Needs (Follow pointer target) ∷ k) =
-        (q : ℕ) × (is_thin pointer ≡ true) × CheckAt (code_of g) (bounds_at g) (types_at g) null_exception o p q × PlaceStack g locals o 0 q frames k
+        (q : ℕ) × (is_thin pointer ≡ true) × CheckAt (code_of g) (bounds_at g) (types_on g k) null_exception o p q × PlaceStack g locals o 0 q frames k
     ValueStack g locals kind o p frames (Needs (FollowMember pointer fields field) ∷ k) =
-        (c : ℕ) × (q : ℕ) × (is_thin pointer ≡ true) × CheckAt (code_of g) (bounds_at g) (types_at g) null_exception o p q × (field < length fields)
+        (c : ℕ) × (q : ℕ) × (is_thin pointer ≡ true) × CheckAt (code_of g) (bounds_at g) (types_on g k) null_exception o p q × (field < length fields)
         × (4 * before field fields < 2 ^ 32 → c ≡ 4 * before field fields) × PlaceStack g locals o c q frames k
     ValueStack g locals kind o p frames (Discard ∷ k) = (exits : Exits) × StatementStack g exits p frames k
     ValueStack g locals kind o p frames (entry ∷ k) = ⊥
@@ -497,7 +563,7 @@ module _ (source : Program) where
         × Lands (base_of g) (top g k) d 1 (ValueStack g locals kinds.NonNull (operands.Slot d) q frames k) (AheadStack g locals kinds.NonNull d q frames k)
     PlaceStack g locals o c p frames (NeedsPlace (StoreTo peek (Convert from to a)) ∷ k) =
         (x : Operand) × (s : ℕ) × (u : ℕ) × AddressAt (code_of g) o c (top g k) p s
-        × ConvertedOperandAt (code_of g) (bounds_at g) (types_at g) (Convert from to a) (top g k + 1) x s u
+        × ConvertedOperandAt (code_of g) (bounds_at g) (types_on g k) (Convert from to a) (top g k + 1) x s u
         × At (code_of g) u (instructions.Store (operands.Slot (top g k)) 0 x) × (words_of_kind to ≡ 1)
         × HandsOn (code_of g) (words_of_kind to) x (u + 1) (DroppedStack g (u + 1) frames k) (ValueStack g locals to x (u + 1) frames k)
         (λ d r. Lands (base_of g) (top g k) d (words_of_kind to) (ValueStack g locals to (operands.Slot d) r frames k) (AheadStack g locals to d r frames k))
@@ -572,7 +638,7 @@ module _ (source : Program) where
   -- what an operator on two operands gives is brought to a slot, or tested
   abbrev pub AppliedStack : (g : ℕ) → (ℕ → Option ℕ) → Operator → (l r : Operand) → (p : ℕ) → List Frame → List Entry → Type 0
   AppliedStack g locals operator l r p frames k =
-      Yields ((d : ℕ) × (q : ℕ) × OperatorAt (code_of g) (bounds_at g) (types_at g) operator d l r p q × LandsStack g locals kinds.Int d q frames k)
+      Yields ((d : ℕ) × (q : ℕ) × OperatorAt (code_of g) (bounds_at g) (types_on g k) operator d l r p q × LandsStack g locals kinds.Int d q frames k)
       ((failing : Comparison) × (failing_comparison operator ≡ Some failing) × ConditionStack g failing l r p frames k)
 
   -- ---- the focus
@@ -580,7 +646,7 @@ module _ (source : Program) where
   -- A right operand without code: the left one may be without code too, and both are read at once.
   abbrev pub RightAt : Tables → Expression → (ℕ → Option ℕ) → (g p : ℕ) → Words → List Frame → List Entry → Type 0
   RightAt t a locals g p slots frames (Needs (Apply operator left) ∷ k) =
-      (l : Operand) × (r : Operand) × (operand_of (starts_at g) a ≡ Some r) × IsIn t left slots l × Holds t slots (floor g k) (held k)
+      (l : Operand) × (r : Operand) × (operand_of (starts_on g k) a ≡ Some r) × IsIn t left slots l × Holds t slots (floor g k) (held k)
       × AppliedStack g locals operator l r p frames k
   RightAt t a locals g p slots frames k = ⊥
 
@@ -593,20 +659,20 @@ module _ (source : Program) where
 
   -- the code of an expression, by where its value is to be
   pub data EvaluatingAt (t : Tables) (a : Expression) (locals : ℕ → Option ℕ) (g p : ℕ) (slots : Words) (frames : List Frame) (k : List Entry) : Type 0 where
-    as_operand : (o : Operand) → (q : ℕ) → ValueAt (code_of g) (bounds_at g) (types_at g) a (top g k) o p q → Holds t slots (floor g k) (held k)
+    as_operand : (o : Operand) → (q : ℕ) → ValueAt (code_of g) (bounds_at g) (types_on g k) a (top g k) o p q → Holds t slots (floor g k) (held k)
         → ValueStack g locals (given_at g a) o q frames k → EvaluatingAt t a locals g p slots frames k
-    into_slot : (d q : ℕ) → ExpressionAt (code_of g) (bounds_at g) (types_at g) a d (top g k) p q → Holds t slots (floor g k) (held k)
+    into_slot : (d q : ℕ) → ExpressionAt (code_of g) (bounds_at g) (types_on g k) a d (top g k) p q → Holds t slots (floor g k) (held k)
         → LandsStack g locals (given_at g a) d q frames k → EvaluatingAt t a locals g p slots frames k
-    for_effect : (q : ℕ) → DiscardedAt (code_of g) (bounds_at g) (types_at g) a (top g k) p q → Holds t slots (floor g k) (held k)
+    for_effect : (q : ℕ) → DiscardedAt (code_of g) (bounds_at g) (types_on g k) a (top g k) p q → Holds t slots (floor g k) (held k)
         → DroppedStack g q frames k → EvaluatingAt t a locals g p slots frames k
     as_right : RightAt t a locals g p slots frames k → EvaluatingAt t a locals g p slots frames k
-    as_condition : (l r : Operand) → (q : ℕ) → ConditionAt (code_of g) (bounds_at g) (types_at g) a l r (top g k) p q → Holds t slots (floor g k) (held k)
+    as_condition : (l r : Operand) → (q : ℕ) → ConditionAt (code_of g) (bounds_at g) (types_on g k) a l r (top g k) p q → Holds t slots (floor g k) (held k)
         → ConditionStack g (compared_of a).failing l r q frames k → EvaluatingAt t a locals g p slots frames k
 
   abbrev pub FocusAt : Tables → Focus → List Entry → (ℕ → Option ℕ) → (g p : ℕ) → Words → List Frame → Type 0
   FocusAt t (Evaluating a) k locals g p slots frames = EvaluatingAt t a locals g p slots frames k
   FocusAt t (Locating x) k locals g p slots frames =
-      (o : Operand) × (c : ℕ) × (q : ℕ) × PlaceAt (code_of g) (bounds_at g) (types_at g) x o c (top g k) p q × Holds t slots (floor g k) (held k)
+      (o : Operand) × (c : ℕ) × (q : ℕ) × PlaceAt (code_of g) (bounds_at g) (types_on g k) x o c (top g k) p q × Holds t slots (floor g k) (held k)
       × PlaceStack g locals o c q frames k
   FocusAt t (GivenPlace (Thin object offset)) k locals g p slots frames =
       (o : Operand) × (c : ℕ) × (operand_word slots o < 2 ^ 32) × Points t object offset (add_of (operand_word slots o) c) × Holds t slots (floor g k) (held k)
@@ -628,9 +694,19 @@ module _ (source : Program) where
       (object : ℕ) × (done : List Kind) × (values : List Kinded) × (address : ℕ) × (slot : ℕ) × (d : ℕ) × (m : ℕ) × (q : ℕ)
       × (writes ≡ writes_from object (length done) values) × (pointer ≡ record { kind = kinds.NonNull; value = Thin object 0 })
       × IsObject t object (slots address) (done ++ kinds_of (blanks_of values)) × (words_held values ≡ length values)
-      × HoldsFrom t slots slot values × StoresAt (code_of g) (bounds_at g) (types_at g) (words_held values) address (4 * words_of_kinds done) slot p m
+      × HoldsFrom t slots slot values × StoresAt (code_of g) (bounds_at g) (types_on g k) (words_held values) address (4 * words_of_kinds done) slot p m
       × At (code_of g) m (instructions.Move d (operands.Slot address)) × (m + 1 ≡ q)
       × Holds t slots (floor g k) (held k) × LandsStack g locals kinds.NonNull d q frames k
+  FocusAt t (Beginning owner count level wanted element) k locals g p slots frames =
+      (handle : ℕ) × (d : ℕ) × (h : ℕ) × (r : ℕ) × (s : ℕ) × (q : ℕ) × IsInHeap owner handle
+      × At (code_of g) p (instructions.Ask (requests.Allocate (top g k) (operands.Word handle) (operands.Slot (top g k + 3)))) × (p + 1 ≡ h)
+      × (count ≤ most_elements) × (slots (top g k + 1) ≡ count) × (slots (top g k + 2) ≡ 0) × (slots (top g k + 3) ≡ max 1 count)
+      × (level ≡ length (counters_of (floor g k) k)) × (words_of_kind wanted ≡ 1) × ElementsAt (code_of g) (bounds_at g) (types_on g k) element (top g k) d h r s q
+      × Holds t slots (floor g k) (held k) × LandsStack g locals kinds.Fat d q frames k
+  FocusAt t (Repeating object count index level wanted element) k locals g p slots frames =
+      (d : ℕ) × (r : ℕ) × (s : ℕ) × (q : ℕ) × Is t kinds.Fat (Fat object 0 count index) slots (top g k) × (index ≤ count) × (count ≤ most_elements)
+      × (level ≡ length (counters_of (floor g k) k)) × (words_of_kind wanted ≡ 1) × ElementsAt (code_of g) (bounds_at g) (types_on g k) element (top g k) d p r s q
+      × Holds t slots (floor g k) (held k) × LandsStack g locals kinds.Fat d q frames k
   FocusAt t (Writing writes None) k locals g p slots frames =
       (exits : Exits) × (q : ℕ) × WritesAt t locals g slots writes p q × StatementStack g exits q frames k
   FocusAt t (Swapping kind (Thin object offset) (Thin other beside) None) k locals g p slots frames =
@@ -666,7 +742,7 @@ module _ (source : Program) where
   -- ---- states
 
   abbrev pub SharedAt : (pages calls : ℕ) → List Entry → Environment → World → Configuration → Type 0
-  SharedAt pages calls k e w c = Shared pages calls w (e.home ∷ homes k) c.output c.input c.store (length c.frames)
+  SharedAt pages calls k e w c = Shared pages calls w (e.home ∷ homes k) (AreCounted e.counters k) c.output c.input c.store (length c.frames)
 
   -- what stands where a handler catches an exception: it was opened by this instruction, and its clauses end where all goes on
   abbrev pub CatchesAt : (g : ℕ) → Clauses → (index : ℕ) → List Frame → List Entry → Type 0

@@ -5,12 +5,13 @@ use Rattle.cyc_types.specs.declared.typed.Kind.{Kind}
 use Rattle.cyc_types.specs.TypedTrees.{Program}
 use Rattle.cyc_plain.specs.State.{Configuration}
 use Rattle.cyc_meaning.specs.Values.{Value}
-use Rattle.cyc_meaning.specs.State.{Stack, Region, World, globals_number, Environment, Located, variable, made, written, opened, closed, with_local, Entry, CloseRegion, Caller}
+use Rattle.cyc_meaning.specs.State.{Awaiting, Needs, Stack, Region, World, globals_number, Environment, Located, variable, made, written, opened, closed, with_local, Entry, CloseRegion, Caller}
 use Rattle.cyc_meaning.specs.Step.{inside, region_end}
 use Rattle.cyc_objects.specs.Tables.{Variable, with_row, with_handle}
 use Rattle.cyc_objects.proofs.Values.{Grows-row, Grows-handle}
 use Rattle.cyc_objects.proofs.Variables.{declared, assigned, opened-variables, closed-variables, handle-made}
 use Rattle.cyc_lower.proofs.Relation.{homes, SharedAt}
+use Rattle.cyc_lower.proofs.Counters.{counted_less}
 use Rattle.cyc_lower.proofs.Data.{append_seam, variables_grow}
 
 module _ (source : Program) (pages calls : ℕ) (k : List Entry) (e : Environment) (w : World) (c : Configuration) (s : SharedAt source pages calls k e w c) where
@@ -27,6 +28,7 @@ module _ (source : Program) (pages calls : ℕ) (k : List Entry) (e : Environmen
     variables = variables_grow s.tables (with_row s.tables Variable) (Grows-row s.tables Variable) (e.home ∷ homes k) s.variables;
     few_pages = s.few_pages;
     fits = s.fits;
+    counters = s.counters;
   }
 
   -- its row is the last one
@@ -46,6 +48,7 @@ module _ (source : Program) (pages calls : ℕ) (k : List Entry) (e : Environmen
     variables = s.variables;
     few_pages = s.few_pages;
     fits = s.fits;
+    counters = s.counters;
   }
 
   -- the region of a block opens, and closes at the end of what is then waiting
@@ -63,6 +66,7 @@ module _ (source : Program) (pages calls : ℕ) (k : List Entry) (e : Environmen
         (new, (new, grown));
     few_pages = s.few_pages;
     fits = s.fits;
+    counters = s.counters;
   }
 
 -- the region of a block closes, and its variables go on in that around it
@@ -78,6 +82,7 @@ shared_closed source pages calls k e w c number home r there s = record {
   variables = s.variables.1.1;
   few_pages = s.few_pages;
   fits = s.fits;
+  counters = s.counters;
 }
 
 -- a call is left by an exception
@@ -93,4 +98,21 @@ shared_left source pages calls k e outer w c s = record {
   variables = s.variables.1;
   few_pages = s.few_pages;
   fits = s.fits;
+  counters = s.counters;
+}
+
+-- what waits for a value waits no more
+abbrev pub shared_less : (source : Program) (pages calls : ℕ) (a : Awaiting) (k : List Entry) (e : Environment) (w : World) (c : Configuration) → SharedAt source pages calls (Needs a ∷ k) e w c
+    → SharedAt source pages calls k e w c
+shared_less source pages calls a k e w c s = record {
+  tables = s.tables;
+  same_output = s.same_output;
+  same_input = s.same_input;
+  same_pages = s.same_pages;
+  related = s.related;
+  globals = s.globals;
+  variables = s.variables;
+  few_pages = s.few_pages;
+  fits = s.fits;
+  counters = counted_less e.counters a k s.counters;
 }

@@ -18,6 +18,7 @@ use Rattle.cyc_types.specs.Numbered.{argument_count}
 use Rattle.cyc_types.proofs.WeightLemmas.{some_token}
 use Rattle.cyc_types.specs.Weight.{expression_weight, dereference_weight, initial_weight, converted_weight, arguments_weight, more_arguments_weight, operations_weight, else_weight, statement_weight, items_weight, function_weight, side_weight, clauses_weight}
 use Rattle.cyc_plain.specs.declared.instruction.Comparison.{Comparison}
+use Rattle.cyc_plain.specs.declared.instruction.Comparison.TheVariants as comparisons
 use Rattle.cyc_plain.specs.declared.instruction.Operand.{Operand}
 use Rattle.cyc_plain.specs.declared.instruction.Operand.TheVariants as operands
 use Rattle.cyc_plain.specs.declared.instruction.Request.TheVariants as requests
@@ -26,11 +27,11 @@ use Rattle.cyc_plain.specs.declared.instruction.Instruction.TheVariants as instr
 use Rattle.cyc_plain.specs.Program.{instruction_size, size}
 use Rattle.cyc_plain.specs.declared.limits.TheConstants.{RECORD_WORDS}
 use Rattle.cyc_lower.specs.declared.statements.Exits.{Exits}
-use Rattle.cyc_lower.specs.Slots.{starts_of, slot_of, Starts}
+use Rattle.cyc_lower.specs.Slots.{with_counter, starts_of, slot_of, Starts}
 use Rattle.cyc_store.specs.declared.range.TheConstants.{HEAP, UNIQUE}
 use Rattle.cyc_meaning.specs.Values.{kind_of, words_of_kind}
 use Rattle.cyc_lower.proofs.Widths.{kind_few, type_words}
-use Rattle.cyc_lower.specs.Lowering.{types_of, converts_there, passed_words, all_passed, source_of, source_slot, converted_by, moved_by, move_of, unary_operator, binary_operator, operand_of, operand_or, code_unless, slot_or, code_unless_slot, left_of, value_slot, next_slot, left_slot, value_operand, converted_operand, printed_operand, conversion_code, divisor_code, checked_code, operator_code, truth_code, load_code, low_byte, test_code, is_in, copy_code, expression_code, arguments_code, converted_code, converted_operand_code, printed_code, initial_code, assignment_code, operations_code, discarded_code, failing_comparison, compared_or, left_with, slot_with, first_code, second_code, pair_code, condition_code, condition_of, failing_jump, break_target, continue_target, return_code, declaration_code, statement_code, items_code, first_temporary, jump_if_zero, jump_if_nonzero, lower_function, behind_left, pointer_code, outside_loops, inside_loop, pointer_operator, index_of, first_two, pointer_instructions, stores_code, object_code, made_code, place_operand, place_offset, place_code, address_code, store_address_code, blocks, free_code, right_slot, side_code, read_side, write_side, exchange_code, swap_code, leave_code, tag_operand, other_jump, clause_code, caught_code, clauses_code}
+use Rattle.cyc_lower.specs.Lowering.{begun_code, filled_code, ended_code, elements_code, types_of, converts_there, passed_words, all_passed, source_of, source_slot, converted_by, moved_by, move_of, unary_operator, binary_operator, operand_of, operand_or, code_unless, slot_or, code_unless_slot, left_of, value_slot, next_slot, left_slot, value_operand, converted_operand, printed_operand, conversion_code, divisor_code, checked_code, operator_code, truth_code, load_code, low_byte, test_code, is_in, copy_code, expression_code, arguments_code, converted_code, converted_operand_code, printed_code, initial_code, assignment_code, operations_code, discarded_code, failing_comparison, compared_or, left_with, slot_with, first_code, second_code, pair_code, condition_code, condition_of, failing_jump, break_target, continue_target, return_code, declaration_code, statement_code, items_code, first_temporary, jump_if_zero, jump_if_nonzero, lower_function, behind_left, pointer_code, outside_loops, inside_loop, pointer_operator, index_of, first_two, pointer_instructions, stores_code, object_code, made_code, place_operand, place_offset, place_code, address_code, store_address_code, blocks, free_code, right_slot, side_code, read_side, write_side, exchange_code, swap_code, leave_code, tag_operand, other_jump, clause_code, caught_code, clauses_code}
 use Rattle.cyc_lower.specs.Lowered.{size_per_weight}
 
 abbrev code_size : List Instruction → ℕ
@@ -99,6 +100,14 @@ copied_address_size (operands.Word n) d = omega arith
 copied_address_size (operands.Slot n) d = by (n == d)
   where
     by : (is : Bool) → code_size (if is then [] else instructions.Move d (operands.Slot n) ∷ []) ≤ 6
+    by true = omega arith
+    by false = omega arith
+
+-- a fat pointer
+copied_pointer_size : (t d : ℕ) → code_size (copy_code 3 (operands.Slot t) d) ≤ 20
+copied_pointer_size t d = by (t == d)
+  where
+    by : (is : Bool) → code_size (if is then [] else instructions.MoveWords d t 3 ∷ []) ≤ 20
     by true = omega arith
     by false = omega arith
 
@@ -187,214 +196,233 @@ module _ (starts : Starts) where
       let operand = code_unless (operand_of starts a) inner in
       omega (arith, both (pointer_code o l r operand d) back, both operand (pointer_instructions o l r d), unless_size (operand_of starts a) inner, pointer_size o l r d, few)
 
-  mutual
-    expression_size : (a : Expression) (p d t : ℕ) → code_size (expression_code starts a p d t) ≤ size_per_weight * expression_weight a
-    expression_size (Number n) p d t = omega arith
-    expression_size (Copy l ty) p d t = omega (arith, load_size l ty d)
-    expression_size (Move w n ty) p d t = omega (arith, load_size (Local w n) ty d)
-    expression_size (Peek w n ty) p d t = omega (arith, load_size (Local w n) ty d)
-    expression_size (Call callees.Putchar cs ty) p d t =
-        let o = printed_operand starts cs (operands.Slot t) t in
-        omega (arith, both (printed_code starts cs p t) (instructions.WriteByte o ∷ low_byte o d ∷ []), printed_size cs p t)
-    expression_size (Call callees.Getchar cs ty) p d t =
-        omega (arith, both (arguments_code starts cs p t) (instructions.ReadByte d ∷ []), arguments_size cs p t)
-    expression_size (Call (callees.Function n) cs ty) p d t =
-        omega (arith, both (arguments_code starts cs p t) (instructions.Call n t (all_passed cs) d ∷ []), arguments_size cs p t)
-    expression_size (Unary o a) p d t =
-        let inner = expression_code starts a p (value_slot starts a t) t in
-        omega (arith, both (code_unless (operand_of starts a) inner) (instructions.Unary (unary_operator o) d (value_operand starts a t) ∷ []), unless_size (operand_of starts a) inner, expression_size a p (value_slot starts a t) t)
-    expression_size (Binary a os ty) p d t =
-        let inner = expression_code starts a p (left_slot starts a os d t) t in
-        let front = code_unless (left_of starts a os) inner in
-        let l = operand_or (left_of starts a os) (left_slot starts a os d t) in
-        omega (arith, both front (operations_code starts os (p + length front) l d t), unless_size (left_of starts a os) inner, expression_size a p (left_slot starts a os d t) t, operations_size os (p + length front) l d t)
-    expression_size (Assign (Local w n) c ty) p d t =
-        let o = operands.Slot (slot_of starts n) in
-        omega (arith, both (initial_code starts c p (slot_of starts n) t) (copy_code (passed_words c) o d), initial_size c p (slot_of starts n) t, copy_size c o d)
-    expression_size (Assign (Global n) c ty) p d t =
-        let o = converted_operand starts c t in
-        let front = converted_operand_code starts c p t in
-        let store = instructions.StoreGlobal n o ∷ [] in
-        omega (arith, both (front ++ store) (copy_code (passed_words c) o d), both front store, converted_operand_size c p t, copy_size c o d)
-    expression_size (Load x) p d t =
-        omega (arith, both (place_code starts x p t) (instructions.Load d (place_operand starts x t) (place_offset starts x) ∷ []), place_size x p t)
-    expression_size (AddressOfCell x ty) p d t =
-        let address = address_code (place_operand starts x t) (place_offset starts x) d in
-        omega (arith, both (place_code starts x p t) address, place_size x p t, address_size (place_operand starts x t) (place_offset starts x) d)
-    expression_size (Store x c ty) p d t =
-        let address = store_address_code starts x p t in
-        let value = converted_operand_code starts c (p + length address) (t + 1) in
-        let o = converted_operand starts c (t + 1) in
-        let write = instructions.Store (operands.Slot t) 0 o ∷ [] in
-        omega (
-          arith,
-          both (address ++ (value ++ write)) (copy_code (passed_words c) o d),
-          both address (value ++ write),
-          both value write,
-          store_address_size x p t,
-          converted_operand_size c (p + length address) (t + 1),
-          copy_size c o d,
-        )
-    expression_size (FreeUnique a) p d t =
-        let inner = expression_code starts a p (value_slot starts a t) t in
-        let front = code_unless (operand_of starts a) inner in
-        omega (arith, both front (free_code (value_operand starts a t) (p + length front)), unless_size (operand_of starts a) inner, expression_size a p (value_slot starts a t) t)
-    expression_size (New OnHeap i ty) p d t = made_size i HEAP p d t
-    expression_size (New AsUnique i ty) p d t = omega (arith, made_size i UNIQUE p d t)
-    expression_size (New (ByHandle h) i ty) p d t = omega arith
-    expression_size a p d t = omega (arith, some_token a)
+mutual
+  expression_size : (starts : Starts) → (a : Expression) (p d t : ℕ) → code_size (expression_code starts a p d t) ≤ size_per_weight * expression_weight a
+  expression_size starts (Number n) p d t = omega arith
+  expression_size starts (Copy l ty) p d t = omega (arith, load_size starts l ty d)
+  expression_size starts (Move w n ty) p d t = omega (arith, load_size starts (Local w n) ty d)
+  expression_size starts (Peek w n ty) p d t = omega (arith, load_size starts (Local w n) ty d)
+  expression_size starts (Call callees.Putchar cs ty) p d t =
+      let o = printed_operand starts cs (operands.Slot t) t in
+      omega (arith, both (printed_code starts cs p t) (instructions.WriteByte o ∷ low_byte o d ∷ []), printed_size starts cs p t)
+  expression_size starts (Call callees.Getchar cs ty) p d t =
+      omega (arith, both (arguments_code starts cs p t) (instructions.ReadByte d ∷ []), arguments_size starts cs p t)
+  expression_size starts (Call (callees.Function n) cs ty) p d t =
+      omega (arith, both (arguments_code starts cs p t) (instructions.Call n t (all_passed cs) d ∷ []), arguments_size starts cs p t)
+  expression_size starts (Unary o a) p d t =
+      let inner = expression_code starts a p (value_slot starts a t) t in
+      omega (arith, both (code_unless (operand_of starts a) inner) (instructions.Unary (unary_operator o) d (value_operand starts a t) ∷ []), unless_size (operand_of starts a) inner, expression_size starts a p (value_slot starts a t) t)
+  expression_size starts (Binary a os ty) p d t =
+      let inner = expression_code starts a p (left_slot starts a os d t) t in
+      let front = code_unless (left_of starts a os) inner in
+      let l = operand_or (left_of starts a os) (left_slot starts a os d t) in
+      omega (arith, both front (operations_code starts os (p + length front) l d t), unless_size (left_of starts a os) inner, expression_size starts a p (left_slot starts a os d t) t, operations_size starts os (p + length front) l d t)
+  expression_size starts (Assign (Local w n) c ty) p d t =
+      let o = operands.Slot (slot_of starts n) in
+      omega (arith, both (initial_code starts c p (slot_of starts n) t) (copy_code (passed_words c) o d), initial_size starts c p (slot_of starts n) t, copy_size c o d)
+  expression_size starts (Assign (Global n) c ty) p d t =
+      let o = converted_operand starts c t in
+      let front = converted_operand_code starts c p t in
+      let store = instructions.StoreGlobal n o ∷ [] in
+      omega (arith, both (front ++ store) (copy_code (passed_words c) o d), both front store, converted_operand_size starts c p t, copy_size c o d)
+  expression_size starts (Load x) p d t =
+      omega (arith, both (place_code starts x p t) (instructions.Load d (place_operand starts x t) (place_offset starts x) ∷ []), place_size starts x p t)
+  expression_size starts (AddressOfCell x ty) p d t =
+      let address = address_code (place_operand starts x t) (place_offset starts x) d in
+      omega (arith, both (place_code starts x p t) address, place_size starts x p t, address_size (place_operand starts x t) (place_offset starts x) d)
+  expression_size starts (Store x c ty) p d t =
+      let address = store_address_code starts x p t in
+      let value = converted_operand_code starts c (p + length address) (t + 1) in
+      let o = converted_operand starts c (t + 1) in
+      let write = instructions.Store (operands.Slot t) 0 o ∷ [] in
+      omega (
+        arith,
+        both (address ++ (value ++ write)) (copy_code (passed_words c) o d),
+        both address (value ++ write),
+        both value write,
+        store_address_size starts x p t,
+        converted_operand_size starts c (p + length address) (t + 1),
+        copy_size c o d,
+      )
+  expression_size starts (FreeUnique a) p d t =
+      let inner = expression_code starts a p (value_slot starts a t) t in
+      let front = code_unless (operand_of starts a) inner in
+      omega (arith, both front (free_code (value_operand starts a t) (p + length front)), unless_size (operand_of starts a) inner, expression_size starts a p (value_slot starts a t) t)
+  expression_size starts (New OnHeap i ty) p d t = made_size starts i HEAP p d t
+  expression_size starts (New AsUnique i ty) p d t = omega (arith, made_size starts i UNIQUE p d t)
+  expression_size starts (New (ByHandle h) i ty) p d t = omega arith
+  expression_size starts a p d t = omega (arith, some_token a)
 
-    made_size : (i : Initial) (handle p d t : ℕ) → code_size (made_code starts i handle p d t) ≤ size_per_weight * (1 + initial_weight i)
-    made_size (Plain kind a) handle p d t =
-        omega (arith, both (expression_code starts a p t t) (object_code handle 1 d t), expression_size a p t t, object_size handle 1 d t)
-    made_size (Fields cs) handle p d t =
-        omega (arith, both (arguments_code starts cs p t) (object_code handle (argument_count cs) d t), fields_size cs p t, more_weight cs, object_size handle (argument_count cs) d t)
-    made_size (Array w level n kind a) handle p d t = omega arith
+  made_size : (starts : Starts) → (i : Initial) (handle p d t : ℕ) → code_size (made_code starts i handle p d t) ≤ size_per_weight * (1 + initial_weight i)
+  made_size starts (Plain kind a) handle p d t =
+      omega (arith, both (expression_code starts a p t t) (object_code handle 1 d t), expression_size starts a p t t, object_size handle 1 d t)
+  made_size starts (Fields cs) handle p d t =
+      omega (arith, both (arguments_code starts cs p t) (object_code handle (argument_count cs) d t), fields_size starts cs p t, more_weight cs, object_size handle (argument_count cs) d t)
+  made_size starts (Array w level n kind a) handle p d t =
+      let first = expression_code starts n p t t in
+      let m = p + length first in
+      let inner = expression_code (with_counter starts (t + 2)) a (m + 6 + 1) (t + 3) (t + 3) in
+      let filled = filled_code (m + 6) t in
+      let elements = elements_code inner (m + 6) d t in
+      let jump = instructions.Branch comparisons.Equal (operands.Slot (t + 2)) (operands.Slot (t + 1)) (m + 6 + 1 + length (inner ++ filled)) in
+      omega (
+        arith,
+        both first (begun_code starts handle t ++ elements),
+        both (begun_code starts handle t) elements,
+        cons jump ((inner ++ filled) ++ ended_code d t),
+        both (inner ++ filled) (ended_code d t),
+        both inner filled,
+        cons (instructions.Move (t + 2) (operands.Word 0)) (copy_code 3 (operands.Slot t) d),
+        copied_pointer_size t d,
+        expression_size starts n p t t,
+        expression_size (with_counter starts (t + 2)) a (m + 6 + 1) (t + 3) (t + 3),
+      )
 
-    place_size : (x : Dereference) (p t : ℕ) → code_size (place_code starts x p t) + 18 ≤ size_per_weight * dereference_weight x
-    place_size (Target k a ty) p t =
-        let slot = value_slot starts a t in
-        omega (arith, converted_by_size starts (operand_of starts a) (expression_code starts a p slot t) kinds.NonNull (value_operand starts a t) p (size_per_weight * expression_weight a) (expression_size a p slot t))
-    place_size (Member k a n f ty) p t =
-        let slot = value_slot starts a t in
-        omega (arith, converted_by_size starts (operand_of starts a) (expression_code starts a p slot t) kinds.NonNull (value_operand starts a t) p (size_per_weight * expression_weight a) (expression_size a p slot t))
-    place_size (Element a i ty) p t = omega (arith, some_token a)
+  place_size : (starts : Starts) → (x : Dereference) (p t : ℕ) → code_size (place_code starts x p t) + 18 ≤ size_per_weight * dereference_weight x
+  place_size starts (Target k a ty) p t =
+      let slot = value_slot starts a t in
+      omega (arith, converted_by_size starts (operand_of starts a) (expression_code starts a p slot t) kinds.NonNull (value_operand starts a t) p (size_per_weight * expression_weight a) (expression_size starts a p slot t))
+  place_size starts (Member k a n f ty) p t =
+      let slot = value_slot starts a t in
+      omega (arith, converted_by_size starts (operand_of starts a) (expression_code starts a p slot t) kinds.NonNull (value_operand starts a t) p (size_per_weight * expression_weight a) (expression_size starts a p slot t))
+  place_size starts (Element a i ty) p t = omega (arith, some_token a)
 
-    -- with the address in a slot
-    store_address_size : (x : Dereference) (p t : ℕ) → code_size (store_address_code starts x p t) + 12 ≤ size_per_weight * dereference_weight x
-    store_address_size (Target k a ty) p t =
-        let slot = value_slot starts a t in
-        let o = value_operand starts a t in
-        let front = place_code starts (Target k a ty) p t in
-        omega (
-          arith,
-          both front (copy_code 1 o t),
-          converted_by_size starts (operand_of starts a) (expression_code starts a p slot t) kinds.NonNull o p (size_per_weight * expression_weight a) (expression_size a p slot t),
-          copied_address_size o t,
-        )
-    store_address_size (Member k a n f ty) p t =
-        let slot = value_slot starts a t in
-        let o = value_operand starts a t in
-        let x = Member k a n f ty in
-        let front = place_code starts x p t in
-        omega (
-          arith,
-          both front (address_code o (place_offset starts x) t),
-          converted_by_size starts (operand_of starts a) (expression_code starts a p slot t) kinds.NonNull o p (size_per_weight * expression_weight a) (expression_size a p slot t),
-          address_size o (place_offset starts x) t,
-        )
-    store_address_size (Element a i ty) p t =
-        omega (arith, both (instructions.Move t (operands.Word 0) ∷ []) (copy_code 1 (operands.Slot t) t), copied_address_size (operands.Slot t) t, some_token a)
+  -- with the address in a slot
+  store_address_size : (starts : Starts) → (x : Dereference) (p t : ℕ) → code_size (store_address_code starts x p t) + 12 ≤ size_per_weight * dereference_weight x
+  store_address_size starts (Target k a ty) p t =
+      let slot = value_slot starts a t in
+      let o = value_operand starts a t in
+      let front = place_code starts (Target k a ty) p t in
+      omega (
+        arith,
+        both front (copy_code 1 o t),
+        converted_by_size starts (operand_of starts a) (expression_code starts a p slot t) kinds.NonNull o p (size_per_weight * expression_weight a) (expression_size starts a p slot t),
+        copied_address_size o t,
+      )
+  store_address_size starts (Member k a n f ty) p t =
+      let slot = value_slot starts a t in
+      let o = value_operand starts a t in
+      let x = Member k a n f ty in
+      let front = place_code starts x p t in
+      omega (
+        arith,
+        both front (address_code o (place_offset starts x) t),
+        converted_by_size starts (operand_of starts a) (expression_code starts a p slot t) kinds.NonNull o p (size_per_weight * expression_weight a) (expression_size starts a p slot t),
+        address_size o (place_offset starts x) t,
+      )
+  store_address_size starts (Element a i ty) p t =
+      omega (arith, both (instructions.Move t (operands.Word 0) ∷ []) (copy_code 1 (operands.Slot t) t), copied_address_size (operands.Slot t) t, some_token a)
 
-    initial_size : (c : Converted) (p d t : ℕ) → code_size (initial_code starts c p d t) ≤ size_per_weight * converted_weight c + 38
-    initial_size (Convert from to a) p d t =
-        let slot = source_slot starts (Convert from to a) t in
-        initial_by_size starts (converts_there from to) (source_of starts (Convert from to a)) (expression_code starts a p d t) (expression_code starts a p slot t) to (converted_operand starts (Convert from to a) t) p d
-        (size_per_weight * expression_weight a) (expression_size a p d t) (expression_size a p slot t)
+  initial_size : (starts : Starts) → (c : Converted) (p d t : ℕ) → code_size (initial_code starts c p d t) ≤ size_per_weight * converted_weight c + 38
+  initial_size starts (Convert from to a) p d t =
+      let slot = source_slot starts (Convert from to a) t in
+      initial_by_size starts (converts_there from to) (source_of starts (Convert from to a)) (expression_code starts a p d t) (expression_code starts a p slot t) to (converted_operand starts (Convert from to a) t) p d
+      (size_per_weight * expression_weight a) (expression_size starts a p d t) (expression_size starts a p slot t)
 
-    converted_size : (c : Converted) (p t : ℕ) → code_size (converted_code starts c p t) ≤ size_per_weight * converted_weight c + 18
-    converted_size (Convert from to a) p t =
-        let front = expression_code starts a p t t in
-        omega (arith, both front (conversion_code starts to (operands.Slot t) (p + length front)), expression_size a p t t, conversion_size starts to (operands.Slot t) (p + length front))
+  converted_size : (starts : Starts) → (c : Converted) (p t : ℕ) → code_size (converted_code starts c p t) ≤ size_per_weight * converted_weight c + 18
+  converted_size starts (Convert from to a) p t =
+      let front = expression_code starts a p t t in
+      omega (arith, both front (conversion_code starts to (operands.Slot t) (p + length front)), expression_size starts a p t t, conversion_size starts to (operands.Slot t) (p + length front))
 
-    converted_operand_size : (c : Converted) (p t : ℕ) → code_size (converted_operand_code starts c p t) ≤ size_per_weight * converted_weight c + 18
-    converted_operand_size (Convert from to a) p t =
-        let slot = source_slot starts (Convert from to a) t in
-        converted_by_size starts (source_of starts (Convert from to a)) (expression_code starts a p slot t) to (converted_operand starts (Convert from to a) t) p
-        (size_per_weight * expression_weight a) (expression_size a p slot t)
+  converted_operand_size : (starts : Starts) → (c : Converted) (p t : ℕ) → code_size (converted_operand_code starts c p t) ≤ size_per_weight * converted_weight c + 18
+  converted_operand_size starts (Convert from to a) p t =
+      let slot = source_slot starts (Convert from to a) t in
+      converted_by_size starts (source_of starts (Convert from to a)) (expression_code starts a p slot t) to (converted_operand starts (Convert from to a) t) p
+      (size_per_weight * expression_weight a) (expression_size starts a p slot t)
 
-    printed_size : (cs : Arguments) (p t : ℕ) → code_size (printed_code starts cs p t) ≤ size_per_weight * arguments_weight cs + 18
-    printed_size NoArguments p t = omega arith
-    printed_size (MoreArguments c cs) p t =
-        let front = converted_operand_code starts c p t in
-        omega (arith, both front (printed_code starts cs (p + length front) t), converted_operand_size c p t, more_printed_size cs (p + length front) t)
+  printed_size : (starts : Starts) → (cs : Arguments) (p t : ℕ) → code_size (printed_code starts cs p t) ≤ size_per_weight * arguments_weight cs + 18
+  printed_size starts NoArguments p t = omega arith
+  printed_size starts (MoreArguments c cs) p t =
+      let front = converted_operand_code starts c p t in
+      omega (arith, both front (printed_code starts cs (p + length front) t), converted_operand_size starts c p t, more_printed_size starts cs (p + length front) t)
 
-    more_printed_size : (cs : Arguments) (p t : ℕ) → code_size (printed_code starts cs p t) ≤ size_per_weight * more_arguments_weight cs
-    more_printed_size NoArguments p t = omega arith
-    more_printed_size (MoreArguments c cs) p t =
-        let front = converted_operand_code starts c p t in
-        omega (arith, both front (printed_code starts cs (p + length front) t), converted_operand_size c p t, more_printed_size cs (p + length front) t)
+  more_printed_size : (starts : Starts) → (cs : Arguments) (p t : ℕ) → code_size (printed_code starts cs p t) ≤ size_per_weight * more_arguments_weight cs
+  more_printed_size starts NoArguments p t = omega arith
+  more_printed_size starts (MoreArguments c cs) p t =
+      let front = converted_operand_code starts c p t in
+      omega (arith, both front (printed_code starts cs (p + length front) t), converted_operand_size starts c p t, more_printed_size starts cs (p + length front) t)
 
-    -- with a store for each field
-    fields_size : (cs : Arguments) (p t : ℕ) → code_size (arguments_code starts cs p t) + 18 * argument_count cs ≤ size_per_weight * more_arguments_weight cs
-    fields_size NoArguments p t = omega arith
-    fields_size (MoreArguments c cs) p t =
-        let q = p + length (converted_code starts c p t) in
-        omega (arith, both (converted_code starts c p t) (arguments_code starts cs q (t + passed_words c)), converted_size c p t, fields_size cs q (t + passed_words c))
+  -- with a store for each field
+  fields_size : (starts : Starts) → (cs : Arguments) (p t : ℕ) → code_size (arguments_code starts cs p t) + 18 * argument_count cs ≤ size_per_weight * more_arguments_weight cs
+  fields_size starts NoArguments p t = omega arith
+  fields_size starts (MoreArguments c cs) p t =
+      let q = p + length (converted_code starts c p t) in
+      omega (arith, both (converted_code starts c p t) (arguments_code starts cs q (t + passed_words c)), converted_size starts c p t, fields_size starts cs q (t + passed_words c))
 
-    -- with the words that are passed
-    arguments_size : (cs : Arguments) (p t : ℕ) → code_size (arguments_code starts cs p t) + 4 * all_passed cs ≤ size_per_weight * arguments_weight cs + 30
-    arguments_size NoArguments p t = omega arith
-    arguments_size (MoreArguments c cs) p t =
-        let q = p + length (converted_code starts c p t) in
-        omega (arith, both (converted_code starts c p t) (arguments_code starts cs q (t + passed_words c)), converted_size c p t, passed_few c, more_arguments_size cs q (t + passed_words c))
+  -- with the words that are passed
+  arguments_size : (starts : Starts) → (cs : Arguments) (p t : ℕ) → code_size (arguments_code starts cs p t) + 4 * all_passed cs ≤ size_per_weight * arguments_weight cs + 30
+  arguments_size starts NoArguments p t = omega arith
+  arguments_size starts (MoreArguments c cs) p t =
+      let q = p + length (converted_code starts c p t) in
+      omega (arith, both (converted_code starts c p t) (arguments_code starts cs q (t + passed_words c)), converted_size starts c p t, passed_few c, more_arguments_size starts cs q (t + passed_words c))
 
-    more_arguments_size : (cs : Arguments) (p t : ℕ) → code_size (arguments_code starts cs p t) + 4 * all_passed cs ≤ size_per_weight * more_arguments_weight cs
-    more_arguments_size NoArguments p t = omega arith
-    more_arguments_size (MoreArguments c cs) p t =
-        let q = p + length (converted_code starts c p t) in
-        omega (arith, both (converted_code starts c p t) (arguments_code starts cs q (t + passed_words c)), converted_size c p t, passed_few c, more_arguments_size cs q (t + passed_words c))
+  more_arguments_size : (starts : Starts) → (cs : Arguments) (p t : ℕ) → code_size (arguments_code starts cs p t) + 4 * all_passed cs ≤ size_per_weight * more_arguments_weight cs
+  more_arguments_size starts NoArguments p t = omega arith
+  more_arguments_size starts (MoreArguments c cs) p t =
+      let q = p + length (converted_code starts c p t) in
+      omega (arith, both (converted_code starts c p t) (arguments_code starts cs q (t + passed_words c)), converted_size starts c p t, passed_few c, more_arguments_size starts cs q (t + passed_words c))
 
-    operations_size : (os : Operations) (p : ℕ) (l : Operand) (d t : ℕ) → code_size (operations_code starts os p l d t) ≤ size_per_weight * operations_weight os
-    operations_size NoOperations p l d t = omega arith
-    operations_size (ThenCompute o a os) p l d t =
-        let inner = expression_code starts a p (value_slot starts a (suc t)) (suc t) in
-        let operand = code_unless (operand_of starts a) inner in
-        let next = next_slot os d t in
-        let operator = operator_code starts o l (value_operand starts a (suc t)) next in
-        let q = p + length (operand ++ operator) in
-        omega (
-          arith,
-          both (operand ++ operator) (operations_code starts os q (operands.Slot next) d t),
-          both operand operator,
-          unless_size (operand_of starts a) inner,
-          expression_size a p (value_slot starts a (suc t)) (suc t),
-          operator_size starts o l (value_operand starts a (suc t)) next,
-          operations_size os q (operands.Slot next) d t,
-        )
-    operations_size (ThenTest o a os) p l d t =
-        let operand = expression_code starts a (p + 1) t t in
-        let next = next_slot os d t in
-        let front = test_code o operand p next t in
-        let q = p + length front in
-        omega (arith, both front (operations_code starts os q (operands.Slot next) d t), test_size o operand p next t, expression_size a (p + 1) t t, operations_size os q (operands.Slot next) d t)
-    operations_size (ThenPointer o a os) p l d t =
-        let slot = value_slot starts a (behind_left o t) in
-        let next = next_slot os d t in
-        let q = p + length (pointer_code o l (value_operand starts a (behind_left o t)) (code_unless (operand_of starts a) (expression_code starts a p slot (behind_left o t))) next) in
-        omega (arith, right_size o a p l next t (operations_code starts os q (operands.Slot next) d t) (expression_size a p slot (behind_left o t)), operations_size os q (operands.Slot next) d t)
-    operations_size (ThenPointerPeek n o a os) p l d t =
-        let slot = value_slot starts a (behind_left o t) in
-        let next = next_slot os d t in
-        let q = p + length (pointer_code o l (value_operand starts a (behind_left o t)) (code_unless (operand_of starts a) (expression_code starts a p slot (behind_left o t))) next) in
-        omega (arith, right_size o a p l next t (operations_code starts os q (operands.Slot next) d t) (expression_size a p slot (behind_left o t)), operations_size os q (operands.Slot next) d t)
+  operations_size : (starts : Starts) → (os : Operations) (p : ℕ) (l : Operand) (d t : ℕ) → code_size (operations_code starts os p l d t) ≤ size_per_weight * operations_weight os
+  operations_size starts NoOperations p l d t = omega arith
+  operations_size starts (ThenCompute o a os) p l d t =
+      let inner = expression_code starts a p (value_slot starts a (suc t)) (suc t) in
+      let operand = code_unless (operand_of starts a) inner in
+      let next = next_slot os d t in
+      let operator = operator_code starts o l (value_operand starts a (suc t)) next in
+      let q = p + length (operand ++ operator) in
+      omega (
+        arith,
+        both (operand ++ operator) (operations_code starts os q (operands.Slot next) d t),
+        both operand operator,
+        unless_size (operand_of starts a) inner,
+        expression_size starts a p (value_slot starts a (suc t)) (suc t),
+        operator_size starts o l (value_operand starts a (suc t)) next,
+        operations_size starts os q (operands.Slot next) d t,
+      )
+  operations_size starts (ThenTest o a os) p l d t =
+      let operand = expression_code starts a (p + 1) t t in
+      let next = next_slot os d t in
+      let front = test_code o operand p next t in
+      let q = p + length front in
+      omega (arith, both front (operations_code starts os q (operands.Slot next) d t), test_size o operand p next t, expression_size starts a (p + 1) t t, operations_size starts os q (operands.Slot next) d t)
+  operations_size starts (ThenPointer o a os) p l d t =
+      let slot = value_slot starts a (behind_left o t) in
+      let next = next_slot os d t in
+      let q = p + length (pointer_code o l (value_operand starts a (behind_left o t)) (code_unless (operand_of starts a) (expression_code starts a p slot (behind_left o t))) next) in
+      omega (arith, right_size starts o a p l next t (operations_code starts os q (operands.Slot next) d t) (expression_size starts a p slot (behind_left o t)), operations_size starts os q (operands.Slot next) d t)
+  operations_size starts (ThenPointerPeek n o a os) p l d t =
+      let slot = value_slot starts a (behind_left o t) in
+      let next = next_slot os d t in
+      let q = p + length (pointer_code o l (value_operand starts a (behind_left o t)) (code_unless (operand_of starts a) (expression_code starts a p slot (behind_left o t))) next) in
+      omega (arith, right_size starts o a p l next t (operations_code starts os q (operands.Slot next) d t) (expression_size starts a p slot (behind_left o t)), operations_size starts os q (operands.Slot next) d t)
 
+module _ (starts : Starts) where
   assignment_size : (l : Lvalue) (c : Converted) (p t : ℕ) → code_size (assignment_code starts l c p t) ≤ size_per_weight * converted_weight c + 38
-  assignment_size (Local w n) c p t = initial_size c p (slot_of starts n) t
+  assignment_size (Local w n) c p t = initial_size starts c p (slot_of starts n) t
   assignment_size (Global n) c p t =
       let front = converted_operand_code starts c p t in
-      omega (arith, both front (instructions.StoreGlobal n (converted_operand starts c t) ∷ []), converted_operand_size c p t)
+      omega (arith, both front (instructions.StoreGlobal n (converted_operand starts c t) ∷ []), converted_operand_size starts c p t)
 
   discarded_size : (a : Expression) (p t : ℕ) → code_size (discarded_code starts a p t) ≤ size_per_weight * expression_weight a
   discarded_size (Call callees.Putchar cs ty) p t =
-      omega (arith, both (printed_code starts cs p t) (instructions.WriteByte (printed_operand starts cs (operands.Slot t) t) ∷ []), printed_size cs p t)
+      omega (arith, both (printed_code starts cs p t) (instructions.WriteByte (printed_operand starts cs (operands.Slot t) t) ∷ []), printed_size starts cs p t)
   discarded_size (Assign l c ty) p t = omega (arith, assignment_size l c p t)
   discarded_size (Store x c ty) p t =
       let address = store_address_code starts x p t in
       let value = converted_operand_code starts c (p + length address) (t + 1) in
       let write = instructions.Store (operands.Slot t) 0 (converted_operand starts c (t + 1)) ∷ [] in
-      omega (arith, both address (value ++ write), both value write, store_address_size x p t, converted_operand_size c (p + length address) (t + 1))
-  discarded_size a p t = omega (arith, unless_size (operand_of starts a) (expression_code starts a p t t), expression_size a p t t)
+      omega (arith, both address (value ++ write), both value write, store_address_size starts x p t, converted_operand_size starts c (p + length address) (t + 1))
+  discarded_size a p t = omega (arith, unless_size (operand_of starts a) (expression_code starts a p t t), expression_size starts a p t t)
 
   -- ---- statements
 
   first_size : (a b : Expression) (p t : ℕ) → code_size (first_code starts a b p t) ≤ size_per_weight * expression_weight a
   first_size a b p t =
       let slot = slot_with starts (operand_of starts b) a t in
-      omega (arith, unless_size (left_with (operand_of starts b) (operand_of starts a)) (expression_code starts a p slot t), expression_size a p slot t)
+      omega (arith, unless_size (left_with (operand_of starts b) (operand_of starts a)) (expression_code starts a p slot t), expression_size starts a p slot t)
 
   second_size : (b : Expression) (p t : ℕ) → code_size (second_code starts b p t) ≤ size_per_weight * expression_weight b
-  second_size b p t = omega (arith, unless_size (operand_of starts b) (expression_code starts b p (value_slot starts b (suc t)) (suc t)), expression_size b p (value_slot starts b (suc t)) (suc t))
+  second_size b p t = omega (arith, unless_size (operand_of starts b) (expression_code starts b p (value_slot starts b (suc t)) (suc t)), expression_size starts b p (value_slot starts b (suc t)) (suc t))
 
   -- a value that is compared with 0
   alone_size : (a : Expression) (p t : ℕ) → code_size (pair_code starts a (Number 0) p t) ≤ size_per_weight * expression_weight a
@@ -426,7 +454,7 @@ module _ (starts : Starts) where
         both (front ++ conversion) (leave_code exits.first_record t),
         both front conversion,
         unless_slot_size known inner,
-        expression_size a p t t,
+        expression_size starts a p t t,
         conversion_size starts to (operands.Slot s) (p + length front),
         leave_size exits.first_record t,
       )
@@ -439,7 +467,7 @@ module _ (starts : Starts) where
         arith,
         both (code_unless (operand_of starts a) inner) (instructions.Throw (tag_operand n) (value_operand starts a t) ∷ []),
         unless_size (operand_of starts a) inner,
-        expression_size a p (value_slot starts a t) t,
+        expression_size starts a p (value_slot starts a t) t,
       )
 
   caught_size : (x : Option ℕ) (t : ℕ) → code_size (caught_code starts x t) ≤ 6
@@ -453,7 +481,7 @@ module _ (starts : Starts) where
   -- a side, and the two instructions that read and write it
   side_size : (a : Side) (p t : ℕ) → code_size (side_code starts a p t) ≤ size_per_weight * side_weight a
   side_size (VariableSide l ty) p t = omega arith
-  side_size (CellSide x) p t = omega (arith, store_address_size x p t)
+  side_size (CellSide x) p t = omega (arith, store_address_size starts x p t)
 
   read_size : (a : Side) (s d : ℕ) → instruction_size (read_side starts a s d) ≤ 18
   read_size (VariableSide (Local w n) ty) s d = omega arith
@@ -553,7 +581,7 @@ module _ (starts : Starts) where
     items_size (MoreItems (Declare n t (Some c)) js) p exits d =
         let front = declaration_code starts n (Some c) p d in
         let q = p + length front in
-        omega (arith, both front (items_code starts js q exits d), initial_size c p (slot_of starts n) d, items_size js q exits d)
+        omega (arith, both front (items_code starts js q exits d), initial_size starts c p (slot_of starts n) d, items_size js q exits d)
     items_size (MoreItems j js) p exits d = omega (arith, items_size js p exits d)
 
     -- where no clause catches it, the exception goes on

@@ -137,7 +137,7 @@ room-inside ts n kind room = has-words ts.locals n (omega (arith, room, kind_pos
 
 -- the slot of a parameter is behind the words of those before it
 pub slot-parameter : (structs : List StructType) (raises : ℕ) (first rest : List Ty) (t : Ty) (more : List Ty)
-    → slot_of (starts_of (record { locals = (first ++ t ∷ rest) ++ more; structs = structs; raises = raises })) (length first) ≡ words_of_all first
+    → slot_of (starts_of (record { locals = (first ++ t ∷ rest) ++ more; structs = structs; raises = raises; counters = [] })) (length first) ≡ words_of_all first
 slot-parameter structs raises first rest t more =
     let ts = (first ++ t ∷ rest) ++ more in
     let long : length ts ≡ length (first ++ t ∷ rest) + length more = length-append (first ++ t ∷ rest) more in
@@ -145,7 +145,7 @@ slot-parameter structs raises first rest t more =
     let next : length first + 0 ≡ length first = omega arith in
     let at : slot_in ts (length first) ≡ words_of_all first + 0
     = ap (λ (us : List Ty). slot_in us (length first)) (append_assoc first (t ∷ rest) more) ∙ ap (slot_in (first ++ (t ∷ rest ++ more))) (sym next) ∙ slot-append first (t ∷ rest ++ more) 0 in
-    omega (arith, starts-are (record { locals = ts; structs = structs; raises = raises }) (length first) (omega (arith, long, shorter)), at)
+    omega (arith, starts-are (record { locals = ts; structs = structs; raises = raises; counters = [] }) (length first) (omega (arith, long, shorter)), at)
 
 pub words-parameter : (first rest : List Ty) (t : Ty) (more : List Ty) → words_in ((first ++ t ∷ rest) ++ more) (length first) ≡ words_of t
 words-parameter [] rest t more = refl

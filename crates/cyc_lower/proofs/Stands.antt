@@ -1,5 +1,5 @@
 -- Where in a function's code the code of a construct stands, with all places between its parts left open.
-use Rattle.std.proofs.Common.{◌≡◌, ℕ, suc, ◌+◌, ◌<◌, Bool, true, false, List, Option, None, Some, zero, ◌≤◌, max}
+use Rattle.std.proofs.Common.{◌≡◌, ℕ, suc, ◌+◌, ◌<◌, Bool, true, false, List, length, Option, None, Some, zero, ◌≤◌, max, slice_get}
 use Rattle.std.specs.Prelude.{◌==◌}
 use Rattle.cyc_words.specs.Word.{IsWord}
 use Rattle.cyc_types.specs.declared.typed.Kind.{Kind}
@@ -9,12 +9,13 @@ use Rattle.cyc_types.specs.declared.typed.Operator.{Operator}
 use Rattle.cyc_types.specs.declared.typed.Operator.TheVariants as operators
 use Rattle.cyc_types.specs.declared.typed.PointerOperator.{PointerOperator}
 use Rattle.cyc_types.specs.declared.typed.PointerOperator.TheVariants as pointers
-use Rattle.cyc_types.specs.TypedTrees.{type_of_place, Load, Dereference, Target, Lvalue, Local, Global, Expression, Number, NullPointer, Copy, Call, Unary, Binary, Assign, Converted, Convert, Arguments, NoArguments, MoreArguments, Operations, NoOperations, ThenCompute, ThenTest, ThenPointer, Statement, Block, Empty, Evaluate, If, While, Return, Break, Continue, Items, NoItems, MoreItems, Execute, Declare, Move, Peek, ThenPointerPeek, New, OnHeap, AsUnique, Initial, Plain, Fields, AddressOfCell, Store, Member, FreeUnique, Side, VariableSide, CellSide, Swap, Throw, Try, Clauses, NoClauses, Default, Case}
+use Rattle.cyc_types.specs.TypedTrees.{Array, Counter, type_of_place, Load, Dereference, Target, Lvalue, Local, Global, Expression, Number, NullPointer, Copy, Call, Unary, Binary, Assign, Converted, Convert, Arguments, NoArguments, MoreArguments, Operations, NoOperations, ThenCompute, ThenTest, ThenPointer, Statement, Block, Empty, Evaluate, If, While, Return, Break, Continue, Items, NoItems, MoreItems, Execute, Declare, Move, Peek, ThenPointerPeek, New, OnHeap, Initial, Plain, Fields, AddressOfCell, Store, Member, AsUnique, FreeUnique, Side, VariableSide, CellSide, Swap, Throw, Try, Clauses, NoClauses, Default, Case}
 use Rattle.cyc_types.specs.Types.{words_of}
 use Rattle.cyc_types.specs.typing.Expressions.{type_of_side}
 use Rattle.cyc_types.specs.Numbered.{Numbering, argument_count}
 use Rattle.cyc_plain.specs.declared.limits.TheConstants.{RECORD_WORDS}
 use Rattle.cyc_plain.specs.declared.instruction.UnaryOperator.TheVariants as plain_unary
+use Rattle.cyc_plain.specs.declared.instruction.BinaryOperator.TheVariants as plain_binary
 use Rattle.cyc_plain.specs.declared.instruction.BinaryOperator.TheVariants as plain_binary
 use Rattle.cyc_plain.specs.declared.instruction.Comparison.{Comparison}
 use Rattle.cyc_plain.specs.declared.instruction.Comparison.TheVariants as comparisons
@@ -25,11 +26,11 @@ use Rattle.cyc_plain.specs.declared.instruction.Instruction.{Instruction}
 use Rattle.cyc_plain.specs.declared.instruction.Instruction.TheVariants as instructions
 use Rattle.cyc_plain.specs.Straight.{At}
 use Rattle.cyc_store.specs.declared.range.TheConstants.{MOST_BLOCK_WORDS, HEAP, UNIQUE}
-use Rattle.cyc_meaning.specs.Operators.{null_exception, division_by_zero}
+use Rattle.cyc_meaning.specs.Operators.{array_size, null_exception, division_by_zero}
 use Rattle.cyc_meaning.specs.Values.{is_thin, words_of_kind, kind_of}
 use Rattle.cyc_lower.specs.declared.statements.Exits.{Exits}
-use Rattle.cyc_lower.specs.Slots.{Types, starts_of, slot_of, field_of}
-use Rattle.cyc_lower.specs.Lowering.{unary_operator, binary_operator, operand_of, source_of, source_slot, failing_comparison, left_with, left_of, value_slot, next_slot, slot_with, left_slot, is_in, raising, move_of, test_jump, are_as_wide, converts_there, passed_words, all_passed, compared_of, low_byte, break_target, continue_target, results_of, behind_left, inside_loop, pointer_operator, jump_if_zero, right_slot, tag_operand, other_jump, goes_on}
+use Rattle.cyc_lower.specs.Slots.{counted, Types, starts_of, slot_of, field_of}
+use Rattle.cyc_lower.specs.Lowering.{most_elements, unary_operator, binary_operator, operand_of, source_of, source_slot, failing_comparison, left_with, left_of, value_slot, next_slot, slot_with, left_slot, is_in, jump_if_nonzero, move_of, test_jump, are_as_wide, converts_there, passed_words, all_passed, compared_of, low_byte, break_target, continue_target, results_of, behind_left, inside_loop, pointer_operator, raising, jump_if_zero, right_slot, tag_operand, other_jump, goes_on}
 use Rattle.cyc_lower.specs.Lowerable.{may_wait}
 use Rattle.cyc_lower.proofs.Widths.{kind_of_result, given, passed_kind, HasRoom, HasField}
 
@@ -118,6 +119,30 @@ module _ (code : List Instruction) (bounds : Numbering) (types : Types) where
   StoresAt (suc many) address offset slot p q =
       At code p (instructions.Store (operands.Slot address) offset (operands.Slot slot)) × StoresAt many address (offset + 4) (suc slot) (p + 1) q
 
+  -- a new array, whose length is in slot t, begins
+  abbrev pub BegunAt : (handle t p q : ℕ) → Type 0
+  BegunAt handle t p q =
+      (m : ℕ) × GuardAt array_size comparisons.GreaterOrEqualUnsigned (operands.Slot t) (operands.Word (most_elements + 1)) p m
+      × At code m (instructions.Move (t + 1) (operands.Slot t)) × At code (m + 1) (instructions.Move (t + 2) (operands.Word 0))
+      × At code (m + 1 + 1) (instructions.Unary plain_unary.Not (t + 3) (operands.Slot t))
+      × At code (m + 1 + 1 + 1) (instructions.Binary plain_binary.Add (t + 3) (operands.Slot (t + 3)) (operands.Slot t))
+      × At code (m + 1 + 1 + 1 + 1) (instructions.Ask (requests.Allocate t (operands.Word handle) (operands.Slot (t + 3)))) × (m + 5 ≡ q)
+
+  -- an element is written, and the next one is evaluated
+  abbrev pub FilledAt : (t head p q : ℕ) → Type 0
+  FilledAt t head p q =
+      At code p (instructions.Binary plain_binary.ShiftLeft (t + 4) (operands.Slot (t + 2)) (operands.Word 2))
+      × At code (p + 1) (instructions.Binary plain_binary.Add (t + 4) (operands.Slot t) (operands.Slot (t + 4)))
+      × At code (p + 1 + 1) (instructions.Store (operands.Slot (t + 4)) 0 (operands.Slot (t + 3)))
+      × At code (p + 1 + 1 + 1) (instructions.Binary plain_binary.Add (t + 2) (operands.Slot (t + 2)) (operands.Word 1))
+      × At code (p + 1 + 1 + 1 + 1) (instructions.Jump head) × (p + 5 ≡ q)
+
+  -- the elements of an array: from the head h on, to r, where one is evaluated, and to s, where all are written
+  abbrev pub ElementsBy : (evaluated : Type 0) → (t d h r s q : ℕ) → Type 0
+  ElementsBy evaluated t d h r s q =
+      At code h (instructions.Branch comparisons.Equal (operands.Slot (t + 2)) (operands.Slot (t + 1)) s) × (h < s) × evaluated × FilledAt t h r s
+      × At code s (instructions.Move (t + 2) (operands.Word 0)) × CopyAt code 3 (operands.Slot t) d (s + 1) q
+
   -- An object of so many cells is made, each of one word, of the words that stand in the slots from t on. Its address comes to slot d.
   abbrev pub ObjectAt : (handle cells words t d p q : ℕ) → Type 0
   ObjectAt handle cells words t d p q =
@@ -129,128 +154,140 @@ module _ (code : List Instruction) (bounds : Numbering) (types : Types) where
   abbrev pub FreedAt : Operand → (p q : ℕ) → Type 0
   FreedAt o p q = At code p (jump_if_zero o q) × At code (p + 1) (instructions.Ask (requests.Free o)) × (p + 1 + 1 ≡ q)
 
+module _ (code : List Instruction) (bounds : Numbering) where
   abbrev mutual
     -- the value comes to slot d by the last instruction
-    pub ExpressionAt : Expression → (d t p q : ℕ) → Type 0
-    ExpressionAt (Number n) d t p q = At code p (instructions.Move d (operands.Word n)) × (p + 1 ≡ q)
-    ExpressionAt NullPointer d t p q = At code p (instructions.Move d (operands.Word 0)) × (p + 1 ≡ q)
-    ExpressionAt (Copy l ty) d t p q = LoadAt (words_of ty) l d p q
-    ExpressionAt (Move w n ty) d t p q = LoadAt (words_of ty) (Local w n) d p q
-    ExpressionAt (Peek w n ty) d t p q = LoadAt (words_of ty) (Local w n) d p q
-    ExpressionAt (Call callees.Putchar cs ty) d t p q =
-        (o : Operand) × (m : ℕ) × PrintedAt cs t o p m × At code m (instructions.WriteByte o) × At code (m + 1) (low_byte o d) × (m + 1 + 1 ≡ q)
-    ExpressionAt (Call callees.Getchar cs ty) d t p q = (m : ℕ) × ArgumentsAt cs t p m × At code m (instructions.ReadByte d) × (m + 1 ≡ q)
-    ExpressionAt (Call (callees.Function n) cs ty) d t p q =
-        (m : ℕ) × ArgumentsAt cs t p m × At code m (instructions.Call n t (all_passed cs) d) × (m + 1 ≡ q)
-    ExpressionAt (Unary o a) d t p q =
-        (r : Operand) × (m : ℕ) × OperandBy (operand_of (starts_of types) a) (ExpressionAt a (value_slot (starts_of types) a t) t p m) (value_slot (starts_of types) a t) r p m
+    pub ExpressionAt : (types : Types) → Expression → (d t p q : ℕ) → Type 0
+    ExpressionAt types (Number n) d t p q = At code p (instructions.Move d (operands.Word n)) × (p + 1 ≡ q)
+    ExpressionAt types NullPointer d t p q = At code p (instructions.Move d (operands.Word 0)) × (p + 1 ≡ q)
+    ExpressionAt types (Counter l) d t p q =
+        (slot : ℕ) × (slice_get types.counters l ≡ Some slot) × At code p (instructions.Move d (operands.Slot slot)) × (p + 1 ≡ q)
+    ExpressionAt types (Copy l ty) d t p q = LoadAt code bounds types (words_of ty) l d p q
+    ExpressionAt types (Move w n ty) d t p q = LoadAt code bounds types (words_of ty) (Local w n) d p q
+    ExpressionAt types (Peek w n ty) d t p q = LoadAt code bounds types (words_of ty) (Local w n) d p q
+    ExpressionAt types (Call callees.Putchar cs ty) d t p q =
+        (o : Operand) × (m : ℕ) × PrintedAt types cs t o p m × At code m (instructions.WriteByte o) × At code (m + 1) (low_byte o d) × (m + 1 + 1 ≡ q)
+    ExpressionAt types (Call callees.Getchar cs ty) d t p q = (m : ℕ) × ArgumentsAt types cs t p m × At code m (instructions.ReadByte d) × (m + 1 ≡ q)
+    ExpressionAt types (Call (callees.Function n) cs ty) d t p q =
+        (m : ℕ) × ArgumentsAt types cs t p m × At code m (instructions.Call n t (all_passed cs) d) × (m + 1 ≡ q)
+    ExpressionAt types (Unary o a) d t p q =
+        (r : Operand) × (m : ℕ) × OperandBy code bounds types (operand_of (starts_of types) a) (ExpressionAt types a (value_slot (starts_of types) a t) t p m) (value_slot (starts_of types) a t) r p m
         × At code m (instructions.Unary (unary_operator o) d r) × (m + 1 ≡ q)
-    ExpressionAt (Binary a os ty) d t p q =
-        (l : Operand) × (m : ℕ) × OperandBy (left_of (starts_of types) a os) (ExpressionAt a (left_slot (starts_of types) a os d t) t p m) (left_slot (starts_of types) a os d t) l p m
-        × OperationsAt os l d t m q
-    ExpressionAt (Assign (Local w n) c ty) d t p q =
-        (o : Operand) × (m : ℕ) × ((o ≡ operands.Slot (slot_of (starts_of types) n)) × HasRoom types n (passed_kind c) × InitialAt c (slot_of (starts_of types) n) t p m)
+    ExpressionAt types (Binary a os ty) d t p q =
+        (l : Operand) × (m : ℕ) × OperandBy code bounds types (left_of (starts_of types) a os) (ExpressionAt types a (left_slot (starts_of types) a os d t) t p m) (left_slot (starts_of types) a os d t) l p m
+        × OperationsAt types os l d t m q
+    ExpressionAt types (Assign (Local w n) c ty) d t p q =
+        (o : Operand) × (m : ℕ) × ((o ≡ operands.Slot (slot_of (starts_of types) n)) × HasRoom types n (passed_kind c) × InitialAt types c (slot_of (starts_of types) n) t p m)
         × CopyAt code (passed_words c) o d m q
-    ExpressionAt (Assign (Global n) c ty) d t p q =
+    ExpressionAt types (Assign (Global n) c ty) d t p q =
         (o : Operand) × (m : ℕ)
-        × ((r : ℕ) × ConvertedOperandAt c t o p r × (n < bounds.globals) × (words_of_kind (passed_kind c) ≡ 1) × At code r (instructions.StoreGlobal n o) × (r + 1 ≡ m))
+        × ((r : ℕ) × ConvertedOperandAt types c t o p r × (n < bounds.globals) × (words_of_kind (passed_kind c) ≡ 1) × At code r (instructions.StoreGlobal n o) × (r + 1 ≡ m))
         × CopyAt code (passed_words c) o d m q
-    ExpressionAt (Load x) d t p q =
-        (o : Operand) × (c : ℕ) × (r : ℕ) × PlaceAt x o c t p r × (words_of (type_of_place x) ≡ 1) × At code r (instructions.Load d o c) × (r + 1 ≡ q)
-    ExpressionAt (FreeUnique a) d t p q =
-        (o : Operand) × (m : ℕ) × OperandBy (operand_of (starts_of types) a) (ExpressionAt a (value_slot (starts_of types) a t) t p m) (value_slot (starts_of types) a t) o p m × FreedAt o m q
-    ExpressionAt (New OnHeap i ty) d t p q = MadeAt i HEAP d t p q
-    ExpressionAt (New AsUnique i ty) d t p q = MadeAt i UNIQUE d t p q
-    ExpressionAt (AddressOfCell x ty) d t p q = (o : Operand) × (c : ℕ) × (r : ℕ) × PlaceAt x o c t p r × AddressAt code o c d r q
-    ExpressionAt (Store x v ty) d t p q =
+    ExpressionAt types (Load x) d t p q =
+        (o : Operand) × (c : ℕ) × (r : ℕ) × PlaceAt types x o c t p r × (words_of (type_of_place x) ≡ 1) × At code r (instructions.Load d o c) × (r + 1 ≡ q)
+    ExpressionAt types (FreeUnique a) d t p q =
+        (o : Operand) × (m : ℕ) × OperandBy code bounds types (operand_of (starts_of types) a) (ExpressionAt types a (value_slot (starts_of types) a t) t p m) (value_slot (starts_of types) a t) o p m × FreedAt code bounds types o m q
+    ExpressionAt types (New OnHeap (Array w level n kind a) ty) d t p q =
+        (m : ℕ) × (h : ℕ) × (r : ℕ) × (s : ℕ) × ExpressionAt types n t t p m × BegunAt code bounds types HEAP t m h
+        × (level ≡ length types.counters) × (words_of_kind kind ≡ 1)
+        × ElementsBy code bounds types (ExpressionAt (counted types (t + 2)) a (t + 3) (t + 3) (h + 1) r) t d h r s q
+    ExpressionAt types (New OnHeap i ty) d t p q = MadeAt types i HEAP d t p q
+    ExpressionAt types (New AsUnique i ty) d t p q = MadeAt types i UNIQUE d t p q
+    ExpressionAt types (AddressOfCell x ty) d t p q = (o : Operand) × (c : ℕ) × (r : ℕ) × PlaceAt types x o c t p r × AddressAt code o c d r q
+    ExpressionAt types (Store x v ty) d t p q =
         (o : Operand) × (m : ℕ)
-        × ((a : Operand) × (c : ℕ) × (r : ℕ) × (s : ℕ) × (u : ℕ) × PlaceAt x a c t p r × AddressAt code a c t r s × ConvertedOperandAt v (t + 1) o s u
+        × ((a : Operand) × (c : ℕ) × (r : ℕ) × (s : ℕ) × (u : ℕ) × PlaceAt types x a c t p r × AddressAt code a c t r s × ConvertedOperandAt types v (t + 1) o s u
         × (words_of_kind (passed_kind v) ≡ 1) × At code u (instructions.Store (operands.Slot t) 0 o) × (u + 1 ≡ m))
         × CopyAt code (passed_words v) o d m q
-    ExpressionAt a d t p q = ⊥
+    ExpressionAt types a d t p q = ⊥
 
     -- a new object in the region of this handle
-    pub MadeAt : Initial → (handle d t p q : ℕ) → Type 0
-    MadeAt (Plain kind a) handle d t p q =
-        (m : ℕ) × ExpressionAt a t t p m × (words_of_kind (given bounds.functions a) ≡ words_of_kind kind) × ObjectAt handle 1 (words_of_kind kind) t d m q
-    MadeAt (Fields cs) handle d t p q = (m : ℕ) × ArgumentsAt cs t p m × ObjectAt handle (argument_count cs) (all_passed cs) t d m q
-    MadeAt i handle d t p q = ⊥
+    pub MadeAt : (types : Types) → Initial → (handle d t p q : ℕ) → Type 0
+    MadeAt types (Plain kind a) handle d t p q =
+        (m : ℕ) × ExpressionAt types a t t p m × (words_of_kind (given bounds.functions a) ≡ words_of_kind kind) × ObjectAt code bounds types handle 1 (words_of_kind kind) t d m q
+    MadeAt types (Fields cs) handle d t p q = (m : ℕ) × ArgumentsAt types cs t p m × ObjectAt code bounds types handle (argument_count cs) (all_passed cs) t d m q
+    MadeAt types i handle d t p q = ⊥
 
     -- The address of a place comes to an operand, but for so many bytes that are to be added to it.
-    pub PlaceAt : Dereference → Operand → (c t p q : ℕ) → Type 0
-    PlaceAt (Target k a ty) o c t p q =
-        (m : ℕ) × OperandBy (operand_of (starts_of types) a) (ExpressionAt a (value_slot (starts_of types) a t) t p m) (value_slot (starts_of types) a t) o p m
-        × (is_thin k ≡ true) × CheckAt null_exception o m q × (c ≡ 0)
-    PlaceAt (Member k a s f ty) o c t p q =
-        (m : ℕ) × OperandBy (operand_of (starts_of types) a) (ExpressionAt a (value_slot (starts_of types) a t) t p m) (value_slot (starts_of types) a t) o p m
-        × (is_thin k ≡ true) × CheckAt null_exception o m q × HasField types s f × (c ≡ field_of (starts_of types) s f)
-    PlaceAt x o c t p q = ⊥
+    pub PlaceAt : (types : Types) → Dereference → Operand → (c t p q : ℕ) → Type 0
+    PlaceAt types (Target k a ty) o c t p q =
+        (m : ℕ) × OperandBy code bounds types (operand_of (starts_of types) a) (ExpressionAt types a (value_slot (starts_of types) a t) t p m) (value_slot (starts_of types) a t) o p m
+        × (is_thin k ≡ true) × CheckAt code bounds types null_exception o m q × (c ≡ 0)
+    PlaceAt types (Member k a s f ty) o c t p q =
+        (m : ℕ) × OperandBy code bounds types (operand_of (starts_of types) a) (ExpressionAt types a (value_slot (starts_of types) a t) t p m) (value_slot (starts_of types) a t) o p m
+        × (is_thin k ≡ true) × CheckAt code bounds types null_exception o m q × HasField types s f × (c ≡ field_of (starts_of types) s f)
+    PlaceAt types x o c t p q = ⊥
 
     -- the value comes to slot d, converted
-    pub InitialAt : Converted → (d t p q : ℕ) → Type 0
-    InitialAt (Convert from to a) d t p q =
-        EitherBy (converts_there from to) ((words_of_kind (given bounds.functions a) ≡ words_of_kind to) × ExpressionAt a d t p q)
+    pub InitialAt : (types : Types) → Converted → (d t p q : ℕ) → Type 0
+    InitialAt types (Convert from to a) d t p q =
+        EitherBy code bounds types (converts_there from to) ((words_of_kind (given bounds.functions a) ≡ words_of_kind to) × ExpressionAt types a d t p q)
         ((o : Operand) × (m : ℕ) × (r : ℕ)
-        × OperandBy (source_of (starts_of types) (Convert from to a)) (ExpressionAt a (source_slot (starts_of types) (Convert from to a) t) t p m) (source_slot (starts_of types) (Convert from to a) t) o p m
-        × ConversionAt from to o m r × At code r (move_of (words_of_kind to) d o) × (r + 1 ≡ q))
+        × OperandBy code bounds types (source_of (starts_of types) (Convert from to a)) (ExpressionAt types a (source_slot (starts_of types) (Convert from to a) t) t p m) (source_slot (starts_of types) (Convert from to a) t) o p m
+        × ConversionAt code bounds types from to o m r × At code r (move_of (words_of_kind to) d o) × (r + 1 ≡ q))
 
     -- the value comes to slot t and is converted there
-    pub ConvertedAt : Converted → (t p q : ℕ) → Type 0
-    ConvertedAt (Convert from to a) t p q = (m : ℕ) × ExpressionAt a t t p m × ConversionAt from to (operands.Slot t) m q
+    pub ConvertedAt : (types : Types) → Converted → (t p q : ℕ) → Type 0
+    ConvertedAt types (Convert from to a) t p q = (m : ℕ) × ExpressionAt types a t t p m × ConversionAt code bounds types from to (operands.Slot t) m q
 
     -- the value is converted where it is
-    pub ConvertedOperandAt : Converted → (t : ℕ) → Operand → (p q : ℕ) → Type 0
-    ConvertedOperandAt (Convert from to a) t o p q =
-        (m : ℕ) × OperandBy (source_of (starts_of types) (Convert from to a)) (ExpressionAt a (source_slot (starts_of types) (Convert from to a) t) t p m) (source_slot (starts_of types) (Convert from to a) t) o p m
-        × ConversionAt from to o m q
+    pub ConvertedOperandAt : (types : Types) → Converted → (t : ℕ) → Operand → (p q : ℕ) → Type 0
+    ConvertedOperandAt types (Convert from to a) t o p q =
+        (m : ℕ) × OperandBy code bounds types (source_of (starts_of types) (Convert from to a)) (ExpressionAt types a (source_slot (starts_of types) (Convert from to a) t) t p m) (source_slot (starts_of types) (Convert from to a) t) o p m
+        × ConversionAt code bounds types from to o m q
 
     -- the only argument of `putchar`
-    pub PrintedAt : Arguments → (t : ℕ) → Operand → (p q : ℕ) → Type 0
-    PrintedAt (MoreArguments c NoArguments) t o p q = ConvertedOperandAt c t o p q
-    PrintedAt cs t o p q = ⊥
+    pub PrintedAt : (types : Types) → Arguments → (t : ℕ) → Operand → (p q : ℕ) → Type 0
+    PrintedAt types (MoreArguments c NoArguments) t o p q = ConvertedOperandAt types c t o p q
+    PrintedAt types cs t o p q = ⊥
 
-    pub ArgumentsAt : Arguments → (t p q : ℕ) → Type 0
-    ArgumentsAt NoArguments t p q = p ≡ q
-    ArgumentsAt (MoreArguments c cs) t p q = (m : ℕ) × ConvertedAt c t p m × ArgumentsAt cs (t + passed_words c) m q
+    pub ArgumentsAt : (types : Types) → Arguments → (t p q : ℕ) → Type 0
+    ArgumentsAt types NoArguments t p q = p ≡ q
+    ArgumentsAt types (MoreArguments c cs) t p q = (m : ℕ) × ConvertedAt types c t p m × ArgumentsAt types cs (t + passed_words c) m q
 
     -- The left operand is l. It is slot t where it may not be any operand.
-    pub OperationsAt : Operations → (l : Operand) → (d t p q : ℕ) → Type 0
-    OperationsAt NoOperations l d t p q = (l ≡ operands.Slot d) × (p ≡ q)
-    OperationsAt (ThenCompute o a os) l d t p q =
+    pub OperationsAt : (types : Types) → Operations → (l : Operand) → (d t p q : ℕ) → Type 0
+    OperationsAt types NoOperations l d t p q = (l ≡ operands.Slot d) × (p ≡ q)
+    OperationsAt types (ThenCompute o a os) l d t p q =
         (r : Operand) × (m : ℕ) × (s : ℕ)
-        × OperandBy (operand_of (starts_of types) a) ((l ≡ operands.Slot t) × ExpressionAt a (value_slot (starts_of types) a (suc t)) (suc t) p m) (value_slot (starts_of types) a (suc t)) r p m
-        × OperatorAt o (next_slot os d t) l r m s × OperationsAt os (operands.Slot (next_slot os d t)) d t s q
-    OperationsAt (ThenTest o a os) l d t p q =
-        (m : ℕ) × (r : ℕ) × (l ≡ operands.Slot t) × At code p (test_jump o t m) × ExpressionAt a t t (p + 1) m × TruthAt t (next_slot os d t) m r
-        × OperationsAt os (operands.Slot (next_slot os d t)) d t r q
-    OperationsAt (ThenPointer o a os) l d t p q =
+        × OperandBy code bounds types (operand_of (starts_of types) a) ((l ≡ operands.Slot t) × ExpressionAt types a (value_slot (starts_of types) a (suc t)) (suc t) p m) (value_slot (starts_of types) a (suc t)) r p m
+        × OperatorAt code bounds types o (next_slot os d t) l r m s × OperationsAt types os (operands.Slot (next_slot os d t)) d t s q
+    OperationsAt types (ThenTest o a os) l d t p q =
+        (m : ℕ) × (r : ℕ) × (l ≡ operands.Slot t) × At code p (test_jump o t m) × ExpressionAt types a t t (p + 1) m × TruthAt code bounds types t (next_slot os d t) m r
+        × OperationsAt types os (operands.Slot (next_slot os d t)) d t r q
+    OperationsAt types (ThenPointer o a os) l d t p q =
         (r : Operand) × (m : ℕ) × (s : ℕ) × (l ≡ operands.Slot t)
-        × OperandBy (operand_of (starts_of types) a) (ExpressionAt a (value_slot (starts_of types) a (behind_left o t)) (behind_left o t) p m) (value_slot (starts_of types) a (behind_left o t)) r p m
-        × PointerAt o r t (next_slot os d t) m s × OperationsAt os (operands.Slot (next_slot os d t)) d t s q
-    OperationsAt (ThenPointerPeek n o a os) l d t p q =
+        × OperandBy code bounds types (operand_of (starts_of types) a) (ExpressionAt types a (value_slot (starts_of types) a (behind_left o t)) (behind_left o t) p m) (value_slot (starts_of types) a (behind_left o t)) r p m
+        × PointerAt code bounds types o r t (next_slot os d t) m s × OperationsAt types os (operands.Slot (next_slot os d t)) d t s q
+    OperationsAt types (ThenPointerPeek n o a os) l d t p q =
         (r : Operand) × (m : ℕ) × (s : ℕ) × (l ≡ operands.Slot t)
-        × OperandBy (operand_of (starts_of types) a) (ExpressionAt a (value_slot (starts_of types) a (behind_left o t)) (behind_left o t) p m) (value_slot (starts_of types) a (behind_left o t)) r p m
-        × PointerAt o r t (next_slot os d t) m s × OperationsAt os (operands.Slot (next_slot os d t)) d t s q
+        × OperandBy code bounds types (operand_of (starts_of types) a) (ExpressionAt types a (value_slot (starts_of types) a (behind_left o t)) (behind_left o t) p m) (value_slot (starts_of types) a (behind_left o t)) r p m
+        × PointerAt code bounds types o r t (next_slot os d t) m s × OperationsAt types os (operands.Slot (next_slot os d t)) d t s q
+
+module _ (code : List Instruction) (bounds : Numbering) (types : Types) where
+  -- the elements of an array, which are this expression
+  abbrev pub ElementsAt : Expression → (t d h r s q : ℕ) → Type 0
+  ElementsAt a t d h r s q = ElementsBy code bounds types (ExpressionAt code bounds (counted types (t + 2)) a (t + 3) (t + 3) (h + 1) r) t d h r s q
 
   -- a value that comes to slot d, where it is told whether it does so before it is converted
   abbrev pub InitialBy : Bool → (from to : Kind) → Expression → (d t p q : ℕ) → Type 0
   InitialBy there from to a d t p q =
-      EitherBy there ((words_of_kind (given bounds.functions a) ≡ words_of_kind to) × ExpressionAt a d t p q)
+      EitherBy code bounds types there ((words_of_kind (given bounds.functions a) ≡ words_of_kind to) × ExpressionAt code bounds types a d t p q)
       ((o : Operand) × (m : ℕ) × (r : ℕ)
-      × OperandBy (source_of (starts_of types) (Convert from to a)) (ExpressionAt a (source_slot (starts_of types) (Convert from to a) t) t p m) (source_slot (starts_of types) (Convert from to a) t) o p m
-      × ConversionAt from to o m r × At code r (move_of (words_of_kind to) d o) × (r + 1 ≡ q))
+      × OperandBy code bounds types (source_of (starts_of types) (Convert from to a)) (ExpressionAt code bounds types a (source_slot (starts_of types) (Convert from to a) t) t p m) (source_slot (starts_of types) (Convert from to a) t) o p m
+      × ConversionAt code bounds types from to o m r × At code r (move_of (words_of_kind to) d o) × (r + 1 ≡ q))
 
   -- where the value of an expression stands that is an operand
   abbrev pub ValueAt : Expression → (t : ℕ) → Operand → (p q : ℕ) → Type 0
-  ValueAt a t o p q = OperandBy (operand_of (starts_of types) a) (ExpressionAt a (value_slot (starts_of types) a t) t p q) (value_slot (starts_of types) a t) o p q
+  ValueAt a t o p q = OperandBy code bounds types (operand_of (starts_of types) a) (ExpressionAt code bounds types a (value_slot (starts_of types) a t) t p q) (value_slot (starts_of types) a t) o p q
 
   -- the second of two operands that are compared, where the first one is l
   abbrev pub SecondAt : Expression → (l r : Operand) → (t p q : ℕ) → Type 0
-  SecondAt a l r t p q = OperandBy (operand_of (starts_of types) a) ((l ≡ operands.Slot t) × ExpressionAt a (value_slot (starts_of types) a (suc t)) (suc t) p q) (value_slot (starts_of types) a (suc t)) r p q
+  SecondAt a l r t p q = OperandBy code bounds types (operand_of (starts_of types) a) ((l ≡ operands.Slot t) × ExpressionAt code bounds types a (value_slot (starts_of types) a (suc t)) (suc t) p q) (value_slot (starts_of types) a (suc t)) r p q
 
   abbrev pub PairAt : (a b : Expression) → (l r : Operand) → (t p q : ℕ) → Type 0
   PairAt a b l r t p q =
-      (m : ℕ) × OperandBy (left_with (operand_of (starts_of types) b) (operand_of (starts_of types) a)) (ExpressionAt a (slot_with (starts_of types) (operand_of (starts_of types) b) a t) t p m) (slot_with (starts_of types) (operand_of (starts_of types) b) a t) l p m
+      (m : ℕ) × OperandBy code bounds types (left_with (operand_of (starts_of types) b) (operand_of (starts_of types) a)) (ExpressionAt code bounds types a (slot_with (starts_of types) (operand_of (starts_of types) b) a t) t p m) (slot_with (starts_of types) (operand_of (starts_of types) b) a t) l p m
       × SecondAt b l r t m q
 
   abbrev pub ConditionAt : Expression → (l r : Operand) → (t p q : ℕ) → Type 0
@@ -267,14 +304,14 @@ module _ (code : List Instruction) (bounds : Numbering) (types : Types) where
 
   -- what is assigned comes to its place, and then stands in an operand too
   abbrev pub AssignmentAt : Lvalue → Converted → Operand → (t p q : ℕ) → Type 0
-  AssignmentAt (Local w n) c o t p q = (o ≡ operands.Slot (slot_of (starts_of types) n)) × HasRoom types n (passed_kind c) × InitialAt c (slot_of (starts_of types) n) t p q
+  AssignmentAt (Local w n) c o t p q = (o ≡ operands.Slot (slot_of (starts_of types) n)) × HasRoom types n (passed_kind c) × InitialAt code bounds types c (slot_of (starts_of types) n) t p q
   AssignmentAt (Global n) c o t p q =
-      (r : ℕ) × ConvertedOperandAt c t o p r × (n < bounds.globals) × (words_of_kind (passed_kind c) ≡ 1) × At code r (instructions.StoreGlobal n o) × (r + 1 ≡ q)
+      (r : ℕ) × ConvertedOperandAt code bounds types c t o p r × (n < bounds.globals) × (words_of_kind (passed_kind c) ≡ 1) × At code r (instructions.StoreGlobal n o) × (r + 1 ≡ q)
 
   -- a value is stored in a cell, whose address waits in slot t, and then stands in an operand
   abbrev pub StoredAt : Dereference → Converted → (t : ℕ) → Operand → (p q : ℕ) → Type 0
   StoredAt x v t o p q =
-      (a : Operand) × (c : ℕ) × (r : ℕ) × (s : ℕ) × (u : ℕ) × PlaceAt x a c t p r × AddressAt code a c t r s × ConvertedOperandAt v (t + 1) o s u
+      (a : Operand) × (c : ℕ) × (r : ℕ) × (s : ℕ) × (u : ℕ) × PlaceAt code bounds types x a c t p r × AddressAt code a c t r s × ConvertedOperandAt code bounds types v (t + 1) o s u
       × (words_of_kind (passed_kind v) ≡ 1) × At code u (instructions.Store (operands.Slot t) 0 o) × (u + 1 ≡ q)
 
   -- ---- swaps
@@ -288,7 +325,7 @@ module _ (code : List Instruction) (bounds : Numbering) (types : Types) where
   -- the address of a side that is a cell comes to slot t
   abbrev pub SideAt : Side → (t p q : ℕ) → Type 0
   SideAt (VariableSide l ty) t p q = p ≡ q
-  SideAt (CellSide x) t p q = (o : Operand) × (c : ℕ) × (m : ℕ) × PlaceAt x o c t p m × AddressAt code o c t m q
+  SideAt (CellSide x) t p q = (o : Operand) × (c : ℕ) × (m : ℕ) × PlaceAt code bounds types x o c t p m × AddressAt code o c t m q
 
   -- a word that a side holds comes to slot d
   abbrev pub ReadAt : Side → (s d p : ℕ) → Type 0
@@ -315,10 +352,10 @@ module _ (code : List Instruction) (bounds : Numbering) (types : Types) where
 
   -- the value of an expression is dropped
   abbrev pub DiscardedAt : Expression → (t p q : ℕ) → Type 0
-  DiscardedAt (Call callees.Putchar cs ty) t p q = (o : Operand) × (m : ℕ) × PrintedAt cs t o p m × At code m (instructions.WriteByte o) × (m + 1 ≡ q)
+  DiscardedAt (Call callees.Putchar cs ty) t p q = (o : Operand) × (m : ℕ) × PrintedAt code bounds types cs t o p m × At code m (instructions.WriteByte o) × (m + 1 ≡ q)
   DiscardedAt (Assign l c ty) t p q = (o : Operand) × AssignmentAt l c o t p q
   DiscardedAt (Store x v ty) t p q = (o : Operand) × StoredAt x v t o p q
-  DiscardedAt a t p q = (o : Operand) × OperandBy (operand_of (starts_of types) a) (ExpressionAt a t t p q) t o p q
+  DiscardedAt a t p q = (o : Operand) × OperandBy code bounds types (operand_of (starts_of types) a) (ExpressionAt code bounds types a t t p q) t o p q
 
   -- ---- statements
 
@@ -338,12 +375,12 @@ module _ (code : List Instruction) (bounds : Numbering) (types : Types) where
   abbrev pub ReturnAt : Option Converted → Exits → (t p : ℕ) → Type 0
   ReturnAt None exits t p = (s : ℕ) × (m : ℕ) × LeaveAt exits.first_record t p m × At code m (instructions.Finish s)
   ReturnAt (Some (Convert from to a)) exits t p =
-      (s : ℕ) × (m : ℕ) × (r : ℕ) × (u : ℕ) × ReturnedAt (source_of (starts_of types) (Convert from to a)) (ExpressionAt a t t p m) t s p m × ConversionAt from to (operands.Slot s) m r
+      (s : ℕ) × (m : ℕ) × (r : ℕ) × (u : ℕ) × ReturnedAt (source_of (starts_of types) (Convert from to a)) (ExpressionAt code bounds types a t t p m) t s p m × ConversionAt code bounds types from to (operands.Slot s) m r
       × LeaveAt exits.first_record t r u × At code u (instructions.Finish s) × (results_of bounds.result ≡ words_of_kind to) × (to ≡ kind_of_result bounds.result)
 
   abbrev pub DeclarationAt : ℕ → Option Converted → (t p q : ℕ) → Type 0
   DeclarationAt n None t p q = (n < bounds.locals) × (p ≡ q)
-  DeclarationAt n (Some c) t p q = (n < bounds.locals) × HasRoom types n (passed_kind c) × InitialAt c (slot_of (starts_of types) n) t p q
+  DeclarationAt n (Some c) t p q = (n < bounds.locals) × HasRoom types n (passed_kind c) × InitialAt code bounds types c (slot_of (starts_of types) n) t p q
 
   -- what an exception tells is brought to an operand
   abbrev pub ThrownAt : Option Expression → Operand → (t p q : ℕ) → Type 0

@@ -6,7 +6,7 @@ use Rattle.cyc_words.specs.Word.{signed}
 use Rattle.cyc_words.specs.Ending.{Returned, Uncaught}
 use Rattle.cyc_types.specs.declared.typed.Kind.{Kind}
 use Rattle.cyc_types.specs.Types.{Ty}
-use Rattle.cyc_types.specs.TypedTrees.{Local, Expression, Copy, Move, Peek, Converted, Convert, Statement, Block, Empty, Evaluate, If, While, Break, Continue, Items, NoItems, MoreItems, Execute, Declare, Function, Program, Swap}
+use Rattle.cyc_types.specs.TypedTrees.{Counter, Local, Expression, Copy, Move, Peek, Converted, Convert, Statement, Block, Empty, Evaluate, If, While, Break, Continue, Items, NoItems, MoreItems, Execute, Declare, Function, Program, Swap}
 use Rattle.cyc_types.specs.TypedTrees as typed
 use Rattle.cyc_plain.specs.declared.instruction.Operand.{Operand}
 use Rattle.cyc_plain.specs.declared.instruction.Operand.TheVariants as operands
@@ -28,14 +28,14 @@ use Rattle.cyc_lower.specs.Slots.{slot_of}
 use Rattle.cyc_lower.proofs.Slots.{slot-room, room-inside, slot_types-many}
 use Rattle.cyc_lower.proofs.Widths.{HasRoom, Outside}
 use Rattle.cyc_lower.proofs.Moves.{copied_is, copied_elsewhere}
-use Rattle.cyc_lower.specs.Lowering.{operand_of, are_as_wide, converts_there, break_target, inside_loop, results_of, lower_function, lower_program}
-use Rattle.cyc_lower.proofs.Stands.{ExpressionAt, InitialAt, InitialBy, ReturnedAt, ItemsAt}
+use Rattle.cyc_lower.specs.Lowering.{counter_operand, operand_of, are_as_wide, converts_there, break_target, inside_loop, results_of, lower_function, lower_program}
+use Rattle.cyc_lower.proofs.Stands.{OperandBy, ExpressionAt, InitialAt, InitialBy, ReturnedAt, ItemsAt}
 use Rattle.cyc_objects.specs.Tables.{Variable, Tables, with_row, with_handle}
 use Rattle.cyc_objects.specs.Words.{Is}
 use Rattle.cyc_objects.proofs.Values.{Grows-row, Grows-handle}
-use Rattle.cyc_lower.proofs.Sharing.{shared_declared, row_declared, shared_opened, shared_closed, shared_left}
-use Rattle.cyc_lower.proofs.Relation.{behind_records, by_jumps, HandlersStand, DataIn, Matches, types_in, types_at, starts_at, given_at, returned_at, Holds, held, callers, homes, Shared, DataAt, SharedAt, in_temporary, in_local, ValueStack, AheadStack, StatementStack, LandsStack, Related, EvaluatingAt, as_operand, into_slot, for_effect, as_condition, in_operand, ahead, behind_statement, behind_call, behind_wrong, Below, IsLast, Arrives, in_place, by_jump, code_of, bounds_in, bounds_at, base_of, floor, top}
-use Rattle.cyc_lower.proofs.Data.{behind-least, handlers_same, height-least, Holds-same, Holds-above, data_declared, data_returned, data_grows, held_by_caller, calls_counted}
+use Rattle.cyc_lower.proofs.Sharing.{shared_less, shared_declared, row_declared, shared_opened, shared_closed, shared_left}
+use Rattle.cyc_lower.proofs.Relation.{counters_of, AreCounted, types_on, starts_on, types_in, types_at, starts_at, given_at, returned_at, Holds, held, callers, homes, Shared, DataAt, SharedAt, in_temporary, in_local, ValueStack, AheadStack, StatementStack, LandsStack, Related, EvaluatingAt, as_operand, into_slot, for_effect, as_condition, in_operand, ahead, behind_statement, behind_call, behind_wrong, Below, IsLast, Arrives, in_place, by_jump, code_of, bounds_in, bounds_at, base_of, top, behind_records, by_jumps, HandlersStand, DataIn, Matches, floor}
+use Rattle.cyc_lower.proofs.Data.{height-least, Holds-same, Holds-above, data_declared, data_returned, data_grows, held_by_caller, behind-least, handlers_same, calls_counted}
 use Rattle.cyc_lower.proofs.Values.{int_at}
 use Rattle.cyc_lower.proofs.Accesses.{IsWell, is_declared, is_closed, home_there}
 use Rattle.cyc_lower.proofs.SwapSteps.{begins_swap}
@@ -49,8 +49,8 @@ module _ (source : Program) (pages calls : ℕ) where
   -- ---- calls
 
   -- one call less waits
-  abbrev pub shared_returned : (w : World) (regions output input : List ℕ) (store : StoreState) (home waiting : ℕ) → Shared pages calls w (home ∷ regions) output input store (suc waiting) → Shared pages calls w regions output input store waiting
-  shared_returned w regions output input store home waiting s = record {
+  abbrev pub shared_returned : (w : World) (regions : List ℕ) (counting : Type 0) (output input : List ℕ) (store : StoreState) (home waiting : ℕ) → Shared pages calls w (home ∷ regions) counting output input store (suc waiting) → Shared pages calls w regions counting output input store waiting
+  shared_returned w regions counting output input store home waiting s = record {
     tables = s.tables;
     same_output = s.same_output;
     same_input = s.same_input;
@@ -60,20 +60,32 @@ module _ (source : Program) (pages calls : ℕ) where
     variables = s.variables.1;
     few_pages = s.few_pages;
     fits = omega (arith, s.fits);
+    counters = s.counters;
   }
 
   -- ---- statements
 
   -- a value that is returned comes to a slot, or is in that of a local
   returned : (tables : Tables) (a : Expression) (same : Bool) (locals : ℕ → Option ℕ) (g p : ℕ) (slots : Words) (frames : List Frame) (k : List Entry) (s m : ℕ)
-      → ReturnedAt (code_of source g) (bounds_at source g) (types_at source g) (if same then operand_of (starts_at source g) a else None)
-      (ExpressionAt (code_of source g) (bounds_at source g) (types_at source g) a (top source g k) (top source g k) p m) (top source g k) s p m
+      → ReturnedAt (code_of source g) (bounds_at source g) (types_on source g k) (if same then operand_of (starts_on source g k) a else None)
+      (ExpressionAt (code_of source g) (bounds_at source g) (types_on source g k) a (top source g k) (top source g k) p m) (top source g k) s p m
       → Holds tables slots (floor source g k) (held k) → ValueStack source g locals (given_at source g a) (operands.Slot s) m frames k → EvaluatingAt source tables a locals g p slots frames k
   returned tables a false locals g p slots frames k s m (is, at) holds stack =
       into_slot (top source g k) m at holds (in_temporary (omega arith) (subst (λ x. ValueStack source g locals (given_at source g a) (operands.Slot x) m frames k) is stack))
   returned tables (Copy (Local w n) t) true locals g p slots frames k s m (is, end) holds stack = as_operand (operands.Slot s) m (ap operands.Slot is, end) holds stack
   returned tables (Move w n t) true locals g p slots frames k s m (is, end) holds stack = as_operand (operands.Slot s) m (ap operands.Slot is, end) holds stack
   returned tables (Peek w n t) true locals g p slots frames k s m (is, end) holds stack = as_operand (operands.Slot s) m (ap operands.Slot is, end) holds stack
+  returned tables (Counter l) true locals g p slots frames k s m at holds stack = by (slice_get (counters_of (floor source g k) k) l) refl at
+    where
+      by : (slot : Option ℕ) → slice_get (counters_of (floor source g k) k) l ≡ slot
+          → ReturnedAt (code_of source g) (bounds_at source g) (types_on source g k) (counter_operand slot)
+          (ExpressionAt (code_of source g) (bounds_at source g) (types_on source g k) (Counter l) (top source g k) (top source g k) p m) (top source g k) s p m
+          → EvaluatingAt source tables (Counter l) locals g p slots frames k
+      by None none (is, at) = into_slot (top source g k) m at holds (in_temporary (omega arith) (subst (λ x. ValueStack source g locals (given_at source g (Counter l)) (operands.Slot x) m frames k) is stack))
+      by (Some n) there (is, end) =
+          as_operand (operands.Slot s) m
+          (subst (λ x. OperandBy (code_of source g) (bounds_at source g) (types_on source g k) (counter_operand x)
+          (ExpressionAt (code_of source g) (bounds_at source g) (types_on source g k) (Counter l) (top source g k) (top source g k) p m) (top source g k) (operands.Slot s) p m) (sym there) (ap operands.Slot is, end)) holds stack
   returned tables a true locals g p slots frames k s m (is, at) holds stack =
       into_slot (top source g k) m at holds (in_temporary (omega arith) (subst (λ x. ValueStack source g locals (given_at source g a) (operands.Slot x) m frames k) is stack))
 
@@ -169,12 +181,12 @@ module _ (source : Program) (pages calls : ℕ) where
       let back = comes_back shared.tables active.function s results active.slots globals f frames k e.locals outer w facts stand least in
       by_one source pages calls does shared here
       (λ choice. finished (Running Proceeding k outer w) c s choice none
-      (shared_returned w (outer.home ∷ homes k) output input store e.home (length frames) shared, behind_call (returned_at source active.function) (operands.Slot f.result) back.0 stack))
+      (shared_returned w (outer.home ∷ homes k) (AreCounted outer.counters k) output input store e.home (length frames) shared, behind_call (returned_at source active.function) (operands.Slot f.result) back.0 stack))
   leaves_call focus active (f ∷ frames) globals store output input k e outer w s does shared (facts, (none, stand)) here (in_local below stack) =
       let c : Configuration = record { active = active; frames = f ∷ frames; globals = globals; store = store; output = output; input = input } in
       by_one source pages calls does shared here
       (λ choice. finished (Running Proceeding k outer w) c s choice none
-      (shared_returned w (outer.home ∷ homes k) output input store e.home (length frames) shared, behind_wrong (returned_at source active.function) f.result (calls_counted source f.caller.function f.caller.slots f.caller.handlers frames k stand) stack))
+      (shared_returned w (outer.home ∷ homes k) (AreCounted outer.counters k) output input store e.home (length frames) shared, behind_wrong (returned_at source active.function) f.result (calls_counted source f.caller.function f.caller.slots f.caller.handlers frames k stand) stack))
 
   -- with a value
   hands_back : (v : Kinded) (active : Activation) (frames : List Frame) (globals : Words) (store : StoreState) (output input : List ℕ) (k : List Entry) (e outer : Environment) (w : World) (s : ℕ)
@@ -190,7 +202,7 @@ module _ (source : Program) (pages calls : ℕ) where
       let back = comes_back shared.tables active.function s results active.slots globals f frames k e.locals outer w facts stand least in
       by_one source pages calls refl shared here
       (λ choice. finished (Running (Given v) k outer w) c s choice none (
-        shared_returned w (outer.home ∷ homes k) output input store e.home (length frames) shared,
+        shared_returned w (outer.home ∷ homes k) (AreCounted outer.counters k) output input store e.home (length frames) shared,
         in_operand (operands.Slot f.result) back.0 (copied_is shared.tables v active.slots f.caller.slots s results f.result (omega (arith, wide)) is) back.1 stack,
       ))
   hands_back v active (f ∷ frames) globals store output input k e outer w s shared (facts, (none, stand)) here is wide (in_local below stack) =
@@ -204,7 +216,7 @@ module _ (source : Program) (pages calls : ℕ) where
       λ n out. copied_elsewhere active.slots f.caller.slots s results d n (subst (λ many. Outside d many n) (sym wide) out) in
       by_one source pages calls refl shared here
       (λ choice. finished (Running (Given v) k outer w) c s choice none (
-        shared_returned w (outer.home ∷ homes k) output input store e.home (length frames) shared,
+        shared_returned w (outer.home ∷ homes k) (AreCounted outer.counters k) output input store e.home (length frames) shared,
         ahead d (
           f.caller.slots,
           λ n out. sym (elsewhere n out),

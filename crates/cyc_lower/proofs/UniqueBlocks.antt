@@ -142,6 +142,7 @@ module _ (source : Program) (pages calls : ℕ) where
       variables = shared.variables;
       few_pages = shared.few_pages;
       fits = shared.fits;
+      counters = shared.counters;
     }
 
     pub data_freed : DataIn source shared.tables c.active.slots k e (freed w number x) after

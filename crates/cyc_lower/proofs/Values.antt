@@ -42,7 +42,7 @@ use Rattle.cyc_meaning.specs.Operators.{Result, Gives, Raises, Misfits, has_no_r
 use Rattle.cyc_meaning.specs.Pointers.{takes_kind, followed, result_kind as operator_kind}
 use Rattle.cyc_meaning.specs.Places.{arrives, member_of}
 use Rattle.cyc_meaning.specs.Conversion.{conversion}
-use Rattle.cyc_meaning.specs.State.{Region, World, Environment, with_local, made, variable, written, region_at, Awaiting, ConvertTo, Operate, Chain, Apply, ApplyPointer, Follow, Decide, Store, Pass, MakePlain, MakeFields, Initialise, Choose, Test, Return, Entry, Needs, Discard, Rest, Join, Loop, Focus, Evaluating, Given, GivenPlace, Executing, Proceeding, Calling, Returning, Throwing, State, Running, cell_at, FollowMember, StoreCell, calls_in, FreeObject, ThrowWith}
+use Rattle.cyc_meaning.specs.State.{Region, World, Environment, with_local, made, variable, written, region_at, Awaiting, ConvertTo, Operate, Chain, Apply, ApplyPointer, Follow, Decide, Store, Pass, MakePlain, MakeFields, MakeArray, FillElement, Initialise, Choose, Test, Return, Entry, Needs, Discard, Rest, Join, Loop, Focus, Evaluating, Given, GivenPlace, Executing, Proceeding, Calling, Returning, Throwing, State, Running, cell_at, FollowMember, StoreCell, calls_in, FreeObject, ThrowWith}
 use Rattle.cyc_meaning.specs.Step.{leads_to, wrong, object_of, computed, stored_at, declared, passes, tested, awaits_right, chosen, looped, step}
 use Rattle.cyc_meaning.specs.State.{status_of}
 use Rattle.cyc_meaning.specs.SourceMachine.{status_in}
@@ -59,18 +59,19 @@ use Rattle.cyc_objects.proofs.Pointers.{not-null, part-not-null, pointer-word}
 use Rattle.cyc_objects.specs.Tables.{Variable, with_row}
 use Rattle.cyc_objects.proofs.Values.{Grows-row, Is-grows}
 use Rattle.cyc_lower.proofs.Sharing.{shared_declared, row_declared, shared_written}
-use Rattle.cyc_lower.proofs.Relation.{IsWord, IsIn, with_kind, types_at, starts_at, Holds, held, contents, callers, in_place, by_jump, in_temporary, in_local, drops, leaves, copies, DataIn, SharedAt, StoreAt, to_slot, to_jump, ValueStack, ConditionStack, DroppedStack, AheadStack, LandsStack, HandsOnStack, AppliedStack, ReadyAt, as_operand, into_slot, as_right, in_operand, nowhere, ahead, compared, with_left, behind_statement, Related, Matches, code_of, bounds_at, base_of, top, floor}
-use Rattle.cyc_lower.proofs.Data.{in_words, IsWord-is, one_word, height-least, Holds-same, Holds-above, data_assigned, data_assigned_global, data_declared, data_grows, null_is, points_in, null_at, points_at, behind-least, handlers_beside, data_written}
+use Rattle.cyc_lower.proofs.Relation.{types_on, starts_on, IsWord, IsIn, with_kind, types_at, starts_at, Holds, held, contents, callers, in_place, by_jump, in_temporary, in_local, drops, leaves, copies, DataIn, SharedAt, StoreAt, to_slot, to_jump, ValueStack, ConditionStack, DroppedStack, AheadStack, LandsStack, HandsOnStack, AppliedStack, ReadyAt, as_operand, into_slot, as_right, in_operand, nowhere, ahead, compared, with_left, behind_statement, Related, Matches, code_of, bounds_at, base_of, top, floor}
+use Rattle.cyc_lower.proofs.Data.{in_words, IsWord-is, one_word, height-least, Holds-same, Holds-above, data_above, data_assigned, data_assigned_global, data_declared, data_grows, null_is, points_in, null_at, points_at, behind-least, handlers_beside, data_written}
 use Rattle.cyc_lower.proofs.Accesses.{IsWell, is_fitting, is_stored, written_here, written_elsewhere, written_length, is_declared, home_there, is_member}
 use Rattle.cyc_lower.proofs.PlaceWords.{stays, member_there}
 use Rattle.cyc_lower.proofs.CellWrites.{cell_is_there, saves_there, shared_saved, data_saved}
 use Rattle.cyc_lower.proofs.Weights.{weight}
-use Rattle.cyc_lower.proofs.Relation.{StatementStack}
-use Rattle.cyc_lower.proofs.Handling.{leaving, record_left, raised}
+use Rattle.cyc_lower.proofs.Relation.{types_on, starts_on, StatementStack}
 use Rattle.cyc_lower.proofs.Matched.{IsMatched, silently, by_one, by_two, by_three, shared_way, shared_within, by_two_known, output_way}
+use Rattle.cyc_lower.proofs.Handling.{leaving, record_left, raised}
 use Rattle.cyc_lower.proofs.PointerSteps.{applies_pointers, right_follows}
 use Rattle.cyc_lower.proofs.UniqueBlocks.{frees_value}
 use Rattle.cyc_lower.proofs.Allocations.{plain_made, fields_made}
+use Rattle.cyc_lower.proofs.Arrays.{array_sized, array_filled}
 use Rattle.cyc_lower.proofs.Evaluations.{IsStep, landed_word, landed_moved, lands_at, passes_related, passes_weight, object_of_same, global_there}
 
 -- an operand of a kind, and an int
@@ -265,7 +266,7 @@ module _ (source : Program) (pages calls : ℕ) where
   -- where a check fails, its exception is raised
   pub guard_fails : {focus : Focus} {l : List Entry} (tag : ℕ) (failing : Comparison) (x y : Operand) (k : List Entry) (e : Environment) (w : World) (c : Configuration) (q : ℕ)
       → step source (Running focus l e w) ≡ Running (Throwing tag 0) k e w → SharedAt source pages calls l e w c → (shared : SharedAt source pages calls k e w c) → IsMachineWord tag → DataIn source shared.tables c.active.slots k e w c
-      → GuardAt (code_of source c.active.function) (bounds_at source c.active.function) (types_at source c.active.function) tag failing x y c.active.next q
+      → GuardAt (code_of source c.active.function) (bounds_at source c.active.function) (types_on source c.active.function k) tag failing x y c.active.next q
       → compares failing (operand_word c.active.slots x) (operand_word c.active.slots y) ≡ true → IsMatched source pages calls (Running focus l e w) (plain.Running c)
   guard_fails tag failing x y k e w c q does shared shared_there word facts (s, jump, raising_it, end) fails =
       by_one source pages calls does shared jump
@@ -449,7 +450,7 @@ module _ (source : Program) (pages calls : ℕ) where
       → ((x y : ℕ) → plain_operators.binary_result (binary_operator u) x y ≡ binary_word u x y) → (b == 0) ≡ f
       → (shared : SharedAt source pages calls k e w c) → DataIn source shared.tables c.active.slots k e w c
       → operand_word c.active.slots l ≡ a → operand_word c.active.slots r ≡ b → Holds shared.tables c.active.slots (floor source c.active.function k) (held k)
-      → CheckAt (code_of source c.active.function) (bounds_at source c.active.function) (types_at source c.active.function) division_by_zero r c.active.next m
+      → CheckAt (code_of source c.active.function) (bounds_at source c.active.function) (types_on source c.active.function k) division_by_zero r c.active.next m
       → At (code_of source c.active.function) m (instructions.Binary (binary_operator u) d l r) → m + 1 ≡ q
       → LandsStack source c.active.function e.locals kinds.Int d q c.frames k → GoesBehind (of_kind j (Int b)) (Needs (Apply u (of_kind i (Int a))) ∷ k) e w c
   tested_divides u i j a b true l r d k e w c m q plain_test test same zero_b shared facts is_left is holds check here end lands =
@@ -470,7 +471,7 @@ module _ (source : Program) (pages calls : ℕ) where
       → ((x y : ℕ) → plain_operators.binary_result (binary_operator u) x y ≡ binary_word u x y)
       → (shared : SharedAt source pages calls k e w c) → DataIn source shared.tables c.active.slots k e w c
       → operand_word c.active.slots l ≡ a → operand_word c.active.slots r ≡ b → Holds shared.tables c.active.slots (floor source c.active.function k) (held k)
-      → CheckedAt (code_of source c.active.function) (bounds_at source c.active.function) (types_at source c.active.function) u d l r c.active.next q
+      → CheckedAt (code_of source c.active.function) (bounds_at source c.active.function) (types_on source c.active.function k) u d l r c.active.next q
       → LandsStack source c.active.function e.locals kinds.Int d q c.frames k → GoesBehind (of_kind j (Int b)) (Needs (Apply u (of_kind i (Int a))) ∷ k) e w c
   divides u i j a b l (operands.Word (suc n)) d k e w c q plain_test test same shared facts is_left is holds (m, begin, here, end) lands =
       let nonzero : (b == 0) ≡ false = ap (λ x. x == 0) (sym is) ∙ false_from_ne_true (suc n == 0) (λ h. absurd (let z : suc n ≡ 0 = eqb-true (suc n) 0 h in omega (arith, z))) in
@@ -485,7 +486,7 @@ module _ (source : Program) (pages calls : ℕ) where
   computes : (u : Operator) (i j : Kind) (a b : ℕ) (l r : Operand) (d : ℕ) (k : List Entry) (e : Environment) (w : World) (c : Configuration) (q : ℕ)
       → (shared : SharedAt source pages calls k e w c) → DataIn source shared.tables c.active.slots k e w c
       → operand_word c.active.slots l ≡ a → operand_word c.active.slots r ≡ b → Holds shared.tables c.active.slots (floor source c.active.function k) (held k)
-      → OperatorAt (code_of source c.active.function) (bounds_at source c.active.function) (types_at source c.active.function) u d l r c.active.next q
+      → OperatorAt (code_of source c.active.function) (bounds_at source c.active.function) (types_on source c.active.function k) u d l r c.active.next q
       → LandsStack source c.active.function e.locals kinds.Int d q c.frames k → GoesBehind (of_kind j (Int b)) (Needs (Apply u (of_kind i (Int a))) ∷ k) e w c
   computes operators.Divide i j a b l r d k e w c q shared facts is_left is holds here lands =
       divides operators.Divide i j a b l r d k e w c q (λ x. refl) (λ x. refl) (λ x y. refl) shared facts is_left is holds here lands
@@ -569,7 +570,7 @@ module _ (source : Program) (pages calls : ℕ) where
 
   -- the value of all before goes to what is left of a chain
   chain_lands : (os : Operations) (kind : Kind) (g : ℕ) (locals : ℕ → Option ℕ) (d p q : ℕ) (frames : List Frame) (k : List Entry)
-      → OperationsAt (code_of source g) (bounds_at source g) (types_at source g) os (operands.Slot (next_slot os d (top source g k))) d (top source g k) p q
+      → OperationsAt (code_of source g) (bounds_at source g) (types_on source g k) os (operands.Slot (next_slot os d (top source g k))) d (top source g k) p q
       → LandsStack source g locals (chain_kind kind os) d q frames k → LandsStack source g locals kind (next_slot os d (top source g k)) p frames (Needs (Chain os) ∷ k)
   chain_lands NoOperations kind g locals d p q frames k (is, end) lands = lands_at source pages calls g locals kind d p q frames k end lands
   chain_lands (ThenCompute u b os) kind g locals d p q frames k ops lands = in_temporary (omega arith) (to_slot (d, q, ops, lands))
@@ -585,7 +586,7 @@ module _ (source : Program) (pages calls : ℕ) where
       → (c.active.slots (top source c.active.function k) == 0) ≡ f
       → (shared : SharedAt source pages calls k e w c) → DataIn source shared.tables c.active.slots k e w c
       → Holds shared.tables c.active.slots (floor source c.active.function k) (held k)
-      → TruthAt (code_of source c.active.function) (bounds_at source c.active.function) (types_at source c.active.function) (top source c.active.function k) d m r
+      → TruthAt (code_of source c.active.function) (bounds_at source c.active.function) (types_on source c.active.function k) (top source c.active.function k) d m r
       → LandsStack source c.active.function e.locals kinds.Int d r c.frames (Needs (Chain os) ∷ k)
       → GoesBehind v (Needs (Chain (ThenTest u b os)) ∷ k) e w c
   decided_at_once u b os v f k e w c i d m r does here jumps other told shared facts holds (first, second, end) lands =
@@ -608,7 +609,7 @@ module _ (source : Program) (pages calls : ℕ) where
   tests : (u : LogicalOperator) (b : Expression) (os : Operations) (v : Kinded) (f : Bool) (k : List Entry) (e : Environment) (w : World) (c : Configuration) (d q : ℕ)
       → IsWell (step source (Running (Given v) (Needs (Chain (ThenTest u b os)) ∷ k) e w))
       → (c.active.slots (top source c.active.function k) == 0) ≡ f → Stands v (operands.Slot (top source c.active.function k)) k e w c
-      → OperationsAt (code_of source c.active.function) (bounds_at source c.active.function) (types_at source c.active.function) (ThenTest u b os) (operands.Slot (top source c.active.function k)) d (top source c.active.function k) c.active.next q
+      → OperationsAt (code_of source c.active.function) (bounds_at source c.active.function) (types_on source c.active.function k) (ThenTest u b os) (operands.Slot (top source c.active.function k)) d (top source c.active.function k) c.active.next q
       → LandsStack source c.active.function e.locals (chain_kind kinds.Int os) d q c.frames k → GoesBehind v (Needs (Chain (ThenTest u b os)) ∷ k) e w c
   tests logical.AndThen b os v true k e w c d q well told (shared, facts, is, holds) (m, r, there, jump, at_b, truths, ops) lands =
       let does = ap (λ (x : Option Bool). tested x logical.AndThen b os k e w) (zero_is shared.tables v c.active.slots (operands.Slot (top source c.active.function k)) (λ none. well (ap (λ x. status_in (status_of (tested x logical.AndThen b os k e w))) none)) is ∙ ap Some told) in
@@ -645,11 +646,11 @@ module _ (source : Program) (pages calls : ℕ) where
 
   -- an operator: its right operand has no code, or comes behind the left one
   chain_goes_on : (known : Option Operand) (u : Operator) (b : Expression) (os : Operations) (v : Kinded) (l : Operand) (k : List Entry) (e : Environment) (w : World) (c : Configuration) (r : Operand) (m : ℕ)
-      → IsWell (step source (Running (Given v) (Needs (Chain (ThenCompute u b os)) ∷ k) e w)) → operand_of (starts_at source c.active.function) b ≡ known → Stands v l k e w c
-      → OperandBy (code_of source c.active.function) (bounds_at source c.active.function) (types_at source c.active.function) known
+      → IsWell (step source (Running (Given v) (Needs (Chain (ThenCompute u b os)) ∷ k) e w)) → operand_of (starts_on source c.active.function k) b ≡ known → Stands v l k e w c
+      → OperandBy (code_of source c.active.function) (bounds_at source c.active.function) (types_on source c.active.function k) known
       ((l ≡ operands.Slot (top source c.active.function k))
-      × ExpressionAt (code_of source c.active.function) (bounds_at source c.active.function) (types_at source c.active.function) b (value_slot (starts_at source c.active.function) b (suc (top source c.active.function k))) (suc (top source c.active.function k)) c.active.next m)
-      (value_slot (starts_at source c.active.function) b (suc (top source c.active.function k))) r c.active.next m
+      × ExpressionAt (code_of source c.active.function) (bounds_at source c.active.function) (types_on source c.active.function k) b (value_slot (starts_on source c.active.function k) b (suc (top source c.active.function k))) (suc (top source c.active.function k)) c.active.next m)
+      (value_slot (starts_on source c.active.function k) b (suc (top source c.active.function k))) r c.active.next m
       → AppliedStack source c.active.function e.locals u l r m c.frames (Needs (Chain os) ∷ k)
       → GoesBehind v (Needs (Chain (ThenCompute u b os)) ∷ k) e w c
   chain_goes_on (Some known) u b os v l k e w c r m well is_known (shared, facts, is, holds) (r_is, begin) applied =
@@ -660,18 +661,18 @@ module _ (source : Program) (pages calls : ℕ) where
   chain_goes_on None u b os v l k e w c r m well is_known (shared, facts, is, holds) (r_is, (there, at_b)) applied =
       let g = c.active.function in
       let t = top source g k in
-      let starts = starts_at source g in
+      let starts = starts_on source g k in
       let int = same_kind v.kind kinds.Int (awaited_fits (is_kind v.kind kinds.Int) (Apply u v) b os k e w well) in
       let next : suc t ≡ top source g (Needs (Apply u v) ∷ Needs (Chain os) ∷ k) = omega (arith, ap words_of_kind int) in
-      let at_right : OperandBy (code_of source g) (bounds_at source g) (types_at source g) (operand_of starts b)
-      (ExpressionAt (code_of source g) (bounds_at source g) (types_at source g) b (value_slot starts b (suc t)) (suc t) c.active.next m) (value_slot starts b (suc t)) r c.active.next m =
-      subst (λ x. OperandBy (code_of source g) (bounds_at source g) (types_at source g) x (ExpressionAt (code_of source g) (bounds_at source g) (types_at source g) b (value_slot starts b (suc t)) (suc t) c.active.next m) (value_slot starts b (suc t)) r c.active.next m)
+      let at_right : OperandBy (code_of source g) (bounds_at source g) (types_on source g k) (operand_of starts b)
+      (ExpressionAt (code_of source g) (bounds_at source g) (types_on source g k) b (value_slot starts b (suc t)) (suc t) c.active.next m) (value_slot starts b (suc t)) r c.active.next m =
+      subst (λ x. OperandBy (code_of source g) (bounds_at source g) (types_on source g k) x (ExpressionAt (code_of source g) (bounds_at source g) (types_on source g k) b (value_slot starts b (suc t)) (suc t) c.active.next m) (value_slot starts b (suc t)) r c.active.next m)
       (sym is_known) (r_is, at_b) in
       silently source pages calls (Running (Given v) (Needs (Chain (ThenCompute u b os)) ∷ k) e w) (Running (Evaluating b) (Needs (Apply u v) ∷ Needs (Chain os) ∷ k) e w) (plain.Running c) (awaited (is_kind v.kind kinds.Int) (Apply u v) b os k e w well) (
         shared,
         facts,
         as_operand r m
-            (subst (λ n. OperandBy (code_of source g) (bounds_at source g) (types_at source g) (operand_of starts b) (ExpressionAt (code_of source g) (bounds_at source g) (types_at source g) b (value_slot starts b n) n c.active.next m) (value_slot starts b n) r c.active.next m)
+            (subst (λ n. OperandBy (code_of source g) (bounds_at source g) (types_on source g k) (operand_of starts b) (ExpressionAt (code_of source g) (bounds_at source g) (types_on source g k) b (value_slot starts b n) n c.active.next m) (value_slot starts b n) r c.active.next m)
             next at_right)
             (subst (IsIn shared.tables v c.active.slots) there is, holds)
             (subst (λ x. AppliedStack source g e.locals u x r m c.frames (Needs (Chain os) ∷ k)) there applied),
@@ -686,10 +687,10 @@ module _ (source : Program) (pages calls : ℕ) where
       (shared, in_operand o facts is holds stack)
       (omega arith)
   chains (ThenCompute u b os) v o k e w c well stands (to_slot (d, q, (r, m, s, at_b, at, ops), lands)) =
-      chain_goes_on (operand_of (starts_at source c.active.function) b) u b os v o k e w c r m well refl stands at_b
+      chain_goes_on (operand_of (starts_on source c.active.function k) b) u b os v o k e w c r m well refl stands at_b
       (to_slot (next_slot os d (top source c.active.function k), s, at, chain_lands os kinds.Int c.active.function e.locals d s q c.frames k ops lands))
   chains (ThenCompute u b NoOperations) v o k e w c well stands (to_jump (failing, r, q, (is, at_b), stack)) =
-      chain_goes_on (operand_of (starts_at source c.active.function) b) u b NoOperations v o k e w c r q well refl stands at_b (to_jump (failing, is, stack))
+      chain_goes_on (operand_of (starts_on source c.active.function k) b) u b NoOperations v o k e w c r q well refl stands at_b (to_jump (failing, is, stack))
   chains (ThenTest u b os) v o k e w c well (shared, facts, is, holds) (to_slot (d, q, (m, r, there, jump, at_b, truths, ops), lands)) =
       tests u b os v (c.active.slots (top source c.active.function k) == 0) k e w c d q well refl
       (shared, facts, subst (IsIn shared.tables v c.active.slots) there is, holds) (m, r, refl, jump, at_b, truths, ops) lands
@@ -784,8 +785,8 @@ module _ (source : Program) (pages calls : ℕ) where
       let g = c.active.function in
       let words = words_of_kind v.kind in
       let stored = is_stored object v (Given v) k e w well in
-      let slot = slot_of (starts_at source g) n in
-      let inside = slot-room (types_at source g) n (facts.0.2.within n object found).0 in
+      let slot = slot_of (starts_on source g k) n in
+      let inside = slot-room (types_on source g k) n (facts.0.2.within n object found).0 in
       let slots = moved_slots c.active.slots words slot o in
       let elsewhere : (m : ℕ) → Outside slot words m → slots m ≡ c.active.slots m = λ m out. moved_elsewhere c.active.slots words slot o m (kind_positive v.kind) out in
       let moved = moved_is shared.tables v c.active.slots slot o is in
@@ -868,23 +869,23 @@ module _ (source : Program) (pages calls : ℕ) where
   -- the local has the value already
   catches_up : (object n : ℕ) (old : Words) (v : Kinded) (k : List Entry) (e : Environment) (w : World) (c : Configuration) (shared : SharedAt source pages calls k e w c)
       → e.locals n ≡ Some object → IsWell (stored_at (Thin object 0) v (Given v) k e w)
-      → ((m : ℕ) → Outside (slot_of (starts_at source c.active.function) n) (words_of_kind v.kind) m → old m ≡ c.active.slots m) → DataIn source shared.tables old k e w c
+      → ((m : ℕ) → Outside (slot_of (starts_on source c.active.function k) n) (words_of_kind v.kind) m → old m ≡ c.active.slots m) → DataIn source shared.tables old k e w c
       → HasRoom (types_at source c.active.function) n v.kind
-      → Is shared.tables v.kind v.value c.active.slots (slot_of (starts_at source c.active.function) n) → Holds shared.tables c.active.slots (floor source c.active.function k) (held k)
-      → HandsOnStack source c.active.function e.locals v.kind (operands.Slot (slot_of (starts_at source c.active.function) n)) c.active.next c.frames k → GoesBehind v (Needs (Store (Thin object 0)) ∷ k) e w c
+      → Is shared.tables v.kind v.value c.active.slots (slot_of (starts_on source c.active.function k) n) → Holds shared.tables c.active.slots (floor source c.active.function k) (held k)
+      → HandsOnStack source c.active.function e.locals v.kind (operands.Slot (slot_of (starts_on source c.active.function k) n)) c.active.next c.frames k → GoesBehind v (Needs (Store (Thin object 0)) ∷ k) e w c
   catches_up object n old v k e w c shared found well same facts room is holds hands =
       let g = c.active.function in
       let stored = is_stored object v (Given v) k e w well in
       let next = written w object 0 stored.at v.value in
-      let inside = slot-room (types_at source g) n (facts.0.2.within n object found).0 in
+      let inside = slot-room (types_on source g k) n (facts.0.2.within n object found).0 in
       hands_at_once v (Needs (Store (Thin object 0)) ∷ k) k e w next c stored.gives shared (omega arith)
-      (handed v (operands.Slot (slot_of (starts_at source g) n)) k e next c c.active.next refl (
+      (handed v (operands.Slot (slot_of (starts_on source g k) n)) k e next c c.active.next refl (
         shared_written source pages calls k e w c shared object stored.at v.value stored.object_there stored.cell_there (facts.0.2.rows n object found),
         (
           data_assigned shared.tables source g w.objects next.objects e.locals (callers k) old c.active.slots c.globals c.frames n object v found
               (written_here w object stored.at v.value stored.object_there stored.cell_there v.kind stored.same) (written_elsewhere w object stored.at v.value stored.object_there stored.cell_there)
               (written_length w object stored.at v.value stored.object_there stored.cell_there) room is (λ m out. sym (same m out)) facts.0,
-          handlers_beside source g old c.active.slots c.active.handlers c.frames k (slot_of (starts_at source g) n) (words_of_kind v.kind) (omega (arith, inside, room)) (λ m out. sym (same m out)) facts.1,
+          handlers_beside source g old c.active.slots c.active.handlers c.frames k (slot_of (starts_on source g k) n) (words_of_kind v.kind) (omega (arith, inside, room)) (λ m out. sym (same m out)) facts.1,
         ),
         is,
         holds,
@@ -947,7 +948,7 @@ module _ (source : Program) (pages calls : ℕ) where
   initialises n kind js v o k e w c well (shared, facts, is, holds) (exits, q, here, room, items, stack) =
       let g = c.active.function in
       let words = words_of_kind v.kind in
-      let slot = slot_of (starts_at source g) n in
+      let slot = slot_of (starts_on source g k) n in
       let (r, home) = makes_home n kind js v k e w well in
       let grown = with_row shared.tables Variable in
       let grows = Grows-row shared.tables Variable in
@@ -961,14 +962,14 @@ module _ (source : Program) (pages calls : ℕ) where
           data_declared grown source g w.objects e (callers k) c.active.slots slots c.globals c.frames n words (variable e.home kind (Some v.value)) local room (row_declared source pages calls k e w c shared) elsewhere
               (made_value grown n kind js v k e w slots slot (types_at source g) well room (Is-grows grows v.kind v.value slots slot (moved_is shared.tables v c.active.slots slot o is)))
               (data_grows shared.tables grown grows source g w.objects e.locals (callers k) c.active.slots c.globals c.frames facts.0),
-          handlers_beside source g c.active.slots slots c.active.handlers c.frames k slot words (omega (arith, slot-room (types_at source g) n local, room)) elsewhere facts.1,
+          handlers_beside source g c.active.slots slots c.active.handlers c.frames k slot words (omega (arith, slot-room (types_on source g k) n local, room)) elsewhere facts.1,
         )
             (q, items, stack),
       ))
 
   initialises_ahead : (n : ℕ) (old : Words) (kind : Kind) (js : Items) (v : Kinded) (k : List Entry) (e : Environment) (w : World) (c : Configuration) (exits : Exits) (shared : SharedAt source pages calls k e w c)
       → IsWell (step source (Running (Given v) (Needs (Initialise n kind js) ∷ k) e w))
-      → ((m : ℕ) → Outside (slot_of (starts_at source c.active.function) n) (words_of_kind v.kind) m → old m ≡ c.active.slots m)
+      → ((m : ℕ) → Outside (slot_of (starts_on source c.active.function k) n) (words_of_kind v.kind) m → old m ≡ c.active.slots m)
       → DataIn source shared.tables old (Needs (Initialise n kind js) ∷ k) e w c
       → HasRoom (types_at source c.active.function) n v.kind → Is shared.tables v.kind v.value c.active.slots (slot_of (starts_at source c.active.function) n)
       → StatementStack source c.active.function exits c.active.next c.frames (Rest js ∷ k) → GoesBehind v (Needs (Initialise n kind js) ∷ k) e w c
@@ -977,7 +978,7 @@ module _ (source : Program) (pages calls : ℕ) where
       let (r, home) = makes_home n kind js v k e w well in
       let grown = with_row shared.tables Variable in
       let grows = Grows-row shared.tables Variable in
-      let slot = slot_of (starts_at source g) n in
+      let slot = slot_of (starts_on source g k) n in
       let local = room-inside (types_at source g) n v.kind room in
       silently source pages calls (Running (Given v) (Needs (Initialise n kind js) ∷ k) e w)
       (Running Proceeding (Rest js ∷ k) (with_local e n (length w.objects)) (made w (variable e.home kind (Some v.value)))) (plain.Running c)
@@ -987,7 +988,7 @@ module _ (source : Program) (pages calls : ℕ) where
           data_declared grown source g w.objects e (callers k) old c.active.slots c.globals c.frames n (words_of_kind v.kind) (variable e.home kind (Some v.value)) local room (row_declared source pages calls k e w c shared)
               (λ m out. sym (same m out)) (made_value grown n kind js v k e w c.active.slots slot (types_at source g) well room (Is-grows grows v.kind v.value c.active.slots slot is))
               (data_grows shared.tables grown grows source g w.objects e.locals (callers k) old c.globals c.frames facts.0),
-          handlers_beside source g old c.active.slots c.active.handlers c.frames k slot (words_of_kind v.kind) (omega (arith, slot-room (types_at source g) n local, room)) (λ m out. sym (same m out)) facts.1,
+          handlers_beside source g old c.active.slots c.active.handlers c.frames k slot (words_of_kind v.kind) (omega (arith, slot-room (types_on source g k) n local, room)) (λ m out. sym (same m out)) facts.1,
         )
             stack,
       )
@@ -1024,7 +1025,7 @@ module _ (source : Program) (pages calls : ℕ) where
 
   throws_with : (tag : ℕ) (i : Kind) (v : Value) (o : Operand) (k : List Entry) (e : Environment) (w : World) (c : Configuration) → IsWell (step source (Running (Given (of_kind i v)) (Needs (ThrowWith tag) ∷ k) e w))
       → Stands (of_kind i v) o (Needs (ThrowWith tag) ∷ k) e w c → ValueStack source c.active.function e.locals i o c.active.next c.frames (Needs (ThrowWith tag) ∷ k) → GoesBehind (of_kind i v) (Needs (ThrowWith tag) ∷ k) e w c
-  throws_with tag i (Int a) o k e w c well (shared, facts, is, holds) (word, here) =
+  throws_with tag i (Int a) o k e w c well (shared, facts, is, holds) (exits, q, word, here, stack) =
       silently source pages calls (Running (Given (of_kind i (Int a))) (Needs (ThrowWith tag) ∷ k) e w) (Running (Throwing tag a) k e w) (plain.Running c) refl
       (raised source pages calls tag a k e w c (tag_operand tag) o word shared facts here (let z : tag % 2 ^ 32 ≡ tag = omega (arith, word) in z) (int_is shared.tables i a c.active.slots o is))
       (omega arith)
@@ -1102,6 +1103,8 @@ module _ (source : Program) (pages calls : ℕ) where
   stands_given v o (Needs (StoreCell peek place) ∷ k) e w c of_words words well stands stack = stores_cell peek place v o k e w c of_words words well stands stack
   stands_given v o (Needs (Pass f before cs) ∷ k) e w c of_words words well stands stack = hands_on f before cs v o k e w c stands stack
   stands_given v o (Needs (MakePlain owner kind) ∷ k) e w c of_words words well (shared, facts, is, holds) stack = plain_made source pages calls owner kind v o k e w c well shared facts is holds stack
+  stands_given v o (Needs (MakeArray owner level wanted element) ∷ k) e w c of_words words well (shared, facts, is, holds) stack = array_sized source pages calls owner level wanted element v o k e w c well shared facts is holds stack
+  stands_given v o (Needs (FillElement object count index level wanted element) ∷ k) e w c of_words words well (shared, facts, is, holds) stack = array_filled source pages calls object count index level wanted element v o k e w c words well shared facts is holds stack
   stands_given v o (Needs (MakeFields owner before cs) ∷ k) e w c of_words words well (shared, facts, is, holds) stack = fields_made source pages calls owner before cs v o k e w c well shared facts is holds stack
   stands_given v o (Needs (Initialise n kind js) ∷ k) e w c of_words words well stands stack = initialises n kind js v o k e w c well stands stack
   stands_given v o (Needs (Choose s t) ∷ k) e w c of_words words well (shared, facts, is, holds) stack =

@@ -1,6 +1,6 @@
 -- The weight of a source state, which falls with each step that the plain program makes no step for.
 use Rattle.std.proofs.Common.{ℕ, suc, ◌+◌, List, [], ◌∷◌, Option, None, Some, length}
-use Rattle.cyc_types.specs.TypedTrees.{Load, New, Initial, Plain, Fields, Dereference, Target, Expression, Number, NullPointer, Copy, Call, Unary, Binary, Assign, Converted, Convert, Arguments, NoArguments, MoreArguments, Operations, NoOperations, ThenCompute, ThenTest, ThenPointer, Statement, Block, Empty, Evaluate, If, While, Break, Continue, Items, NoItems, MoreItems, Execute, Declare, Move, Peek, ThenPointerPeek, AddressOfCell, Member, FreeUnique, Side, VariableSide, CellSide, Swap, Clauses, NoClauses, Default, Case}
+use Rattle.cyc_types.specs.TypedTrees.{Array, Load, New, Initial, Plain, Fields, Dereference, Target, Expression, Number, NullPointer, Copy, Call, Unary, Binary, Assign, Converted, Convert, Arguments, NoArguments, MoreArguments, Operations, NoOperations, ThenCompute, ThenTest, ThenPointer, Statement, Block, Empty, Evaluate, If, While, Break, Continue, Items, NoItems, MoreItems, Execute, Declare, Move, Peek, ThenPointerPeek, AddressOfCell, Member, FreeUnique, Side, VariableSide, CellSide, Swap, Clauses, NoClauses, Default, Case}
 use Rattle.cyc_types.specs.TypedTrees as typed
 use Rattle.cyc_meaning.specs.State.{Awaiting, Chain, Pass, MakeFields, Initialise, Entry, Needs, Rest, Focus, Evaluating, Locating, Executing, Entering, Binding, State, Running, AwaitingPlace, StoreTo, NeedsPlace, SwapLeft, Writing, Catching}
 
@@ -9,6 +9,7 @@ abbrev mutual
   pub expression_weight : Expression → ℕ
   expression_weight (Number n) = 1
   expression_weight NullPointer = 1
+  expression_weight (typed.Counter l) = 1
   expression_weight (Copy l t) = 1
   expression_weight (Move p n t) = 1
   expression_weight (Peek p n t) = 1
@@ -32,7 +33,7 @@ abbrev mutual
   pub object_weight : Initial → ℕ
   object_weight (Plain kind a) = expression_weight a
   object_weight (Fields cs) = arguments_weight cs
-  object_weight i = 0
+  object_weight (Array w level n kind a) = expression_weight n
 
   -- with what converts it
   pub converted_weight : Converted → ℕ

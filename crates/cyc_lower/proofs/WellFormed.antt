@@ -1,5 +1,5 @@
 -- The lowered program is well formed: all that its instructions name is there, and its frames have room.
-use Rattle.std.proofs.Common.{◌≡◌, ℕ, zero, suc, ◌+◌, ◌-◌, ◌≤◌, ◌<◌, Bool, true, false, List, [], ◌∷◌, ◌++◌, length, map, Option, None, Some, slice_get, slice_index_or, All, IsSomeAnd, refl, sym, ap, subst, ◌∙◌, arith, length-append}
+use Rattle.std.proofs.Common.{◌≡◌, ℕ, zero, suc, ◌+◌, ◌-◌, ◌≤◌, ◌<◌, Bool, true, false, List, [], ◌∷◌, ◌++◌, length, map, Option, None, Some, slice_get, slice_index_or, All, IsSomeAnd, refl, sym, ap, subst, ◌∙◌, arith, length-append, inl, inr}
 use Rattle.std.specs.List.{AllByRecursion}
 use Rattle.std.proofs.lemmas.Option.{same_Some, none-some}
 use Rattle.cyc_types.specs.declared.typed.Kind.{Kind}
@@ -13,7 +13,7 @@ use Rattle.cyc_types.specs.declared.typed.PointerOperator.TheVariants as pointer
 use Rattle.cyc_types.specs.declared.typed.LogicalOperator.{LogicalOperator}
 use Rattle.cyc_types.specs.declared.typed.LogicalOperator.TheVariants as logical
 use Rattle.cyc_types.specs.Types.{Ty, words_of, ValueType, Void, Null, Value}
-use Rattle.cyc_types.specs.TypedTrees.{Load, New, OnHeap, AsUnique, ByHandle, Initial, Plain, Fields, Array, Dereference, Target, type_of_place, Lvalue, Local, Global, Expression, Number, NullPointer, Copy, Call, Unary, Binary, Assign, Converted, Convert, Arguments, NoArguments, MoreArguments, Operations, NoOperations, ThenCompute, ThenTest, ThenPointer, type_of, Statement, Block, Empty, Evaluate, If, While, Return, Break, Continue, Items, NoItems, MoreItems, Execute, Declare, GlobalVariable, Signature, StructType, Function, Program, Move, Peek, ThenPointerPeek, AddressOfCell, Store, Member, FreeUnique, Side, VariableSide, CellSide, Swap, Throw, Try, Clauses, NoClauses, Default, Case}
+use Rattle.cyc_types.specs.TypedTrees.{Counter, Load, New, OnHeap, AsUnique, ByHandle, Initial, Plain, Fields, Array, Dereference, Target, type_of_place, Lvalue, Local, Global, Expression, Number, NullPointer, Copy, Call, Unary, Binary, Assign, Converted, Convert, Arguments, NoArguments, MoreArguments, Operations, NoOperations, ThenCompute, ThenTest, ThenPointer, type_of, Statement, Block, Empty, Evaluate, If, While, Return, Break, Continue, Items, NoItems, MoreItems, Execute, Declare, GlobalVariable, Signature, StructType, Function, Program, Move, Peek, ThenPointerPeek, AddressOfCell, Store, Member, FreeUnique, Side, VariableSide, CellSide, Swap, Throw, Try, Clauses, NoClauses, Default, Case}
 use Rattle.cyc_types.specs.typing.WellTyped.{signature_of}
 use Rattle.cyc_types.specs.Numbered.{Numbering, argument_count, signatures_of, numbering_of}
 use Rattle.cyc_plain.specs.declared.instruction.Comparison.{Comparison}
@@ -25,17 +25,19 @@ use Rattle.cyc_plain.specs.declared.instruction.Instruction.{Instruction}
 use Rattle.cyc_plain.specs.declared.instruction.Instruction.TheVariants as instructions
 use Rattle.cyc_plain.specs.Program.{Routine, Program as PlainProgram, no_routine, routine_at}
 use Rattle.cyc_plain.specs.declared.limits.TheConstants.{MOST_GLOBALS, RECORD_WORDS}
-use Rattle.cyc_plain.specs.WellFormed.{IsOperand, IsInRange, IsRoutine, IsWellFormed, is_return, leaves}
-use Rattle.std.specs.Prelude.{◌==◌, max, if◌then◌else◌}
-use Rattle.std.proofs.lemmas.Bool.{eq-eqb, eqb-true}
+use Rattle.cyc_plain.specs.WellFormed.{IsOperand, IsInRange, IsRoutine, IsWellFormed, leaves, is_return}
+use Rattle.std.specs.Prelude.{unwrap_or, ◌==◌, max, if◌then◌else◌}
+use Rattle.std.proofs.lemmas.Bool.{eqb-true, eq-eqb}
 use Rattle.cyc_meaning.specs.Operators.{null_exception, division_by_zero}
 use Rattle.cyc_store.specs.declared.range.TheConstants.{HEAP, UNIQUE}
 use Rattle.cyc_meaning.specs.Values.{kind_of, words_of_kind}
 use Rattle.cyc_meaning.specs.FrameCount.{result_words, operand_words, converted_words, argument_words, expression_need, dereference_need, converted_need, arguments_need, operations_need, initial_need, statement_need, items_need, words_of_all, initial_value_need, place_words, side_need, kept_by, kept_by_items, clauses_need, kept_by_clauses, thrown_need}
 use Rattle.cyc_lower.specs.declared.statements.Exits.{Exits}
 use Rattle.cyc_meaning.specs.Pointers.{result_kind as operator_kind}
-use Rattle.cyc_lower.specs.Slots.{starts_of, slot_of, Types}
-use Rattle.cyc_lower.specs.Lowering.{types_of, spare_slots, are_as_wide, converts_there, passed_words, all_passed, source_of, source_slot, moved_by, move_of, unary_operator, binary_operator, operand_of, operand_or, code_unless, slot_or, code_unless_slot, left_with, left_of, value_slot, next_slot, slot_with, left_slot, value_operand, converted_operand, printed_operand, check_code, conversion_code, divisor_code, checked_code, operator_code, truth_code, load_code, low_byte, test_code, is_in, copy_code, expression_code, arguments_code, converted_code, converted_operand_code, printed_code, initial_code, assignment_code, operations_code, discarded_code, failing_comparison, compared_or, first_operand, first_code, second_code, pair_code, condition_code, condition_of, failing_jump, break_target, continue_target, return_code, declaration_code, statement_code, items_code, first_temporary, results_of, lower_function, lower_global, lower_program, pointer_operator, left_kind, behind_left, pointer_code, outside_loops, inside_loop, index_code, pointer_instructions, stores_code, object_code, made_code, place_operand, place_offset, place_code, address_code, addressed_by, store_address_code, store_code, guard_code, blocks, free_code, right_slot, side_code, read_side, write_side, exchange_code, swap_code, leave_code, tag_operand, other_jump, goes_on, clause_code, thrown_code, thrown_operand, caught_code, clauses_code}
+use Rattle.cyc_objects.proofs.NumberLemmas.{slice_get-there}
+use Rattle.cyc_lower.proofs.Counters.{found_last}
+use Rattle.cyc_lower.specs.Slots.{counted, starts_of, slot_of, Types}
+use Rattle.cyc_lower.specs.Lowering.{begun_code, filled_code, ended_code, elements_code, counter_operand, types_of, spare_slots, are_as_wide, converts_there, passed_words, all_passed, source_of, source_slot, moved_by, move_of, unary_operator, binary_operator, operand_of, operand_or, code_unless, slot_or, code_unless_slot, left_with, left_of, value_slot, next_slot, slot_with, left_slot, value_operand, converted_operand, printed_operand, check_code, conversion_code, divisor_code, checked_code, operator_code, truth_code, load_code, low_byte, test_code, is_in, copy_code, expression_code, arguments_code, converted_code, converted_operand_code, printed_code, initial_code, assignment_code, operations_code, discarded_code, failing_comparison, compared_or, first_operand, first_code, second_code, pair_code, condition_code, condition_of, failing_jump, break_target, continue_target, return_code, declaration_code, statement_code, items_code, first_temporary, results_of, lower_function, lower_global, lower_program, pointer_operator, left_kind, behind_left, pointer_code, outside_loops, inside_loop, index_code, pointer_instructions, stores_code, object_code, made_code, place_operand, place_offset, place_code, address_code, addressed_by, store_address_code, store_code, guard_code, blocks, free_code, right_slot, side_code, read_side, write_side, exchange_code, swap_code, leave_code, tag_operand, other_jump, goes_on, clause_code, thrown_code, thrown_operand, caught_code, clauses_code}
 use Rattle.cyc_lower.proofs.Widths.{kind_positive, kind_few, type_words, kind_of_result, result_kind, given, passed_kind, words_in, chain_kind, made_kind}
 use Rattle.cyc_lower.proofs.Fitting.{FitsPlace, FitsStored, FitsCell, Fits, FitsConverted, FitArguments, FitOperations, FitsReturn, FitsInitial, FitsStatement, FitItems, AreFitting, IsFitting, FitsObject, FitsSide, FitsThrown, FitsCaught, FitClauses}
 use Rattle.cyc_lower.specs.Words.{AreOfWordsItems, AreOfWordsFunctions, IsOfWordsProgram}
@@ -87,6 +89,14 @@ result_least : (t : Option Ty) → (results_of t ≤ words_of_kind (kind_of_resu
 result_least None = (omega arith, omega arith)
 result_least (Some t) = (omega (arith, type_words t), omega (arith, type_words t))
 
+-- with one counter more, all counters are in slots of the function
+levels_inside : (r : Routine) (types : Types) → ((l slot : ℕ) → slice_get types.counters l ≡ Some slot → slot < r.slots) → (slot : ℕ) → slot < r.slots
+    → (l other : ℕ) → slice_get (counted types slot).counters l ≡ Some other → other < r.slots
+levels_inside r types levels slot inside l other found = elim (found_last types.counters slot l other found) [
+  | inl before ↦ levels l other before
+  | inr (last, is) ↦ omega (arith, is, inside)
+]
+
 -- ---- instructions
 
 -- what the functions of a program have, which the bounds of a function name
@@ -95,7 +105,7 @@ record IsKnown (program : PlainProgram) (n : ℕ) (s : Signature) : Type 0 where
   pub parameters : (routine_at program n).parameters ≡ words_of_all s.parameters
   pub results : (routine_at program n).results ≡ results_of s.result
 
-module _ (program : PlainProgram) (r : Routine) (b : Numbering) (types : Types) (locals : (n : ℕ) → n < b.locals → slot_of (starts_of types) n + words_in types.locals n ≤ r.slots) (globals : b.globals ≡ length program.globals) (known : (n : ℕ) (s : Signature) → slice_get b.functions n ≡ Some s → IsKnown program n s) (results : r.results ≡ results_of b.result) (behind : types.raises + 4 < length r.code) (no_return : All (λ i. is_return i ≡ false) r.code) where
+module _ (program : PlainProgram) (r : Routine) (b : Numbering) (types : Types) (locals : (n : ℕ) → n < b.locals → slot_of (starts_of types) n + words_in types.locals n ≤ r.slots) (levels : (l slot : ℕ) → slice_get types.counters l ≡ Some slot → slot < r.slots) (globals : b.globals ≡ length program.globals) (called : (n : ℕ) (s : Signature) → slice_get b.functions n ≡ Some s → IsKnown program n s) (results : r.results ≡ results_of b.result) (behind : types.raises + 4 < length r.code) where
   abbrev AreIn : List Instruction → Type 0
   AreIn code = AllByRecursion (IsInRange program r) code
 
@@ -155,6 +165,7 @@ module _ (program : PlainProgram) (r : Routine) (b : Numbering) (types : Types) 
   given_needs : (a : Expression) → Fits b types a → words_of_kind (kind_at a) ≤ max 1 (expression_need a)
   given_needs (Number n) numbered = omega arith
   given_needs NullPointer numbered = omega arith
+  given_needs (Counter l) numbered = omega arith
   given_needs (Copy l t) numbered = omega (arith, type_words t)
   given_needs (Move p n t) numbered = omega (arith, type_words t)
   given_needs (Peek p n t) numbered = omega (arith, type_words t)
@@ -171,7 +182,7 @@ module _ (program : PlainProgram) (r : Routine) (b : Numbering) (types : Types) 
   given_needs (FreeUnique a) numbered = omega (arith, operand_positive (type_of a))
   given_needs (New OnHeap (Plain kind a) t) numbered = omega arith
   given_needs (New OnHeap (Fields cs) t) numbered = omega arith
-  given_needs (New OnHeap (Array p level n kind a) t) numbered = absurd numbered
+  given_needs (New OnHeap (Array p level n kind a) t) numbered = omega arith
   given_needs (New AsUnique (Plain kind a) t) numbered = omega arith
   given_needs (New AsUnique (Fields cs) t) numbered = omega arith
   given_needs (New AsUnique (Array p level n kind a) t) numbered = absurd numbered
@@ -191,6 +202,11 @@ module _ (program : PlainProgram) (r : Routine) (b : Numbering) (types : Types) 
   value_room (Move w n ty) t (within, room) few = omega (arith, locals n within, room)
   value_room (Peek w n ty) t (within, room) few = omega (arith, locals n within, room)
   value_room (Assign (Local w n) (Convert from to a) ty) t ((within, room), numbered) few = omega (arith, locals n within, room)
+  value_room (Counter l) t numbered few = by (slice_get types.counters l) refl
+    where
+      by : (s : Option ℕ) → slice_get types.counters l ≡ s → HasOperand (operand_or (counter_operand s) t) 1
+      by (Some n) there = omega (arith, levels l n there)
+      by None none = few
   value_room a t numbered few = few
 
   value_in : (a : Expression) (t : ℕ) → Fits b types a → t + words_of_kind (kind_at a) ≤ r.slots → IsOperand r (value_operand (starts_of types) a t)
@@ -339,6 +355,14 @@ module _ (program : PlainProgram) (r : Routine) (b : Numbering) (types : Types) 
   copy_in true c o d inside few = tt
   copy_in false c o d inside few = (subst (λ words. IsInRange program r (move_of words d o)) (sym (passed_is c)) (move_in (passed_kind c) d o few inside), tt)
 
+  -- a fat pointer comes to another slot
+  pointer_copied : (d t : ℕ) → d + 3 ≤ r.slots → t + 3 ≤ r.slots → AreIn (copy_code 3 (operands.Slot t) d)
+  pointer_copied d t few inside = by (t == d)
+    where
+      by : (is : Bool) → AreIn (if is then [] else instructions.MoveWords d t 3 ∷ [])
+      by true = tt
+      by false = (record { some = omega arith; few = omega arith; destination_in_range = few; source_in_range = inside }, tt)
+
   index_in : (o : PlainBinary) (l m : Operand) (d : ℕ) → d + 3 ≤ r.slots → HasOperand l 3 → IsOperand r m → AreIn (index_code o l m d)
   index_in o (operands.Word n) m d few left right = ((omega (arith, few), tt, right), tt)
   index_in o (operands.Slot n) m d few left right = ((omega (arith, few), omega (arith, left), right), by (n == d))
@@ -454,30 +478,34 @@ module _ (program : PlainProgram) (r : Routine) (b : Numbering) (types : Types) 
       (append front conversion (unless_in known inner p (omega (arith, short, long, long_front)) (λ less. inside slot (source_fits from to a t (kind, wide, numbered) free) less))
       (conversion_in to o (p + length front) (converted_value_in c t (kind, wide, numbered) free) (omega (arith, short, long, long_front)))) (move_in to d o room (converted_room c t (kind, wide, numbered) free), tt)
 
+module _ (program : PlainProgram) (r : Routine) (b : Numbering) (globals : b.globals ≡ length program.globals) (called : (n : ℕ) (s : Signature) → slice_get b.functions n ≡ Some s → IsKnown program n s) (results : r.results ≡ results_of b.result) where
   mutual
-    expression_in : (a : Expression) (p d t : ℕ) → Fits b types a → d + words_of_kind (kind_at a) ≤ r.slots → t + expression_need a ≤ r.slots → p + length (expression_code (starts_of types) a p d t) < length r.code → AreIn (expression_code (starts_of types) a p d t)
-    expression_in (Number n) p d t numbered room few short = ((omega (arith, room), tt), tt)
-    expression_in NullPointer p d t numbered room few short = ((omega (arith, room), tt), tt)
-    expression_in (Copy l ty) p d t numbered room few short = load_in l ty d numbered room
-    expression_in (Move w n ty) p d t numbered room few short = load_in (Local w n) ty d numbered room
-    expression_in (Peek w n ty) p d t numbered room few short = load_in (Local w n) ty d numbered room
-    expression_in (Call callees.Putchar cs ty) p d t (s, signature, many, passed, result, numbered) room few short =
+    expression_in : (types : Types) (locals : (n : ℕ) → n < b.locals → slot_of (starts_of types) n + words_in types.locals n ≤ r.slots) (levels : (l slot : ℕ) → slice_get types.counters l ≡ Some slot → slot < r.slots) (behind : types.raises + 4 < length r.code) → (a : Expression) (p d t : ℕ) → Fits b types a → d + words_of_kind (kind_at program r b types locals levels globals called results behind a) ≤ r.slots → t + expression_need a ≤ r.slots → p + length (expression_code (starts_of types) a p d t) < length r.code → AreIn program r b types locals levels globals called results behind (expression_code (starts_of types) a p d t)
+    expression_in types locals levels behind (Number n) p d t numbered room few short = ((omega (arith, room), tt), tt)
+    expression_in types locals levels behind NullPointer p d t numbered room few short = ((omega (arith, room), tt), tt)
+    expression_in types locals levels behind (Counter l) p d t numbered room few short =
+        let (slot, there) = slice_get-there types.counters l numbered in
+        ((omega (arith, room), subst (λ (s : Option ℕ). unwrap_or s 0 < r.slots) (sym there) (levels l slot there)), tt)
+    expression_in types locals levels behind (Copy l ty) p d t numbered room few short = load_in program r b types locals levels globals called results behind l ty d numbered room
+    expression_in types locals levels behind (Move w n ty) p d t numbered room few short = load_in program r b types locals levels globals called results behind (Local w n) ty d numbered room
+    expression_in types locals levels behind (Peek w n ty) p d t numbered room few short = load_in program r b types locals levels globals called results behind (Local w n) ty d numbered room
+    expression_in types locals levels behind (Call callees.Putchar cs ty) p d t (s, signature, many, passed, result, numbered) room few short =
         let o = printed_operand (starts_of types) cs (operands.Slot t) t in
         let front = printed_code (starts_of types) cs p t in
         let back = instructions.WriteByte o ∷ low_byte o d ∷ [] in
         let gives : 1 ≤ result_words ty = omega (arith, result, ap (λ (x : Signature). results_of x.result) signature) in
-        let inside = printed_value_in cs (operands.Slot t) t numbered (omega (arith, few, gives)) (omega (arith, few)) in
-        append front back (printed_in cs p t t 0 numbered (omega (arith, few)) (omega arith) (omega (arith, few)) (omega (arith, short, length-append front back)))
+        let inside = printed_value_in program r b types locals levels globals called results behind cs (operands.Slot t) t numbered (omega (arith, few, gives)) (omega (arith, few)) in
+        append program r b types locals levels globals called results behind front back (printed_in types locals levels behind cs p t t 0 numbered (omega (arith, few)) (omega arith) (omega (arith, few)) (omega (arith, short, length-append front back)))
         (inside, ((omega (arith, room), inside, tt), tt))
-    expression_in (Call callees.Getchar cs ty) p d t (s, signature, many, passed, result, numbered) room few short =
+    expression_in types locals levels behind (Call callees.Getchar cs ty) p d t (s, signature, many, passed, result, numbered) room few short =
         let front = arguments_code (starts_of types) cs p t in
         let back = instructions.ReadByte d ∷ [] in
-        append front back (arguments_in cs p t t 0 numbered (omega arith) (omega (arith, few)) (omega (arith, few)) (omega (arith, short, length-append front back))) (omega (arith, room), tt)
-    expression_in (Call (callees.Function g) cs ty) p d t (s, signature, many, passed, result, numbered) room few short =
+        append program r b types locals levels globals called results behind front back (arguments_in types locals levels behind cs p t t 0 numbered (omega arith) (omega (arith, few)) (omega (arith, few)) (omega (arith, short, length-append front back))) (omega (arith, room), tt)
+    expression_in types locals levels behind (Call (callees.Function g) cs ty) p d t (s, signature, many, passed, result, numbered) room few short =
         let front = arguments_code (starts_of types) cs p t in
         let back = instructions.Call g t (all_passed cs) d ∷ [] in
-        let f = known g s signature in
-        append front back (arguments_in cs p t t 0 numbered (omega arith) (omega (arith, few)) (omega (arith, few)) (omega (arith, short, length-append front back))) (
+        let f = called g s signature in
+        append program r b types locals levels globals called results behind front back (arguments_in types locals levels behind cs p t t 0 numbered (omega arith) (omega (arith, few)) (omega (arith, few)) (omega (arith, short, length-append front back))) (
           record {
             function_in_range = f.there;
             takes = passed ∙ sym f.parameters;
@@ -486,158 +514,192 @@ module _ (program : PlainProgram) (r : Routine) (b : Numbering) (types : Types) 
           },
           tt,
         )
-    expression_in (Unary o a) p d t numbered room few short =
+    expression_in types locals levels behind (Unary o a) p d t numbered room few short =
         let inner = expression_code (starts_of types) a p (value_slot (starts_of types) a t) t in
         let front = code_unless (operand_of (starts_of types) a) inner in
         let back = instructions.Unary (unary_operator o) d (value_operand (starts_of types) a t) ∷ [] in
-        let free : t + words_of_kind (kind_at a) ≤ r.slots = omega (arith, few, given_needs a numbered) in
-        append front back
-        (unless_in (operand_of (starts_of types) a) inner p (omega (arith, short, length-append front back)) (λ less. expression_in a p (value_slot (starts_of types) a t) t numbered (slot_fits a t numbered free) (omega (arith, few)) less))
-        ((omega (arith, room), value_in a t numbered free), tt)
-    expression_in (Binary a os ty) p d t (numbered, rest) room few short =
+        let free : t + words_of_kind (kind_at program r b types locals levels globals called results behind a) ≤ r.slots = omega (arith, few, given_needs program r b types locals levels globals called results behind a numbered) in
+        append program r b types locals levels globals called results behind front back
+        (unless_in program r b types locals levels globals called results behind (operand_of (starts_of types) a) inner p (omega (arith, short, length-append front back)) (λ less. expression_in types locals levels behind a p (value_slot (starts_of types) a t) t numbered (slot_fits program r b types locals levels globals called results behind a t numbered free) (omega (arith, few)) less))
+        ((omega (arith, room), value_in program r b types locals levels globals called results behind a t numbered free), tt)
+    expression_in types locals levels behind (Binary a os ty) p d t (numbered, rest) room few short =
         let inner = expression_code (starts_of types) a p (left_slot (starts_of types) a os d t) t in
         let front = code_unless (left_of (starts_of types) a os) inner in
         let back = operations_code (starts_of types) os (p + length front) (operand_or (left_of (starts_of types) a os) (left_slot (starts_of types) a os d t)) d t in
         let some = operand_positive (type_of a) in
-        let free = has_room os ty t (operand_words (type_of a)) rest some (omega (arith, few)) in
-        let first = left_room os a t numbered (omega (arith, few)) free in
-        append front back
-        (unless_in (left_of (starts_of types) a os) inner p (omega (arith, short, length-append front back)) (λ less. expression_in a p (left_slot (starts_of types) a os d t) t numbered (left_slot_in a os ty d t numbered room first) (omega (arith, few)) less))
-        (operations_in os ty (kind_at a) (p + length front) (operand_or (left_of (starts_of types) a os) (left_slot (starts_of types) a os d t)) d t (operand_words (type_of a)) rest room (first_left_in a os ty d t (operand_words (type_of a)) rest (omega (arith, few))) (left_in a os ty d t numbered room first) some (omega (arith, few)) (omega (arith, short, length-append front back)))
-    expression_in (Assign (Local w n) c ty) p d t ((within, own), numbered) room few short =
+        let free = has_room program r b types locals levels globals called results behind os ty t (operand_words (type_of a)) rest some (omega (arith, few)) in
+        let first = left_room program r b types locals levels globals called results behind os a t numbered (omega (arith, few)) free in
+        append program r b types locals levels globals called results behind front back
+        (unless_in program r b types locals levels globals called results behind (left_of (starts_of types) a os) inner p (omega (arith, short, length-append front back)) (λ less. expression_in types locals levels behind a p (left_slot (starts_of types) a os d t) t numbered (left_slot_in program r b types locals levels globals called results behind a os ty d t numbered room first) (omega (arith, few)) less))
+        (operations_in types locals levels behind os ty (kind_at program r b types locals levels globals called results behind a) (p + length front) (operand_or (left_of (starts_of types) a os) (left_slot (starts_of types) a os d t)) d t (operand_words (type_of a)) rest room (first_left_in program r b types locals levels globals called results behind a os ty d t (operand_words (type_of a)) rest (omega (arith, few))) (left_in program r b types locals levels globals called results behind a os ty d t numbered room first) some (omega (arith, few)) (omega (arith, short, length-append front back)))
+    expression_in types locals levels behind (Assign (Local w n) c ty) p d t ((within, own), numbered) room few short =
         let o = operands.Slot (slot_of (starts_of types) n) in
         let front = initial_code (starts_of types) c p (slot_of (starts_of types) n) t in
         let back = copy_code (passed_words c) o d in
         let there : slot_of (starts_of types) n + words_of_kind (passed_kind c) ≤ r.slots = omega (arith, locals n within, own) in
-        append front back (initial_in c p (slot_of (starts_of types) n) t numbered there (omega (arith, few)) (omega (arith, few)) (omega (arith, short, length-append front back)))
-        (copy_in (is_in o d) c o d there (omega (arith, room, ap words_of_kind (assigned_kind (Local w n) c ty))))
-    expression_in (Assign (Global n) c ty) p d t ((within, single), numbered) room few short =
+        append program r b types locals levels globals called results behind front back (initial_in types locals levels behind c p (slot_of (starts_of types) n) t numbered there (omega (arith, few)) (omega (arith, few)) (omega (arith, short, length-append front back)))
+        (copy_in program r b types locals levels globals called results behind (is_in o d) c o d there (omega (arith, room, ap words_of_kind (assigned_kind program r b types locals levels globals called results behind (Local w n) c ty))))
+    expression_in types locals levels behind (Assign (Global n) c ty) p d t ((within, single), numbered) room few short =
         let o = converted_operand (starts_of types) c t in
         let front = converted_operand_code (starts_of types) c p t in
         let store = instructions.StoreGlobal n o ∷ [] in
         let back = copy_code (passed_words c) o d in
-        append (front ++ store) back
-        (append front store (converted_operand_in c p t numbered (omega (arith, few)) (omega (arith, few)) (omega (arith, short, length-append (front ++ store) back, length-append front store))) ((omega (arith, within, globals), converted_value_in c t numbered (omega (arith, few))), tt))
-        (copy_in (is_in o d) c o d (converted_room c t numbered (omega (arith, few))) (omega (arith, room, ap words_of_kind (assigned_kind (Global n) c ty))))
-    expression_in (Load x) p d t numbered room few short =
+        append program r b types locals levels globals called results behind (front ++ store) back
+        (append program r b types locals levels globals called results behind front store (converted_operand_in types locals levels behind c p t numbered (omega (arith, few)) (omega (arith, few)) (omega (arith, short, length-append (front ++ store) back, length-append front store))) ((omega (arith, within, globals), converted_value_in program r b types locals levels globals called results behind c t numbered (omega (arith, few))), tt))
+        (copy_in program r b types locals levels globals called results behind (is_in o d) c o d (converted_room program r b types locals levels globals called results behind c t numbered (omega (arith, few))) (omega (arith, room, ap words_of_kind (assigned_kind program r b types locals levels globals called results behind (Global n) c ty))))
+    expression_in types locals levels behind (Load x) p d t numbered room few short =
         let own = words_of (type_of_place x) in
         let some = words_positive (type_of_place x) in
         let load = instructions.Load d (place_operand (starts_of types) x t) (place_offset (starts_of types) x) ∷ [] in
-        append (place_code (starts_of types) x p t) load
-        (place_in x own p t numbered some few (omega (arith, short, length-append (place_code (starts_of types) x p t) load)))
-        ((omega (arith, room, kind_positive (kind_of (type_of_place x))), place_operand_in x own t numbered some few), tt)
-    expression_in (AddressOfCell x ty) p d t numbered room few short =
-        addressed_in x p d t numbered (omega (arith, room)) (omega (arith, few)) short (λ less. place_in x place_words p t numbered (omega arith) (omega (arith, few)) less)
-    expression_in (Store x c ty) p d t (place, single, numbered) room few short =
+        append program r b types locals levels globals called results behind (place_code (starts_of types) x p t) load
+        (place_in types locals levels behind x own p t numbered some few (omega (arith, short, length-append (place_code (starts_of types) x p t) load)))
+        ((omega (arith, room, kind_positive (kind_of (type_of_place x))), place_operand_in program r b types locals levels globals called results behind x own t numbered some few), tt)
+    expression_in types locals levels behind (AddressOfCell x ty) p d t numbered room few short =
+        addressed_in program r b types locals levels globals called results behind x p d t numbered (omega (arith, room)) (omega (arith, few)) short (λ less. place_in types locals levels behind x place_words p t numbered (omega arith) (omega (arith, few)) less)
+    expression_in types locals levels behind (Store x c ty) p d t (place, single, numbered) room few short =
         let o = converted_operand (starts_of types) c (t + 1) in
         let front = store_code (starts_of types) x c p t in
         let back = copy_code (passed_words c) o d in
-        append front back
-        (stored_in x c p t numbered (omega (arith, few)) (omega (arith, short, length-append front back))
-        (λ less. addressed_in x p t t place (omega (arith, few)) (omega (arith, few)) less (λ shorter. place_in x place_words p t place (omega arith) (omega (arith, few)) shorter))
-        (λ q less. converted_operand_in c q (t + 1) numbered (omega (arith, few)) (omega (arith, few)) less))
-        (copy_in (is_in o d) c o d (converted_room c (t + 1) numbered (omega (arith, few))) (omega (arith, room, ap words_of_kind (stored_kind x c ty))))
-    expression_in (FreeUnique a) p d t numbered room few short =
+        append program r b types locals levels globals called results behind front back
+        (stored_in program r b types locals levels globals called results behind x c p t numbered (omega (arith, few)) (omega (arith, short, length-append front back))
+        (λ less. addressed_in program r b types locals levels globals called results behind x p t t place (omega (arith, few)) (omega (arith, few)) less (λ shorter. place_in types locals levels behind x place_words p t place (omega arith) (omega (arith, few)) shorter))
+        (λ q less. converted_operand_in types locals levels behind c q (t + 1) numbered (omega (arith, few)) (omega (arith, few)) less))
+        (copy_in program r b types locals levels globals called results behind (is_in o d) c o d (converted_room program r b types locals levels globals called results behind c (t + 1) numbered (omega (arith, few))) (omega (arith, room, ap words_of_kind (stored_kind program r b types locals levels globals called results behind x c ty))))
+    expression_in types locals levels behind (FreeUnique a) p d t numbered room few short =
         let slot = value_slot (starts_of types) a t in
         let o = value_operand (starts_of types) a t in
         let inner = expression_code (starts_of types) a p slot t in
         let front = code_unless (operand_of (starts_of types) a) inner in
         let back = free_code o (p + length front) in
         let long = length-append front back in
-        let free : t + words_of_kind (kind_at a) ≤ r.slots = omega (arith, few, given_needs a numbered, operand_positive (type_of a)) in
-        append front back
-        (unless_in (operand_of (starts_of types) a) inner p (omega (arith, short, long)) (λ less. expression_in a p slot t numbered (slot_fits a t numbered free) (omega (arith, few)) less))
-        (free_in o (p + length front) (value_in a t numbered free) (omega (arith, short, long)))
-    expression_in (New OnHeap i ty) p d t numbered room few short = made_in i HEAP 0 ty p d t numbered (omega (arith, room, kind_positive (made_kind i))) (omega (arith, few)) short
-    expression_in (New AsUnique i ty) p d t numbered room few short = made_in i UNIQUE 1 ty p d t numbered (omega (arith, room, kind_positive (made_kind i))) (omega (arith, few)) short
-    expression_in (New (ByHandle h) i ty) p d t numbered room few short = absurd numbered
-    expression_in a p d t numbered room few short = absurd numbered
+        let free : t + words_of_kind (kind_at program r b types locals levels globals called results behind a) ≤ r.slots = omega (arith, few, given_needs program r b types locals levels globals called results behind a numbered, operand_positive (type_of a)) in
+        append program r b types locals levels globals called results behind front back
+        (unless_in program r b types locals levels globals called results behind (operand_of (starts_of types) a) inner p (omega (arith, short, long)) (λ less. expression_in types locals levels behind a p slot t numbered (slot_fits program r b types locals levels globals called results behind a t numbered free) (omega (arith, few)) less))
+        (free_in program r b types locals levels globals called results behind o (p + length front) (value_in program r b types locals levels globals called results behind a t numbered free) (omega (arith, short, long)))
+    expression_in types locals levels behind (New OnHeap (Array w level n kind a) ty) p d t (level_is, single, kind_is, fits_n, fits_a) room few short =
+        let first = expression_code (starts_of types) n p t t in
+        let m = p + length first in
+        let h = m + 6 in
+        let begun = begun_code (starts_of types) HEAP t in
+        let inner = expression_code (starts_of (counted types (t + 2))) a (h + 1) (t + 3) (t + 3) in
+        let filled = filled_code h t in
+        let ended = ended_code d t in
+        let elements = elements_code inner h d t in
+        let long = length-append first (begun ++ elements) in
+        let long_elements = length-append (inner ++ filled) ended in
+        let long_both = length-append inner filled in
+        append program r b types locals levels globals called results behind first (begun ++ elements)
+        (expression_in types locals levels behind n p t t fits_n (omega (arith, few, kind_few (kind_at program r b types locals levels globals called results behind n))) (omega (arith, few)) (omega (arith, short, long)))
+        (append program r b types locals levels globals called results behind begun elements (
+          (omega (arith, few), tt, omega (arith, behind)),
+          (
+            (omega (arith, few), omega (arith, few)),
+            ((omega (arith, few), tt), ((omega (arith, few), omega (arith, few)), ((omega (arith, few), omega (arith, few), omega (arith, few)), (record { answer_in_range = omega (arith, few); first_in_range = tt; second_in_range = omega (arith, few) }, tt)))),
+          ),
+        ) (
+          (omega (arith, few), omega (arith, few), omega (arith, short, long, long_elements, long_both)),
+          append program r b types locals levels globals called results behind (inner ++ filled) ended
+              (append program r b types locals levels globals called results behind inner filled
+              (expression_in (counted types (t + 2)) locals (levels_inside r types levels (t + 2) (omega (arith, few))) behind a (h + 1) (t + 3) (t + 3) (fits_a (t + 2)) (omega (arith, few, single, ap words_of_kind kind_is)) (omega (arith, few))
+              (omega (arith, short, long, long_elements, long_both))) (
+                (omega (arith, few), omega (arith, few), tt),
+                (
+                  (omega (arith, few), omega (arith, few), omega (arith, few)),
+                  ((omega (arith, few), omega (arith, few)), ((omega (arith, few), omega (arith, few), tt), (omega (arith, short, long, long_elements, long_both), tt))),
+                ),
+              ))
+              ((omega (arith, few), tt), pointer_copied program r b types locals levels globals called results behind d t room (omega (arith, few))),
+        ))
+    expression_in types locals levels behind (New OnHeap i ty) p d t numbered room few short = made_in types locals levels behind i HEAP 0 ty p d t numbered (omega (arith, room, kind_positive (made_kind i))) (omega (arith, few)) short
+    expression_in types locals levels behind (New AsUnique i ty) p d t numbered room few short = made_in types locals levels behind i UNIQUE 1 ty p d t numbered (omega (arith, room, kind_positive (made_kind i))) (omega (arith, few)) short
+    expression_in types locals levels behind (New (ByHandle h) i ty) p d t numbered room few short = absurd numbered
+    expression_in types locals levels behind a p d t numbered room few short = absurd numbered
 
     -- behind a handle of so many words
-    made_in : (i : Initial) (handle words : ℕ) (ty : Ty) (p d t : ℕ) → FitsObject b types i → d < r.slots → t + initial_value_need i words (words_of ty) ≤ r.slots → p + length (made_code (starts_of types) i handle p d t) < length r.code → AreIn (made_code (starts_of types) i handle p d t)
-    made_in (Plain kind a) handle words ty p d t (single, kind_is, numbered) room few short =
+    made_in : (types : Types) (locals : (n : ℕ) → n < b.locals → slot_of (starts_of types) n + words_in types.locals n ≤ r.slots) (levels : (l slot : ℕ) → slice_get types.counters l ≡ Some slot → slot < r.slots) (behind : types.raises + 4 < length r.code) → (i : Initial) (handle words : ℕ) (ty : Ty) (p d t : ℕ) → FitsObject b types i → d < r.slots → t + initial_value_need i words (words_of ty) ≤ r.slots → p + length (made_code (starts_of types) i handle p d t) < length r.code → AreIn program r b types locals levels globals called results behind (made_code (starts_of types) i handle p d t)
+    made_in types locals levels behind (Plain kind a) handle words ty p d t (single, kind_is, numbered) room few short =
         let front = expression_code (starts_of types) a p t t in
         let back = object_code handle 1 d t in
-        append front back
-        (expression_in a p t t numbered (omega (arith, few, single, ap words_of_kind kind_is, words_positive ty)) (omega (arith, few)) (omega (arith, short, length-append front back)))
-        (object_in handle 1 d t room (omega (arith, few, single, words_positive ty)))
-    made_in (Fields cs) handle words ty p d t (single, some, many, numbered) room few short =
+        append program r b types locals levels globals called results behind front back
+        (expression_in types locals levels behind a p t t numbered (omega (arith, few, single, ap words_of_kind kind_is, words_positive ty)) (omega (arith, few)) (omega (arith, short, length-append front back)))
+        (object_in program r b types locals levels globals called results behind handle 1 d t room (omega (arith, few, single, words_positive ty)))
+    made_in types locals levels behind (Fields cs) handle words ty p d t (single, some, many, numbered) room few short =
         let front = arguments_code (starts_of types) cs p t in
         let back = object_code handle (argument_count cs) d t in
-        append front back
-        (arguments_in cs p t t words numbered (omega arith) (omega (arith, few)) (omega (arith, few)) (omega (arith, short, length-append front back)))
-        (object_in handle (argument_count cs) d t room (omega (arith, few, single, arguments_words cs, words_positive ty)))
-    made_in i handle words ty p d t numbered room few short = absurd numbered
+        append program r b types locals levels globals called results behind front back
+        (arguments_in types locals levels behind cs p t t words numbered (omega arith) (omega (arith, few)) (omega (arith, few)) (omega (arith, short, length-append front back)))
+        (object_in program r b types locals levels globals called results behind handle (argument_count cs) d t room (omega (arith, few, single, arguments_words cs, words_positive ty)))
+    made_in types locals levels behind i handle words ty p d t numbered room few short = absurd numbered
 
     -- a place of what has so many words
-    place_in : (x : Dereference) (own p t : ℕ) → FitsCell b types x → 1 ≤ own → t + dereference_need x own ≤ r.slots → p + length (place_code (starts_of types) x p t) < length r.code → AreIn (place_code (starts_of types) x p t)
-    place_in (Target k a ty) own p t (thin, single, numbered) some few short =
+    place_in : (types : Types) (locals : (n : ℕ) → n < b.locals → slot_of (starts_of types) n + words_in types.locals n ≤ r.slots) (levels : (l slot : ℕ) → slice_get types.counters l ≡ Some slot → slot < r.slots) (behind : types.raises + 4 < length r.code) → (x : Dereference) (own p t : ℕ) → FitsCell b types x → 1 ≤ own → t + dereference_need x own ≤ r.slots → p + length (place_code (starts_of types) x p t) < length r.code → AreIn program r b types locals levels globals called results behind (place_code (starts_of types) x p t)
+    place_in types locals levels behind (Target k a ty) own p t (thin, single, numbered) some few short =
         let slot = value_slot (starts_of types) a t in
         let o = value_operand (starts_of types) a t in
         let inner = expression_code (starts_of types) a p slot t in
         let front = code_unless (operand_of (starts_of types) a) inner in
         let check = check_code (starts_of types) null_exception o in
         let long = length-append front check in
-        let free : t + words_of_kind (kind_at a) ≤ r.slots = omega (arith, few, given_needs a numbered, some) in
-        append front check (unless_in (operand_of (starts_of types) a) inner p (omega (arith, short, long)) (λ less. expression_in a p slot t numbered (slot_fits a t numbered free) (omega (arith, few)) less))
-        (check_in null_exception o (omega arith) (value_in a t numbered free))
-    place_in (Member k a s f ty) own p t (thin, single, there, numbered) some few short =
+        let free : t + words_of_kind (kind_at program r b types locals levels globals called results behind a) ≤ r.slots = omega (arith, few, given_needs program r b types locals levels globals called results behind a numbered, some) in
+        append program r b types locals levels globals called results behind front check (unless_in program r b types locals levels globals called results behind (operand_of (starts_of types) a) inner p (omega (arith, short, long)) (λ less. expression_in types locals levels behind a p slot t numbered (slot_fits program r b types locals levels globals called results behind a t numbered free) (omega (arith, few)) less))
+        (check_in program r b types locals levels globals called results behind null_exception o (omega arith) (value_in program r b types locals levels globals called results behind a t numbered free))
+    place_in types locals levels behind (Member k a s f ty) own p t (thin, single, there, numbered) some few short =
         let slot = value_slot (starts_of types) a t in
         let o = value_operand (starts_of types) a t in
         let inner = expression_code (starts_of types) a p slot t in
         let front = code_unless (operand_of (starts_of types) a) inner in
         let check = check_code (starts_of types) null_exception o in
         let long = length-append front check in
-        let free : t + words_of_kind (kind_at a) ≤ r.slots = omega (arith, few, given_needs a numbered, some) in
-        append front check (unless_in (operand_of (starts_of types) a) inner p (omega (arith, short, long)) (λ less. expression_in a p slot t numbered (slot_fits a t numbered free) (omega (arith, few)) less))
-        (check_in null_exception o (omega arith) (value_in a t numbered free))
-    place_in x own p t numbered some few short = absurd numbered
+        let free : t + words_of_kind (kind_at program r b types locals levels globals called results behind a) ≤ r.slots = omega (arith, few, given_needs program r b types locals levels globals called results behind a numbered, some) in
+        append program r b types locals levels globals called results behind front check (unless_in program r b types locals levels globals called results behind (operand_of (starts_of types) a) inner p (omega (arith, short, long)) (λ less. expression_in types locals levels behind a p slot t numbered (slot_fits program r b types locals levels globals called results behind a t numbered free) (omega (arith, few)) less))
+        (check_in program r b types locals levels globals called results behind null_exception o (omega arith) (value_in program r b types locals levels globals called results behind a t numbered free))
+    place_in types locals levels behind x own p t numbered some few short = absurd numbered
 
-    initial_in : (c : Converted) (p d t : ℕ) → FitsConverted b types c → d + words_of_kind (passed_kind c) ≤ r.slots → t + converted_words c ≤ r.slots → t + converted_need c ≤ r.slots → p + length (initial_code (starts_of types) c p d t) < length r.code → AreIn (initial_code (starts_of types) c p d t)
-    initial_in (Convert from to a) p d t (kind, wide, numbered) room free few short =
-        initial_by (converts_there from to) from to a p d t kind wide numbered room free refl (λ slot fits less. expression_in a p slot t numbered fits few less) short
+    initial_in : (types : Types) (locals : (n : ℕ) → n < b.locals → slot_of (starts_of types) n + words_in types.locals n ≤ r.slots) (levels : (l slot : ℕ) → slice_get types.counters l ≡ Some slot → slot < r.slots) (behind : types.raises + 4 < length r.code) → (c : Converted) (p d t : ℕ) → FitsConverted b types c → d + words_of_kind (passed_kind c) ≤ r.slots → t + converted_words c ≤ r.slots → t + converted_need c ≤ r.slots → p + length (initial_code (starts_of types) c p d t) < length r.code → AreIn program r b types locals levels globals called results behind (initial_code (starts_of types) c p d t)
+    initial_in types locals levels behind (Convert from to a) p d t (kind, wide, numbered) room free few short =
+        initial_by program r b types locals levels globals called results behind (converts_there from to) from to a p d t kind wide numbered room free refl (λ slot fits less. expression_in types locals levels behind a p slot t numbered fits few less) short
 
-    converted_in : (c : Converted) (p t : ℕ) → FitsConverted b types c → t + converted_words c ≤ r.slots → t + converted_need c ≤ r.slots → p + length (converted_code (starts_of types) c p t) < length r.code → AreIn (converted_code (starts_of types) c p t)
-    converted_in (Convert from to a) p t (kind, wide, numbered) room few short =
+    converted_in : (types : Types) (locals : (n : ℕ) → n < b.locals → slot_of (starts_of types) n + words_in types.locals n ≤ r.slots) (levels : (l slot : ℕ) → slice_get types.counters l ≡ Some slot → slot < r.slots) (behind : types.raises + 4 < length r.code) → (c : Converted) (p t : ℕ) → FitsConverted b types c → t + converted_words c ≤ r.slots → t + converted_need c ≤ r.slots → p + length (converted_code (starts_of types) c p t) < length r.code → AreIn program r b types locals levels globals called results behind (converted_code (starts_of types) c p t)
+    converted_in types locals levels behind (Convert from to a) p t (kind, wide, numbered) room few short =
         let front = expression_code (starts_of types) a p t t in
         let back = conversion_code (starts_of types) to (operands.Slot t) (p + length front) in
-        append front back (expression_in a p t t numbered (omega (arith, room, ap words_of_kind kind)) few (omega (arith, short, length-append front back)))
-        (conversion_in to (operands.Slot t) (p + length front) (omega (arith, room, kind_positive to)) (omega (arith, short, length-append front back)))
+        append program r b types locals levels globals called results behind front back (expression_in types locals levels behind a p t t numbered (omega (arith, room, ap words_of_kind kind)) few (omega (arith, short, length-append front back)))
+        (conversion_in program r b types locals levels globals called results behind to (operands.Slot t) (p + length front) (omega (arith, room, kind_positive to)) (omega (arith, short, length-append front back)))
 
-    converted_operand_in : (c : Converted) (p t : ℕ) → FitsConverted b types c → t + converted_words c ≤ r.slots → t + converted_need c ≤ r.slots → p + length (converted_operand_code (starts_of types) c p t) < length r.code → AreIn (converted_operand_code (starts_of types) c p t)
-    converted_operand_in (Convert from to a) p t (kind, wide, numbered) room few short =
+    converted_operand_in : (types : Types) (locals : (n : ℕ) → n < b.locals → slot_of (starts_of types) n + words_in types.locals n ≤ r.slots) (levels : (l slot : ℕ) → slice_get types.counters l ≡ Some slot → slot < r.slots) (behind : types.raises + 4 < length r.code) → (c : Converted) (p t : ℕ) → FitsConverted b types c → t + converted_words c ≤ r.slots → t + converted_need c ≤ r.slots → p + length (converted_operand_code (starts_of types) c p t) < length r.code → AreIn program r b types locals levels globals called results behind (converted_operand_code (starts_of types) c p t)
+    converted_operand_in types locals levels behind (Convert from to a) p t (kind, wide, numbered) room few short =
         let known = source_of (starts_of types) (Convert from to a) in
         let slot = source_slot (starts_of types) (Convert from to a) t in
         let o = converted_operand (starts_of types) (Convert from to a) t in
         let inner = expression_code (starts_of types) a p slot t in
         let front = code_unless known inner in
         let back = conversion_code (starts_of types) to o (p + length front) in
-        append front back
-        (unless_in known inner p (omega (arith, short, length-append front back)) (λ less. expression_in a p slot t numbered (source_fits from to a t (kind, wide, numbered) room) few less))
-        (conversion_in to o (p + length front) (converted_value_in (Convert from to a) t (kind, wide, numbered) room) (omega (arith, short, length-append front back)))
+        append program r b types locals levels globals called results behind front back
+        (unless_in program r b types locals levels globals called results behind known inner p (omega (arith, short, length-append front back)) (λ less. expression_in types locals levels behind a p slot t numbered (source_fits program r b types locals levels globals called results behind from to a t (kind, wide, numbered) room) few less))
+        (conversion_in program r b types locals levels globals called results behind to o (p + length front) (converted_value_in program r b types locals levels globals called results behind (Convert from to a) t (kind, wide, numbered) room) (omega (arith, short, length-append front back)))
 
     -- the arguments of `putchar`, which all are evaluated with the same temporaries
-    printed_in : (cs : Arguments) (p t first before : ℕ) → FitArguments b types cs → t + argument_words cs ≤ r.slots → t ≤ first + before → first + arguments_need cs before ≤ r.slots → p + length (printed_code (starts_of types) cs p t) < length r.code → AreIn (printed_code (starts_of types) cs p t)
-    printed_in NoArguments p t first before numbered room place few short = tt
-    printed_in (MoreArguments c cs) p t first before (numbered, rest) room place few short =
+    printed_in : (types : Types) (locals : (n : ℕ) → n < b.locals → slot_of (starts_of types) n + words_in types.locals n ≤ r.slots) (levels : (l slot : ℕ) → slice_get types.counters l ≡ Some slot → slot < r.slots) (behind : types.raises + 4 < length r.code) → (cs : Arguments) (p t first before : ℕ) → FitArguments b types cs → t + argument_words cs ≤ r.slots → t ≤ first + before → first + arguments_need cs before ≤ r.slots → p + length (printed_code (starts_of types) cs p t) < length r.code → AreIn program r b types locals levels globals called results behind (printed_code (starts_of types) cs p t)
+    printed_in types locals levels behind NoArguments p t first before numbered room place few short = tt
+    printed_in types locals levels behind (MoreArguments c cs) p t first before (numbered, rest) room place few short =
         let front = converted_operand_code (starts_of types) c p t in
         let back = printed_code (starts_of types) cs (p + length front) t in
-        append front back (converted_operand_in c p t numbered (omega (arith, room)) (omega (arith, few, place)) (omega (arith, short, length-append front back)))
-        (printed_in cs (p + length front) t first (before + converted_words c) rest (omega (arith, room)) (omega (arith, place)) (omega (arith, few)) (omega (arith, short, length-append front back)))
+        append program r b types locals levels globals called results behind front back (converted_operand_in types locals levels behind c p t numbered (omega (arith, room)) (omega (arith, few, place)) (omega (arith, short, length-append front back)))
+        (printed_in types locals levels behind cs (p + length front) t first (before + converted_words c) rest (omega (arith, room)) (omega (arith, place)) (omega (arith, few)) (omega (arith, short, length-append front back)))
 
     -- the arguments begin at `first`, and those before have so many words
-    arguments_in : (cs : Arguments) (p t first before : ℕ) → FitArguments b types cs → t ≤ first + before → first + (before + argument_words cs) ≤ r.slots → first + arguments_need cs before ≤ r.slots → p + length (arguments_code (starts_of types) cs p t) < length r.code → AreIn (arguments_code (starts_of types) cs p t)
-    arguments_in NoArguments p t first before numbered place few needs short = tt
-    arguments_in (MoreArguments c cs) p t first before (numbered, rest) place few needs short =
+    arguments_in : (types : Types) (locals : (n : ℕ) → n < b.locals → slot_of (starts_of types) n + words_in types.locals n ≤ r.slots) (levels : (l slot : ℕ) → slice_get types.counters l ≡ Some slot → slot < r.slots) (behind : types.raises + 4 < length r.code) → (cs : Arguments) (p t first before : ℕ) → FitArguments b types cs → t ≤ first + before → first + (before + argument_words cs) ≤ r.slots → first + arguments_need cs before ≤ r.slots → p + length (arguments_code (starts_of types) cs p t) < length r.code → AreIn program r b types locals levels globals called results behind (arguments_code (starts_of types) cs p t)
+    arguments_in types locals levels behind NoArguments p t first before numbered place few needs short = tt
+    arguments_in types locals levels behind (MoreArguments c cs) p t first before (numbered, rest) place few needs short =
         let front = converted_code (starts_of types) c p t in
         let back = arguments_code (starts_of types) cs (p + length front) (t + passed_words c) in
-        append front back
-        (converted_in c p t numbered (omega (arith, few, place)) (omega (arith, needs, place)) (omega (arith, short, length-append front back)))
-        (arguments_in cs (p + length front) (t + passed_words c) first (before + converted_words c) rest (omega (arith, place, passed_is c, converted_least c)) (omega (arith, few)) (omega (arith, needs)) (omega (arith, short, length-append front back)))
+        append program r b types locals levels globals called results behind front back
+        (converted_in types locals levels behind c p t numbered (omega (arith, few, place)) (omega (arith, needs, place)) (omega (arith, short, length-append front back)))
+        (arguments_in types locals levels behind cs (p + length front) (t + passed_words c) first (before + converted_words c) rest (omega (arith, place, passed_is c, converted_least c)) (omega (arith, few)) (omega (arith, needs)) (omega (arith, short, length-append front back)))
 
-    operations_in : (os : Operations) (ty : Ty) (kind : Kind) (p : ℕ) (l : Operand) (d t left : ℕ) → FitOperations b types left ty os → d + words_of_kind (chain_kind kind os) ≤ r.slots → LeftIn os l → IsOperand r l → 1 ≤ left → t + operations_need os ty left ≤ r.slots → p + length (operations_code (starts_of types) os p l d t) < length r.code → AreIn (operations_code (starts_of types) os p l d t)
-    operations_in NoOperations ty kind p l d t left numbered room all inside some few short = tt
-    operations_in (ThenCompute o a os) ty kind p l d t left (numbered, rest) room all inside some few short =
+    operations_in : (types : Types) (locals : (n : ℕ) → n < b.locals → slot_of (starts_of types) n + words_in types.locals n ≤ r.slots) (levels : (l slot : ℕ) → slice_get types.counters l ≡ Some slot → slot < r.slots) (behind : types.raises + 4 < length r.code) → (os : Operations) (ty : Ty) (kind : Kind) (p : ℕ) (l : Operand) (d t left : ℕ) → FitOperations b types left ty os → d + words_of_kind (chain_kind kind os) ≤ r.slots → LeftIn program r b types locals levels globals called results behind os l → IsOperand r l → 1 ≤ left → t + operations_need os ty left ≤ r.slots → p + length (operations_code (starts_of types) os p l d t) < length r.code → AreIn program r b types locals levels globals called results behind (operations_code (starts_of types) os p l d t)
+    operations_in types locals levels behind NoOperations ty kind p l d t left numbered room all inside some few short = tt
+    operations_in types locals levels behind (ThenCompute o a os) ty kind p l d t left (numbered, rest) room all inside some few short =
         let inner = expression_code (starts_of types) a p (value_slot (starts_of types) a (suc t)) (suc t) in
         let operand = code_unless (operand_of (starts_of types) a) inner in
         let next = next_slot os d t in
@@ -647,15 +709,15 @@ module _ (program : PlainProgram) (r : Routine) (b : Numbering) (types : Types) 
         let back = operations_code (starts_of types) os (p + length front) (operands.Slot next) d t in
         let long = length-append front back in
         let long_front = length-append operand operator in
-        let free : suc t + words_of_kind (kind_at a) ≤ r.slots = omega (arith, few, some, operand_positive (type_of a), words_positive ty, given_needs a numbered) in
-        let next_room = next_in os kinds.Int d t room (omega (arith, free)) in
+        let free : suc t + words_of_kind (kind_at program r b types locals levels globals called results behind a) ≤ r.slots = omega (arith, few, some, operand_positive (type_of a), words_positive ty, given_needs program r b types locals levels globals called results behind a numbered) in
+        let next_room = next_in program r b types locals levels globals called results behind os kinds.Int d t room (omega (arith, free)) in
         let next_few : next < r.slots = omega (arith, next_room) in
-        append front back
-        (append operand operator
-        (unless_in (operand_of (starts_of types) a) inner p (omega (arith, short, long, long_front)) (λ less. expression_in a p (value_slot (starts_of types) a (suc t)) (suc t) numbered (slot_fits a (suc t) numbered free) (omega (arith, few, some)) less))
-        (operator_in o l m next next_few inside (value_in a (suc t) numbered free)))
-        (operations_in os ty kinds.Int (p + length front) (operands.Slot next) d t (words_of ty) rest room (next_left_in os ty d t (words_of ty) rest (omega (arith, few))) next_few (words_positive ty) (omega (arith, few)) (omega (arith, short, long)))
-    operations_in (ThenTest o a os) ty kind p l d t left (numbered, rest) room all inside some few short =
+        append program r b types locals levels globals called results behind front back
+        (append program r b types locals levels globals called results behind operand operator
+        (unless_in program r b types locals levels globals called results behind (operand_of (starts_of types) a) inner p (omega (arith, short, long, long_front)) (λ less. expression_in types locals levels behind a p (value_slot (starts_of types) a (suc t)) (suc t) numbered (slot_fits program r b types locals levels globals called results behind a (suc t) numbered free) (omega (arith, few, some)) less))
+        (operator_in program r b types locals levels globals called results behind o l m next next_few inside (value_in program r b types locals levels globals called results behind a (suc t) numbered free)))
+        (operations_in types locals levels behind os ty kinds.Int (p + length front) (operands.Slot next) d t (words_of ty) rest room (next_left_in program r b types locals levels globals called results behind os ty d t (words_of ty) rest (omega (arith, few))) next_few (words_positive ty) (omega (arith, few)) (omega (arith, short, long)))
+    operations_in types locals levels behind (ThenTest o a os) ty kind p l d t left (numbered, rest) room all inside some few short =
         let operand = expression_code (starts_of types) a (p + 1) t t in
         let next = next_slot os d t in
         let front = test_code o operand p next t in
@@ -663,98 +725,99 @@ module _ (program : PlainProgram) (r : Routine) (b : Numbering) (types : Types) 
         let long = length-append front back in
         let long_front = length-append operand (truth_code t next) in
         let free : t < r.slots = omega (arith, few, some) in
-        let next_room = next_in os kinds.Int d t room (omega (arith, free)) in
+        let next_room = next_in program r b types locals levels globals called results behind os kinds.Int d t room (omega (arith, free)) in
         let next_few : next < r.slots = omega (arith, next_room) in
-        append front back
-        (test_in o operand p next t next_few free (omega (arith, short, long)) (expression_in a (p + 1) t t numbered (omega (arith, few, free, given_needs a numbered)) (omega (arith, few)) (omega (arith, short, long, long_front))))
-        (operations_in os ty kinds.Int (p + length front) (operands.Slot next) d t (words_of ty) rest room (next_left_in os ty d t (words_of ty) rest (omega (arith, few))) next_few (words_positive ty) (omega (arith, few)) (omega (arith, short, long)))
-    operations_in (ThenPointer o a os) ty kind p l d t left (wide, numbered, rest) room all inside some few short =
+        append program r b types locals levels globals called results behind front back
+        (test_in program r b types locals levels globals called results behind o operand p next t next_few free (omega (arith, short, long)) (expression_in types locals levels behind a (p + 1) t t numbered (omega (arith, few, free, given_needs program r b types locals levels globals called results behind a numbered)) (omega (arith, few)) (omega (arith, short, long, long_front))))
+        (operations_in types locals levels behind os ty kinds.Int (p + length front) (operands.Slot next) d t (words_of ty) rest room (next_left_in program r b types locals levels globals called results behind os ty d t (words_of ty) rest (omega (arith, few))) next_few (words_positive ty) (omega (arith, few)) (omega (arith, short, long)))
+    operations_in types locals levels behind (ThenPointer o a os) ty kind p l d t left (wide, numbered, rest) room all inside some few short =
         let next = next_slot os d t in
         let m = value_operand (starts_of types) a (behind_left o t) in
         let operand = code_unless (operand_of (starts_of types) a) (expression_code (starts_of types) a p (value_slot (starts_of types) a (behind_left o t)) (behind_left o t)) in
         let front = pointer_code o l m operand next in
         let back = operations_code (starts_of types) os (p + length front) (operands.Slot next) d t in
         let long = length-append front back in
-        let next_room = next_in os (operator_kind o) d t room (omega (arith, few, wide, operator_few o)) in
+        let next_room = next_in program r b types locals levels globals called results behind os (operator_kind o) d t room (omega (arith, few, wide, operator_few program r b types locals levels globals called results behind o)) in
         let next_few : next < r.slots = omega (arith, next_room, kind_positive (operator_kind o)) in
-        append front back
-        (right_in o a ty p l next t left numbered wide next_room all inside (omega (arith, few)) (omega (arith, short, long)) (λ slot fits less. expression_in a p slot (behind_left o t) numbered fits (omega (arith, few, wide)) less))
-        (operations_in os ty (operator_kind o) (p + length front) (operands.Slot next) d t (words_of ty) rest room (next_left_in os ty d t (words_of ty) rest (omega (arith, few))) next_few (words_positive ty) (omega (arith, few)) (omega (arith, short, long)))
-    operations_in (ThenPointerPeek n o a os) ty kind p l d t left (wide, numbered, rest) room all inside some few short =
+        append program r b types locals levels globals called results behind front back
+        (right_in program r b types locals levels globals called results behind o a ty p l next t left numbered wide next_room all inside (omega (arith, few)) (omega (arith, short, long)) (λ slot fits less. expression_in types locals levels behind a p slot (behind_left o t) numbered fits (omega (arith, few, wide)) less))
+        (operations_in types locals levels behind os ty (operator_kind o) (p + length front) (operands.Slot next) d t (words_of ty) rest room (next_left_in program r b types locals levels globals called results behind os ty d t (words_of ty) rest (omega (arith, few))) next_few (words_positive ty) (omega (arith, few)) (omega (arith, short, long)))
+    operations_in types locals levels behind (ThenPointerPeek n o a os) ty kind p l d t left (wide, numbered, rest) room all inside some few short =
         let next = next_slot os d t in
         let m = value_operand (starts_of types) a (behind_left o t) in
         let operand = code_unless (operand_of (starts_of types) a) (expression_code (starts_of types) a p (value_slot (starts_of types) a (behind_left o t)) (behind_left o t)) in
         let front = pointer_code o l m operand next in
         let back = operations_code (starts_of types) os (p + length front) (operands.Slot next) d t in
         let long = length-append front back in
-        let next_room = next_in os (operator_kind o) d t room (omega (arith, few, wide, operator_few o)) in
+        let next_room = next_in program r b types locals levels globals called results behind os (operator_kind o) d t room (omega (arith, few, wide, operator_few program r b types locals levels globals called results behind o)) in
         let next_few : next < r.slots = omega (arith, next_room, kind_positive (operator_kind o)) in
-        append front back
-        (right_in o a ty p l next t left numbered wide next_room all inside (omega (arith, few)) (omega (arith, short, long)) (λ slot fits less. expression_in a p slot (behind_left o t) numbered fits (omega (arith, few, wide)) less))
-        (operations_in os ty (operator_kind o) (p + length front) (operands.Slot next) d t (words_of ty) rest room (next_left_in os ty d t (words_of ty) rest (omega (arith, few))) next_few (words_positive ty) (omega (arith, few)) (omega (arith, short, long)))
+        append program r b types locals levels globals called results behind front back
+        (right_in program r b types locals levels globals called results behind o a ty p l next t left numbered wide next_room all inside (omega (arith, few)) (omega (arith, short, long)) (λ slot fits less. expression_in types locals levels behind a p slot (behind_left o t) numbered fits (omega (arith, few, wide)) less))
+        (operations_in types locals levels behind os ty (operator_kind o) (p + length front) (operands.Slot next) d t (words_of ty) rest room (next_left_in program r b types locals levels globals called results behind os ty d t (words_of ty) rest (omega (arith, few))) next_few (words_positive ty) (omega (arith, few)) (omega (arith, short, long)))
 
-  assignment_in : (l : Lvalue) (c : Converted) (p t : ℕ) → FitsStored b types l (passed_kind c) → FitsConverted b types c → t + converted_words c ≤ r.slots → t + converted_need c ≤ r.slots → p + length (assignment_code (starts_of types) l c p t) < length r.code → AreIn (assignment_code (starts_of types) l c p t)
-  assignment_in (Local w n) c p t (within, own) numbered free few short = initial_in c p (slot_of (starts_of types) n) t numbered (omega (arith, locals n within, own)) free few short
+module _ (program : PlainProgram) (r : Routine) (b : Numbering) (types : Types) (locals : (n : ℕ) → n < b.locals → slot_of (starts_of types) n + words_in types.locals n ≤ r.slots) (levels : (l slot : ℕ) → slice_get types.counters l ≡ Some slot → slot < r.slots) (globals : b.globals ≡ length program.globals) (called : (n : ℕ) (s : Signature) → slice_get b.functions n ≡ Some s → IsKnown program n s) (results : r.results ≡ results_of b.result) (behind : types.raises + 4 < length r.code) (no_return : All (λ i. is_return i ≡ false) r.code) where
+  assignment_in : (l : Lvalue) (c : Converted) (p t : ℕ) → FitsStored b types l (passed_kind c) → FitsConverted b types c → t + converted_words c ≤ r.slots → t + converted_need c ≤ r.slots → p + length (assignment_code (starts_of types) l c p t) < length r.code → AreIn program r b types locals levels globals called results behind (assignment_code (starts_of types) l c p t)
+  assignment_in (Local w n) c p t (within, own) numbered free few short = initial_in program r b globals called results types locals levels behind c p (slot_of (starts_of types) n) t numbered (omega (arith, locals n within, own)) free few short
   assignment_in (Global n) c p t (within, single) numbered free few short =
       let front = converted_operand_code (starts_of types) c p t in
       let store = instructions.StoreGlobal n (converted_operand (starts_of types) c t) ∷ [] in
-      append front store (converted_operand_in c p t numbered free few (omega (arith, short, length-append front store))) ((omega (arith, within, globals), converted_value_in c t numbered free), tt)
+      append program r b types locals levels globals called results behind front store (converted_operand_in program r b globals called results types locals levels behind c p t numbered free few (omega (arith, short, length-append front store))) ((omega (arith, within, globals), converted_value_in program r b types locals levels globals called results behind c t numbered free), tt)
 
-  discarded_in : (a : Expression) (p t : ℕ) → Fits b types a → t + expression_need a + spare_slots ≤ r.slots → p + length (discarded_code (starts_of types) a p t) < length r.code → AreIn (discarded_code (starts_of types) a p t)
+  discarded_in : (a : Expression) (p t : ℕ) → Fits b types a → t + expression_need a + spare_slots ≤ r.slots → p + length (discarded_code (starts_of types) a p t) < length r.code → AreIn program r b types locals levels globals called results behind (discarded_code (starts_of types) a p t)
   discarded_in (Call callees.Putchar cs ty) p t (s, signature, many, passed, result, numbered) few short =
       let front = printed_code (starts_of types) cs p t in
       let back = instructions.WriteByte (printed_operand (starts_of types) cs (operands.Slot t) t) ∷ [] in
-      append front back (printed_in cs p t t 0 numbered (omega (arith, few)) (omega arith) (omega (arith, few)) (omega (arith, short, length-append front back)))
-      (printed_value_in cs (operands.Slot t) t numbered (omega (arith, few)) (omega (arith, few)), tt)
+      append program r b types locals levels globals called results behind front back (printed_in program r b globals called results types locals levels behind cs p t t 0 numbered (omega (arith, few)) (omega arith) (omega (arith, few)) (omega (arith, short, length-append front back)))
+      (printed_value_in program r b types locals levels globals called results behind cs (operands.Slot t) t numbered (omega (arith, few)) (omega (arith, few)), tt)
   discarded_in (Assign l c ty) p t (within, numbered) few short = assignment_in l c p t within numbered (omega (arith, few)) (omega (arith, few)) short
   discarded_in (Store x c ty) p t (place, single, numbered) few short =
-      stored_in x c p t numbered (omega (arith, few)) short
-      (λ less. addressed_in x p t t place (omega (arith, few)) (omega (arith, few)) less (λ shorter. place_in x place_words p t place (omega arith) (omega (arith, few)) shorter))
-      (λ q less. converted_operand_in c q (t + 1) numbered (omega (arith, few)) (omega (arith, few)) less)
+      stored_in program r b types locals levels globals called results behind x c p t numbered (omega (arith, few)) short
+      (λ less. addressed_in program r b types locals levels globals called results behind x p t t place (omega (arith, few)) (omega (arith, few)) less (λ shorter. place_in program r b globals called results types locals levels behind x place_words p t place (omega arith) (omega (arith, few)) shorter))
+      (λ q less. converted_operand_in program r b globals called results types locals levels behind c q (t + 1) numbered (omega (arith, few)) (omega (arith, few)) less)
   discarded_in a p t numbered few short =
-      unless_in (operand_of (starts_of types) a) (expression_code (starts_of types) a p t t) p short (λ less. expression_in a p t t numbered (omega (arith, few, kind_few (kind_at a))) (omega (arith, few)) less)
+      unless_in program r b types locals levels globals called results behind (operand_of (starts_of types) a) (expression_code (starts_of types) a p t t) p short (λ less. expression_in program r b globals called results types locals levels behind a p t t numbered (omega (arith, few, kind_few (kind_at program r b types locals levels globals called results behind a))) (omega (arith, few)) less)
 
   -- ---- statements
 
   -- two operands that are compared, by the code of the second
   pair_in : (a c : Expression) (p t : ℕ) → Fits b types a → t + expression_need a + spare_slots ≤ r.slots → p + length (pair_code (starts_of types) a c p t) < length r.code
-      → (p + length (first_code (starts_of types) a c p t) + length (second_code (starts_of types) c (p + length (first_code (starts_of types) a c p t)) t) < length r.code → AreIn (second_code (starts_of types) c (p + length (first_code (starts_of types) a c p t)) t)) → AreIn (pair_code (starts_of types) a c p t)
+      → (p + length (first_code (starts_of types) a c p t) + length (second_code (starts_of types) c (p + length (first_code (starts_of types) a c p t)) t) < length r.code → AreIn program r b types locals levels globals called results behind (second_code (starts_of types) c (p + length (first_code (starts_of types) a c p t)) t)) → AreIn program r b types locals levels globals called results behind (pair_code (starts_of types) a c p t)
   pair_in a c p t numbered few short second =
       let slot = slot_with (starts_of types) (operand_of (starts_of types) c) a t in
       let front = first_code (starts_of types) a c p t in
       let back = second_code (starts_of types) c (p + length front) t in
       let long = length-append front back in
-      append front back
-      (unless_in (left_with (operand_of (starts_of types) c) (operand_of (starts_of types) a)) (expression_code (starts_of types) a p slot t) p (omega (arith, short, long))
-      (λ less. expression_in a p slot t numbered (slot_with_in (operand_of (starts_of types) c) a t numbered (omega (arith, few, kind_few (kind_at a)))) (omega (arith, few)) less))
+      append program r b types locals levels globals called results behind front back
+      (unless_in program r b types locals levels globals called results behind (left_with (operand_of (starts_of types) c) (operand_of (starts_of types) a)) (expression_code (starts_of types) a p slot t) p (omega (arith, short, long))
+      (λ less. expression_in program r b globals called results types locals levels behind a p slot t numbered (slot_with_in program r b types locals levels globals called results behind (operand_of (starts_of types) c) a t numbered (omega (arith, few, kind_few (kind_at program r b types locals levels globals called results behind a)))) (omega (arith, few)) less))
       (second (omega (arith, short, long)))
 
-  condition_in : (a : Expression) (p t : ℕ) → Fits b types a → t + expression_need a + spare_slots ≤ r.slots → p + length (condition_code (starts_of types) a p t) < length r.code → AreIn (condition_code (starts_of types) a p t)
+  condition_in : (a : Expression) (p t : ℕ) → Fits b types a → t + expression_need a + spare_slots ≤ r.slots → p + length (condition_code (starts_of types) a p t) < length r.code → AreIn program r b types locals levels globals called results behind (condition_code (starts_of types) a p t)
   condition_in (Unary unary.Not a) p t numbered few short = pair_in a (Number 0) p t numbered (omega (arith, few)) short (λ less. tt)
   condition_in (Binary a (ThenCompute o c NoOperations) ty) p t (first, (second, none)) few short = by (failing_comparison o) short
     where
       by : (f : Option Comparison) → p + length (pair_code (starts_of types) (compared_or f a c (Binary a (ThenCompute o c NoOperations) ty)).left (compared_or f a c (Binary a (ThenCompute o c NoOperations) ty)).right p t) < length r.code
-          → AreIn (pair_code (starts_of types) (compared_or f a c (Binary a (ThenCompute o c NoOperations) ty)).left (compared_or f a c (Binary a (ThenCompute o c NoOperations) ty)).right p t)
+          → AreIn program r b types locals levels globals called results behind (pair_code (starts_of types) (compared_or f a c (Binary a (ThenCompute o c NoOperations) ty)).left (compared_or f a c (Binary a (ThenCompute o c NoOperations) ty)).right p t)
       by (Some failing) short =
           let next = p + length (first_code (starts_of types) a c p t) in
           let some = operand_positive (type_of a) in
-          let free : suc t + words_of_kind (kind_at c) ≤ r.slots = omega (arith, few, some, operand_positive (type_of c), words_positive ty, kind_few (kind_at c)) in
+          let free : suc t + words_of_kind (kind_at program r b types locals levels globals called results behind c) ≤ r.slots = omega (arith, few, some, operand_positive (type_of c), words_positive ty, kind_few (kind_at program r b types locals levels globals called results behind c)) in
           pair_in a c p t first (omega (arith, few)) short
-          (λ less. unless_in (operand_of (starts_of types) c) (expression_code (starts_of types) c next (value_slot (starts_of types) c (suc t)) (suc t)) next less
-          (λ fits. expression_in c next (value_slot (starts_of types) c (suc t)) (suc t) second (slot_fits c (suc t) second free) (omega (arith, few, some)) fits))
+          (λ less. unless_in program r b types locals levels globals called results behind (operand_of (starts_of types) c) (expression_code (starts_of types) c next (value_slot (starts_of types) c (suc t)) (suc t)) next less
+          (λ fits. expression_in program r b globals called results types locals levels behind c next (value_slot (starts_of types) c (suc t)) (suc t) second (slot_fits program r b types locals levels globals called results behind c (suc t) second free) (omega (arith, few, some)) fits))
       by None short = pair_in (Binary a (ThenCompute o c NoOperations) ty) (Number 0) p t (first, (second, none)) few short (λ less. tt)
   condition_in a p t numbered few short = pair_in a (Number 0) p t numbered few short (λ less. tt)
 
   compared_in : (a : Expression) (t : ℕ) → Fits b types a → t + expression_need a + spare_slots ≤ r.slots → IsOperand r (condition_of (starts_of types) a t).left × IsOperand r (condition_of (starts_of types) a t).right
-  compared_in (Unary unary.Not a) t numbered few = (value_in a t numbered (omega (arith, few, kind_few (kind_at a))), tt)
+  compared_in (Unary unary.Not a) t numbered few = (value_in program r b types locals levels globals called results behind a t numbered (omega (arith, few, kind_few (kind_at program r b types locals levels globals called results behind a))), tt)
   compared_in (Binary a (ThenCompute o c NoOperations) ty) t (first, (second, none)) few = by (failing_comparison o)
     where
       by : (f : Option Comparison) → IsOperand r (first_operand (starts_of types) (compared_or f a c (Binary a (ThenCompute o c NoOperations) ty)).left (compared_or f a c (Binary a (ThenCompute o c NoOperations) ty)).right t) × IsOperand r (value_operand (starts_of types) (compared_or f a c (Binary a (ThenCompute o c NoOperations) ty)).right (suc t))
       by (Some failing) =
-          let free : suc t + words_of_kind (kind_at c) ≤ r.slots = omega (arith, few, operand_positive (type_of a), operand_positive (type_of c), words_positive ty, kind_few (kind_at c)) in
-          (left_with_in (operand_of (starts_of types) c) a t first (omega (arith, few, kind_few (kind_at a))), value_in c (suc t) second free)
-      by None = (value_in (Binary a (ThenCompute o c NoOperations) ty) t (first, (second, none)) (omega (arith, few)), tt)
-  compared_in a t numbered few = (value_in a t numbered (omega (arith, few, kind_few (kind_at a))), tt)
+          let free : suc t + words_of_kind (kind_at program r b types locals levels globals called results behind c) ≤ r.slots = omega (arith, few, operand_positive (type_of a), operand_positive (type_of c), words_positive ty, kind_few (kind_at program r b types locals levels globals called results behind c)) in
+          (left_with_in program r b types locals levels globals called results behind (operand_of (starts_of types) c) a t first (omega (arith, few, kind_few (kind_at program r b types locals levels globals called results behind a))), value_in program r b types locals levels globals called results behind c (suc t) second free)
+      by None = (value_in program r b types locals levels globals called results behind (Binary a (ThenCompute o c NoOperations) ty) t (first, (second, none)) (omega (arith, few)), tt)
+  compared_in a t numbered few = (value_in program r b types locals levels globals called results behind a t numbered (omega (arith, few, kind_few (kind_at program r b types locals levels globals called results behind a))), tt)
 
   -- Handlers that are closed from a slot on: none, or records that are slots of the function.
   abbrev Closes : (first t : ℕ) → Type 0
@@ -766,16 +829,16 @@ module _ (program : PlainProgram) (r : Routine) (b : Numbering) (types : Types) 
   closes_none : (t : ℕ) → Closes t t
   closes_none t = (omega arith, λ other. absurd (let f : true ≡ false = sym (eq-eqb t t refl) ∙ other in cc))
 
-  leave_in : (first t : ℕ) → Closes first t → AreIn (leave_code first t)
+  leave_in : (first t : ℕ) → Closes first t → AreIn program r b types locals levels globals called results behind (leave_code first t)
   leave_in first t (below, room) = by (first == t) refl
     where
-      by : (none : Bool) → (first == t) ≡ none → AreIn (if none then [] else instructions.Leave first ∷ [])
+      by : (none : Bool) → (first == t) ≡ none → AreIn program r b types locals levels globals called results behind (if none then [] else instructions.Leave first ∷ [])
       by true is = tt
       by false is = (room is, tt)
 
   return_in : (v : Option Converted) (p : ℕ) (exits : Exits) (t : ℕ) → FitsReturn b types b.result v → HasExits exits t → t + initial_need v + spare_slots ≤ r.slots → p + length (return_code (starts_of types) v p exits t) < length r.code
-      → AreIn (return_code (starts_of types) v p exits t)
-  return_in None p exits t numbered outside few short = append (leave_code exits.first_record t) _ (leave_in exits.first_record t outside.1) (omega (arith, few, results, results_few b.result), tt)
+      → AreIn program r b types locals levels globals called results behind (return_code (starts_of types) v p exits t)
+  return_in None p exits t numbered outside few short = append program r b types locals levels globals called results behind (leave_code exits.first_record t) _ (leave_in exits.first_record t outside.1) (omega (arith, few, results, results_few b.result), tt)
   return_in (Some (Convert from to a)) p exits t numbered outside few short =
       let c = Convert from to a in
       let known = source_of (starts_of types) c in
@@ -790,42 +853,42 @@ module _ (program : PlainProgram) (r : Routine) (b : Numbering) (types : Types) 
       let long_front = length-append front conversion in
       let (words, kind, is) = value_of b.result numbered in
       let there : s + words_of_kind to ≤ r.slots = returned_in (are_as_wide from to) kind is refl in
-      append ((front ++ conversion) ++ leave) back
-      (append (front ++ conversion) leave
-      (append front conversion (unless_slot_in known inner p (omega (arith, short, long, long_front)) (λ less. expression_in a p t t is (omega (arith, few, kind_few (kind_at a))) (omega (arith, few)) less))
-      (conversion_in to (operands.Slot s) (p + length front) (omega (arith, there, kind_positive to)) (omega (arith, short, long, long_front))))
+      append program r b types locals levels globals called results behind ((front ++ conversion) ++ leave) back
+      (append program r b types locals levels globals called results behind (front ++ conversion) leave
+      (append program r b types locals levels globals called results behind front conversion (unless_slot_in program r b types locals levels globals called results behind known inner p (omega (arith, short, long, long_front)) (λ less. expression_in program r b globals called results types locals levels behind a p t t is (omega (arith, few, kind_few (kind_at program r b types locals levels globals called results behind a))) (omega (arith, few)) less))
+      (conversion_in program r b types locals levels globals called results behind to (operands.Slot s) (p + length front) (omega (arith, there, kind_positive to)) (omega (arith, short, long, long_front))))
       (leave_in exits.first_record t outside.1)) (omega (arith, there, results, words), tt)
     where
-      value_of : (result : Option Ty) → FitsReturn b types result (Some (Convert from to a)) → (results_of result ≡ words_of_kind to) × (from ≡ kind_at a) × Fits b types a
+      value_of : (result : Option Ty) → FitsReturn b types result (Some (Convert from to a)) → (results_of result ≡ words_of_kind to) × (from ≡ kind_at program r b types locals levels globals called results behind a) × Fits b types a
       value_of None numbered = absurd numbered
       value_of (Some ty) (same, (kind, wide, numbered)) = (sym (type_words ty) ∙ ap words_of_kind (sym same), kind, numbered)
 
-      slot_there : (known : Option Operand) → HasOperand (operand_or known t) (words_of_kind to) → slot_or known t + words_of_kind to ≤ r.slots
+      slot_there : (known : Option Operand) → HasOperand program r b types locals levels globals called results behind (operand_or known t) (words_of_kind to) → slot_or known t + words_of_kind to ≤ r.slots
       slot_there (Some (operands.Slot n)) inside = inside
       slot_there (Some (operands.Word w)) inside = omega (arith, few, kind_few to)
       slot_there None inside = inside
 
-      wide_room : from ≡ kind_at a → Fits b types a → (words_of_kind from ≡ words_of_kind to) → (known : Option Operand) → operand_of (starts_of types) a ≡ known → slot_or known t + words_of_kind to ≤ r.slots
+      wide_room : from ≡ kind_at program r b types locals levels globals called results behind a → Fits b types a → (words_of_kind from ≡ words_of_kind to) → (known : Option Operand) → operand_of (starts_of types) a ≡ known → slot_or known t + words_of_kind to ≤ r.slots
       wide_room kind is wide (Some o) there =
           slot_there (Some o)
-          (subst (HasOperand o) (ap words_of_kind (sym kind) ∙ wide)
-          (subst (λ (x : Option Operand). HasOperand (operand_or x (value_slot (starts_of types) a t)) (words_of_kind (kind_at a))) there (value_room a t is (omega (arith, few, kind_few (kind_at a))))))
+          (subst (HasOperand program r b types locals levels globals called results behind o) (ap words_of_kind (sym kind) ∙ wide)
+          (subst (λ (x : Option Operand). HasOperand program r b types locals levels globals called results behind (operand_or x (value_slot (starts_of types) a t)) (words_of_kind (kind_at program r b types locals levels globals called results behind a))) there (value_room program r b types locals levels globals called results behind a t is (omega (arith, few, kind_few (kind_at program r b types locals levels globals called results behind a))))))
       wide_room kind is wide None there = omega (arith, few, kind_few to)
 
-      returned_in : (same : Bool) → from ≡ kind_at a → Fits b types a → are_as_wide from to ≡ same → slot_or (if same then operand_of (starts_of types) a else None) t + words_of_kind to ≤ r.slots
+      returned_in : (same : Bool) → from ≡ kind_at program r b types locals levels globals called results behind a → Fits b types a → are_as_wide from to ≡ same → slot_or (if same then operand_of (starts_of types) a else None) t + words_of_kind to ≤ r.slots
       returned_in true kind is wide = wide_room kind is (eqb-true (words_of_kind from) (words_of_kind to) wide) (operand_of (starts_of types) a) refl
       returned_in false kind is wide = omega (arith, few, kind_few to)
 
-  declaration_in : (n : ℕ) (v : Option Converted) (p t : ℕ) → n < b.locals → FitsInitial b types n v → t + initial_need v + spare_slots ≤ r.slots → p + length (declaration_code (starts_of types) n v p t) < length r.code → AreIn (declaration_code (starts_of types) n v p t)
+  declaration_in : (n : ℕ) (v : Option Converted) (p t : ℕ) → n < b.locals → FitsInitial b types n v → t + initial_need v + spare_slots ≤ r.slots → p + length (declaration_code (starts_of types) n v p t) < length r.code → AreIn program r b types locals levels globals called results behind (declaration_code (starts_of types) n v p t)
   declaration_in n None p t within numbered few short = tt
   declaration_in n (Some c) p t within (own, numbered) few short =
-      initial_in c p (slot_of (starts_of types) n) t numbered (omega (arith, locals n within, own)) (omega (arith, few, converted_few c)) (omega (arith, few)) short
+      initial_in program r b globals called results types locals levels behind c p (slot_of (starts_of types) n) t numbered (omega (arith, locals n within, own)) (omega (arith, few, converted_few c)) (omega (arith, few)) short
 
   -- ---- swaps
 
-  side_in : (a : Side) (kind : Kind) (p t : ℕ) → FitsSide b types a kind → t < r.slots → t + side_need a ≤ r.slots → p + length (side_code (starts_of types) a p t) < length r.code → AreIn (side_code (starts_of types) a p t)
+  side_in : (a : Side) (kind : Kind) (p t : ℕ) → FitsSide b types a kind → t < r.slots → t + side_need a ≤ r.slots → p + length (side_code (starts_of types) a p t) < length r.code → AreIn program r b types locals levels globals called results behind (side_code (starts_of types) a p t)
   side_in (VariableSide l ty) kind p t numbered room few short = tt
-  side_in (CellSide x) kind p t numbered room few short = addressed_in x p t t numbered room few short (λ less. place_in x place_words p t numbered (omega arith) few less)
+  side_in (CellSide x) kind p t numbered room few short = addressed_in program r b types locals levels globals called results behind x p t t numbered room few short (λ less. place_in program r b globals called results types locals levels behind x place_words p t numbered (omega arith) few less)
 
   read_in : (a : Side) (kind : Kind) (s d : ℕ) → FitsSide b types a kind → s < r.slots → d < r.slots → IsInRange program r (read_side (starts_of types) a s d)
   read_in (VariableSide (Local w n) ty) kind s d (within, own) low room = (room, omega (arith, locals n within, own, kind_positive kind))
@@ -841,7 +904,7 @@ module _ (program : PlainProgram) (r : Routine) (b : Numbering) (types : Types) 
   right_near (VariableSide l ty) t = omega arith
   right_near (CellSide x) t = omega arith
 
-  swap_in : (x y : Side) (kind : Kind) (p t : ℕ) → FitsSide b types x kind → FitsSide b types y kind → t + statement_need (Swap x y) ≤ r.slots → p + length (swap_code (starts_of types) x y p t) < length r.code → AreIn (swap_code (starts_of types) x y p t)
+  swap_in : (x y : Side) (kind : Kind) (p t : ℕ) → FitsSide b types x kind → FitsSide b types y kind → t + statement_need (Swap x y) ≤ r.slots → p + length (swap_code (starts_of types) x y p t) < length r.code → AreIn program r b types locals levels globals called results behind (swap_code (starts_of types) x y p t)
   swap_in x y kind p t fits_x fits_y few short =
       let front = side_code (starts_of types) x p t in
       let middle = side_code (starts_of types) y (p + length front) (right_slot x t) in
@@ -850,8 +913,8 @@ module _ (program : PlainProgram) (r : Routine) (b : Numbering) (types : Types) 
       let long = length-append front (middle ++ back) in
       let long_rest = length-append middle back in
       let room : t + 4 ≤ r.slots = omega (arith, few) in
-      append front (middle ++ back) (side_in x kind p t fits_x (omega (arith, room)) (omega (arith, few)) (omega (arith, short, long)))
-      (append middle back (side_in y kind (p + length front) (right_slot x t) fits_y (omega (arith, room, slot)) (omega (arith, few, slot)) (omega (arith, short, long, long_rest))) (
+      append program r b types locals levels globals called results behind front (middle ++ back) (side_in x kind p t fits_x (omega (arith, room)) (omega (arith, few)) (omega (arith, short, long)))
+      (append program r b types locals levels globals called results behind middle back (side_in y kind (p + length front) (right_slot x t) fits_y (omega (arith, room, slot)) (omega (arith, few, slot)) (omega (arith, short, long, long_rest))) (
         read_in x kind t (t + 2) fits_x (omega (arith, room)) (omega (arith, room)),
         (
           read_in y kind (right_slot x t) (t + 3) fits_y (omega (arith, room, slot)) (omega (arith, room)),
@@ -862,18 +925,18 @@ module _ (program : PlainProgram) (r : Routine) (b : Numbering) (types : Types) 
         ),
       ))
 
-  thrown_in : (v : Option Expression) (p t : ℕ) → FitsThrown b types v → t + thrown_need v + spare_slots ≤ r.slots → p + length (thrown_code (starts_of types) v p t) < length r.code → AreIn (thrown_code (starts_of types) v p t)
+  thrown_in : (v : Option Expression) (p t : ℕ) → FitsThrown b types v → t + thrown_need v + spare_slots ≤ r.slots → p + length (thrown_code (starts_of types) v p t) < length r.code → AreIn program r b types locals levels globals called results behind (thrown_code (starts_of types) v p t)
   thrown_in None p t numbered few short = tt
   thrown_in (Some a) p t numbered few short =
       let slot = value_slot (starts_of types) a t in
-      unless_in (operand_of (starts_of types) a) (expression_code (starts_of types) a p slot t) p short
-      (λ less. expression_in a p slot t numbered (slot_fits a t numbered (omega (arith, few, kind_few (kind_at a)))) (omega (arith, few)) less)
+      unless_in program r b types locals levels globals called results behind (operand_of (starts_of types) a) (expression_code (starts_of types) a p slot t) p short
+      (λ less. expression_in program r b globals called results types locals levels behind a p slot t numbered (slot_fits program r b types locals levels globals called results behind a t numbered (omega (arith, few, kind_few (kind_at program r b types locals levels globals called results behind a)))) (omega (arith, few)) less)
 
   thrown_there : (v : Option Expression) (t : ℕ) → FitsThrown b types v → t + thrown_need v + spare_slots ≤ r.slots → IsOperand r (thrown_operand (starts_of types) v t)
   thrown_there None t numbered few = tt
-  thrown_there (Some a) t numbered few = value_in a t numbered (omega (arith, few, kind_few (kind_at a)))
+  thrown_there (Some a) t numbered few = value_in program r b types locals levels globals called results behind a t numbered (omega (arith, few, kind_few (kind_at program r b types locals levels globals called results behind a)))
 
-  caught_in : (x : Option ℕ) (t : ℕ) → FitsCaught b types x → t + 1 < r.slots → AreIn (caught_code (starts_of types) x t)
+  caught_in : (x : Option ℕ) (t : ℕ) → FitsCaught b types x → t + 1 < r.slots → AreIn program r b types locals levels globals called results behind (caught_code (starts_of types) x t)
   caught_in None t numbered few = tt
   caught_in (Some n) t (within, room) few = ((omega (arith, locals n within, room), few), tt)
 
@@ -883,7 +946,7 @@ module _ (program : PlainProgram) (r : Routine) (b : Numbering) (types : Types) 
       ((omega (arith, in_loop.0), λ other. omega (arith, in_loop.0, room)), (omega (arith, in_function.0), λ other. omega (arith, in_function.0, room)))
 
   mutual
-    statement_in : (s : Statement) (in_loop : Bool) (p : ℕ) (exits : Exits) (t : ℕ) → FitsStatement b types in_loop s → (in_loop ≡ true → exits.head + 2 < length r.code) → HasExits exits t → t + kept_by s + statement_need s + spare_slots ≤ r.slots → p + length (statement_code (starts_of types) s p exits t) < length r.code → AreIn (statement_code (starts_of types) s p exits t)
+    statement_in : (s : Statement) (in_loop : Bool) (p : ℕ) (exits : Exits) (t : ℕ) → FitsStatement b types in_loop s → (in_loop ≡ true → exits.head + 2 < length r.code) → HasExits exits t → t + kept_by s + statement_need s + spare_slots ≤ r.slots → p + length (statement_code (starts_of types) s p exits t) < length r.code → AreIn program r b types locals levels globals called results behind (statement_code (starts_of types) s p exits t)
     statement_in (Block n js) in_loop p exits t numbered around outside few short = items_in js in_loop p exits t numbered around outside few short
     statement_in Empty in_loop p exits t numbered around outside few short = tt
     statement_in (Evaluate a) in_loop p exits t numbered around outside few short = discarded_in a p t numbered (omega (arith, few)) short
@@ -899,8 +962,8 @@ module _ (program : PlainProgram) (r : Routine) (b : Numbering) (types : Types) 
         let long = length-append (condition ++ jump_first) jump_second in
         let long_front = length-append condition jump_first in
         let (left, right) = compared_in a t numbered_a (omega (arith, few)) in
-        append (condition ++ jump_first) jump_second
-        (append condition jump_first (condition_in a p t numbered_a (omega (arith, few)) (omega (arith, short, long, long_front)))
+        append program r b types locals levels globals called results behind (condition ++ jump_first) jump_second
+        (append program r b types locals levels globals called results behind condition jump_first (condition_in a p t numbered_a (omega (arith, few)) (omega (arith, short, long, long_front)))
         ((left, right, omega (arith, short, long, long_front)), statement_in s in_loop (m + 1) exits t numbered_s around outside (omega (arith, few)) (omega (arith, short, long, long_front))))
         (omega (arith, short, long, long_front), statement_in u in_loop (q + 1) exits t numbered_u around outside (omega (arith, few)) (omega (arith, short, long, long_front)))
     statement_in (While w a s) in_loop p exits t (numbered_a, numbered_s) around outside few short =
@@ -915,20 +978,20 @@ module _ (program : PlainProgram) (r : Routine) (b : Numbering) (types : Types) 
           omega (arith, short, long, long_front),
           (
             omega (arith, short, long, long_front),
-            append (condition ++ test) again
-                (append condition test (condition_in a (p + 2) t numbered_a (omega (arith, few)) (omega (arith, short, long, long_front)))
+            append program r b types locals levels globals called results behind (condition ++ test) again
+                (append program r b types locals levels globals called results behind condition test (condition_in a (p + 2) t numbered_a (omega (arith, few)) (omega (arith, short, long, long_front)))
                 ((left, right, omega (arith, short, long, long_front)), statement_in s true (m + 1) (inside_loop p t exits) t numbered_s (λ inside. omega (arith, short, long, long_front)) (closes_none t, outside.1) (omega (arith, few)) (omega (arith, short, long, long_front))))
                 (omega (arith, short, long, long_front), tt),
           ),
         )
     statement_in (Return v) in_loop p exits t numbered around outside few short = return_in v p exits t numbered outside (omega (arith, few)) short
-    statement_in Break in_loop p exits t numbered around outside few short = append (leave_code exits.loop_record t) _ (leave_in exits.loop_record t outside.0) (omega (arith, around numbered), tt)
-    statement_in Continue in_loop p exits t numbered around outside few short = append (leave_code exits.loop_record t) _ (leave_in exits.loop_record t outside.0) (omega (arith, around numbered), tt)
+    statement_in Break in_loop p exits t numbered around outside few short = append program r b types locals levels globals called results behind (leave_code exits.loop_record t) _ (leave_in exits.loop_record t outside.0) (omega (arith, around numbered), tt)
+    statement_in Continue in_loop p exits t numbered around outside few short = append program r b types locals levels globals called results behind (leave_code exits.loop_record t) _ (leave_in exits.loop_record t outside.0) (omega (arith, around numbered), tt)
     statement_in (Throw tag v) in_loop p exits t (word, numbered) around outside few short =
         let front = thrown_code (starts_of types) v p t in
         let back = instructions.Throw (tag_operand tag) (thrown_operand (starts_of types) v t) ∷ [] in
         let long = length-append front back in
-        append front back (thrown_in v p t numbered (omega (arith, few)) (omega (arith, short, long))) ((tt, thrown_there v t numbered (omega (arith, few))), tt)
+        append program r b types locals levels globals called results behind front back (thrown_in v p t numbered (omega (arith, few)) (omega (arith, short, long))) ((tt, thrown_there v t numbered (omega (arith, few))), tt)
     statement_in (Try s cs) in_loop p exits t (numbered_s, numbered) around outside few short =
         let body = statement_code (starts_of types) s (p + 1) exits (t + RECORD_WORDS) in
         let close = instructions.Leave t ∷ [] in
@@ -939,29 +1002,29 @@ module _ (program : PlainProgram) (r : Routine) (b : Numbering) (types : Types) 
         let long_body = length-append body close in
         let room : t + RECORD_WORDS ≤ r.slots = omega (arith, few) in (
           record { record_in_range = room; handler_in_range = omega (arith, short, long); no_return = no_return },
-          append (body ++ close) over
-              (append body close (statement_in s in_loop (p + 1) exits (t + RECORD_WORDS) numbered_s around (exits_inside exits t outside room) (omega (arith, few)) (omega (arith, short, long, long_body))) (room, tt))
+          append program r b types locals levels globals called results behind (body ++ close) over
+              (append program r b types locals levels globals called results behind body close (statement_in s in_loop (p + 1) exits (t + RECORD_WORDS) numbered_s around (exits_inside exits t outside room) (omega (arith, few)) (omega (arith, short, long, long_body))) (room, tt))
               (omega (arith, short, long), clauses_in cs in_loop (out + 1) out exits t numbered around outside (omega (arith, few)) (omega (arith, short, long)) (omega (arith, short, long))),
         )
 
-    items_in : (js : Items) (in_loop : Bool) (p : ℕ) (exits : Exits) (t : ℕ) → FitItems b types in_loop js → (in_loop ≡ true → exits.head + 2 < length r.code) → HasExits exits t → t + kept_by_items js + items_need js + spare_slots ≤ r.slots → p + length (items_code (starts_of types) js p exits t) < length r.code → AreIn (items_code (starts_of types) js p exits t)
+    items_in : (js : Items) (in_loop : Bool) (p : ℕ) (exits : Exits) (t : ℕ) → FitItems b types in_loop js → (in_loop ≡ true → exits.head + 2 < length r.code) → HasExits exits t → t + kept_by_items js + items_need js + spare_slots ≤ r.slots → p + length (items_code (starts_of types) js p exits t) < length r.code → AreIn program r b types locals levels globals called results behind (items_code (starts_of types) js p exits t)
     items_in NoItems in_loop p exits t numbered around outside few short = tt
     items_in (MoreItems (Execute s) js) in_loop p exits t (numbered, rest) around outside few short =
         let front = statement_code (starts_of types) s p exits t in
         let back = items_code (starts_of types) js (p + length front) exits t in
         let long = length-append front back in
-        append front back (statement_in s in_loop p exits t numbered around outside (omega (arith, few)) (omega (arith, short, long)))
+        append program r b types locals levels globals called results behind front back (statement_in s in_loop p exits t numbered around outside (omega (arith, few)) (omega (arith, short, long)))
         (items_in js in_loop (p + length front) exits t rest around outside (omega (arith, few)) (omega (arith, short, long)))
     items_in (MoreItems (Declare n ty v) js) in_loop p exits t (within, numbered, rest) around outside few short =
         let front = declaration_code (starts_of types) n v p t in
         let back = items_code (starts_of types) js (p + length front) exits t in
         let long = length-append front back in
-        append front back (declaration_in n v p t within numbered (omega (arith, few)) (omega (arith, short, long)))
+        append program r b types locals levels globals called results behind front back (declaration_in n v p t within numbered (omega (arith, few)) (omega (arith, short, long)))
         (items_in js in_loop (p + length front) exits t rest around outside (omega (arith, few)) (omega (arith, short, long)))
     items_in js in_loop p exits t numbered around outside few short = absurd numbered
 
     clauses_in : (cs : Clauses) (in_loop : Bool) (p out : ℕ) (exits : Exits) (t : ℕ) → FitClauses b types in_loop cs → (in_loop ≡ true → exits.head + 2 < length r.code) → HasExits exits t
-        → t + kept_by_clauses cs + clauses_need cs + spare_slots ≤ r.slots → out < length r.code → p + length (clauses_code (starts_of types) cs p out exits t) < length r.code → AreIn (clauses_code (starts_of types) cs p out exits t)
+        → t + kept_by_clauses cs + clauses_need cs + spare_slots ≤ r.slots → out < length r.code → p + length (clauses_code (starts_of types) cs p out exits t) < length r.code → AreIn program r b types locals levels globals called results behind (clauses_code (starts_of types) cs p out exits t)
     clauses_in NoClauses in_loop p out exits t numbered around outside few there short = ((omega (arith, few), omega (arith, few)), tt)
     clauses_in (Default n js) in_loop p out exits t numbered around outside few there short = items_in js in_loop p exits t numbered around outside few short
     clauses_in (Case tag x n js cs) in_loop p out exits t (word, caught_fits, numbered, rest) around outside few there short =
@@ -973,10 +1036,10 @@ module _ (program : PlainProgram) (r : Routine) (b : Numbering) (types : Types) 
         let long = length-append clause later in
         let long_clause = length-append (caught ++ items) leave in
         let long_inner = length-append caught items in
-        append clause later (
+        append program r b types locals levels globals called results behind clause later (
           (omega (arith, few), tt, omega (arith, short, long, long_clause)),
-          append (caught ++ items) leave
-              (append caught items (caught_in x t caught_fits (omega (arith, few))) (items_in js in_loop (p + 1 + length caught) exits t numbered around outside (omega (arith, few)) (omega (arith, short, long, long_clause, long_inner))))
+          append program r b types locals levels globals called results behind (caught ++ items) leave
+              (append program r b types locals levels globals called results behind caught items (caught_in x t caught_fits (omega (arith, few))) (items_in js in_loop (p + 1 + length caught) exits t numbered around outside (omega (arith, few)) (omega (arith, short, long, long_clause, long_inner))))
               (there, tt),
         )
         (clauses_in cs in_loop (p + length clause) out exits t rest around outside (omega (arith, few)) there (omega (arith, short, long)))
@@ -1023,7 +1086,7 @@ module _ (source : Program) (is_fitting : IsFitting source) where
         frame = omega (arith, slots-few h);
         instructions = all_of (IsInRange (lower_program source) r) (body ++ end)
             (all_append (IsInRange (lower_program source) r) body end
-            (items_in (lower_program source) r b types (λ n within. omega (arith, slot-room types n (omega (arith, within, slot_types-many h)))) (globals_counted source.globals) known_functions refl (omega (arith, long, placed)) (no_return source.structs h words)
+            (items_in (lower_program source) r b types (λ n within. omega (arith, slot-room types n (omega (arith, within, slot_types-many h)))) (λ l slot there. absurd (none-some slot there)) (globals_counted source.globals) known_functions refl (omega (arith, long, placed)) (no_return source.structs h words)
             h.body false 0 (outside_loops d) d numbered_body (λ inside. absurd (let f : false ≡ true = inside in cc)) (none d refl, none d refl) (omega arith) (omega (arith, long)))
             (omega (arith, results_few h.result), ((tt, tt), ((tt, tt), ((tt, tt), ((tt, tt), tt))))));
         last = subst (λ (o : Option Instruction). IsSomeAnd o (λ i. leaves i ≡ true)) (sym (last_behind body end (omega arith))) refl;

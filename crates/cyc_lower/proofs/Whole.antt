@@ -26,7 +26,7 @@ use Rattle.cyc_store.specs.State as stores
 use Rattle.std.specs.List.{AllByRecursion}
 use Rattle.cyc_words.proofs.Simulation.{simulates}
 use Rattle.cyc_meaning.specs.Values.{Int, Null, Operand as Kinded, kind_of}
-use Rattle.cyc_meaning.specs.State.{World, Environment, no_locals, constant_value, global_object, first_world, Entry, Main, Focus, Evaluating, Locating, Given, GivenPlace, Executing, Proceeding, Calling, Entering, Binding, Writing, Breaking, Continuing, Returning, Throwing, State, Running, Ended, Dead, Wrong, output_of, input_of, status_of, Swapping, Naming, Catching}
+use Rattle.cyc_meaning.specs.State.{World, Environment, no_locals, constant_value, global_object, first_world, Entry, Main, Focus, Evaluating, Locating, Given, GivenPlace, Executing, Proceeding, Calling, Entering, Binding, Writing, Beginning, Repeating, Breaking, Continuing, Returning, Throwing, State, Running, Ended, Dead, Wrong, output_of, input_of, status_of, Swapping, Naming, Catching}
 use Rattle.cyc_meaning.specs.Step.{wrong, called, step}
 use Rattle.cyc_meaning.specs.Run.{start, is_within, limited_step}
 use Rattle.cyc_lower.specs.Lowering.{initial_word, lower_global, lower_program}
@@ -43,6 +43,7 @@ use Rattle.cyc_lower.proofs.Matched.{IsMatched, above, below, matching}
 use Rattle.cyc_lower.proofs.Evaluations.{evaluating, locating}
 use Rattle.cyc_lower.proofs.Keeping.{keeping, stepped_keeping}
 use Rattle.cyc_lower.proofs.Allocations.{writing}
+use Rattle.cyc_lower.proofs.Arrays.{beginning, repeating}
 use Rattle.cyc_lower.proofs.Values.{given}
 use Rattle.cyc_lower.proofs.SwapSteps.{swapping, writing_sides}
 use Rattle.cyc_lower.proofs.PlaceSteps.{given_place}
@@ -111,8 +112,9 @@ module _ (source : Program) (pages calls : ℕ) (well_typed : AreWellTypedGlobal
   stepping (GivenPlace place) k e w c well words related = given_place source pages calls place k e w c well related
   stepping (Writing writes (Some pointer)) k e w c well words related = writing source pages calls writes pointer k e w c words well related
   stepping (Writing writes None) k e w c well words related = writing_sides source pages calls writes k e w c words well related
+  stepping (Beginning owner count level wanted element) k e w c well words related = beginning source pages calls owner count level wanted element k e w c well related
+  stepping (Repeating object count index level wanted element) k e w c well words related = repeating source pages calls object count index level wanted element k e w c well related
   stepping (Swapping kind left right before) k e w c well words related = swapping source pages calls kind left right before k e w c well related
-  stepping focus k e w c well words (shared, facts, at) = absurd at
 
   -- what fails is within all limits
   failed_within : (s : State) → status_in (status_of s) ≡ Failed → is_within pages calls s ≡ true
@@ -163,6 +165,7 @@ module _ (source : Program) (pages calls : ℕ) (well_typed : AreWellTypedGlobal
         variables = (refl, tt);
         few_pages = omega (arith, new_demand pages store new, some_page);
         fits = omega (arith, some_call);
+        counters = tt;
       }) (
         (
           length w.objects,

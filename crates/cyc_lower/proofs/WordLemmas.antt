@@ -14,7 +14,7 @@ use Rattle.cyc_types.specs.declared.typed.PointerOperator.{PointerOperator}
 use Rattle.cyc_types.specs.declared.typed.PointerOperator.TheVariants as pointers
 use Rattle.cyc_types.specs.declared.typed.LogicalOperator.{LogicalOperator}
 use Rattle.cyc_types.specs.declared.typed.LogicalOperator.TheVariants as logical
-use Rattle.cyc_types.specs.TypedTrees.{Load, New, OnHeap, AsUnique, ByHandle, Initial, Plain, Fields, Dereference, Target, Lvalue, Local, Global, Expression, Number, NullPointer, Copy, Call, Unary, Binary, Assign, Converted, Convert, Arguments, NoArguments, MoreArguments, Operations, NoOperations, ThenCompute, ThenTest, ThenPointer, Statement, Block, Empty, Evaluate, If, While, Return, Break, Continue, Items, NoItems, MoreItems, Execute, Declare, Constant, Word, Null, GlobalVariable, StructType, Function, Program, Move, Peek, ThenPointerPeek, AddressOfCell, Store, Member, Element, FreeUnique, Side, VariableSide, CellSide, Swap, Throw, Try, Clauses, NoClauses, Default, Case}
+use Rattle.cyc_types.specs.TypedTrees.{Array, Counter, Load, New, OnHeap, AsUnique, ByHandle, Initial, Plain, Fields, Dereference, Target, Lvalue, Local, Global, Expression, Number, NullPointer, Copy, Call, Unary, Binary, Assign, Converted, Convert, Arguments, NoArguments, MoreArguments, Operations, NoOperations, ThenCompute, ThenTest, ThenPointer, Statement, Block, Empty, Evaluate, If, While, Return, Break, Continue, Items, NoItems, MoreItems, Execute, Declare, Constant, Word, Null, GlobalVariable, StructType, Function, Program, Move, Peek, ThenPointerPeek, AddressOfCell, Store, Member, Element, FreeUnique, Side, VariableSide, CellSide, Swap, Throw, Try, Clauses, NoClauses, Default, Case}
 use Rattle.cyc_plain.specs.declared.instruction.Comparison.{Comparison}
 use Rattle.cyc_plain.specs.declared.instruction.Comparison.TheVariants as comparisons
 use Rattle.cyc_plain.specs.declared.instruction.Operand.{Operand}
@@ -25,13 +25,13 @@ use Rattle.cyc_plain.specs.WellFormed.{IsOfWord, HasWord, HasWords, is_return}
 use Rattle.cyc_lower.specs.Words.{IsOfWords, IsOfWordsCell, IsOfWordsObject, IsOfWordsConverted, AreOfWordsArguments, AreOfWordsOperations, IsOfWordsInitial, IsOfWordsStatement, AreOfWordsItems, IsOfWordsConstant, AreOfWordsGlobals, AreOfWordsFunctions, IsOfWordsProgram, IsOfWordsSide, IsOfWordsThrown, AreOfWordsClauses}
 use Rattle.cyc_plain.specs.declared.limits.TheConstants.{RECORD_WORDS}
 use Rattle.cyc_lower.specs.declared.statements.Exits.{Exits}
-use Rattle.cyc_lower.specs.Slots.{starts_of, slot_of, Starts, bytes_from, field_in}
+use Rattle.cyc_lower.specs.Slots.{with_counter, starts_of, slot_of, Starts, bytes_from, field_in}
 use Rattle.std.specs.Prelude.{◌==◌, if◌then◌else◌}
 use Rattle.cyc_types.specs.Types.{words_of, Ty}
 use Rattle.cyc_types.specs.Numbered.{argument_count}
 use Rattle.cyc_store.specs.declared.range.TheConstants.{HEAP, UNIQUE}
 use Rattle.cyc_meaning.specs.Values.{words_of_kind}
-use Rattle.cyc_lower.specs.Lowering.{types_of, are_as_wide, converts_there, passed_words, source_of, source_slot, converted_by, moved_by, move_of, operand_of, operand_or, code_unless, slot_or, code_unless_slot, left_with, left_of, value_slot, next_slot, left_slot, value_operand, converted_operand, printed_operand, check_code, conversion_code, divisor_code, checked_code, operator_code, truth_code, load_code, test_code, is_in, copy_code, expression_code, arguments_code, converted_code, converted_operand_code, printed_code, initial_code, assignment_code, operations_code, discarded_code, failing_comparison, compared_or, compared_of, slot_with, first_code, second_code, pair_code, condition_code, condition_of, return_code, declaration_code, statement_code, items_code, first_temporary, initial_word, lower_function, lower_global, lower_program, behind_left, pointer_code, outside_loops, inside_loop, index_of, first_two, pointer_instructions, stores_code, object_code, made_code, place_operand, place_offset, place_code, address_code, addressed_by, store_address_code, store_code, guard_code, blocks, leave_code, clause_code, caught_code, clauses_code, function_code, break_target, continue_target, right_slot, side_code, read_side, write_side, exchange_code, swap_code}
+use Rattle.cyc_lower.specs.Lowering.{begun_code, filled_code, ended_code, elements_code, counter_operand, types_of, are_as_wide, converts_there, passed_words, source_of, source_slot, converted_by, moved_by, move_of, operand_of, operand_or, code_unless, slot_or, code_unless_slot, left_with, left_of, value_slot, next_slot, left_slot, value_operand, converted_operand, printed_operand, check_code, conversion_code, divisor_code, checked_code, operator_code, truth_code, load_code, test_code, is_in, copy_code, expression_code, arguments_code, converted_code, converted_operand_code, printed_code, initial_code, assignment_code, operations_code, discarded_code, failing_comparison, compared_or, compared_of, slot_with, first_code, second_code, pair_code, condition_code, condition_of, return_code, declaration_code, statement_code, items_code, first_temporary, initial_word, lower_function, lower_global, lower_program, behind_left, pointer_code, outside_loops, inside_loop, index_of, first_two, pointer_instructions, stores_code, object_code, made_code, place_operand, place_offset, place_code, address_code, addressed_by, store_address_code, store_code, guard_code, blocks, leave_code, clause_code, caught_code, clauses_code, function_code, break_target, continue_target, right_slot, side_code, read_side, write_side, exchange_code, swap_code}
 
 -- ---- lists
 
@@ -187,6 +187,11 @@ module _ (starts : Starts) where
   known_word (Copy (Local w n) ty) slot words = tt
   known_word (Move w n ty) slot words = tt
   known_word (Peek w n ty) slot words = tt
+  known_word (Counter l) slot words = by (slice_get starts.counters l)
+    where
+      by : (s : Option ℕ) → IsOfWord (operand_or (counter_operand s) slot)
+      by (Some n) = tt
+      by None = tt
   known_word a slot words = tt
 
   converted_word : (c : Converted) (t : ℕ) → IsOfWordsConverted c → IsOfWord (converted_operand starts c t)
@@ -223,165 +228,177 @@ module _ (starts : Starts) where
   load_words words (Local w n) d = move_words words d (operands.Slot (slot_of starts n)) tt
   load_words words (Global n) d = (tt, tt)
 
-  mutual
-    expression_words : (a : Expression) (p d t : ℕ) → IsOfWords a → HaveWords (expression_code starts a p d t)
-    expression_words (Number n) p d t word = (word, tt)
-    expression_words NullPointer p d t words = (omega arith, tt)
-    expression_words (Copy l ty) p d t words = load_words (words_of ty) l d
-    expression_words (Move w n ty) p d t words = load_words (words_of ty) (Local w n) d
-    expression_words (Peek w n ty) p d t words = load_words (words_of ty) (Local w n) d
-    expression_words (Call callees.Putchar cs ty) p d t words =
-        let byte = printed_word cs (operands.Slot t) t words tt in
-        append (printed_code starts cs p t) _ (printed_words cs p t words) (byte, ((byte, omega arith), tt))
-    expression_words (Call callees.Getchar cs ty) p d t words = append (arguments_code starts cs p t) _ (arguments_words cs p t words) (tt, tt)
-    expression_words (Call (callees.Function n) cs ty) p d t words = append (arguments_code starts cs p t) _ (arguments_words cs p t words) (tt, tt)
-    expression_words (Unary o a) p d t words =
-        let inner = expression_code starts a p (value_slot starts a t) t in
-        append (code_unless (operand_of starts a) inner) _ (unless_words (operand_of starts a) inner (expression_words a p (value_slot starts a t) t words)) (known_word a (value_slot starts a t) words, tt)
-    expression_words (Binary a os ty) p d t (first, rest) =
-        let inner = expression_code starts a p (left_slot starts a os d t) t in
-        let front = code_unless (left_of starts a os) inner in
-        let l = operand_or (left_of starts a os) (left_slot starts a os d t) in
-        append front (operations_code starts os (p + length front) l d t) (unless_words (left_of starts a os) inner (expression_words a p (left_slot starts a os d t) t first))
-        (operations_words os (p + length front) l d t (left_word a os (left_slot starts a os d t) first) rest)
-    expression_words (Assign (Local w n) c ty) p d t words =
-        let o = operands.Slot (slot_of starts n) in
-        append (initial_code starts c p (slot_of starts n) t) (copy_code (passed_words c) o d) (initial_words c p (slot_of starts n) t words) (copy_words (is_in o d) (passed_words c) o d tt)
-    expression_words (Assign (Global n) c ty) p d t words =
-        let o = converted_operand starts c t in
-        let front = converted_operand_code starts c p t in
-        let word = converted_word c t words in
-        append (front ++ instructions.StoreGlobal n o ∷ []) (copy_code (passed_words c) o d) (append front _ (converted_operand_words c p t words) (word, tt)) (copy_words (is_in o d) (passed_words c) o d word)
-    expression_words (Load x) p d t words = append (place_code starts x p t) _ (place_words x p t words) ((place_word x t words, offset_word x), tt)
-    expression_words (AddressOfCell x ty) p d t words = address_of_words x p d t words
-    expression_words (Store x c ty) p d t (first, second) =
-        let address = store_address_code starts x p t in
-        let value = converted_operand_code starts c (p + length address) (t + 1) in
-        let o = converted_operand starts c (t + 1) in
-        let word = converted_word c (t + 1) second in
-        append (store_code starts x c p t) (copy_code (passed_words c) o d)
-        (append address _ (address_of_words x p t t first) (append value _ (converted_operand_words c (p + length address) (t + 1) second) ((tt, omega arith, word), tt)))
-        (copy_words (is_in o d) (passed_words c) o d word)
-    expression_words (FreeUnique a) p d t words =
-        let slot = value_slot starts a t in
-        let inner = expression_code starts a p slot t in
-        let word = known_word a slot words in
-        append (code_unless (operand_of starts a) inner) _ (unless_words (operand_of starts a) inner (expression_words a p slot t words)) ((word, omega arith), ((word, tt), tt))
-    expression_words (New OnHeap i ty) p d t words = made_words i HEAP p d t (omega arith) words
-    expression_words (New AsUnique i ty) p d t words = made_words i UNIQUE p d t (omega arith) words
-    expression_words (New (ByHandle h) i ty) p d t words = absurd words
-    expression_words a p d t words = absurd words
+mutual
+  expression_words : (starts : Starts) → (a : Expression) (p d t : ℕ) → IsOfWords a → HaveWords (expression_code starts a p d t)
+  expression_words starts (Number n) p d t word = (word, tt)
+  expression_words starts NullPointer p d t words = (omega arith, tt)
+  expression_words starts (Counter l) p d t words = (tt, tt)
+  expression_words starts (Copy l ty) p d t words = load_words starts (words_of ty) l d
+  expression_words starts (Move w n ty) p d t words = load_words starts (words_of ty) (Local w n) d
+  expression_words starts (Peek w n ty) p d t words = load_words starts (words_of ty) (Local w n) d
+  expression_words starts (Call callees.Putchar cs ty) p d t words =
+      let byte = printed_word starts cs (operands.Slot t) t words tt in
+      append (printed_code starts cs p t) _ (printed_words starts cs p t words) (byte, ((byte, omega arith), tt))
+  expression_words starts (Call callees.Getchar cs ty) p d t words = append (arguments_code starts cs p t) _ (arguments_words starts cs p t words) (tt, tt)
+  expression_words starts (Call (callees.Function n) cs ty) p d t words = append (arguments_code starts cs p t) _ (arguments_words starts cs p t words) (tt, tt)
+  expression_words starts (Unary o a) p d t words =
+      let inner = expression_code starts a p (value_slot starts a t) t in
+      append (code_unless (operand_of starts a) inner) _ (unless_words (operand_of starts a) inner (expression_words starts a p (value_slot starts a t) t words)) (known_word starts a (value_slot starts a t) words, tt)
+  expression_words starts (Binary a os ty) p d t (first, rest) =
+      let inner = expression_code starts a p (left_slot starts a os d t) t in
+      let front = code_unless (left_of starts a os) inner in
+      let l = operand_or (left_of starts a os) (left_slot starts a os d t) in
+      append front (operations_code starts os (p + length front) l d t) (unless_words (left_of starts a os) inner (expression_words starts a p (left_slot starts a os d t) t first))
+      (operations_words starts os (p + length front) l d t (left_word starts a os (left_slot starts a os d t) first) rest)
+  expression_words starts (Assign (Local w n) c ty) p d t words =
+      let o = operands.Slot (slot_of starts n) in
+      append (initial_code starts c p (slot_of starts n) t) (copy_code (passed_words c) o d) (initial_words starts c p (slot_of starts n) t words) (copy_words (is_in o d) (passed_words c) o d tt)
+  expression_words starts (Assign (Global n) c ty) p d t words =
+      let o = converted_operand starts c t in
+      let front = converted_operand_code starts c p t in
+      let word = converted_word starts c t words in
+      append (front ++ instructions.StoreGlobal n o ∷ []) (copy_code (passed_words c) o d) (append front _ (converted_operand_words starts c p t words) (word, tt)) (copy_words (is_in o d) (passed_words c) o d word)
+  expression_words starts (Load x) p d t words = append (place_code starts x p t) _ (place_words starts x p t words) ((place_word starts x t words, offset_word starts x), tt)
+  expression_words starts (AddressOfCell x ty) p d t words = address_of_words starts x p d t words
+  expression_words starts (Store x c ty) p d t (first, second) =
+      let address = store_address_code starts x p t in
+      let value = converted_operand_code starts c (p + length address) (t + 1) in
+      let o = converted_operand starts c (t + 1) in
+      let word = converted_word starts c (t + 1) second in
+      append (store_code starts x c p t) (copy_code (passed_words c) o d)
+      (append address _ (address_of_words starts x p t t first) (append value _ (converted_operand_words starts c (p + length address) (t + 1) second) ((tt, omega arith, word), tt)))
+      (copy_words (is_in o d) (passed_words c) o d word)
+  expression_words starts (FreeUnique a) p d t words =
+      let slot = value_slot starts a t in
+      let inner = expression_code starts a p slot t in
+      let word = known_word starts a slot words in
+      append (code_unless (operand_of starts a) inner) _ (unless_words (operand_of starts a) inner (expression_words starts a p slot t words)) ((word, omega arith), ((word, tt), tt))
+  expression_words starts (New OnHeap i ty) p d t words = made_words starts i HEAP p d t (omega arith) words
+  expression_words starts (New AsUnique i ty) p d t words = made_words starts i UNIQUE p d t (omega arith) words
+  expression_words starts (New (ByHandle h) i ty) p d t words = absurd words
+  expression_words starts a p d t words = absurd words
 
-    made_words : (i : Initial) (handle p d t : ℕ) → IsWord handle → IsOfWordsObject i → HaveWords (made_code starts i handle p d t)
-    made_words (Plain kind a) handle p d t word words =
-        append (expression_code starts a p t t) (object_code handle 1 d t) (expression_words a p t t words) (object_words handle 1 d t word (omega arith))
-    made_words (Fields cs) handle p d t word (few, words) =
-        append (arguments_code starts cs p t) (object_code handle (argument_count cs) d t) (arguments_words cs p t words) (object_words handle (argument_count cs) d t word few)
-    made_words i handle p d t word words = absurd words
+  made_words : (starts : Starts) → (i : Initial) (handle p d t : ℕ) → IsWord handle → IsOfWordsObject i → HaveWords (made_code starts i handle p d t)
+  made_words starts (Plain kind a) handle p d t word words =
+      append (expression_code starts a p t t) (object_code handle 1 d t) (expression_words starts a p t t words) (object_words handle 1 d t word (omega arith))
+  made_words starts (Fields cs) handle p d t word (few, words) =
+      append (arguments_code starts cs p t) (object_code handle (argument_count cs) d t) (arguments_words starts cs p t words) (object_words handle (argument_count cs) d t word few)
+  made_words starts (Array w level n kind a) handle p d t word (count, element) =
+      let first = expression_code starts n p t t in
+      let m = p + length first in
+      let inner = expression_code (with_counter starts (t + 2)) a (m + 6 + 1) (t + 3) (t + 3) in
+      let filled = filled_code (m + 6) t in
+      append first (begun_code starts handle t ++ elements_code inner (m + 6) d t) (expression_words starts n p t t count)
+      (append (begun_code starts handle t) (elements_code inner (m + 6) d t) ((tt, omega arith), (tt, (omega arith, (tt, ((tt, tt), ((word, tt), tt)))))) (
+        (tt, tt),
+        append (inner ++ filled) (ended_code d t) (append inner filled (expression_words (with_counter starts (t + 2)) a (m + 6 + 1) (t + 3) (t + 3) element)
+            ((tt, omega arith), ((tt, tt), ((tt, omega arith, tt), ((tt, omega arith), (tt, tt)))))) (omega arith, copy_words (is_in (operands.Slot t) d) 3 (operands.Slot t) d tt),
+      ))
 
-    place_words : (x : Dereference) (p t : ℕ) → IsOfWordsCell x → HaveWords (place_code starts x p t)
-    place_words (Target k a ty) p t words =
-        let slot = value_slot starts a t in
-        converted_by_words starts (operand_of starts a) (expression_code starts a p slot t) kinds.NonNull (value_operand starts a t) p (expression_words a p slot t words) (known_word a slot words)
-    place_words (Member k a s f ty) p t words =
-        let slot = value_slot starts a t in
-        converted_by_words starts (operand_of starts a) (expression_code starts a p slot t) kinds.NonNull (value_operand starts a t) p (expression_words a p slot t words) (known_word a slot words)
-    place_words x p t words = absurd words
+  place_words : (starts : Starts) → (x : Dereference) (p t : ℕ) → IsOfWordsCell x → HaveWords (place_code starts x p t)
+  place_words starts (Target k a ty) p t words =
+      let slot = value_slot starts a t in
+      converted_by_words starts (operand_of starts a) (expression_code starts a p slot t) kinds.NonNull (value_operand starts a t) p (expression_words starts a p slot t words) (known_word starts a slot words)
+  place_words starts (Member k a s f ty) p t words =
+      let slot = value_slot starts a t in
+      converted_by_words starts (operand_of starts a) (expression_code starts a p slot t) kinds.NonNull (value_operand starts a t) p (expression_words starts a p slot t words) (known_word starts a slot words)
+  place_words starts x p t words = absurd words
 
-    -- its address comes to a slot
-    address_of_words : (x : Dereference) (p d t : ℕ) → IsOfWordsCell x → HaveWords (addressed_by (place_code starts x p t) (place_operand starts x t) (place_offset starts x) d)
-    address_of_words (Target k a ty) p d t words =
-        let slot = value_slot starts a t in
-        let o = value_operand starts a t in
-        append (place_code starts (Target k a ty) p t) _
-        (converted_by_words starts (operand_of starts a) (expression_code starts a p slot t) kinds.NonNull o p (expression_words a p slot t words) (known_word a slot words))
-        (address_words o 0 d (known_word a slot words) (omega arith))
-    address_of_words (Member k a s f ty) p d t words =
-        let slot = value_slot starts a t in
-        let o = value_operand starts a t in
-        let x = Member k a s f ty in
-        append (place_code starts x p t) _
-        (converted_by_words starts (operand_of starts a) (expression_code starts a p slot t) kinds.NonNull o p (expression_words a p slot t words) (known_word a slot words))
-        (address_words o (place_offset starts x) d (known_word a slot words) (offset_word x))
-    address_of_words x p d t words = absurd words
+  -- its address comes to a slot
+  address_of_words : (starts : Starts) → (x : Dereference) (p d t : ℕ) → IsOfWordsCell x → HaveWords (addressed_by (place_code starts x p t) (place_operand starts x t) (place_offset starts x) d)
+  address_of_words starts (Target k a ty) p d t words =
+      let slot = value_slot starts a t in
+      let o = value_operand starts a t in
+      append (place_code starts (Target k a ty) p t) _
+      (converted_by_words starts (operand_of starts a) (expression_code starts a p slot t) kinds.NonNull o p (expression_words starts a p slot t words) (known_word starts a slot words))
+      (address_words o 0 d (known_word starts a slot words) (omega arith))
+  address_of_words starts (Member k a s f ty) p d t words =
+      let slot = value_slot starts a t in
+      let o = value_operand starts a t in
+      let x = Member k a s f ty in
+      append (place_code starts x p t) _
+      (converted_by_words starts (operand_of starts a) (expression_code starts a p slot t) kinds.NonNull o p (expression_words starts a p slot t words) (known_word starts a slot words))
+      (address_words o (place_offset starts x) d (known_word starts a slot words) (offset_word starts x))
+  address_of_words starts x p d t words = absurd words
 
-    initial_words : (c : Converted) (p d t : ℕ) → IsOfWordsConverted c → HaveWords (initial_code starts c p d t)
-    initial_words (Convert from to a) p d t words =
-        let slot = source_slot starts (Convert from to a) t in
-        initial_by_words starts (converts_there from to) (source_of starts (Convert from to a)) (expression_code starts a p d t) (expression_code starts a p slot t) to (converted_operand starts (Convert from to a) t) p d
-        (expression_words a p d t words) (expression_words a p slot t words) (converted_word (Convert from to a) t words)
+  initial_words : (starts : Starts) → (c : Converted) (p d t : ℕ) → IsOfWordsConverted c → HaveWords (initial_code starts c p d t)
+  initial_words starts (Convert from to a) p d t words =
+      let slot = source_slot starts (Convert from to a) t in
+      initial_by_words starts (converts_there from to) (source_of starts (Convert from to a)) (expression_code starts a p d t) (expression_code starts a p slot t) to (converted_operand starts (Convert from to a) t) p d
+      (expression_words starts a p d t words) (expression_words starts a p slot t words) (converted_word starts (Convert from to a) t words)
 
-    converted_words : (c : Converted) (p t : ℕ) → IsOfWordsConverted c → HaveWords (converted_code starts c p t)
-    converted_words (Convert from to a) p t words =
-        let q = p + length (expression_code starts a p t t) in
-        append (expression_code starts a p t t) (conversion_code starts to (operands.Slot t) q) (expression_words a p t t words) (conversion_words starts to (operands.Slot t) q tt)
+  converted_words : (starts : Starts) → (c : Converted) (p t : ℕ) → IsOfWordsConverted c → HaveWords (converted_code starts c p t)
+  converted_words starts (Convert from to a) p t words =
+      let q = p + length (expression_code starts a p t t) in
+      append (expression_code starts a p t t) (conversion_code starts to (operands.Slot t) q) (expression_words starts a p t t words) (conversion_words starts to (operands.Slot t) q tt)
 
-    converted_operand_words : (c : Converted) (p t : ℕ) → IsOfWordsConverted c → HaveWords (converted_operand_code starts c p t)
-    converted_operand_words (Convert from to a) p t words =
-        let slot = source_slot starts (Convert from to a) t in
-        converted_by_words starts (source_of starts (Convert from to a)) (expression_code starts a p slot t) to (converted_operand starts (Convert from to a) t) p (expression_words a p slot t words) (converted_word (Convert from to a) t words)
+  converted_operand_words : (starts : Starts) → (c : Converted) (p t : ℕ) → IsOfWordsConverted c → HaveWords (converted_operand_code starts c p t)
+  converted_operand_words starts (Convert from to a) p t words =
+      let slot = source_slot starts (Convert from to a) t in
+      converted_by_words starts (source_of starts (Convert from to a)) (expression_code starts a p slot t) to (converted_operand starts (Convert from to a) t) p (expression_words starts a p slot t words) (converted_word starts (Convert from to a) t words)
 
-    printed_words : (cs : Arguments) (p t : ℕ) → AreOfWordsArguments cs → HaveWords (printed_code starts cs p t)
-    printed_words NoArguments p t words = tt
-    printed_words (MoreArguments c cs) p t (first, rest) =
-        let q = p + length (converted_operand_code starts c p t) in
-        append (converted_operand_code starts c p t) (printed_code starts cs q t) (converted_operand_words c p t first) (printed_words cs q t rest)
+  printed_words : (starts : Starts) → (cs : Arguments) (p t : ℕ) → AreOfWordsArguments cs → HaveWords (printed_code starts cs p t)
+  printed_words starts NoArguments p t words = tt
+  printed_words starts (MoreArguments c cs) p t (first, rest) =
+      let q = p + length (converted_operand_code starts c p t) in
+      append (converted_operand_code starts c p t) (printed_code starts cs q t) (converted_operand_words starts c p t first) (printed_words starts cs q t rest)
 
-    arguments_words : (cs : Arguments) (p t : ℕ) → AreOfWordsArguments cs → HaveWords (arguments_code starts cs p t)
-    arguments_words NoArguments p t words = tt
-    arguments_words (MoreArguments c cs) p t (first, rest) =
-        let q = p + length (converted_code starts c p t) in
-        append (converted_code starts c p t) (arguments_code starts cs q (t + passed_words c)) (converted_words c p t first) (arguments_words cs q (t + passed_words c) rest)
+  arguments_words : (starts : Starts) → (cs : Arguments) (p t : ℕ) → AreOfWordsArguments cs → HaveWords (arguments_code starts cs p t)
+  arguments_words starts NoArguments p t words = tt
+  arguments_words starts (MoreArguments c cs) p t (first, rest) =
+      let q = p + length (converted_code starts c p t) in
+      append (converted_code starts c p t) (arguments_code starts cs q (t + passed_words c)) (converted_words starts c p t first) (arguments_words starts cs q (t + passed_words c) rest)
 
-    operations_words : (os : Operations) (p : ℕ) (l : Operand) (d t : ℕ) → IsOfWord l → AreOfWordsOperations os → HaveWords (operations_code starts os p l d t)
-    operations_words NoOperations p l d t left words = tt
-    operations_words (ThenCompute o a os) p l d t left (first, rest) =
-        let inner = expression_code starts a p (value_slot starts a (suc t)) (suc t) in
-        let operand = code_unless (operand_of starts a) inner in
-        let next = next_slot os d t in
-        let operator = operator_code starts o l (value_operand starts a (suc t)) next in
-        let q = p + length (operand ++ operator) in
-        append (operand ++ operator) (operations_code starts os q (operands.Slot next) d t)
-        (append operand operator (unless_words (operand_of starts a) inner (expression_words a p (value_slot starts a (suc t)) (suc t) first))
-        (operator_words starts o l (value_operand starts a (suc t)) next left (known_word a (value_slot starts a (suc t)) first)))
-        (operations_words os q (operands.Slot next) d t tt rest)
-    operations_words (ThenTest o a os) p l d t left (first, rest) =
-        let operand = expression_code starts a (p + 1) t t in
-        let next = next_slot os d t in
-        let q = p + length (test_code o operand p next t) in
-        append (test_code o operand p next t) (operations_code starts os q (operands.Slot next) d t) (test_words o operand p next t (expression_words a (p + 1) t t first))
-        (operations_words os q (operands.Slot next) d t tt rest)
-    operations_words (ThenPointer o a os) p l d t left (first, rest) =
-        let slot = value_slot starts a (behind_left o t) in
-        let inner = expression_code starts a p slot (behind_left o t) in
-        let operand = code_unless (operand_of starts a) inner in
-        let next = next_slot os d t in
-        let front = pointer_code o l (value_operand starts a (behind_left o t)) operand next in
-        append front (operations_code starts os (p + length front) (operands.Slot next) d t)
-        (append operand _ (unless_words (operand_of starts a) inner (expression_words a p slot (behind_left o t) first)) (pointer_words o l (value_operand starts a (behind_left o t)) next left (known_word a slot first)))
-        (operations_words os (p + length front) (operands.Slot next) d t tt rest)
-    operations_words (ThenPointerPeek n o a os) p l d t left (first, rest) =
-        let slot = value_slot starts a (behind_left o t) in
-        let inner = expression_code starts a p slot (behind_left o t) in
-        let operand = code_unless (operand_of starts a) inner in
-        let next = next_slot os d t in
-        let front = pointer_code o l (value_operand starts a (behind_left o t)) operand next in
-        append front (operations_code starts os (p + length front) (operands.Slot next) d t)
-        (append operand _ (unless_words (operand_of starts a) inner (expression_words a p slot (behind_left o t) first)) (pointer_words o l (value_operand starts a (behind_left o t)) next left (known_word a slot first)))
-        (operations_words os (p + length front) (operands.Slot next) d t tt rest)
+  operations_words : (starts : Starts) → (os : Operations) (p : ℕ) (l : Operand) (d t : ℕ) → IsOfWord l → AreOfWordsOperations os → HaveWords (operations_code starts os p l d t)
+  operations_words starts NoOperations p l d t left words = tt
+  operations_words starts (ThenCompute o a os) p l d t left (first, rest) =
+      let inner = expression_code starts a p (value_slot starts a (suc t)) (suc t) in
+      let operand = code_unless (operand_of starts a) inner in
+      let next = next_slot os d t in
+      let operator = operator_code starts o l (value_operand starts a (suc t)) next in
+      let q = p + length (operand ++ operator) in
+      append (operand ++ operator) (operations_code starts os q (operands.Slot next) d t)
+      (append operand operator (unless_words (operand_of starts a) inner (expression_words starts a p (value_slot starts a (suc t)) (suc t) first))
+      (operator_words starts o l (value_operand starts a (suc t)) next left (known_word starts a (value_slot starts a (suc t)) first)))
+      (operations_words starts os q (operands.Slot next) d t tt rest)
+  operations_words starts (ThenTest o a os) p l d t left (first, rest) =
+      let operand = expression_code starts a (p + 1) t t in
+      let next = next_slot os d t in
+      let q = p + length (test_code o operand p next t) in
+      append (test_code o operand p next t) (operations_code starts os q (operands.Slot next) d t) (test_words o operand p next t (expression_words starts a (p + 1) t t first))
+      (operations_words starts os q (operands.Slot next) d t tt rest)
+  operations_words starts (ThenPointer o a os) p l d t left (first, rest) =
+      let slot = value_slot starts a (behind_left o t) in
+      let inner = expression_code starts a p slot (behind_left o t) in
+      let operand = code_unless (operand_of starts a) inner in
+      let next = next_slot os d t in
+      let front = pointer_code o l (value_operand starts a (behind_left o t)) operand next in
+      append front (operations_code starts os (p + length front) (operands.Slot next) d t)
+      (append operand _ (unless_words (operand_of starts a) inner (expression_words starts a p slot (behind_left o t) first)) (pointer_words o l (value_operand starts a (behind_left o t)) next left (known_word starts a slot first)))
+      (operations_words starts os (p + length front) (operands.Slot next) d t tt rest)
+  operations_words starts (ThenPointerPeek n o a os) p l d t left (first, rest) =
+      let slot = value_slot starts a (behind_left o t) in
+      let inner = expression_code starts a p slot (behind_left o t) in
+      let operand = code_unless (operand_of starts a) inner in
+      let next = next_slot os d t in
+      let front = pointer_code o l (value_operand starts a (behind_left o t)) operand next in
+      append front (operations_code starts os (p + length front) (operands.Slot next) d t)
+      (append operand _ (unless_words (operand_of starts a) inner (expression_words starts a p slot (behind_left o t) first)) (pointer_words o l (value_operand starts a (behind_left o t)) next left (known_word starts a slot first)))
+      (operations_words starts os (p + length front) (operands.Slot next) d t tt rest)
 
+module _ (starts : Starts) where
   assignment_words : (l : Lvalue) (c : Converted) (p t : ℕ) → IsOfWordsConverted c → HaveWords (assignment_code starts l c p t)
-  assignment_words (Local w n) c p t words = initial_words c p (slot_of starts n) t words
-  assignment_words (Global n) c p t words = append (converted_operand_code starts c p t) _ (converted_operand_words c p t words) (converted_word c t words, tt)
+  assignment_words (Local w n) c p t words = initial_words starts c p (slot_of starts n) t words
+  assignment_words (Global n) c p t words = append (converted_operand_code starts c p t) _ (converted_operand_words starts c p t words) (converted_word starts c t words, tt)
 
   discarded_words : (a : Expression) (p t : ℕ) → IsOfWords a → HaveWords (discarded_code starts a p t)
-  discarded_words (Call callees.Putchar cs ty) p t words = append (printed_code starts cs p t) _ (printed_words cs p t words) (printed_word cs (operands.Slot t) t words tt, tt)
+  discarded_words (Call callees.Putchar cs ty) p t words = append (printed_code starts cs p t) _ (printed_words starts cs p t words) (printed_word starts cs (operands.Slot t) t words tt, tt)
   discarded_words (Assign l c ty) p t words = assignment_words l c p t words
   discarded_words (Store x c ty) p t (first, second) =
       let address = store_address_code starts x p t in
       let value = converted_operand_code starts c (p + length address) (t + 1) in
-      append address _ (address_of_words x p t t first) (append value _ (converted_operand_words c (p + length address) (t + 1) second) ((tt, omega arith, converted_word c (t + 1) second), tt))
-  discarded_words a p t words = unless_words (operand_of starts a) (expression_code starts a p t t) (expression_words a p t t words)
+      append address _ (address_of_words starts x p t t first) (append value _ (converted_operand_words starts c (p + length address) (t + 1) second) ((tt, omega arith, converted_word starts c (t + 1) second), tt))
+  discarded_words a p t words = unless_words (operand_of starts a) (expression_code starts a p t t) (expression_words starts a p t t words)
 
   -- ---- statements
 
@@ -400,8 +417,8 @@ module _ (starts : Starts) where
       let slot = slot_with starts (operand_of starts b) a t in
       let front = first_code starts a b p t in
       let q = p + length front in
-      append front (second_code starts b q t) (unless_words (left_with (operand_of starts b) (operand_of starts a)) (expression_code starts a p slot t) (expression_words a p slot t first))
-      (unless_words (operand_of starts b) (expression_code starts b q (value_slot starts b (suc t)) (suc t)) (expression_words b q (value_slot starts b (suc t)) (suc t) second))
+      append front (second_code starts b q t) (unless_words (left_with (operand_of starts b) (operand_of starts a)) (expression_code starts a p slot t) (expression_words starts a p slot t first))
+      (unless_words (operand_of starts b) (expression_code starts b q (value_slot starts b (suc t)) (suc t)) (expression_words starts b q (value_slot starts b (suc t)) (suc t) second))
 
   condition_words : (a : Expression) (p t : ℕ) → IsOfWords a → HaveWords (condition_code starts a p t)
   condition_words a p t words =
@@ -413,7 +430,7 @@ module _ (starts : Starts) where
       let (first, second) = compared_words a words in
       let left = (compared_of a).left in
       let right = (compared_of a).right in
-      (left_with_word (operand_of starts right) left (slot_with starts (operand_of starts right) left t) first, known_word right (value_slot starts right (suc t)) second)
+      (left_with_word starts (operand_of starts right) left (slot_with starts (operand_of starts right) left t) first, known_word starts right (value_slot starts right (suc t)) second)
 
   leave_words : (first t : ℕ) → HaveWords (leave_code first t)
   leave_words first t = by (first == t)
@@ -432,16 +449,16 @@ module _ (starts : Starts) where
       let conversion = conversion_code starts to (operands.Slot s) (p + length front) in
       append ((front ++ conversion) ++ leave_code exits.first_record t) _
       (append (front ++ conversion) (leave_code exits.first_record t)
-      (append front conversion (unless_slot_words known inner (expression_words a p t t words)) (conversion_words starts to (operands.Slot s) (p + length front) tt)) (leave_words exits.first_record t))
+      (append front conversion (unless_slot_words known inner (expression_words starts a p t t words)) (conversion_words starts to (operands.Slot s) (p + length front) tt)) (leave_words exits.first_record t))
       (tt, tt)
 
   declaration_words : (n : ℕ) (v : Option Converted) (p t : ℕ) → IsOfWordsInitial v → HaveWords (declaration_code starts n v p t)
   declaration_words n None p t words = tt
-  declaration_words n (Some c) p t words = initial_words c p (slot_of starts n) t words
+  declaration_words n (Some c) p t words = initial_words starts c p (slot_of starts n) t words
 
   side_words : (a : Side) (p t : ℕ) → IsOfWordsSide a → HaveWords (side_code starts a p t)
   side_words (VariableSide l ty) p t words = tt
-  side_words (CellSide x) p t words = address_of_words x p t t words
+  side_words (CellSide x) p t words = address_of_words starts x p t t words
 
   read_words : (a : Side) (s d : ℕ) → IsMade (read_side starts a s d)
   read_words (VariableSide (Local w n) ty) s d = tt
@@ -468,7 +485,7 @@ module _ (starts : Starts) where
   throw_words tag (Some a) p exits t words =
       let slot = value_slot starts a t in
       let inner = expression_code starts a p slot t in
-      append (code_unless (operand_of starts a) inner) _ (unless_words (operand_of starts a) inner (expression_words a p slot t words)) ((omega arith, known_word a slot words), tt)
+      append (code_unless (operand_of starts a) inner) _ (unless_words (operand_of starts a) inner (expression_words starts a p slot t words)) ((omega arith, known_word starts a slot words), tt)
 
   caught_words : (x : Option ℕ) (t : ℕ) → HaveWords (caught_code starts x t)
   caught_words None t = tt

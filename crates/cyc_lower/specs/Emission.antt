@@ -33,7 +33,7 @@ Gives answer result old new code = IfOk result (λ given. (given ≡ answer) × 
 
 -- where things begin, as the code has it
 abbrev pub view_starts : StartsCode → Starts
-view_starts starts = record { locals = starts.locals.now; structs = map view_struct starts.structs.now; raises = starts.raises }
+view_starts starts = record { locals = starts.locals.now; structs = map view_struct starts.structs.now; raises = starts.raises; counters = starts.counters.now }
 
 -- Slots are numbers that a word holds: a function has fewer locals than this, and of its temporaries no more are in use than
 -- there are instructions before.

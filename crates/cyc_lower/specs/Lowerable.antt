@@ -4,7 +4,7 @@ use Rattle.std.specs.Prelude.{◌≡◌, ℕ, ◌<◌, Bool, true, false, not, �
 use Rattle.cyc_types.specs.declared.typed.PointerOperator.{PointerOperator}
 use Rattle.cyc_types.specs.declared.typed.PointerOperator.TheVariants as pointers
 use Rattle.cyc_types.specs.Types.{Ty, words_of}
-use Rattle.cyc_types.specs.TypedTrees.{Load, New, OnHeap, AsUnique, Initial, Plain, Fields, Dereference, Target, Lvalue, Local, Global, Expression, Number, NullPointer, Copy, Call, Unary, Binary, Assign, Converted, Convert, Arguments, NoArguments, MoreArguments, Operations, NoOperations, ThenCompute, ThenTest, ThenPointer, Statement, Block, Empty, Evaluate, If, While, Return, Break, Continue, Items, NoItems, MoreItems, Execute, Declare, Signature, Function, Program, Move, Peek, ThenPointerPeek, AddressOfCell, Store, Member, FreeUnique, Side, VariableSide, CellSide, Swap, peeked, Throw, Try, Clauses, NoClauses, Default, Case}
+use Rattle.cyc_types.specs.TypedTrees.{Array, Counter, Load, New, OnHeap, Initial, Plain, Fields, Dereference, Target, Lvalue, Local, Global, Expression, Number, NullPointer, Copy, Call, Unary, Binary, Assign, Converted, Convert, Arguments, NoArguments, MoreArguments, Operations, NoOperations, ThenCompute, ThenTest, ThenPointer, Statement, Block, Empty, Evaluate, If, While, Return, Break, Continue, Items, NoItems, MoreItems, Execute, Declare, Signature, Function, Program, Move, Peek, ThenPointerPeek, AddressOfCell, Store, Member, AsUnique, FreeUnique, Side, VariableSide, CellSide, Swap, peeked, Throw, Try, Clauses, NoClauses, Default, Case}
 use Rattle.cyc_words.specs.Word.{IsWord}
 use Rattle.cyc_types.specs.typing.Scopes.{signature_of_ints}
 use Rattle.cyc_types.specs.Numbered.{Numbering, IsSignature, IsWithin, argument_count, numbering_of, signatures_of}
@@ -43,12 +43,14 @@ abbrev mutual
   IsLowerable b (Copy l t) = IsWithin b l
   IsLowerable b (Move p n t) = IsWithin b (Local p n)
   IsLowerable b (Peek p n t) = IsWithin b (Local p n)
+  IsLowerable b (Counter l) = Unit {0}
   IsLowerable b (Call f cs t) = (s : Signature) × IsSignature b f s × (argument_count cs ≡ length s.parameters) × AreLowerableArguments b cs
   IsLowerable b (Unary o a) = IsLowerable b a
   IsLowerable b (Binary a os t) = IsLowerable b a × AreLowerableOperations b os
   IsLowerable b (Assign l c t) = HasPlace b l (passed_words c) × IsLowerableConverted b c
   IsLowerable b (Load x) = IsLowerableCell b x
   IsLowerable b (FreeUnique a) = IsLowerable b a
+  IsLowerable b (New OnHeap (Array w level n kind a) t) = (words_of_kind kind ≡ 1) × IsLowerable b n × IsLowerable b a
   IsLowerable b (New OnHeap i t) = IsLowerableObject b i
   IsLowerable b (New AsUnique i t) = IsLowerableObject b i
   IsLowerable b (AddressOfCell x t) = IsLowerableCell b x

@@ -4,7 +4,7 @@
 --
 -- A value has as many slots as its kind has words, one behind the other. A global has one word yet, the first of its value. There is
 -- code for the int language and more; a form that is not built has a constant in its place, which nothing runs.
-use Rattle.std.specs.Prelude.{ℕ, zero, suc, ◌+◌, ◌%◌, ◌^◌, max, ◌==◌, Bool, false, if◌then◌else◌, List, [], ◌∷◌, ◌++◌, length, map, Option, None, Some}
+use Rattle.std.specs.Prelude.{ℕ, zero, suc, ◌+◌, max, ◌==◌, Bool, false, if◌then◌else◌, List, [], ◌∷◌, ◌++◌, length, map, Option, None, Some, slice_get, ◌%◌, ◌^◌}
 use Rattle.cyc_words.specs.declared.span.Span.{Span}
 use Rattle.cyc_syntax.specs.Symbols.{Place}
 use Rattle.cyc_types.specs.declared.typed.Kind.{Kind}
@@ -20,7 +20,7 @@ use Rattle.cyc_types.specs.declared.typed.LogicalOperator.{LogicalOperator}
 use Rattle.cyc_types.specs.declared.typed.LogicalOperator.TheVariants as logical
 use Rattle.cyc_types.specs.Types.{Ty, words_of}
 use Rattle.cyc_types.specs.Numbered.{argument_count}
-use Rattle.cyc_types.specs.TypedTrees.{Load, New, OnHeap, AsUnique, Initial, Plain, Fields, Dereference, Target, Lvalue, Local, Global, Expression, Number, NullPointer, Copy, Call, Unary, Binary, Assign, Converted, Convert, Arguments, NoArguments, MoreArguments, Operations, NoOperations, ThenCompute, ThenTest, ThenPointer, ThenPointerPeek, Statement, Block, Empty, Evaluate, If, While, Return, Break, Continue, Items, NoItems, MoreItems, Execute, Declare, Constant, Word, Null, GlobalVariable, StructType, Function, Program, Move, Peek, AddressOfCell, Store, Member, Element, FreeUnique, Side, VariableSide, CellSide, Swap, Throw, Try, Clauses, NoClauses, Default, Case}
+use Rattle.cyc_types.specs.TypedTrees.{Array, Counter, Load, New, OnHeap, Initial, Plain, Fields, Dereference, Target, Lvalue, Local, Global, Expression, Number, NullPointer, Copy, Call, Unary, Binary, Assign, Converted, Convert, Arguments, NoArguments, MoreArguments, Operations, NoOperations, ThenCompute, ThenTest, ThenPointer, ThenPointerPeek, Statement, Block, Empty, Evaluate, If, While, Return, Break, Continue, Items, NoItems, MoreItems, Execute, Declare, Constant, Word, Null, GlobalVariable, StructType, Function, Program, Move, Peek, AddressOfCell, Store, Member, Element, AsUnique, FreeUnique, Side, VariableSide, CellSide, Swap, Throw, Try, Clauses, NoClauses, Default, Case}
 use Rattle.cyc_plain.specs.declared.instruction.UnaryOperator.{UnaryOperator as PlainUnary}
 use Rattle.cyc_plain.specs.declared.instruction.UnaryOperator.TheVariants as plain_unary
 use Rattle.cyc_plain.specs.declared.instruction.BinaryOperator.{BinaryOperator as PlainBinary}
@@ -36,9 +36,9 @@ use Rattle.cyc_plain.specs.Program.{Routine, Program as PlainProgram}
 use Rattle.cyc_store.specs.declared.range.TheConstants.{HEAP, UNIQUE}
 use Rattle.cyc_plain.specs.declared.limits.TheConstants.{RECORD_WORDS}
 use Rattle.cyc_meaning.specs.Values.{words_of_kind}
-use Rattle.cyc_meaning.specs.Operators.{null_exception, division_by_zero, array_bounds, array_size}
-use Rattle.cyc_meaning.specs.FrameCount.{frame_count, items_need, kept_by_items, words_of_all}
-use Rattle.cyc_lower.specs.Slots.{Types, Starts, starts_of, slot_of, field_of}
+use Rattle.cyc_meaning.specs.Operators.{null_exception, array_size, division_by_zero, array_bounds}
+use Rattle.cyc_meaning.specs.FrameCount.{frame_count, items_need, words_of_all, kept_by_items}
+use Rattle.cyc_lower.specs.Slots.{Types, Starts, starts_of, slot_of, with_counter, counter_of, field_of}
 use Rattle.cyc_lower.specs.declared.operands.Condition.{Condition}
 use Rattle.cyc_lower.specs.declared.statements.Exits.{Exits}
 
@@ -300,6 +300,67 @@ object_code handle words d t =
     ++ instructions.Move d (operands.Slot (t + words))
     ∷ []
 
+-- ---- arrays
+
+-- the most elements that an array may have, each of one word
+abbrev pub most_elements : ℕ
+most_elements = 1000
+
+-- The length of an array in slot t is tested, and comes to slot x, and 0, as the index, to slot y.
+abbrev pub measured_code : Starts → (x y t : ℕ) → List Instruction
+measured_code starts x y t =
+    guard_code starts array_size comparisons.GreaterOrEqualUnsigned (operands.Slot t) (operands.Word (most_elements + 1))
+    ++ instructions.Move x (operands.Slot t)
+    ∷ instructions.Move y (operands.Word 0)
+    ∷ []
+
+-- A block is asked for of as many words as slot t tells, or of one where that is 0: their number comes to slot s, and the address to t.
+abbrev pub asked_code : (handle s t : ℕ) → List Instruction
+asked_code handle s t =
+    instructions.Unary plain_unary.Not s (operands.Slot t)
+    ∷ instructions.Binary plain_binary.Add s (operands.Slot s) (operands.Slot t)
+    ∷ instructions.Ask (requests.Allocate t (operands.Word handle) (operands.Slot s))
+    ∷ []
+
+-- a new array, whose length is in slot t: its address comes there, and its length and the index behind it
+abbrev pub begun_code : Starts → (handle t : ℕ) → List Instruction
+begun_code starts handle t = measured_code starts (t + 1) (t + 2) t ++ asked_code handle (t + 3) t
+
+-- The element in slot s comes to its cell of the array at the address in slot t, by the index in slot y, which goes to the next one.
+abbrev pub written_code : (head y s z t : ℕ) → List Instruction
+written_code head y s z t =
+    instructions.Binary plain_binary.ShiftLeft z (operands.Slot y) (operands.Word 2)
+    ∷ instructions.Binary plain_binary.Add z (operands.Slot t) (operands.Slot z)
+    ∷ instructions.Store (operands.Slot z) 0 (operands.Slot s)
+    ∷ instructions.Binary plain_binary.Add y (operands.Slot y) (operands.Word 1)
+    ∷ instructions.Jump head
+    ∷ []
+
+abbrev pub filled_code : (head t : ℕ) → List Instruction
+filled_code head t = written_code head (t + 2) (t + 3) (t + 4) t
+
+-- behind the last element the index in slot y is 0, and the pointer comes from slot t to slot d
+abbrev pub restarted_code : (d y t : ℕ) → List Instruction
+restarted_code d y t = instructions.Move y (operands.Word 0) ∷ copy_code 3 (operands.Slot t) d
+
+abbrev pub ended_code : (d t : ℕ) → List Instruction
+ended_code d t = restarted_code d (t + 2) t
+
+-- the index in slot y is behind the last element, by the length in slot x
+abbrev pub last_element : (x y : ℕ) → Condition
+last_element x y = record { failing = comparisons.Equal; left = operands.Slot y; right = operands.Slot x }
+
+-- the elements of an array, of which the code of each one stands behind the head
+abbrev pub elements_code : (element : List Instruction) → (head d t : ℕ) → List Instruction
+elements_code element head d t =
+    instructions.Branch comparisons.Equal (operands.Slot (t + 2)) (operands.Slot (t + 1)) (head + 1 + length (element ++ filled_code head t))
+    ∷ ((element ++ filled_code head t) ++ ended_code d t)
+
+-- the code of the length stands at place p, and that of an element is made for its place
+abbrev pub array_code : Starts → (count : List Instruction) → (element : ℕ → List Instruction) → (handle p d t : ℕ) → List Instruction
+array_code starts count element handle p d t =
+    count ++ (begun_code starts handle t ++ elements_code (element (p + length count + 6 + 1)) (p + length count + 6) d t)
+
 -- the unique block at an address is freed, where that is not 0
 abbrev pub free_code : Operand → (p : ℕ) → List Instruction
 free_code o p = jump_if_zero o (p + 2) ∷ instructions.Ask (requests.Free o) ∷ []
@@ -404,17 +465,23 @@ outside_loops t = record { head = 0; loop_record = t; first_record = t }
 abbrev pub inside_loop : (head t : ℕ) → Exits → Exits
 inside_loop head t exits = record { head = head; loop_record = t; first_record = exits.first_record }
 
+-- a counter that has a slot is in it
+abbrev pub counter_operand : Option ℕ → Option Operand
+counter_operand (Some slot) = Some (operands.Slot slot)
+counter_operand None = None
+
 -- Locals that have these first slots, in a program with these structs.
 module _ (starts : Starts) where
   -- ---- where values stand
 
-  -- what an expression is without code: a number, null, or a local
+  -- what an expression is without code: a number, null, a local, or a counter
   abbrev pub operand_of : Expression → Option Operand
   operand_of (Number n) = Some (operands.Word n)
   operand_of NullPointer = Some (operands.Word 0)
   operand_of (Copy (Local p n) t) = Some (operands.Slot (slot_of starts n))
   operand_of (Move p n t) = Some (operands.Slot (slot_of starts n))
   operand_of (Peek p n t) = Some (operands.Slot (slot_of starts n))
+  operand_of (Counter l) = counter_operand (slice_get starts.counters l)
   operand_of a = None
 
   abbrev pub left_of : Expression → Operations → Option Operand
@@ -472,147 +539,150 @@ module _ (starts : Starts) where
   load_code words (Local p n) d = move_of words d (operands.Slot (slot_of starts n)) ∷ []
   load_code words (Global n) d = instructions.LoadGlobal d n ∷ []
 
-  -- The code of an expression that begins at place p and brings its value to slot d, with temporaries from slot t on.
-  abbrev mutual
-    pub expression_code : Expression → (p d t : ℕ) → List Instruction
-    expression_code (Number n) p d t = instructions.Move d (operands.Word n) ∷ []
-    expression_code NullPointer p d t = instructions.Move d (operands.Word 0) ∷ []
-    expression_code (Copy l ty) p d t = load_code (words_of ty) l d
-    expression_code (Move w n ty) p d t = load_code (words_of ty) (Local w n) d
-    expression_code (Peek w n ty) p d t = load_code (words_of ty) (Local w n) d
-    expression_code (Call callees.Putchar cs ty) p d t =
-        printed_code cs p t
-        ++ instructions.WriteByte (printed_operand cs (operands.Slot t) t)
-        ∷ low_byte (printed_operand cs (operands.Slot t) t) d
-        ∷ []
-    expression_code (Call callees.Getchar cs ty) p d t = arguments_code cs p t ++ instructions.ReadByte d ∷ []
-    expression_code (Call (callees.Function n) cs ty) p d t =
-        arguments_code cs p t ++ instructions.Call n t (all_passed cs) d ∷ []
-    expression_code (Unary o a) p d t =
-        code_unless (operand_of a) (expression_code a p (value_slot a t) t)
-        ++ instructions.Unary (unary_operator o) d (value_operand a t)
-        ∷ []
-    expression_code (Binary a os ty) p d t =
-        code_unless (left_of a os) (expression_code a p (left_slot a os d t) t)
-        ++ operations_code os (p + length (code_unless (left_of a os) (expression_code a p (left_slot a os d t) t)))
-        (operand_or (left_of a os) (left_slot a os d t)) d t
-    expression_code (Assign (Local w n) c ty) p d t =
-        initial_code c p (slot_of starts n) t ++ copy_code (passed_words c) (operands.Slot (slot_of starts n)) d
-    expression_code (Assign (Global n) c ty) p d t =
-        (converted_operand_code c p t ++ instructions.StoreGlobal n (converted_operand c t) ∷ []) ++ copy_code (passed_words c) (converted_operand c t) d
-    expression_code (Load x) p d t = place_code x p t ++ instructions.Load d (place_operand x t) (place_offset x) ∷ []
-    expression_code (AddressOfCell x ty) p d t = addressed_by (place_code x p t) (place_operand x t) (place_offset x) d
-    expression_code (Store x c ty) p d t =
-        stored_by (addressed_by (place_code x p t) (place_operand x t) (place_offset x) t)
-        (converted_operand_code c (p + length (addressed_by (place_code x p t) (place_operand x t) (place_offset x) t)) (t + 1)) t (converted_operand c (t + 1))
-        ++ copy_code (passed_words c) (converted_operand c (t + 1)) d
-    expression_code (FreeUnique a) p d t =
-        code_unless (operand_of a) (expression_code a p (value_slot a t) t)
-        ++ free_code (value_operand a t) (p + length (code_unless (operand_of a) (expression_code a p (value_slot a t) t)))
-    expression_code (New OnHeap i ty) p d t = made_code i HEAP p d t
-    expression_code (New AsUnique i ty) p d t = made_code i UNIQUE p d t
-    expression_code a p d t = instructions.Move d (operands.Word 0) ∷ []
+-- The code of an expression that begins at place p and brings its value to slot d, with temporaries from slot t on.
+abbrev mutual
+  pub expression_code : (starts : Starts) → Expression → (p d t : ℕ) → List Instruction
+  expression_code starts (Number n) p d t = instructions.Move d (operands.Word n) ∷ []
+  expression_code starts NullPointer p d t = instructions.Move d (operands.Word 0) ∷ []
+  expression_code starts (Counter l) p d t = instructions.Move d (operands.Slot (counter_of starts l)) ∷ []
+  expression_code starts (Copy l ty) p d t = load_code starts (words_of ty) l d
+  expression_code starts (Move w n ty) p d t = load_code starts (words_of ty) (Local w n) d
+  expression_code starts (Peek w n ty) p d t = load_code starts (words_of ty) (Local w n) d
+  expression_code starts (Call callees.Putchar cs ty) p d t =
+      printed_code starts cs p t
+      ++ instructions.WriteByte (printed_operand starts cs (operands.Slot t) t)
+      ∷ low_byte (printed_operand starts cs (operands.Slot t) t) d
+      ∷ []
+  expression_code starts (Call callees.Getchar cs ty) p d t = arguments_code starts cs p t ++ instructions.ReadByte d ∷ []
+  expression_code starts (Call (callees.Function n) cs ty) p d t =
+      arguments_code starts cs p t ++ instructions.Call n t (all_passed cs) d ∷ []
+  expression_code starts (Unary o a) p d t =
+      code_unless (operand_of starts a) (expression_code starts a p (value_slot starts a t) t)
+      ++ instructions.Unary (unary_operator o) d (value_operand starts a t)
+      ∷ []
+  expression_code starts (Binary a os ty) p d t =
+      code_unless (left_of starts a os) (expression_code starts a p (left_slot starts a os d t) t)
+      ++ operations_code starts os (p + length (code_unless (left_of starts a os) (expression_code starts a p (left_slot starts a os d t) t)))
+      (operand_or (left_of starts a os) (left_slot starts a os d t)) d t
+  expression_code starts (Assign (Local w n) c ty) p d t =
+      initial_code starts c p (slot_of starts n) t ++ copy_code (passed_words c) (operands.Slot (slot_of starts n)) d
+  expression_code starts (Assign (Global n) c ty) p d t =
+      (converted_operand_code starts c p t ++ instructions.StoreGlobal n (converted_operand starts c t) ∷ []) ++ copy_code (passed_words c) (converted_operand starts c t) d
+  expression_code starts (Load x) p d t = place_code starts x p t ++ instructions.Load d (place_operand starts x t) (place_offset starts x) ∷ []
+  expression_code starts (AddressOfCell x ty) p d t = addressed_by (place_code starts x p t) (place_operand starts x t) (place_offset starts x) d
+  expression_code starts (Store x c ty) p d t =
+      stored_by (addressed_by (place_code starts x p t) (place_operand starts x t) (place_offset starts x) t)
+      (converted_operand_code starts c (p + length (addressed_by (place_code starts x p t) (place_operand starts x t) (place_offset starts x) t)) (t + 1)) t (converted_operand starts c (t + 1))
+      ++ copy_code (passed_words c) (converted_operand starts c (t + 1)) d
+  expression_code starts (FreeUnique a) p d t =
+      code_unless (operand_of starts a) (expression_code starts a p (value_slot starts a t) t)
+      ++ free_code (value_operand starts a t) (p + length (code_unless (operand_of starts a) (expression_code starts a p (value_slot starts a t) t)))
+  expression_code starts (New OnHeap i ty) p d t = made_code starts i HEAP p d t
+  expression_code starts (New AsUnique i ty) p d t = made_code starts i UNIQUE p d t
+  expression_code starts a p d t = instructions.Move d (operands.Word 0) ∷ []
 
-    -- a place that a pointer leads to, which is tested
-    pub place_code : Dereference → (p t : ℕ) → List Instruction
-    place_code (Target k a ty) p t = converted_by starts (operand_of a) (expression_code a p (value_slot a t) t) kinds.NonNull (value_operand a t) p
-    place_code (Member k a s f ty) p t = converted_by starts (operand_of a) (expression_code a p (value_slot a t) t) kinds.NonNull (value_operand a t) p
-    place_code (Element a i ty) p t = instructions.Move t (operands.Word 0) ∷ []
+  -- a place that a pointer leads to, which is tested
+  pub place_code : (starts : Starts) → Dereference → (p t : ℕ) → List Instruction
+  place_code starts (Target k a ty) p t = converted_by starts (operand_of starts a) (expression_code starts a p (value_slot starts a t) t) kinds.NonNull (value_operand starts a t) p
+  place_code starts (Member k a s f ty) p t = converted_by starts (operand_of starts a) (expression_code starts a p (value_slot starts a t) t) kinds.NonNull (value_operand starts a t) p
+  place_code starts (Element a i ty) p t = instructions.Move t (operands.Word 0) ∷ []
 
-    -- A new object in the region of this handle. Each of its cells has one word yet.
-    pub made_code : Initial → (handle p d t : ℕ) → List Instruction
-    made_code (Plain kind a) handle p d t = expression_code a p t t ++ object_code handle 1 d t
-    made_code (Fields cs) handle p d t = arguments_code cs p t ++ object_code handle (argument_count cs) d t
-    made_code i handle p d t = instructions.Move d (operands.Word 0) ∷ []
+  -- A new object in the region of this handle. Each of its cells has one word yet. The elements of an array have a counter.
+  pub made_code : (starts : Starts) → Initial → (handle p d t : ℕ) → List Instruction
+  made_code starts (Plain kind a) handle p d t = expression_code starts a p t t ++ object_code handle 1 d t
+  made_code starts (Fields cs) handle p d t = arguments_code starts cs p t ++ object_code handle (argument_count cs) d t
+  made_code starts (Array w level n kind a) handle p d t =
+      array_code starts (expression_code starts n p t t) (λ q. expression_code (with_counter starts (t + 2)) a q (t + 3) (t + 3)) handle p d t
 
-    -- each argument comes into the slots behind those of the one before
-    pub arguments_code : Arguments → (p t : ℕ) → List Instruction
-    arguments_code NoArguments p t = []
-    arguments_code (MoreArguments c cs) p t = converted_code c p t ++ arguments_code cs (p + length (converted_code c p t)) (t + passed_words c)
+  -- each argument comes into the slots behind those of the one before
+  pub arguments_code : (starts : Starts) → Arguments → (p t : ℕ) → List Instruction
+  arguments_code starts NoArguments p t = []
+  arguments_code starts (MoreArguments c cs) p t = converted_code starts c p t ++ arguments_code starts cs (p + length (converted_code starts c p t)) (t + passed_words c)
 
-    -- the value comes to slot t and is converted there
-    pub converted_code : Converted → (p t : ℕ) → List Instruction
-    converted_code (Convert from to a) p t =
-        expression_code a p t t ++ conversion_code starts to (operands.Slot t) (p + length (expression_code a p t t))
+  -- the value comes to slot t and is converted there
+  pub converted_code : (starts : Starts) → Converted → (p t : ℕ) → List Instruction
+  converted_code starts (Convert from to a) p t =
+      expression_code starts a p t t ++ conversion_code starts to (operands.Slot t) (p + length (expression_code starts a p t t))
 
-    -- the value is converted where it is
-    pub converted_operand_code : Converted → (p t : ℕ) → List Instruction
-    converted_operand_code (Convert from to a) p t =
-        converted_by starts (source_of (Convert from to a)) (expression_code a p (source_slot (Convert from to a) t) t) to (converted_operand (Convert from to a) t) p
+  -- the value is converted where it is
+  pub converted_operand_code : (starts : Starts) → Converted → (p t : ℕ) → List Instruction
+  converted_operand_code starts (Convert from to a) p t =
+      converted_by starts (source_of starts (Convert from to a)) (expression_code starts a p (source_slot starts (Convert from to a) t) t) to (converted_operand starts (Convert from to a) t) p
 
-    -- the arguments of `putchar`, of which there is one
-    pub printed_code : Arguments → (p t : ℕ) → List Instruction
-    printed_code NoArguments p t = []
-    printed_code (MoreArguments c cs) p t =
-        converted_operand_code c p t ++ printed_code cs (p + length (converted_operand_code c p t)) t
+  -- the arguments of `putchar`, of which there is one
+  pub printed_code : (starts : Starts) → Arguments → (p t : ℕ) → List Instruction
+  printed_code starts NoArguments p t = []
+  printed_code starts (MoreArguments c cs) p t =
+      converted_operand_code starts c p t ++ printed_code starts cs (p + length (converted_operand_code starts c p t)) t
 
-    -- Slot d gets the value. It is the last that happens, and nothing can be raised behind it.
-    pub initial_code : Converted → (p d t : ℕ) → List Instruction
-    initial_code (Convert from to a) p d t =
-        if converts_there from to
-        then expression_code a p d t
-        else moved_by starts (source_of (Convert from to a)) (expression_code a p (source_slot (Convert from to a) t) t) to (converted_operand (Convert from to a) t) p d
+  -- Slot d gets the value. It is the last that happens, and nothing can be raised behind it.
+  pub initial_code : (starts : Starts) → Converted → (p d t : ℕ) → List Instruction
+  initial_code starts (Convert from to a) p d t =
+      if converts_there from to
+      then expression_code starts a p d t
+      else moved_by starts (source_of starts (Convert from to a)) (expression_code starts a p (source_slot starts (Convert from to a) t) t) to (converted_operand starts (Convert from to a) t) p d
 
-    -- The left operand is l. It is t where an operator is a test, or where the right operand has code.
-    pub operations_code : Operations → (p : ℕ) → (l : Operand) → (d t : ℕ) → List Instruction
-    operations_code NoOperations p l d t = []
-    operations_code (ThenCompute o b os) p l d t =
-        compute_code starts o l (value_operand b (suc t)) (code_unless (operand_of b) (expression_code b p (value_slot b (suc t)) (suc t))) (next_slot os d t)
-        ++ operations_code os
-        (p + length (compute_code starts o l (value_operand b (suc t)) (code_unless (operand_of b) (expression_code b p (value_slot b (suc t)) (suc t))) (next_slot os d t)))
-        (operands.Slot (next_slot os d t)) d t
-    operations_code (ThenTest o b os) p l d t =
-        test_code o (expression_code b (p + 1) t t) p (next_slot os d t) t
-        ++ operations_code os (p + length (test_code o (expression_code b (p + 1) t t) p (next_slot os d t) t)) (operands.Slot (next_slot os d t)) d t
-    operations_code (ThenPointer o b os) p l d t =
-        pointer_code o l (value_operand b (behind_left o t)) (code_unless (operand_of b) (expression_code b p (value_slot b (behind_left o t)) (behind_left o t))) (next_slot os d t)
-        ++ operations_code os
-        (p + length (pointer_code o l (value_operand b (behind_left o t)) (code_unless (operand_of b) (expression_code b p (value_slot b (behind_left o t)) (behind_left o t))) (next_slot os d t)))
-        (operands.Slot (next_slot os d t)) d t
-    operations_code (ThenPointerPeek n o b os) p l d t =
-        pointer_code o l (value_operand b (behind_left o t)) (code_unless (operand_of b) (expression_code b p (value_slot b (behind_left o t)) (behind_left o t))) (next_slot os d t)
-        ++ operations_code os
-        (p + length (pointer_code o l (value_operand b (behind_left o t)) (code_unless (operand_of b) (expression_code b p (value_slot b (behind_left o t)) (behind_left o t))) (next_slot os d t)))
-        (operands.Slot (next_slot os d t)) d t
+  -- The left operand is l. It is t where an operator is a test, or where the right operand has code.
+  pub operations_code : (starts : Starts) → Operations → (p : ℕ) → (l : Operand) → (d t : ℕ) → List Instruction
+  operations_code starts NoOperations p l d t = []
+  operations_code starts (ThenCompute o b os) p l d t =
+      compute_code starts o l (value_operand starts b (suc t)) (code_unless (operand_of starts b) (expression_code starts b p (value_slot starts b (suc t)) (suc t))) (next_slot os d t)
+      ++ operations_code starts os
+      (p + length (compute_code starts o l (value_operand starts b (suc t)) (code_unless (operand_of starts b) (expression_code starts b p (value_slot starts b (suc t)) (suc t))) (next_slot os d t)))
+      (operands.Slot (next_slot os d t)) d t
+  operations_code starts (ThenTest o b os) p l d t =
+      test_code o (expression_code starts b (p + 1) t t) p (next_slot os d t) t
+      ++ operations_code starts os (p + length (test_code o (expression_code starts b (p + 1) t t) p (next_slot os d t) t)) (operands.Slot (next_slot os d t)) d t
+  operations_code starts (ThenPointer o b os) p l d t =
+      pointer_code o l (value_operand starts b (behind_left o t)) (code_unless (operand_of starts b) (expression_code starts b p (value_slot starts b (behind_left o t)) (behind_left o t))) (next_slot os d t)
+      ++ operations_code starts os
+      (p + length (pointer_code o l (value_operand starts b (behind_left o t)) (code_unless (operand_of starts b) (expression_code starts b p (value_slot starts b (behind_left o t)) (behind_left o t))) (next_slot os d t)))
+      (operands.Slot (next_slot os d t)) d t
+  operations_code starts (ThenPointerPeek n o b os) p l d t =
+      pointer_code o l (value_operand starts b (behind_left o t)) (code_unless (operand_of starts b) (expression_code starts b p (value_slot starts b (behind_left o t)) (behind_left o t))) (next_slot os d t)
+      ++ operations_code starts os
+      (p + length (pointer_code o l (value_operand starts b (behind_left o t)) (code_unless (operand_of starts b) (expression_code starts b p (value_slot starts b (behind_left o t)) (behind_left o t))) (next_slot os d t)))
+      (operands.Slot (next_slot os d t)) d t
 
+module _ (starts : Starts) where
   -- an assignment, and the operand where its value stands then
   abbrev pub assignment_code : Lvalue → Converted → (p t : ℕ) → List Instruction
-  assignment_code (Local w n) c p t = initial_code c p (slot_of starts n) t
-  assignment_code (Global n) c p t = converted_operand_code c p t ++ instructions.StoreGlobal n (converted_operand c t) ∷ []
+  assignment_code (Local w n) c p t = initial_code starts c p (slot_of starts n) t
+  assignment_code (Global n) c p t = converted_operand_code starts c p t ++ instructions.StoreGlobal n (converted_operand starts c t) ∷ []
 
   abbrev pub assigned_operand : Lvalue → Converted → (t : ℕ) → Operand
   assigned_operand (Local w n) c t = operands.Slot (slot_of starts n)
-  assigned_operand (Global n) c t = converted_operand c t
+  assigned_operand (Global n) c t = converted_operand starts c t
 
   -- The address of a place comes to slot t, and waits there for the right side.
   abbrev pub store_address_code : Dereference → (p t : ℕ) → List Instruction
-  store_address_code x p t = addressed_by (place_code x p t) (place_operand x t) (place_offset x) t
+  store_address_code x p t = addressed_by (place_code starts x p t) (place_operand starts x t) (place_offset starts x) t
 
   -- a value is stored in a cell
   abbrev pub store_code : Dereference → Converted → (p t : ℕ) → List Instruction
   store_code x c p t =
-      stored_by (store_address_code x p t) (converted_operand_code c (p + length (store_address_code x p t)) (t + 1)) t (converted_operand c (t + 1))
+      stored_by (store_address_code x p t) (converted_operand_code starts c (p + length (store_address_code x p t)) (t + 1)) t (converted_operand starts c (t + 1))
 
   -- the code of an expression whose value nobody wants
   abbrev pub discarded_code : Expression → (p t : ℕ) → List Instruction
   discarded_code (Call callees.Putchar cs ty) p t =
-      printed_code cs p t ++ instructions.WriteByte (printed_operand cs (operands.Slot t) t) ∷ []
+      printed_code starts cs p t ++ instructions.WriteByte (printed_operand starts cs (operands.Slot t) t) ∷ []
   discarded_code (Assign l c ty) p t = assignment_code l c p t
   discarded_code (Store x c ty) p t = store_code x c p t
-  discarded_code a p t = code_unless (operand_of a) (expression_code a p t t)
+  discarded_code a p t = code_unless (operand_of starts a) (expression_code starts a p t t)
 
   -- ---- statements
 
   -- Two operands that are compared, the left one first. It is taken without code only where the right one is too.
   abbrev pub first_operand : (a b : Expression) → (t : ℕ) → Operand
-  first_operand a b t = operand_or (left_with (operand_of b) (operand_of a)) (slot_with (operand_of b) a t)
+  first_operand a b t = operand_or (left_with (operand_of starts b) (operand_of starts a)) (slot_with starts (operand_of starts b) a t)
 
   abbrev pub first_code : (a b : Expression) → (p t : ℕ) → List Instruction
   first_code a b p t =
-      code_unless (left_with (operand_of b) (operand_of a)) (expression_code a p (slot_with (operand_of b) a t) t)
+      code_unless (left_with (operand_of starts b) (operand_of starts a)) (expression_code starts a p (slot_with starts (operand_of starts b) a t) t)
 
   abbrev pub second_code : Expression → (p t : ℕ) → List Instruction
-  second_code b p t = code_unless (operand_of b) (expression_code b p (value_slot b (suc t)) (suc t))
+  second_code b p t = code_unless (operand_of starts b) (expression_code starts b p (value_slot starts b (suc t)) (suc t))
 
   abbrev pub pair_code : (a b : Expression) → (p t : ℕ) → List Instruction
   pair_code a b p t = first_code a b p t ++ second_code b (p + length (first_code a b p t)) t
@@ -625,17 +695,17 @@ module _ (starts : Starts) where
   condition_of a t = record {
     failing = (compared_of a).failing;
     left = first_operand (compared_of a).left (compared_of a).right t;
-    right = value_operand (compared_of a).right (suc t);
+    right = value_operand starts (compared_of a).right (suc t);
   }
 
   -- A value is returned from a slot: that of a local, or t. It is converted before handlers are closed.
   abbrev pub return_code : Option Converted → (p : ℕ) → Exits → (t : ℕ) → List Instruction
   return_code None p exits t = leave_code exits.first_record t ++ instructions.Finish t ∷ []
   return_code (Some (Convert from to a)) p exits t =
-      code_unless_slot (source_of (Convert from to a)) (expression_code a p t t)
-      ++ conversion_code starts to (operands.Slot (slot_or (source_of (Convert from to a)) t)) (p + length (code_unless_slot (source_of (Convert from to a)) (expression_code a p t t)))
+      code_unless_slot (source_of starts (Convert from to a)) (expression_code starts a p t t)
+      ++ conversion_code starts to (operands.Slot (slot_or (source_of starts (Convert from to a)) t)) (p + length (code_unless_slot (source_of starts (Convert from to a)) (expression_code starts a p t t)))
       ++ leave_code exits.first_record t
-      ++ instructions.Finish (slot_or (source_of (Convert from to a)) t)
+      ++ instructions.Finish (slot_or (source_of starts (Convert from to a)) t)
       ∷ []
 
   -- The address of a side of a swap that is a cell comes to slot t. A variable has no code.
@@ -667,16 +737,16 @@ module _ (starts : Starts) where
   -- a local with an initial value gets it
   abbrev pub declaration_code : (number : ℕ) → Option Converted → (p t : ℕ) → List Instruction
   declaration_code n None p t = []
-  declaration_code n (Some c) p t = initial_code c p (slot_of starts n) t
+  declaration_code n (Some c) p t = initial_code starts c p (slot_of starts n) t
 
   -- what an exception tells, which is 0 where it has no int
   abbrev pub thrown_operand : Option Expression → (t : ℕ) → Operand
   thrown_operand None t = operands.Word 0
-  thrown_operand (Some a) t = value_operand a t
+  thrown_operand (Some a) t = value_operand starts a t
 
   abbrev pub thrown_code : Option Expression → (p t : ℕ) → List Instruction
   thrown_code None p t = []
-  thrown_code (Some a) p t = code_unless (operand_of a) (expression_code a p (value_slot a t) t)
+  thrown_code (Some a) p t = code_unless (operand_of starts a) (expression_code starts a p (value_slot starts a t) t)
 
   -- the local of a clause gets it
   abbrev pub caught_code : (number : Option ℕ) → (t : ℕ) → List Instruction
@@ -729,7 +799,7 @@ module _ (starts : Starts) where
 
 -- by which the code of a function is made, in a program with these structs, where blocks stand behind this place
 abbrev pub types_with : (raises : ℕ) → List StructType → Function → Types
-types_with raises structs h = record { locals = slot_types h; structs = structs; raises = raises }
+types_with raises structs h = record { locals = slot_types h; structs = structs; raises = raises; counters = [] }
 
 -- the code of its body
 abbrev pub body_code : Types → Function → List Instruction

@@ -4,7 +4,7 @@ use Rattle.std.specs.Prelude.{◌≤◌, List, [], ◌∷◌, Option, None, Some
 use Rattle.cyc_words.specs.Word.{IsWord}
 use Rattle.cyc_types.specs.Numbered.{argument_count}
 use Rattle.cyc_store.specs.declared.range.TheConstants.{MOST_BLOCK_WORDS}
-use Rattle.cyc_types.specs.TypedTrees.{Load, New, OnHeap, AsUnique, Initial, Plain, Fields, Dereference, Target, Expression, Number, NullPointer, Copy, Call, Unary, Binary, Assign, Converted, Convert, Arguments, NoArguments, MoreArguments, Operations, NoOperations, ThenCompute, ThenTest, ThenPointer, Statement, Block, Empty, Evaluate, If, While, Return, Break, Continue, Items, NoItems, MoreItems, Execute, Declare, Constant, Word, Null, GlobalVariable, Function, Program, Move, Peek, ThenPointerPeek, AddressOfCell, Store, Member, FreeUnique, Side, VariableSide, CellSide, Swap, Throw, Try, Clauses, NoClauses, Default, Case}
+use Rattle.cyc_types.specs.TypedTrees.{Array, Counter, Load, New, OnHeap, Initial, Plain, Fields, Dereference, Target, Expression, Number, NullPointer, Copy, Call, Unary, Binary, Assign, Converted, Convert, Arguments, NoArguments, MoreArguments, Operations, NoOperations, ThenCompute, ThenTest, ThenPointer, Statement, Block, Empty, Evaluate, If, While, Return, Break, Continue, Items, NoItems, MoreItems, Execute, Declare, Constant, Word, Null, GlobalVariable, Function, Program, Move, Peek, ThenPointerPeek, AddressOfCell, Store, Member, AsUnique, FreeUnique, Side, VariableSide, CellSide, Swap, Throw, Try, Clauses, NoClauses, Default, Case}
 
 abbrev mutual
   pub IsOfWords : Expression → Type 0
@@ -13,6 +13,7 @@ abbrev mutual
   IsOfWords (Copy l t) = Unit {0}
   IsOfWords (Move p n t) = Unit {0}
   IsOfWords (Peek p n t) = Unit {0}
+  IsOfWords (Counter l) = Unit {0}
   IsOfWords (Call f cs t) = AreOfWordsArguments cs
   IsOfWords (Unary o a) = IsOfWords a
   IsOfWords (Binary a os t) = IsOfWords a × AreOfWordsOperations os
@@ -34,7 +35,7 @@ abbrev mutual
   pub IsOfWordsObject : Initial → Type 0
   IsOfWordsObject (Plain kind a) = IsOfWords a
   IsOfWordsObject (Fields cs) = (argument_count cs ≤ MOST_BLOCK_WORDS) × AreOfWordsArguments cs
-  IsOfWordsObject i = ⊥
+  IsOfWordsObject (Array w level n kind a) = IsOfWords n × IsOfWords a
 
   pub IsOfWordsConverted : Converted → Type 0
   IsOfWordsConverted (Convert from to a) = IsOfWords a

@@ -13,7 +13,7 @@ pub(crate) const NULL_EXCEPTION: u32 = 1;
 
 const ARRAY_BOUNDS: u32 = 2;
 
-const ARRAY_SIZE: u32 = 3;
+pub(crate) const ARRAY_SIZE: u32 = 3;
 
 pub(crate) const DIVISION_BY_ZERO: u32 = 4;
 

@@ -7,13 +7,14 @@ ghost use Rattle.cyc_types.specs.TypedTrees.{Call};
 ghost use Rattle.cyc_meaning.specs.Values.{words_of_kind};
 ghost use Rattle.cyc_plain.specs.declared.instruction.Operand.TheVariants as operands;
 ghost use Rattle.cyc_plain.specs.declared.instruction.Instruction.TheVariants as instructions;
-ghost use Rattle.cyc_lower.specs.Lowering.{operand_of, operand_or, left_of, left_slot, value_operand, converted_operand, printed_operand, conversion_code, divisor_code, operator_code, truth_code, copy_code, all_passed, expression_code, arguments_code, converted_operand_code, printed_code, initial_code, assignment_code, assigned_operand, operations_code, discarded_code, condition_of, condition_code, first_two, index_code, pointer_instructions, stores_code, object_code, made_code, address_code, place_operand, place_offset, place_code, addressed_by, free_code};
+ghost use Rattle.cyc_lower.specs.Lowering.{operand_of, operand_or, left_of, left_slot, value_operand, converted_operand, printed_operand, check_code, conversion_code, divisor_code, operator_code, truth_code, copy_code, all_passed, expression_code, arguments_code, converted_operand_code, printed_code, initial_code, assignment_code, assigned_operand, operations_code, discarded_code, condition_of, condition_code, first_two, index_code, pointer_instructions, stores_code, object_code, made_code, address_code, place_operand, place_offset, place_code, addressed_by, measured_code, asked_code, begun_code, written_code, restarted_code, elements_code, last_element, free_code};
+ghost use Rattle.cyc_lower.specs.Slots.{with_counter};
 ghost use Rattle.cyc_lower.specs.Emission.{Appends, Gives, HasRoom, HasRoomFor, most_locals, value_code, source_code, slot_code, print_code, converted_slot, converted_slot_code, left_code, operation_code, IsChain, zero_condition, view_starts, pointer_operation_code};
 
-use crate::checks::{DIVISION_BY_ZERO, NULL_EXCEPTION};
+use crate::checks::{ARRAY_SIZE, DIVISION_BY_ZERO, NULL_EXCEPTION};
 use crate::emitter::Emitter;
 use crate::frame_count::{words_of, words_of_kind};
-use crate::locals::{field_of, slot_of};
+use crate::locals::{counter_of, field_of, slot_of, with_counter};
 use crate::operands::{
     Condition, are_as_wide, converts_there, index_of, is_in, operand_of, slot_behind,
     takes_operand, value_slot,
@@ -32,6 +33,9 @@ use cyc_types::typed::{
 };
 use std::alloc::AllocError;
 
+/// An array has at most so many elements, each of one word.
+const MOST_ELEMENTS: u32 = 1000;
+
 /// An object has at most as many words as a block.
 const MOST_OBJECT_WORDS: usize = 1000;
 
@@ -42,6 +46,17 @@ fn place_offset(starts: &Starts, place: &Dereference) -> u32
     match place {
         Dereference::Member { number, field, .. } => field_of(starts, *number, *field),
         Dereference::Target { .. } | Dereference::Element { .. } => 0,
+    }
+}
+
+/// An index is behind the last element of an array, by its length.
+fn last_element(words: usize, index: usize) -> Condition
+    ensures { result ≡ last_element words index }
+{
+    Condition {
+        failing: Comparison::Equal,
+        left: Operand::Slot { number: index },
+        right: Operand::Slot { number: words },
     }
 }
 
@@ -164,6 +179,124 @@ impl Emitter {
             destination: slot,
             source: Operand::Slot { number: address },
         })
+    }
+
+    /// The length of an array in `free` comes to a slot, and 0, as the index, to another. A length that is too large raises an
+    /// exception.
+    fn measure_array(
+        &mut self,
+        starts: &Starts,
+        words: usize,
+        index: usize,
+        free: usize,
+    ) -> Result<(), AllocError>
+        ensures { Appends result self.old self.new (measured_code (view_starts starts.now) words index free) }
+    {
+        let count = Operand::Slot { number: free };
+        let first = Operand::Word { word: 0 };
+        let limit = Operand::Word {
+            word: MOST_ELEMENTS + 1,
+        };
+        self.guard(
+            starts,
+            ARRAY_SIZE,
+            Comparison::GreaterOrEqualUnsigned,
+            count,
+            limit,
+        )?;
+        self.emit(Instruction::Move {
+            destination: words,
+            source: count,
+        })?;
+        self.emit(Instruction::Move {
+            destination: index,
+            source: first,
+        })
+    }
+
+    /// A block is asked for of as many words as the slot `free` tells, or of one where that is 0. Its address comes there.
+    fn ask_for_array(&mut self, handle: u32, size: usize, free: usize) -> Result<(), AllocError>
+        ensures { Appends result self.old self.new (asked_code handle size free) }
+    {
+        let count = Operand::Slot { number: free };
+        let words = Operand::Slot { number: size };
+        self.emit(Instruction::Unary {
+            operator: UnaryOperator::Not,
+            destination: size,
+            operand: count,
+        })?;
+        self.emit(Instruction::Binary {
+            operator: BinaryOperator::Add,
+            destination: size,
+            left: words,
+            right: count,
+        })?;
+        self.emit(Instruction::Ask {
+            request: Request::Allocate {
+                destination: free,
+                handle: Operand::Word { word: handle },
+                words,
+            },
+        })
+    }
+
+    /// A new array, whose length is in `free`. Its address comes there, and its length and the index to the slots behind it.
+    fn begin_array(&mut self, starts: &Starts, handle: u32, free: usize) -> Result<(), AllocError>
+        ensures { Appends result self.old self.new (begun_code (view_starts starts.now) handle free) }
+    {
+        let behind = slot_behind(free, Kind::Fat)?;
+        self.measure_array(starts, behind - 2, behind - 1, free)?;
+        self.ask_for_array(handle, behind, free)
+    }
+
+    /// An element comes to its cell of an array, by an index, which goes to the next one.
+    fn write_element(
+        &mut self,
+        head: usize,
+        index: usize,
+        element: usize,
+        address: usize,
+        free: usize,
+    ) -> Result<(), AllocError>
+        ensures { Appends result self.old self.new (written_code head index element address free) }
+    {
+        let number = Operand::Slot { number: index };
+        let cell = Operand::Slot { number: address };
+        self.emit(Instruction::Binary {
+            operator: BinaryOperator::ShiftLeft,
+            destination: address,
+            left: number,
+            right: Operand::Word { word: 2 },
+        })?;
+        self.emit(Instruction::Binary {
+            operator: BinaryOperator::Add,
+            destination: address,
+            left: Operand::Slot { number: free },
+            right: cell,
+        })?;
+        self.emit(Instruction::Store {
+            address: cell,
+            offset: 0,
+            source: Operand::Slot { number: element },
+        })?;
+        self.emit(Instruction::Binary {
+            operator: BinaryOperator::Add,
+            destination: index,
+            left: number,
+            right: Operand::Word { word: 1 },
+        })?;
+        self.emit(Instruction::Jump { target: head })
+    }
+
+    /// Behind the last element the index is 0, and the pointer comes to its slot.
+    fn end_array(&mut self, slot: usize, index: usize, free: usize) -> Result<(), AllocError>
+        ensures { Appends result self.old self.new (restarted_code slot index free) }
+    {
+        self.emit(Instruction::Move {
+            destination: index,
+            source: Operand::Word { word: 0 },
+        })?;
+        self.copy(Kind::Fat, Operand::Slot { number: free }, slot)
     }
 
     /// An address comes to a slot: the word of an operand, and so many bytes more.
@@ -291,10 +424,15 @@ impl Emitter {
                 };
                 self.load(starts, words_of(of_type), place, slot)
             }
+            Expr::Counter { level, .. } => self.emit(Instruction::Move {
+                destination: slot,
+                source: Operand::Slot {
+                    number: counter_of(starts, *level),
+                },
+            }),
             // `NULL` is 0, and the others are not built yet.
             Expr::NullPointer
             | Expr::HeapRegion
-            | Expr::Counter { .. }
             | Expr::AddressOf { .. }
             | Expr::NumberOfElements { .. }
             | Expr::FreeKey { .. } => self.emit_missing(slot),
@@ -384,8 +522,44 @@ impl Emitter {
                 self.lower_arguments(starts, values, free)?;
                 self.make_object(handle, values.len(), slot, free)
             }
-            Initial::Array { .. } => self.emit_missing(slot),
+            Initial::Array {
+                length,
+                element,
+                ..
+            } => {
+                self.lower_expression(starts, length, free, free)?;
+                self.begin_array(starts, handle, free)?;
+                self.lower_elements(starts, element, slot, free)
+            }
         }
+    }
+
+    /// The elements of an array, one after the other. Its pointer is in the first free slots, with the counter as its index, and
+    /// then comes to a slot.
+    #[cycle(expression)]
+    fn lower_elements(
+        &mut self,
+        starts: &Starts,
+        element: &Expr,
+        slot: usize,
+        free: usize,
+    ) -> Result<(), AllocError>
+        ensures { Appends result self.old self.new (elements_code (expression_code (with_counter (view_starts starts.now) (free + 2)) (view_expression element.now) (length self.old.code.items + 1) (free + 3) (free + 3)) (length self.old.code.items) slot free) }
+    {
+        let behind = slot_behind(free, Kind::Fat)?;
+        let counters = with_counter(starts, behind - 1)?;
+        let inner = Starts {
+            locals: starts.locals,
+            structs: starts.structs,
+            raises: starts.raises,
+            counters: &counters,
+            alloc: starts.alloc,
+        };
+        let head = self.reserve()?;
+        self.lower_expression(&inner, element, behind, behind)?;
+        self.write_element(head, behind - 1, behind, behind + 1, free)?;
+        self.jump_here_if_failing(head, last_element(behind - 2, behind - 1));
+        self.end_array(slot, behind - 1, free)
     }
 
     /// An expression is an operand: it has no code, or its code brings the value to a slot.

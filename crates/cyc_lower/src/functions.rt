@@ -79,12 +79,16 @@ fn lower_function(
         locals: &locals,
         structs,
         raises: 0,
+        counters: &[],
+        alloc,
     };
     let raises = lower_body(alloc, &anywhere, function, free)?.place();
     let starts = Starts {
         locals: &locals,
         structs,
         raises,
+        counters: &[],
+        alloc,
     };
     let mut emitter = lower_body(alloc, &starts, function, free)?;
     emitter.emit(Instruction::Finish { value: free })?;

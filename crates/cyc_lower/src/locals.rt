@@ -1,10 +1,10 @@
 //! The slots of a function's locals, by their types.
-ghost use Rattle.std.specs.Prelude.{◌≡◌, ◌+◌, ◌≤◌, ◌++◌, map, IfOk};
+ghost use Rattle.std.specs.Prelude.{◌≡◌, ◌+◌, ◌≤◌, ◌++◌, [], ◌∷◌, map, IfOk};
 ghost use Rattle.cyc_types.specs.Types.{words_of};
 ghost use Rattle.cyc_types.specs.TypeView.{view_ty};
 ghost use Rattle.cyc_types.specs.TypedTreeView.{view_function};
 ghost use Rattle.cyc_meaning.specs.FrameCount.{words_of_all, frame_count};
-ghost use Rattle.cyc_lower.specs.Slots.{starts_from, bytes_from, field_of, slot_of};
+ghost use Rattle.cyc_lower.specs.Slots.{starts_from, bytes_from, field_of, slot_of, counter_of};
 ghost use Rattle.cyc_lower.specs.Lowering.{slot_types, first_temporary};
 ghost use Rattle.cyc_lower.specs.Emission.{most_frame_count, view_starts};
 
@@ -22,6 +22,26 @@ pub(crate) fn slot_of(starts: &Starts, number: usize) -> usize
         Some(slot) => *slot,
         None => 0,
     }
+}
+
+/// The slot of the counter of this level.
+pub(crate) fn counter_of(starts: &Starts, level: usize) -> usize
+    ensures { result ≡ counter_of (view_starts starts.now) level }
+{
+    match starts.counters.get(level) {
+        Some(slot) => *slot,
+        None => 0,
+    }
+}
+
+/// The slots of the counters for the elements of an array, whose own counter has this slot.
+pub(crate) fn with_counter(starts: &Starts, slot: usize) -> Result<Vec<usize>, AllocError>
+    ensures { IfOk result (λ counters. counters.items ≡ starts.now.counters.now ++ slot ∷ []) }
+{
+    let mut counters = Vec::new(starts.alloc);
+    counters.extend_from_slice(starts.counters)?;
+    counters.push(slot)?;
+    Ok(counters)
 }
 
 /// How many bytes the field of this number is behind its struct.

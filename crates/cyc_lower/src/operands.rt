@@ -23,7 +23,7 @@ pub(crate) struct Condition {
     pub(crate) right: Operand,
 }
 
-/// What an expression is without code: a number, null, or a local.
+/// What an expression is without code: a number, null, a local, or a counter.
 pub(crate) fn operand_of(starts: &Starts, value: &Expr) -> Option<Operand>
     ensures { result ≡ operand_of (view_starts starts.now) (view_expression value.now) }
 {
@@ -39,6 +39,10 @@ pub(crate) fn operand_of(starts: &Starts, value: &Expr) -> Option<Operand>
         Expr::Move { number, .. } | Expr::Peek { number, .. } => Some(Operand::Slot {
             number: slot_of(starts, *number),
         }),
+        Expr::Counter { level, .. } => match starts.counters.get(*level) {
+            Some(slot) => Some(Operand::Slot { number: *slot }),
+            None => None,
+        },
         _ => None,
     }
 }

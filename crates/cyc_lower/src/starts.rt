@@ -2,13 +2,17 @@
 ghost use Rattle.std.specs.Prelude.{◌^◌, ◌<◌};
 
 use cyc_types::typed::StructType;
+use std::alloc::Global;
 
-/// What tells where things begin: the first slots of a function's locals, the structs of its program, for their fields, and
-/// the place behind which the blocks stand that raise exceptions.
+/// What tells where things begin: the first slots of a function's locals, the structs of its program, for their fields, the
+/// place behind which the blocks stand that raise exceptions, and the slots of the counters of the arrays around, the outermost
+/// first.
 #[derive(Clone, Copy)]
 pub(crate) struct Starts<'a> {
     pub(crate) locals: &'a [usize],
     pub(crate) structs: &'a [StructType],
     pub(crate) raises: usize,
+    pub(crate) counters: &'a [usize],
+    pub(crate) alloc: Global,
     pub(crate) ghost low: { raises < 2 ^ 63 },
 }

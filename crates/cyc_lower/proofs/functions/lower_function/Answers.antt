@@ -1,4 +1,4 @@
-use Rattle.std.proofs.Common.{◌≡◌, ℕ, ◌+◌, List, map, ap, ◌∙◌, arith}
+use Rattle.std.proofs.Common.{◌≡◌, ℕ, ◌+◌, List, map, ap, ◌∙◌, arith, []}
 use Rattle.cyc_types.specs.declared.typed.Item.{Item}
 use Rattle.cyc_types.specs.TypeView.{view_ty}
 use Rattle.cyc_types.specs.TypedTreeView.{view_struct, view_function, items_of}
@@ -53,9 +53,9 @@ returns c =
     let code : c.lower_blocks.new.self.code.items ≡ function_code structs h =
     function_made structs h c.in_ok-locals.locals.items free raises c.in_ok-lower_body.field-0.code.items c.in_ok-emitter.emitter.code.items c.emit.new.self.code.items c.lower_blocks.new.self.code.items
     c.in_ok-locals.ensures.0 c.in_ok-locals.ensures.1
-    (c.in_ok-lower_body.ensures ∙ ap (λ (l : List ℕ). items_code (record { locals = l; structs = structs; raises = 0 }) h.body 0 (outside_loops free) free) c.deref.ensures.value)
+    (c.in_ok-lower_body.ensures ∙ ap (λ (l : List ℕ). items_code (record { locals = l; structs = structs; raises = 0; counters = [] }) h.body 0 (outside_loops free) free) c.deref.ensures.value)
     c.place-raises.ensures
-    (c.in_ok-emitter.ensures ∙ ap (λ (l : List ℕ). items_code (record { locals = l; structs = structs; raises = raises }) h.body 0 (outside_loops free) free) c.deref-2.ensures.value)
+    (c.in_ok-emitter.ensures ∙ ap (λ (l : List ℕ). items_code (record { locals = l; structs = structs; raises = raises; counters = [] }) h.body 0 (outside_loops free) free) c.deref-2.ensures.value)
     c.in_ok-emit.ensures c.in_ok-lower_blocks.ensures in
     λ i. record {
       name = span_of_place h.place;

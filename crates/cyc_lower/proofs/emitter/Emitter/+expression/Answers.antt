@@ -7,11 +7,13 @@ use Rattle.cyc_types.specs.declared.typed.Operation.{Operation}
 use Rattle.cyc_types.specs.declared.typed.Converted.{Converted as ConvertedCode}
 use Rattle.cyc_meaning.specs.Values.{words_of_kind}
 use Rattle.cyc_types.specs.TypedTreeView.{view_dereference, view_expression, operations_of}
+use Rattle.cyc_plain.specs.declared.instruction.Operand.{Operand}
 use Rattle.cyc_plain.specs.declared.instruction.Operand.TheVariants as operands
+use Rattle.cyc_plain.specs.declared.instruction.Instruction.TheVariants as instructions
 use Rattle.cyc_plain.specs.declared.instruction.Instruction.{Instruction}
-use Rattle.cyc_lower.specs.Lowering.{copy_code, expression_code, conversion_code, test_jump, next_slot}
-use Rattle.cyc_lower.specs.Emission.{HasRoom, operation_code, view_starts}
-use Rattle.cyc_lower.proofs.Emitting.{Remains, all_arguments, one_argument, next_argument, arguments_lower, all_operations, one_operation, next_operation, operations_lower, goes_on, joined, passed_on, made_putchar, made_call, made_called, made_fields, made_binary, room_behind, made_left_alone, made_left_first, made_compute, made_test, room_after, slot_by_count, made_print, made_assigned, room_for_right, made_stored}
+use Rattle.cyc_lower.specs.Lowering.{value_operand, copy_code, expression_code, conversion_code, test_jump, next_slot}
+use Rattle.cyc_lower.specs.Emission.{Gives, left_code, HasRoom, operation_code, view_starts}
+use Rattle.cyc_lower.proofs.Emitting.{Remains, all_arguments, one_argument, next_argument, arguments_lower, all_operations, one_operation, next_operation, operations_lower, goes_on, joined, passed_on, made_putchar, made_call, made_called, made_fields, made_binary, room_behind, made_left_alone, made_left_first, made_compute, made_test, room_after, slot_by_count, made_print, made_assigned, room_for_right, made_stored, made_elements, made_left_operand}
 use Rattle.cyc_lower.proofs.emitter.Emitter.+expression.Goals.{lower_left-then-is_empty, lower_left-else-is_empty, lower_operations-then-behind-eq0, lower_operations-else-behind-eq0}
 use Rattle.cyc_lower.proofs.emitter.Emitter.+expression.Goals as goal
 
@@ -157,3 +159,20 @@ lower_expression-returns-in_ok-stored-in-Store t c =
     c.in_ok-take_address-in-Store.ensures c.in_ok-stored-in-Store.ensures.1
     (e ∙ ap (λ (z : ConvertedCode). c.store.new.self.code.items ++ copy_code (words_of_kind z.to) c.in_ok-stored-in-Store.stored c.args.slot) same))
     c.copy-in-Store.ensures
+
+pub lower_elements-returns : goal.lower_elements-returns
+lower_elements-returns t c =
+    on_ok_weaker c.end_array.result
+    (made_elements (view_starts c.args.starts.now) c.deref.result.now (view_expression c.args.element.now) c.args.self.now.code.items c.reserve.new.self.code.items c.lower_expression.new.self.code.items c.write_element.new.self.code.items c.jump_here_if_failing.new.self.code.items c.end_array.new.self.code.items
+    (instructions.Jump 0) c.last_element.result c.in_ok-head.head c.in_ok-behind.behind c.args.slot c.args.free c.in_ok-behind.ensures.0 (c.deref.ensures.value ∙ c.in_ok-counters.ensures) c.in_ok-head.ensures.0 c.in_ok-head.ensures.1
+    c.in_ok-lower_expression.ensures c.in_ok-write_element.ensures c.last_element.ensures c.jump_here_if_failing.ensures)
+    c.end_array.ensures
+
+pub lower_left-returns-then-takes_operand : goal.lower_left-returns-then-takes_operand
+lower_left-returns-then-takes_operand t c =
+    let starts = view_starts c.args.starts.now in
+    let a = view_expression c.args.first.now in
+    let os = operations_of c.args.rest.now in
+    let taken = made_left_operand starts a os c.args.self.now.code.items c.args.slot c.args.free (sym c.takes_operand.ensures ∙ c.if-takes_operand.true) in
+    subst (λ (o : Operand). Gives o c.lower_operand.result c.args.self.now c.lower_operand.new.self (left_code starts a os (length c.args.self.now.code.items) c.args.slot c.args.free)) taken.0
+    (subst (λ (l : List Instruction). Gives (value_operand starts a c.args.free) c.lower_operand.result c.args.self.now c.lower_operand.new.self l) taken.1 c.lower_operand.ensures)
