@@ -1,5 +1,5 @@
 -- What is accepted and built can be lowered: the typed tree of a text within the limits is numbered, its constants are words, and it
--- has fewer globals than the text has tokens.
+-- globals have no more words than the text has tokens.
 use Rattle.std.proofs.Common.{◌≡◌, ℕ, ◌+◌, ◌*◌, ◌≤◌, ◌<◌, Bool, true, false, ◌&&◌, List, [], ◌∷◌, ◌++◌, length, map, Option, Some, None, inl, inr, subst, arith}
 use Rattle.std.specs.Prelude.{if◌then◌else◌, ◌==◌, nat_le, IsTrue}
 use Rattle.std.specs.List.{AllByRecursion}
@@ -16,7 +16,7 @@ use Rattle.cyc_syntax.specs.Trees.{Declaration}
 use Rattle.cyc_syntax.specs.Grammar.{HasTree}
 use Rattle.cyc_syntax.specs.Weight.{tree_weight}
 use Rattle.cyc_syntax.proofs.WeightLemmas.{tree_weight-length}
-use Rattle.cyc_types.specs.TypedTrees.{Program}
+use Rattle.cyc_types.specs.TypedTrees.{Program, GlobalVariable}
 use Rattle.cyc_types.specs.typing.Programs.{IsTypedProgram}
 use Rattle.cyc_types.specs.Built.{is_built}
 use Rattle.cyc_types.specs.Weight.{program_weight}
@@ -27,6 +27,15 @@ use Rattle.cyc_lower.proofs.LowerableLemmas.{lowerable_program}
 use Rattle.cyc_lower.specs.Lowered.{CanBeLowered}
 use Rattle.cyc_lower.proofs.TreeConstants.{IsOfWordsTerminal, AreOfWordsSymbols, tree_constants}
 use Rattle.cyc_lower.proofs.TypedConstants.{typed_constants}
+use Rattle.cyc_meaning.specs.FrameCount.{words_of_all}
+use Rattle.cyc_meaning.specs.Values.{kind_of}
+use Rattle.cyc_lower.specs.Slots.{global_types}
+use Rattle.cyc_lower.proofs.Widths.{kind_few, type_words}
+
+-- a global has at most three words
+globals_few : (gs : List GlobalVariable) → words_of_all (global_types gs) ≤ 3 * length gs
+globals_few [] = omega arith
+globals_few (g ∷ gs) = omega (arith, type_words g.of_type, kind_few (kind_of g.of_type), globals_few gs)
 
 pub can_be_lowered : (texts : List (List ℕ)) (symbols : List Symbol) (tree : List Declaration) (p : Program)
     → HasTree symbols tree → AreOfWordsSymbols symbols → tree_weight tree ≤ max_tokens → IsTypedProgram texts tree p → is_built p ≡ true → CanBeLowered p
@@ -36,7 +45,7 @@ can_be_lowered texts symbols tree p has words light typed built =
     record {
       lowerable = lowerable_program p (program_well texts tree p typed) built;
       of_words = typed_constants texts tree p typed built (tree_constants symbols tree has words);
-      few_globals = omega arith;
+      few_globals = omega (arith, globals_few p.globals);
     }
 
 -- ---- the constants of a text's tokens

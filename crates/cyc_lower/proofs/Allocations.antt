@@ -1,8 +1,8 @@
 -- The steps that make objects: the store is asked for a block, and then each cell is written.
 use Rattle.std.proofs.Common.{◌≡◌, ℕ, zero, suc, ◌+◌, ◌*◌, ◌≤◌, ◌<◌, max, Bool, true, false, List, [], ◌∷◌, ◌++◌, length, reverse, Option, None, Some, slice_get, refl, sym, ap, subst, ◌∙◌, inl, inr, arith, length-append, append_assoc}
 use Rattle.std.proofs.lemmas.List.{length-reverse}
-use Rattle.std.specs.Prelude.{nat_le, nat_lt, ◌&&◌, if◌then◌else◌}
-use Rattle.std.proofs.lemmas.Bool.{le-leb, and_from, false_from_ne_true, leb-true, ltb-true, cases_Bool}
+use Rattle.std.specs.Prelude.{◌==◌, nat_le, nat_lt, ◌&&◌, if◌then◌else◌}
+use Rattle.std.proofs.lemmas.Bool.{le-leb, and_from, false_from_ne_true, leb-true, ltb-true, cases_Bool, eqb-true}
 use Rattle.std.proofs.Math.Nat.{le-max_left, mod-eq_of_lt}
 use Rattle.cyc_words.specs.Ending.{Full}
 use Rattle.cyc_words.specs.Word.{add_of}
@@ -36,7 +36,7 @@ use Rattle.cyc_meaning.specs.State.{Region, Owner, InRegion, Unique, World, Acce
 use Rattle.cyc_meaning.specs.Step.{wrong, stored, target_by, step}
 use Rattle.cyc_meaning.specs.Run.{is_within, limited_step}
 use Rattle.cyc_objects.specs.Tables.{Variable, Placed, Tables, with_row, Grows}
-use Rattle.cyc_objects.specs.Words.{words_of_kinds, before, Points}
+use Rattle.cyc_objects.specs.Words.{words_of_kinds, before, Points, Is, AreBlank}
 use Rattle.cyc_objects.specs.Related as objects
 use Rattle.cyc_objects.specs.Related.{has_home}
 use Rattle.cyc_objects.proofs.Values.{Grows-row}
@@ -44,11 +44,13 @@ use Rattle.cyc_objects.proofs.RegionLemmas.{counted-same}
 use Rattle.cyc_objects.proofs.NumberLemmas.{slice_get-below}
 use Rattle.cyc_objects.proofs.Making.{open-home, allocated, allocated-unique, refusal-allocate, refusal-unique, operands-blank, row-made, placed-range, room-fits}
 use Rattle.cyc_lower.specs.Lowering.{lower_program}
-use Rattle.cyc_lower.proofs.Widths.{kind_positive, Outside}
+use Rattle.cyc_lower.proofs.Widths.{kind_positive, wide_kind, Outside}
 use Rattle.cyc_lower.proofs.Stands.{StoresAt, ObjectAt}
 use Rattle.cyc_lower.proofs.Relation.{types_on, starts_on, IsWord, IsIn, IsObject, words_held, height, Holds, HoldsFrom, held, callers, homes, silent, DataIn, SharedAt, in_temporary, into_slot, LandsStack, ValueStack, Matches, code_of, bounds_at, types_at, base_of, top, IsHandleOf, contents, floor}
 use Rattle.cyc_lower.proofs.Data.{Is-same, height-least, one_word, Holds-same, Holds-rest, Holds-grows, HoldsFrom-grows, in_order, words-reverse, data_above, data_grows, variables_grow, contents_made, data_written}
 use Rattle.cyc_lower.proofs.Accesses.{IsWell, is_fitting}
+use Rattle.cyc_lower.proofs.Paths.{by_path}
+use Rattle.cyc_lower.proofs.WideCells.{store_links, store_path, store_last, shared_stored, data_stored}
 use Rattle.cyc_lower.proofs.CellWrites.{SameVariables, data_beside, cell_is_there, saves_there, shared_saved, data_saved}
 use Rattle.cyc_lower.proofs.Matched.{IsMatched, below, silently, by_places, by_one, shared_way, shared_within, place_in, known, Executes}
 use Rattle.cyc_lower.proofs.Evaluations.{IsStep, landed_moved}
@@ -62,10 +64,6 @@ add_is a b below = mod-eq_of_lt below
 words_many : (vs : List Kinded) → length vs ≤ words_held vs
 words_many [] = omega arith
 words_many (v ∷ vs) = omega (arith, words_many vs, kind_positive v.kind)
-
--- values of one word each
-one_each : (v : Kinded) (vs : List Kinded) → words_held (v ∷ vs) ≡ length (v ∷ vs) → (words_of_kind v.kind ≡ 1) × (words_held vs ≡ length vs)
-one_each v vs single = (omega (arith, single, words_many vs, kind_positive v.kind), omega (arith, single, words_many vs, kind_positive v.kind))
 
 words_blank : (vs : List Kinded) → words_of_cells (blanks_of vs) ≡ words_held vs
 words_blank [] = refl
@@ -98,10 +96,6 @@ max_one (suc n) some = omega (arith, some)
 size_fits : (vs : List Kinded) → 1 ≤ words_held vs → words_held vs ≤ MOST_BLOCK_WORDS → block_size (blanks_of vs) ≤ MOST_BLOCK_WORDS
 size_fits vs some few = omega (arith, max_one (words_held vs) some, sized vs some few, few)
 
-is_sized : (vs : List Kinded) → 1 ≤ words_held vs → words_held vs ≤ MOST_BLOCK_WORDS → is_size (block_size (blanks_of vs)) ≡ true
-is_sized vs some few =
-    and_from _ _ (le-leb 1 (block_size (blanks_of vs)) (le-max_left 1 (words_of_cells (blanks_of vs)))) (le-leb (block_size (blanks_of vs)) MOST_BLOCK_WORDS (size_fits vs some few))
-
 -- ---- what is made for an owner
 
 -- A new object of these cells is made for an owner, and the world is this one then. The store is full exactly where the source is, and
@@ -117,49 +111,53 @@ pub record Makes (t : Tables) (w : World) (s : StoreState) (owner : Owner) (hand
       → objects.Related (with_row t (Placed choice.address (kinds_of cells))) (silent new) (served s (Allocate handle (block_size cells)) choice)
 
 -- a region where something is made is open
-region_there : (a : Access Region) (region object : ℕ) (vs : List Kinded) (k : List Entry) (e : Environment) (w : World) → IsWell (filled (created_in w region a (blanks_of vs)) object vs k e w)
-    → (r : Region) × (a ≡ Found r)
-region_there (Found r) region object vs k e w well = (r, refl)
-region_there Closed region object vs k e w well = absurd (well refl)
-region_there Missing region object vs k e w well = absurd (well refl)
+region_there : (a : Access Region) (region : ℕ) (cells : List Cell) (w new : World) → created_in w region a cells ≡ Found new → (r : Region) × (a ≡ Found r)
+region_there (Found r) region cells w new found = (r, refl)
+region_there Closed region cells w new found = absurd (let f : created_in w region Closed cells ≡ Found new = found in cc)
+region_there Missing region cells w new found = absurd (let f : created_in w region Missing cells ≡ Found new = found in cc)
 
-module _ {t : Tables} {w : World} {s : StoreState} (related : objects.Related t (silent w) s) (vs : List Kinded) (some : 1 ≤ words_held vs) (few : words_held vs ≤ MOST_BLOCK_WORDS) (k : List Entry) (e : Environment) where
+cells_sized : (cells : List Cell) → block_size cells ≤ MOST_BLOCK_WORDS → is_size (block_size cells) ≡ true
+cells_sized cells few = and_from _ _ (le-leb 1 (block_size cells) (le-max_left 1 (words_of_cells cells))) (le-leb (block_size cells) MOST_BLOCK_WORDS few)
+
+module _ {t : Tables} {w : World} {s : StoreState} (related : objects.Related t (silent w) s) (cells : List Cell) (blank : AreBlank cells) (few : block_size cells ≤ MOST_BLOCK_WORDS) where
   -- in the heap
-  made_there : IsWell (makes_of (InRegion heap_number) vs k e w) → (new : World) × Makes t w s (InRegion heap_number) HEAP (blanks_of vs) new
-  made_there well =
-      let cells = blanks_of vs in
-      let (r, found) = region_there (region_at w heap_number) heap_number (length w.objects) vs k e w well in
-      let (there, kept) = open-home related heap_number HEAP r found related.heap in (
-        made_in w heap_number r cells,
-        record {
-          creates = ap (λ a. created_in w heap_number a cells) found;
-          joined = refl;
-          output = refl;
-          input = refl;
-          pages = λ choice. refl;
-          refuses = refusal-allocate related heap_number HEAP r cells there kept related.heap (is_sized vs some few);
-          related = λ choice free allowed. allocated related heap_number HEAP r cells there kept related.heap choice (operands-blank vs) free allowed;
-        },
-      )
+  made_there : (r : Region) → region_at w heap_number ≡ Found r → Makes t w s (InRegion heap_number) HEAP cells (made_in w heap_number r cells)
+  made_there r found =
+      let (there, kept) = open-home related heap_number HEAP r found related.heap in record {
+        creates = ap (λ a. created_in w heap_number a cells) found;
+        joined = refl;
+        output = refl;
+        input = refl;
+        pages = λ choice. refl;
+        refuses = refusal-allocate related heap_number HEAP r cells there kept related.heap (cells_sized cells few);
+        related = λ choice free allowed. allocated related heap_number HEAP r cells there kept related.heap choice blank free allowed;
+      }
 
   -- an object with a pointer of its own
-  made_alone : Makes t w s (Unique true) UNIQUE (blanks_of vs) (made_unique w (blanks_of vs))
+  made_alone : Makes t w s (Unique true) UNIQUE cells (made_unique w cells)
   made_alone = record {
     creates = refl;
     joined = refl;
     output = refl;
     input = refl;
     pages = λ choice. refl;
-    refuses = refusal-unique related (blanks_of vs) (is_sized vs some few);
-    related = λ choice free allowed. allocated-unique related (blanks_of vs) choice (operands-blank vs) (omega (arith, size_fits vs some few)) free allowed;
+    refuses = refusal-unique related cells (cells_sized cells few);
+    related = λ choice free allowed. allocated-unique related cells choice blank (omega (arith, few)) free allowed;
   }
 
-  made_for : (owner : Owner) (handle : ℕ) → IsHandleOf owner handle → IsWell (makes_of owner vs k e w) → (new : World) × Makes t w s owner handle (blanks_of vs) new
-  made_for (InRegion region) handle (region_is, handle_is) well =
-      let (new, makes) = made_there (subst (λ n. IsWell (makes_of (InRegion n) vs k e w)) region_is well) in
-      (new, subst (λ h. Makes t w s (InRegion region) h (blanks_of vs) new) (sym handle_is) (subst (λ n. Makes t w s (InRegion n) HEAP (blanks_of vs) new) (sym region_is) makes))
-  made_for (Unique true) handle handle_is well = (made_unique w (blanks_of vs), subst (λ h. Makes t w s (Unique true) h (blanks_of vs) (made_unique w (blanks_of vs))) (sym handle_is) made_alone)
-  made_for (Unique false) handle owned well = absurd owned
+  pub made_for : (owner : Owner) (handle : ℕ) (made : World) → IsHandleOf owner handle → created w owner cells ≡ Found made → (new : World) × Makes t w s owner handle cells new
+  made_for (InRegion region) handle made (region_is, handle_is) creates =
+      let (r, found) = region_there (region_at w heap_number) heap_number cells w made (subst (λ n. created_in w n (region_at w n) cells ≡ Found made) region_is creates) in
+      let new = made_in w heap_number r cells in
+      (new, subst (λ h. Makes t w s (InRegion region) h cells new) (sym handle_is) (subst (λ n. Makes t w s (InRegion n) HEAP cells new) (sym region_is) (made_there r found)))
+  made_for (Unique true) handle made handle_is creates = (made_unique w cells, subst (λ h. Makes t w s (Unique true) h cells (made_unique w cells)) (sym handle_is) made_alone)
+  made_for (Unique false) handle made owned creates = absurd owned
+
+-- where an object is made there is room for its owner
+object_made : (a : Access World) (object : ℕ) (vs : List Kinded) (k : List Entry) (e : Environment) (w : World) → IsWell (filled a object vs k e w) → (made : World) × (a ≡ Found made)
+object_made (Found made) object vs k e w well = (made, refl)
+object_made Closed object vs k e w well = absurd (well refl)
+object_made Missing object vs k e w well = absurd (well refl)
 
 -- the store asks for as many pages as the source
 demand_is : {t : Tables} {w : World} {s : StoreState} → objects.Related t w s → demand s ≡ pages_of w
@@ -308,7 +306,8 @@ module _ (source : Program) (pages calls : ℕ) where
   made_object owner handle owned focus k₀ k e w c vs d q does well shared₀ shared facts holds values (m, single, some, few, ask, stores, move, end) lands =
       let t = top source c.active.function k in
       let cells = blanks_of vs in
-      let (new, makes) = made_for shared.related vs some few k e owner handle owned well in
+      let (made, creates) = object_made (created w owner cells) (length w.objects) vs k e w well in
+      let (new, makes) = made_for shared.related cells (operands-blank vs) (size_fits vs some few) owner handle made owned creates in
       let pointer : Kinded = record { kind = kinds.NonNull; value = Thin (length w.objects) 0 } in
       let next = Running (Writing (writes_from (length w.objects) 0 vs) (Some pointer)) k e new in
       let is_next : step source (Running focus k₀ e w) ≡ next = does ∙ ap (λ a. filled a (length w.objects) vs k e w) makes.creates in
@@ -340,7 +339,7 @@ module _ (source : Program) (pages calls : ℕ) where
                   refl,
                   refl,
                   object_there k e w c shared facts holds vs owner handle new makes some few choice free served,
-                  sym single,
+                  single,
                   values_made k e w c shared facts holds vs owner handle new makes some few choice free served values,
                   stores,
                   move,
@@ -418,6 +417,130 @@ module _ (source : Program) (pages calls : ℕ) where
         add_is address (4 * words_of_kinds done) (omega (arith, fits, words_joined done (kind ∷ rest), kind_positive kind)) ∙ ap (λ n. address + 4 * n) (sym (before_is done (kind ∷ rest)));
   }
 
+  -- the next cell is written, by its word or by its three words
+  module _ (x : Write) (writes : List Write) (pointer : Kinded) (object : ℕ) (done : List Kind) (u : Kinded) (us : List Kinded) (address slot d m q : ℕ) (k : List Entry) (e : Environment) (w : World) (c : Configuration)
+      (does : step source (Running (Writing (x ∷ writes) (Some pointer)) k e w) ≡ stored (cell_at w object (length done)) object (length done) u (Writing (writes_from object (suc (length done)) us) (Some pointer)) k e w)
+      (words : plain.HoldsWords (plain.Running c)) (well : IsWell (step source (Running (Writing (x ∷ writes) (Some pointer)) k e w)))
+      (shared : SharedAt source pages calls k e w c) (facts : DataIn source shared.tables c.active.slots k e w c) (is : pointer ≡ record { kind = kinds.NonNull; value = Thin object 0 })
+      (there : IsObject shared.tables object (c.active.slots address) (done ++ kinds_of (blanks_of (u ∷ us)))) (is_u : Is shared.tables u.kind u.value c.active.slots slot)
+      (held_in : HoldsFrom shared.tables c.active.slots (slot + words_of_kind u.kind) us)
+      (stores : StoresAt (code_of source c.active.function) (bounds_at source c.active.function) (types_on source c.active.function k) (words_held us + words_of_kind u.kind) address (4 * words_of_kinds done) slot c.active.next m)
+      (move : At (code_of source c.active.function) m (instructions.Move d (operands.Slot address))) (end : m + 1 ≡ q) (holds : Holds shared.tables c.active.slots (floor source c.active.function k) (held k))
+      (lands : LandsStack source c.active.function e.locals kinds.NonNull d q c.frames k) where
+    abbrev next_write : Focus
+    next_write = Writing (writes_from object (suc (length done)) us) (Some pointer)
+
+    abbrev place : ℕ
+    place = add_of (c.active.slots address) (4 * words_of_kinds done)
+
+    abbrev rest : List Kind
+    rest = kinds_of (blanks_of us)
+
+    points : Points shared.tables object (length done) place
+    points = cell_next shared.tables object (c.active.slots address) done rest u.kind there
+
+    longer : length (done ++ u.kind ∷ []) ≡ suc (length done)
+    longer = omega (arith, length-append done (u.kind ∷ []))
+
+    more : IsObject shared.tables object (c.active.slots address) ((done ++ u.kind ∷ []) ++ rest)
+    more = subst (IsObject shared.tables object (c.active.slots address)) (sym (append_assoc done (u.kind ∷ []) rest)) there
+
+    writes_word : words_of_kind u.kind ≡ 1 → IsMatched source pages calls (Running (Writing (x ∷ writes) (Some pointer)) k e w) (plain.Running c)
+    writes_word one =
+        let g = c.active.function in
+        let tables = shared.tables in
+        let slots = c.active.slots in
+        let (cell, found, same, gives) = cell_is_there (cell_at w object (length done)) object (length done) u next_write k e w (subst IsWell does well) in
+        let word = slots slot in
+        let is_word : IsWord tables cell.cell.kind u.value word = subst (λ i. IsWord tables i u.value word) (sym same) (one_word tables u.kind u.value slots slot one is_u) in
+        let (store, behind) = subst (λ n. StoresAt (code_of source g) (bounds_at source g) (types_on source g k) n address (4 * words_of_kinds done) slot c.active.next m) (let e : words_held us + words_of_kind u.kind ≡ suc (words_held us) = omega (arith, one) in e) stores in
+        let later = shared_saved source pages calls k e w c shared object (length done) place word cell u.value found points is_word (words.0 slot) in
+        let wider : 4 * words_of_kinds (done ++ u.kind ∷ []) ≡ 4 * words_of_kinds done + 4 = omega (arith, words_joined done (u.kind ∷ []), one) in
+        by_one source pages calls (does ∙ gives) shared store
+        (λ choice. subst (Matches source pages calls (Running next_write k e (written w object (length done) cell u.value)))
+        (sym (saves_there source pages calls k e w c shared object (length done) place word cell u.value found points is_word (words.0 slot))) (
+          later,
+          data_saved source pages calls k e w c shared object (length done) place word cell u.value found points is_word (words.0 slot) facts,
+          (
+            object,
+            done ++ u.kind ∷ [],
+            us,
+            address,
+            suc slot,
+            d,
+            m,
+            q,
+            ap (λ n. writes_from object n us) (sym longer),
+            is,
+            more,
+            words_many us,
+            subst (λ n. HoldsFrom tables slots n us) (let e : slot + words_of_kind u.kind ≡ suc slot = omega (arith, one) in e) held_in,
+            subst (λ n. StoresAt (code_of source g) (bounds_at source g) (types_on source g k) (words_held us) address n (suc slot) (c.active.next + 1) m) (sym wider) behind,
+            move,
+            end,
+            holds,
+            lands,
+          ),
+        ))
+
+    -- the words of the cell do not wrap
+    unwrapped : u.kind ≡ kinds.Fat → (j : ℕ) → j < 3 → add_of (c.active.slots address) (4 * words_of_kinds done + 4 * j) ≡ place + 4 * j
+    unwrapped fat j below =
+        let fits : c.active.slots address + 4 * words_of_kinds (done ++ u.kind ∷ rest) < 4294967296 = there.range.high in
+        let long = words_joined done (u.kind ∷ rest) in
+        let three = ap words_of_kind fat in
+        let first : place ≡ c.active.slots address + 4 * words_of_kinds done = add_is (c.active.slots address) (4 * words_of_kinds done) (omega (arith, fits, long)) in
+        add_is (c.active.slots address) (4 * words_of_kinds done + 4 * j) (omega (arith, fits, long, three, below)) ∙ omega (arith, first)
+
+    writes_three : u.kind ≡ kinds.Fat → IsMatched source pages calls (Running (Writing (x ∷ writes) (Some pointer)) k e w) (plain.Running c)
+    writes_three fat =
+        let g = c.active.function in
+        let tables = shared.tables in
+        let slots = c.active.slots in
+        let bytes = 4 * words_of_kinds done in
+        let three = ap words_of_kind fat in
+        let (cell, found, same, gives) = cell_is_there (cell_at w object (length done)) object (length done) u next_write k e w (subst IsWell does well) in
+        let wide = same ∙ fat in
+        let fat_is = subst (λ i. Is tables i u.value slots slot) fat is_u in
+        let (at_first, (at_second, (at_third, behind))) = subst (λ n. StoresAt (code_of source g) (bounds_at source g) (types_on source g k) n address bytes slot c.active.next m) (let e : words_held us + words_of_kind u.kind ≡ suc (suc (suc (words_held us))) = omega (arith, three) in e) stores in
+        let first : add_of (slots address) bytes ≡ place + 4 * 0 = ap (add_of (slots address)) (let e : bytes ≡ bytes + 4 * 0 = omega arith in e) ∙ unwrapped fat 0 (omega arith) in
+        let second : add_of (slots address) (bytes + 4) ≡ place + 4 * 1 = ap (add_of (slots address)) (let e : bytes + 4 ≡ bytes + 4 * 1 = omega arith in e) ∙ unwrapped fat 1 (omega arith) in
+        let third : add_of (slots address) (bytes + 4 + 4) ≡ place + 4 * 2 = ap (add_of (slots address)) (let e : bytes + 4 + 4 ≡ bytes + 4 * 2 = omega arith in e) ∙ unwrapped fat 2 (omega arith) in
+        let wider : 4 * words_of_kinds (done ++ u.kind ∷ []) ≡ bytes + 4 + 4 + 4 = omega (arith, words_joined done (u.kind ∷ []), three) in
+        by_path source pages calls (Writing (x ∷ writes) (Some pointer)) k e w c (Running next_write k e (written w object (length done) cell u.value))
+        (store_links source pages calls k e w c shared object (length done) place address bytes slot cell u.value found points wide fat_is words first second third)
+        (instructions.Store (operands.Slot address) (bytes + 4 + 4) (operands.Slot (suc (suc slot)))) (does ∙ gives) shared
+        (store_path source pages calls k e w c shared object (length done) place address bytes slot cell u.value found points wide fat_is words first second third at_first at_second) at_third
+        (λ choice. subst (Matches source pages calls (Running next_write k e (written w object (length done) cell u.value)))
+        (sym (store_last source pages calls k e w c shared object (length done) place address bytes slot cell u.value found points wide fat_is words first second third choice)) (
+          shared_stored source pages calls k e w c shared object (length done) place address bytes slot cell u.value found points wide fat_is words first second third,
+          data_stored source pages calls k e w c shared object (length done) place address bytes slot cell u.value found points wide fat_is words first second third facts,
+          (
+            object,
+            done ++ u.kind ∷ [],
+            us,
+            address,
+            suc (suc (suc slot)),
+            d,
+            m,
+            q,
+            ap (λ n. writes_from object n us) (sym longer),
+            is,
+            more,
+            words_many us,
+            subst (λ n. HoldsFrom tables slots n us) (let e : slot + words_of_kind u.kind ≡ suc (suc (suc slot)) = omega (arith, three) in e) held_in,
+            subst (λ n. StoresAt (code_of source g) (bounds_at source g) (types_on source g k) (words_held us) address n (suc (suc (suc slot))) (c.active.next + 1 + 1 + 1) m) (sym wider) behind,
+            move,
+            end,
+            holds,
+            lands,
+          ),
+        ))
+
+    writes_cell : (narrow : Bool) → (words_of_kind u.kind == 1) ≡ narrow → IsMatched source pages calls (Running (Writing (x ∷ writes) (Some pointer)) k e w) (plain.Running c)
+    writes_cell true narrow = writes_word (eqb-true (words_of_kind u.kind) 1 narrow)
+    writes_cell false wide = writes_three (wide_kind u.kind wide)
+
   -- a cell of a new object is written, and behind the last the pointer to it comes to its slot
   pub writing : (writes : List Write) (pointer : Kinded) (k : List Entry) (e : Environment) (w : World) (c : Configuration) → plain.HoldsWords (plain.Running c)
       → IsStep source pages calls (Writing writes (Some pointer)) k e w c
@@ -432,49 +555,5 @@ module _ (source : Program) (pages calls : ℕ) where
   writing [] pointer k e w c words well (shared, facts, (object, done, u ∷ us, address, slot, d, m, q, are, is, there, single, held_in, at, move, end, holds, lands)) = absurd (let f : [] ≡ writes_from object (length done) (u ∷ us) = are in cc)
   writing (x ∷ writes) pointer k e w c words well (shared, facts, (object, done, [], address, slot, d, m, q, are, is, there, single, held_in, at, move, end, holds, lands)) = absurd (let f : x ∷ writes ≡ [] = are in cc)
   writing (x ∷ writes) pointer k e w c words well (shared, facts, (object, done, u ∷ us, address, slot, d, m, q, are, is, there, single, (is_u, held_in), at, move, end, holds, lands)) =
-      let g = c.active.function in
-      let tables = shared.tables in
-      let slots = c.active.slots in
-      let rest : List Kind = kinds_of (blanks_of us) in
-      let (one, ones) = one_each u us single in
-      let first : List Write = writes_from object (length done) (u ∷ us) in
-      let next : Focus = Writing (writes_from object (suc (length done)) us) (Some pointer) in
-      let does : step source (Running (Writing (x ∷ writes) (Some pointer)) k e w) ≡ stored (cell_at w object (length done)) object (length done) u next k e w
-      = ap (λ (l : List Write). step source (Running (Writing l (Some pointer)) k e w)) are in
-      let (cell, found, same, gives) = cell_is_there (cell_at w object (length done)) object (length done) u next k e w (subst IsWell does well) in
-      let word = slots slot in
-      let place = add_of (slots address) (4 * words_of_kinds done) in
-      let points : Points tables object (length done) place = cell_next tables object (slots address) done rest u.kind there in
-      let single_cell : words_of_kind cell.cell.kind ≡ 1 = ap words_of_kind same ∙ one in
-      let is_word : IsWord tables cell.cell.kind u.value word = subst (λ i. IsWord tables i u.value word) (sym same) (one_word tables u.kind u.value slots slot one is_u) in
-      let (store, more) = subst (λ n. StoresAt (code_of source g) (bounds_at source g) (types_on source g k) n address (4 * words_of_kinds done) slot c.active.next m) (let e : words_held us + words_of_kind u.kind ≡ suc (words_held us) = omega (arith, one) in e) at in
-      let after : Configuration = advanced (with_memory c place word) in
-      let later = shared_saved source pages calls k e w c shared object (length done) place word cell u.value found points single_cell is_word (words.0 slot) in
-      let longer : length (done ++ u.kind ∷ []) ≡ suc (length done) = omega (arith, length-append done (u.kind ∷ [])) in
-      let wider : 4 * words_of_kinds (done ++ u.kind ∷ []) ≡ 4 * words_of_kinds done + 4 = omega (arith, words_joined done (u.kind ∷ []), one) in
-      by_one source pages calls (does ∙ gives) shared store
-      (λ choice. subst (Matches source pages calls (Running next k e (written w object (length done) cell u.value)))
-      (sym (saves_there source pages calls k e w c shared object (length done) place word cell u.value found points single_cell is_word (words.0 slot))) (
-        later,
-        data_saved source pages calls k e w c shared object (length done) place word cell u.value found points single_cell is_word (words.0 slot) facts,
-        (
-          object,
-          done ++ u.kind ∷ [],
-          us,
-          address,
-          suc slot,
-          d,
-          m,
-          q,
-          ap (λ n. writes_from object n us) (sym longer),
-          is,
-          subst (IsObject tables object (slots address)) (sym (append_assoc done (u.kind ∷ []) rest)) there,
-          ones,
-          subst (λ n. HoldsFrom tables slots n us) (let e : slot + words_of_kind u.kind ≡ suc slot = omega (arith, one) in e) held_in,
-          subst (λ n. StoresAt (code_of source g) (bounds_at source g) (types_on source g k) (words_held us) address n (suc slot) (c.active.next + 1) m) (sym wider) more,
-          move,
-          end,
-          holds,
-          lands,
-        ),
-      ))
+      writes_cell x writes pointer object done u us address slot d m q k e w c (ap (λ (l : List Write). step source (Running (Writing l (Some pointer)) k e w)) are) words well shared facts is there is_u held_in at move end holds lands
+      (words_of_kind u.kind == 1) refl

@@ -1,18 +1,18 @@
 -- The steps that make arrays: the length is tested, the store is asked for a block, and then each element is evaluated and written.
-use Rattle.std.proofs.Common.{◌≡◌, ◌≢◌, ℕ, zero, suc, ◌+◌, ◌*◌, ◌≤◌, ◌<◌, max, Bool, true, false, List, [], ◌∷◌, length, Option, None, Some, slice_get, refl, sym, ap, subst, ◌∙◌, arith, inl, inr, length-append}
+use Rattle.std.proofs.Common.{◌≡◌, ◌≢◌, ℕ, zero, suc, ◌+◌, ◌*◌, ◌≤◌, ◌<◌, max, Bool, true, false, List, [], ◌∷◌, ◌++◌, length, Option, None, Some, slice_get, refl, sym, ap, subst, ◌∙◌, arith, inl, inr, length-append}
 use Rattle.std.specs.Prelude.{nat_le, nat_lt, ◌==◌, ◌&&◌, if◌then◌else◌}
-use Rattle.std.proofs.lemmas.Bool.{le-leb, lt-ltb, and_from, eqb-true, eq-eqb, false_from_ne_true, leb-true, leb-false, cases_Bool}
-use Rattle.std.proofs.Math.Nat.{le-max_left}
+use Rattle.std.proofs.lemmas.Bool.{le-leb, eqb-true, eq-eqb, false_from_ne_true, leb-true, leb-false, cases_Bool, cases_eq}
+use Rattle.std.proofs.Math.Nat.{mod-eq_of_lt}
 use Rattle.cyc_words.specs.Ending.{Full}
-use Rattle.cyc_words.specs.Word.{add_of, shl_of}
+use Rattle.cyc_words.specs.Word.{add_of, mul_of, shl_of}
 use Rattle.cyc_words.specs.Word.{IsWord as IsMachineWord}
 use Rattle.cyc_types.specs.declared.typed.Kind.{Kind}
 use Rattle.cyc_types.specs.declared.typed.Kind.TheVariants as kinds
 use Rattle.cyc_types.specs.TypedTrees.{Expression, Program}
-use Rattle.cyc_store.specs.State.{demand}
+use Rattle.cyc_store.specs.State.{demand, StoreState, saved}
 use Rattle.cyc_store.specs.Services as services
-use Rattle.cyc_store.specs.Services.{Allocate, refusal, full_at, is_size}
-use Rattle.cyc_store.specs.declared.range.TheConstants.{HEAP, MOST_BLOCK_WORDS}
+use Rattle.cyc_store.specs.Services.{Allocate, refusal, full_at}
+use Rattle.cyc_store.specs.declared.range.TheConstants.{MOST_BLOCK_WORDS}
 use Rattle.cyc_store.proofs.ServiceLemmas.{served-sound}
 use Rattle.cyc_plain.specs.declared.instruction.BinaryOperator.TheVariants as plain_binary
 use Rattle.cyc_plain.specs.declared.instruction.UnaryOperator.TheVariants as plain_unary
@@ -23,10 +23,9 @@ use Rattle.cyc_plain.specs.declared.instruction.Instruction.{Instruction}
 use Rattle.cyc_plain.specs.declared.instruction.Instruction.TheVariants as instructions
 use Rattle.cyc_plain.specs.declared.instruction.Request.{Request}
 use Rattle.cyc_plain.specs.declared.instruction.Request.TheVariants as requests
-use Rattle.cyc_plain.specs.Program.{CodePlace}
 use Rattle.cyc_plain.specs.Operators.{truth}
 use Rattle.cyc_plain.specs.State as plain
-use Rattle.cyc_plain.specs.State.{Words, put, Configuration, memory_at, with_memory}
+use Rattle.cyc_plain.specs.State.{Words, put, Configuration, with_memory}
 use Rattle.cyc_plain.specs.Step.{Choice, with_slots, at, advanced, served_to, performed}
 use Rattle.cyc_plain.specs.Step as plain_step
 use Rattle.cyc_plain.specs.Straight.{At}
@@ -34,11 +33,11 @@ use Rattle.cyc_plain.proofs.SlotLaws.{put-same, put-other}
 use Rattle.cyc_meaning.specs.Values.{Value, Int, Fat, Operand as Kinded, Cell, kinds_of, is_kind, words_of_kind, words_of_cells, block_size}
 use Rattle.cyc_meaning.specs.Operators.{array_size}
 use Rattle.cyc_meaning.specs.Allocation.{blanks, begun, makes_array, most_words}
-use Rattle.cyc_meaning.specs.Objects.{made_in, created_in}
+use Rattle.cyc_meaning.specs.Objects.{created}
 use Rattle.cyc_meaning.specs.Effects.{pages_of}
 use Rattle.cyc_meaning.specs.Parts.{gives}
 use Rattle.cyc_meaning.specs.State.{Region, Owner, InRegion, Unique, World, Access, Found, Closed, Missing, Located, heap_number, region_at, cell_at, written, Environment, with_counter, MakeArray, FillElement, Entry, Needs, Focus, Evaluating, Given, Beginning, Repeating, Throwing, State, Running}
-use Rattle.cyc_meaning.specs.Step.{wrong, stored, step}
+use Rattle.cyc_meaning.specs.Step.{wrong, stored as stored_in, step}
 use Rattle.cyc_meaning.specs.Run.{is_within}
 use Rattle.cyc_objects.specs.Tables.{Variable, Placed, Tables, with_row, Grows}
 use Rattle.cyc_objects.specs.Words.{Points, IsPartOf, Is}
@@ -48,23 +47,26 @@ use Rattle.cyc_objects.proofs.Values.{Grows-row}
 use Rattle.cyc_objects.proofs.NumberLemmas.{slice_get-below}
 use Rattle.cyc_objects.proofs.Pointers.{pointer-word}
 use Rattle.cyc_objects.proofs.Cells.{element-found}
-use Rattle.cyc_objects.proofs.Making.{open-home, allocated, refusal-allocate, blanks-blank, part-made}
-use Rattle.cyc_lower.specs.Lowering.{is_in, most_elements, lower_program}
-use Rattle.cyc_lower.proofs.Widths.{Outside, same_kind}
-use Rattle.cyc_lower.proofs.Stands.{CopyBy, BegunAt, ElementsAt}
-use Rattle.cyc_lower.proofs.Relation.{IsWord, IsIn, height, Holds, held, callers, counters_of, arrays_in, IsInHeap, homes, silent, DataIn, SharedAt, in_temporary, into_slot, LandsStack, ValueStack, Related, Matches, code_of, bounds_at, types_on, base_of, floor, top}
-use Rattle.cyc_lower.proofs.Data.{height-least, one_word, Holds-same, Holds-grows, data_written, data_grows, variables_grow, contents_made}
+use Rattle.cyc_objects.proofs.Making.{blanks-blank, part-made}
+use Rattle.cyc_lower.specs.Lowering.{is_in, most_elements, scale_of, lower_program}
+use Rattle.cyc_lower.proofs.Widths.{Outside, same_kind, wide_kind}
+use Rattle.cyc_lower.proofs.Stands.{CopyBy, BegunAt, ElementsAt, StoresAt}
+use Rattle.cyc_lower.proofs.Relation.{IsWord, IsIn, height, Holds, held, callers, counters_of, arrays_in, IsHandleOf, homes, silent, DataIn, SharedAt, in_temporary, into_slot, LandsStack, ValueStack, Related, Matches, code_of, bounds_at, types_on, base_of, floor, top, contents}
+use Rattle.cyc_lower.proofs.Data.{Is-same, height-least, one_word, Holds-same, Holds-grows, data_written, data_grows, variables_grow, contents_made}
 use Rattle.cyc_lower.proofs.Accesses.{IsWell, is_fitting}
 use Rattle.cyc_lower.proofs.Counters.{counters-many, counter_same, counted_before}
 use Rattle.cyc_lower.proofs.Sharing.{shared_less}
-use Rattle.cyc_lower.proofs.PlaceWords.{add_is, shifted_is, stays}
-use Rattle.cyc_lower.proofs.CellWrites.{SameVariables, data_beside, cell_is_there, saves_there, shared_saved, data_saved}
+use Rattle.cyc_lower.proofs.PlaceWords.{add_is, shifted_is, multiplied_is, stays, cell_kind, word_is}
+use Rattle.cyc_lower.proofs.Paths.{Link, IsQuiet, is_quiet, end_of, IsPath, end_joined, path_joined, by_path}
+use Rattle.cyc_lower.proofs.WideCells.{stored, all_links, all_path, shared_stored, data_stored}
+use Rattle.cyc_lower.proofs.Elements.{scaled}
+use Rattle.cyc_lower.proofs.CellWrites.{SameVariables, data_beside, cell_is_there, saves_there, saved_there, shared_saved, data_saved}
 use Rattle.cyc_lower.proofs.Levels.{lands_arrays}
 use Rattle.cyc_lower.proofs.Matched.{IsMatched, above, below, Executes, executes, by_places, by_one, by_two, by_three, shared_way, shared_within, output_way, place_in, apart, known}
 use Rattle.cyc_lower.proofs.Evaluations.{IsStep, landed, landed_moved}
 use Rattle.cyc_lower.proofs.Handling.{raised}
-use Rattle.cyc_lower.proofs.Allocations.{past_pages, by_asking, by_full}
-use Rattle.cyc_words.specs.Simulation.{IsOnTheWay}
+use Rattle.cyc_lower.proofs.Allocations.{Makes, made_for, past_pages, by_asking, by_full}
+use Rattle.cyc_words.proofs.WordLemmas.{IsWord-add_of, IsWord-mul_of, IsWord-shl_of}
 
 -- ---- words
 
@@ -73,8 +75,53 @@ int_word : (t : Tables) (kind : Kind) (n : ℕ) (slots : Words) (p : ℕ) → Is
 int_word t kinds.Int n slots p is = is
 int_word t kind n slots p is = absurd is
 
--- a block has as many words as there are elements, or one
-sized_is : (count : ℕ) → count ≤ most_elements → add_of (truth (count == 0)) count ≡ max 1 count
+-- The elements of a kind are few enough exactly where their words are.
+elements_few : (kind : Kind) (n : ℕ) → n * words_of_kind kind ≤ MOST_BLOCK_WORDS → n ≤ most_elements (words_of_kind kind)
+elements_few kinds.Int n few = omega (arith, few)
+elements_few kinds.Nullable n few = omega (arith, few)
+elements_few kinds.NonNull n few = omega (arith, few)
+elements_few kinds.Fat n few = omega (arith, few)
+elements_few kinds.Handle n few = omega (arith, few)
+elements_few kinds.Key n few = omega (arith, few)
+
+words_few : (kind : Kind) (n : ℕ) → n ≤ most_elements (words_of_kind kind) → n * words_of_kind kind ≤ MOST_BLOCK_WORDS
+words_few kinds.Int n few = omega (arith, few)
+words_few kinds.Nullable n few = omega (arith, few)
+words_few kinds.NonNull n few = omega (arith, few)
+words_few kinds.Fat n few = omega (arith, few)
+words_few kinds.Handle n few = omega (arith, few)
+words_few kinds.Key n few = omega (arith, few)
+
+most_is : (kind : Kind) → most_elements (words_of_kind kind) ≤ MOST_BLOCK_WORDS
+most_is kinds.Int = omega arith
+most_is kinds.Nullable = omega arith
+most_is kinds.NonNull = omega arith
+most_is kinds.Fat = omega arith
+most_is kinds.Handle = omega arith
+most_is kinds.Key = omega arith
+
+product_is : (n words : ℕ) → n * words ≤ MOST_BLOCK_WORDS → mul_of n words ≡ n * words
+product_is n words few = mod-eq_of_lt (omega (arith, few))
+
+-- the bytes before an element
+scaled_is : (kind : Kind) (i : ℕ) → i < 1000 → scaled (words_of_kind kind) i ≡ 4 * (i * words_of_kind kind)
+scaled_is kinds.Int i few = shifted_is i (omega (arith, few))
+scaled_is kinds.Nullable i few = shifted_is i (omega (arith, few))
+scaled_is kinds.NonNull i few = shifted_is i (omega (arith, few))
+scaled_is kinds.Fat i few = multiplied_is i (omega (arith, few))
+scaled_is kinds.Handle i few = shifted_is i (omega (arith, few))
+scaled_is kinds.Key i few = shifted_is i (omega (arith, few))
+
+shifted_word : (kind : Kind) (n : ℕ) → IsMachineWord (scaled (words_of_kind kind) n)
+shifted_word kinds.Int n = IsWord-shl_of n 2
+shifted_word kinds.Nullable n = IsWord-shl_of n 2
+shifted_word kinds.NonNull n = IsWord-shl_of n 2
+shifted_word kinds.Fat n = IsWord-mul_of n 12
+shifted_word kinds.Handle n = IsWord-shl_of n 2
+shifted_word kinds.Key n = IsWord-shl_of n 2
+
+-- a block has as many words as its elements have, or one
+sized_is : (count : ℕ) → count ≤ MOST_BLOCK_WORDS → add_of (truth (count == 0)) count ≡ max 1 count
 sized_is zero few = add_is 1 0 (omega arith)
 sized_is (suc n) few =
     ap (λ b. add_of (truth b) (suc n)) (false_from_ne_true (suc n == 0) (λ told. absurd (omega (arith, eqb-true (suc n) 0 told)))) ∙ add_is 0 (suc n) (omega (arith, few)) ∙ at_least n
@@ -82,30 +129,20 @@ sized_is (suc n) few =
     at_least : (n : ℕ) → 0 + suc n ≡ max 1 (suc n)
     at_least n = omega arith
 
-blank_words : (count : ℕ) (kind : Kind) → words_of_kind kind ≡ 1 → words_of_cells (blanks count kind) ≡ count
-blank_words zero kind one = refl
-blank_words (suc count) kind one = omega (arith, one, blank_words count kind one)
+blank_words : (count : ℕ) (kind : Kind) → words_of_cells (blanks count kind) ≡ count * words_of_kind kind
+blank_words zero kind = omega arith
+blank_words (suc count) kind = omega (arith, blank_words count kind)
 
--- ---- the region where it is made
+-- ---- the owner for whom it is made
 
-region_open : (a : Access Region) (region object count level : ℕ) (wanted : Kind) (element : Expression) (k : List Entry) (e : Environment) (w : World)
-    → IsWell (begun (created_in w region a (blanks count wanted)) object count level wanted element k e w) → (r : Region) × (a ≡ Found r)
-region_open (Found r) region object count level wanted element k e w well = (r, refl)
-region_open Closed region object count level wanted element k e w well = absurd (well refl)
-region_open Missing region object count level wanted element k e w well = absurd (well refl)
+-- where an array is made there is room for its owner
+array_made : (a : Access World) (object count level : ℕ) (wanted : Kind) (element : Expression) (k : List Entry) (e : Environment) (w : World)
+    → IsWell (begun a object count level wanted element k e w) → (made : World) × (a ≡ Found made)
+array_made (Found made) object count level wanted element k e w well = (made, refl)
+array_made Closed object count level wanted element k e w well = absurd (well refl)
+array_made Missing object count level wanted element k e w well = absurd (well refl)
 
 module _ (source : Program) (pages calls : ℕ) where
-  -- ---- instructions whose results are known
-
-  -- one of them is executed on the way
-  through : (s next : State) (c d : Configuration) (i : Instruction) (places : List CodePlace) → At (code_of source c.active.function) c.active.next i
-      → ((choice : Choice) → performed (lower_program source) choice c i ≡ plain.Running d) → plain_step.is_within pages calls (plain.Running d) ≡ true
-      → IsOnTheWay (above source pages calls) (below source pages calls) s (plain.Running c)
-      → Executes source pages calls s next places (plain.Running d) → Executes source pages calls s next (place_in source pages calls c ∷ places) (plain.Running c)
-  through s next c d i places here is within way goes =
-      executes source pages calls s next c i places here (λ choice. ap (plain_step.is_within pages calls) (is choice) ∙ within) way
-      (λ choice. subst (Executes source pages calls s next places) (sym (is choice)) goes)
-
   -- ---- the length
 
   module _ (owner : Owner) (level : ℕ) (wanted : Kind) (element : Expression) (k : List Entry) (e : Environment) (w : World) (c : Configuration) (shared : SharedAt source pages calls k e w c)
@@ -116,47 +153,49 @@ module _ (source : Program) (pages calls : ℕ) where
     -- what stands behind the length
     abbrev Waits : (p : ℕ) → Type 0
     Waits p =
-        (handle : ℕ) × (d : ℕ) × (h : ℕ) × (r : ℕ) × (s : ℕ) × (q : ℕ) × IsInHeap owner handle
-        × BegunAt (code_of source c.active.function) (bounds_at source c.active.function) (types_on source c.active.function k) handle t p h
-        × (level ≡ length (counters_of (floor source c.active.function k) k)) × (words_of_kind wanted ≡ 1)
-        × ElementsAt (code_of source c.active.function) (bounds_at source c.active.function) (types_on source c.active.function k) element t d h r s q
+        (handle : ℕ) × (d : ℕ) × (h : ℕ) × (r : ℕ) × (s : ℕ) × (q : ℕ) × IsHandleOf owner handle
+        × BegunAt (code_of source c.active.function) (bounds_at source c.active.function) (types_on source c.active.function k) handle (words_of_kind wanted) t p h
+        × (level ≡ length (counters_of (floor source c.active.function k) k))
+        × ElementsAt (code_of source c.active.function) (bounds_at source c.active.function) (types_on source c.active.function k) element (words_of_kind wanted) t d h r s q
         × LandsStack source c.active.function e.locals kinds.Fat d q c.frames k
 
     -- it is not too long: all that the store is asked for comes to slots
     begins : (focus : Focus) (k₀ : List Entry) (n : ℕ) → step source (Running focus k₀ e w) ≡ Running (Beginning owner n level wanted element) k e w → SharedAt source pages calls k₀ e w c
-        → c.active.slots t ≡ n → n ≤ most_elements → Waits c.active.next → IsMatched source pages calls (Running focus k₀ e w) (plain.Running c)
-    begins focus k₀ n does shared₀ is few (handle, d, h, r, s, q, owned, (m, (block_at, branch, raising_it, passed), count, index, none, size, ask, end), level_is, single, elements, lands) =
+        → c.active.slots t ≡ n → n * words_of_kind wanted ≤ MOST_BLOCK_WORDS → Waits c.active.next → IsMatched source pages calls (Running focus k₀ e w) (plain.Running c)
+    begins focus k₀ n does shared₀ is few (handle, d, h, r, s, q, owned, (m, (block_at, branch, raising_it, passed), count, index, all, none, size, ask, end), level_is, elements, lands) =
         let slots = c.active.slots in
-        let base = floor source c.active.function k in
+        let g = c.active.function in
+        let base = floor source g k in
+        let own = words_of_kind wanted in
         let next = Running (Beginning owner n level wanted element) k e w in
-        let now = Running focus k₀ e w in
         let s1 = put slots (t + 1) (slots t) in
         let s2 = put s1 (t + 2) 0 in
-        let s3 = put s2 (t + 3) (truth (s2 t == 0)) in
-        let s4 = put s3 (t + 3) (add_of (s3 (t + 3)) (s3 t)) in
+        let s3 = put s2 t (mul_of (s2 t) own) in
+        let s4 = put s3 (t + 3) (truth (s3 t == 0)) in
+        let s5 = put s4 (t + 3) (add_of (s4 (t + 3)) (s4 t)) in
         let c0 = at c m in
         let c1 = advanced (with_slots c0 s1) in
         let c2 = advanced (with_slots c1 s2) in
         let c3 = advanced (with_slots c2 s3) in
         let c4 = advanced (with_slots c3 s4) in
-        let within : (u : Configuration) → SharedAt source pages calls k e w u → plain_step.is_within pages calls (plain.Running u) ≡ true = λ u all. shared_within source pages calls k e w u all in
-        let way : (u : Configuration) → SharedAt source pages calls k₀ e w u → IsOnTheWay (above source pages calls) (below source pages calls) now (plain.Running u) = λ u all. shared_way source pages calls focus k₀ e w u all in
-        let g = c.active.function in
+        let c5 = advanced (with_slots c4 s5) in
         let first : s2 t ≡ slots t = put-other s1 (t + 2) t 0 (λ same. omega (arith, same)) ∙ put-other slots (t + 1) t (slots t) (λ same. omega (arith, same)) in
-        let second : s3 t ≡ slots t = put-other s2 (t + 3) t (truth (s2 t == 0)) (λ same. omega (arith, same)) ∙ first in
-        let third : s3 (t + 3) ≡ truth (n == 0) = put-same s2 (t + 3) (truth (s2 t == 0)) ∙ ap (λ x. truth (x == 0)) (first ∙ is) in
-        let block : s4 (t + 3) ≡ max 1 n = put-same s3 (t + 3) (add_of (s3 (t + 3)) (s3 t)) ∙ ap (λ x. add_of x (s3 t)) third ∙ ap (add_of (truth (n == 0))) (second ∙ is) ∙ sized_is n few in
-        let long : s4 (t + 1) ≡ n
-        = put-other s3 (t + 3) (t + 1) (add_of (s3 (t + 3)) (s3 t)) (λ same. omega (arith, same)) ∙ put-other s2 (t + 3) (t + 1) (truth (s2 t == 0)) (λ same. omega (arith, same))
-        ∙ put-other s1 (t + 2) (t + 1) 0 (λ same. omega (arith, same)) ∙ put-same slots (t + 1) (slots t) ∙ is in
-        let start : s4 (t + 2) ≡ 0
-        = put-other s3 (t + 3) (t + 2) (add_of (s3 (t + 3)) (s3 t)) (λ same. omega (arith, same)) ∙ put-other s2 (t + 3) (t + 2) (truth (s2 t == 0)) (λ same. omega (arith, same)) ∙ put-same s1 (t + 2) 0 in
-        let kept : (m : ℕ) → Outside (t + 1) 3 m → s4 m ≡ slots m
-        = λ m out. put-other s3 (t + 3) m (add_of (s3 (t + 3)) (s3 t)) (apart_from m (t + 1) 3 (t + 3) out (omega arith) (omega arith)) ∙ put-other s2 (t + 3) m (truth (s2 t == 0)) (apart_from m (t + 1) 3 (t + 3) out (omega arith) (omega arith))
-        ∙ put-other s1 (t + 2) m 0 (apart_from m (t + 1) 3 (t + 2) out (omega arith) (omega arith)) ∙ put-other slots (t + 1) m (slots t) (apart_from m (t + 1) 3 (t + 1) out (omega arith) (omega arith)) in
-        let matches : Matches source pages calls next (plain.Running c4) = (
+        let product : s3 t ≡ n * own = put-same s2 t (mul_of (s2 t) own) ∙ ap (λ x. mul_of x own) (first ∙ is) ∙ product_is n own few in
+        let second : s4 t ≡ n * own = put-other s3 (t + 3) t (truth (s3 t == 0)) (λ same. omega (arith, same)) ∙ product in
+        let third : s4 (t + 3) ≡ truth (n * own == 0) = put-same s3 (t + 3) (truth (s3 t == 0)) ∙ ap (λ x. truth (x == 0)) product in
+        let block : s5 (t + 3) ≡ max 1 (n * own) = put-same s4 (t + 3) (add_of (s4 (t + 3)) (s4 t)) ∙ ap (λ x. add_of x (s4 t)) third ∙ ap (add_of (truth (n * own == 0))) second ∙ sized_is (n * own) few in
+        let behind : (x : ℕ) → t < x → x < t + 3 → s5 x ≡ s2 x
+        = λ x above below. put-other s4 (t + 3) x (add_of (s4 (t + 3)) (s4 t)) (λ same. omega (arith, same, below)) ∙ put-other s3 (t + 3) x (truth (s3 t == 0)) (λ same. omega (arith, same, below))
+        ∙ put-other s2 t x (mul_of (s2 t) own) (λ same. omega (arith, same, above)) in
+        let long : s5 (t + 1) ≡ n = behind (t + 1) (omega arith) (omega arith) ∙ put-other s1 (t + 2) (t + 1) 0 (λ same. omega (arith, same)) ∙ put-same slots (t + 1) (slots t) ∙ is in
+        let start : s5 (t + 2) ≡ 0 = behind (t + 2) (omega arith) (omega arith) ∙ put-same s1 (t + 2) 0 in
+        let kept : (x : ℕ) → Outside t 4 x → s5 x ≡ slots x
+        = λ x out. put-other s4 (t + 3) x (add_of (s4 (t + 3)) (s4 t)) (apart_from x t 4 (t + 3) out (omega arith) (omega arith)) ∙ put-other s3 (t + 3) x (truth (s3 t == 0)) (apart_from x t 4 (t + 3) out (omega arith) (omega arith))
+        ∙ put-other s2 t x (mul_of (s2 t) own) (apart_from x t 4 t out (omega arith) (omega arith))
+        ∙ put-other s1 (t + 2) x 0 (apart_from x t 4 (t + 2) out (omega arith) (omega arith)) ∙ put-other slots (t + 1) x (slots t) (apart_from x t 4 (t + 1) out (omega arith) (omega arith)) in
+        let matches : Matches source pages calls next (plain.Running c5) = (
           shared,
-          data_written source shared.tables g w.objects e.locals k slots s4 c.active.handlers c.globals c.frames (t + 1) 3 (omega (arith, height-least base (held k))) kept facts,
+          data_written source shared.tables g w.objects e.locals k slots s5 c.active.handlers c.globals c.frames t 4 (height-least base (held k)) kept facts,
           (
             handle,
             d,
@@ -172,29 +211,35 @@ module _ (source : Program) (pages calls : ℕ) where
             start,
             block,
             level_is,
-            single,
             elements,
-            Holds-same shared.tables slots s4 base (held k) (λ m short. kept m (inl (omega (arith, short)))) holds,
+            Holds-same shared.tables slots s5 base (held k) (λ x short. kept x (inl short)) holds,
             lands,
           ),
         ) in
-        by_places source pages calls now next (place_in source pages calls c) (place_in source pages calls c0 ∷ place_in source pages calls c1 ∷ place_in source pages calls c2 ∷ place_in source pages calls c3 ∷ []) (plain.Running c) does (
-          (apart source pages calls c c0 (λ same. omega (arith, same, passed)), (apart source pages calls c c1 (λ same. omega (arith, same, passed)), (apart source pages calls c c2 (λ same. omega (arith, same, passed)), (apart source pages calls c c3 (λ same. omega (arith, same, passed)), tt)))),
+        let short : nat_le (most_elements own + 1) n ≡ false
+        = false_from_ne_true (nat_le (most_elements own + 1) n) (λ told. absurd (omega (arith, elements_few wanted n few, leb-true (most_elements own + 1) n told))) in
+        by_path source pages calls focus k₀ e w c next (
+        record { instruction = instructions.Branch comparisons.GreaterOrEqualUnsigned (operands.Slot t) (operands.Word (most_elements own + 1)) block_at; behind = c0 }
+        ∷ record { instruction = instructions.Move (t + 1) (operands.Slot t); behind = c1 }
+        ∷ record { instruction = instructions.Move (t + 2) (operands.Word 0); behind = c2 }
+        ∷ record { instruction = instructions.Binary plain_binary.Multiply t (operands.Slot t) (operands.Word own); behind = c3 }
+        ∷ record { instruction = instructions.Unary plain_unary.Not (t + 3) (operands.Slot t); behind = c4 }
+        ∷ []
+        )
+        (instructions.Binary plain_binary.Add (t + 3) (operands.Slot (t + 3)) (operands.Slot t)) does shared₀ (
+          branch,
+          (λ choice. ap (λ b. plain_step.branches c b block_at) (ap (nat_le (most_elements own + 1)) is ∙ short) ∙ ap (λ x. plain.Running (at c x)) passed),
+          omega (arith, passed),
+          is_quiet c c0.active,
           (
-            (apart source pages calls c0 c1 (λ same. omega (arith, same)), (apart source pages calls c0 c2 (λ same. omega (arith, same)), (apart source pages calls c0 c3 (λ same. omega (arith, same)), tt))),
-            (
-              (apart source pages calls c1 c2 (λ same. omega (arith, same)), (apart source pages calls c1 c3 (λ same. omega (arith, same)), tt)),
-              ((apart source pages calls c2 c3 (λ same. omega (arith, same)), tt), (tt, tt)),
-            ),
+            count,
+            (λ choice. refl),
+            omega arith,
+            is_quiet c0 c1.active,
+            (index, (λ choice. refl), omega arith, is_quiet c1 c2.active, (all, (λ choice. refl), omega arith, is_quiet c2 c3.active, (none, (λ choice. refl), omega arith, is_quiet c3 c4.active, tt))),
           ),
         )
-        (known source pages calls c _ branch, (known source pages calls c0 _ count, (known source pages calls c1 _ index, (known source pages calls c2 _ none, (known source pages calls c3 _ size, tt)))))
-        (through now next c c0 _ (place_in source pages calls c0 ∷ place_in source pages calls c1 ∷ place_in source pages calls c2 ∷ place_in source pages calls c3 ∷ []) branch (λ choice. ap (λ b. plain_step.branches c b block_at) (ap (nat_le (most_elements + 1)) is ∙ false_from_ne_true (nat_le (most_elements + 1) n) (λ told. absurd (omega (arith, few, leb-true (most_elements + 1) n told)))) ∙ ap (λ x. plain.Running (at c x)) passed) (within c0 shared) (way c shared₀)
-        (through now next c0 c1 _ (place_in source pages calls c1 ∷ place_in source pages calls c2 ∷ place_in source pages calls c3 ∷ []) count (λ choice. refl) (within c1 shared) (way c0 shared₀)
-        (through now next c1 c2 _ (place_in source pages calls c2 ∷ place_in source pages calls c3 ∷ []) index (λ choice. refl) (within c2 shared) (way c1 shared₀)
-        (through now next c2 c3 _ (place_in source pages calls c3 ∷ []) none (λ choice. refl) (within c3 shared) (way c2 shared₀)
-        (through now next c3 c4 _ [] size (λ choice. refl) (within c4 shared) (way c3 shared₀)
-        matches)))))
+        size (λ choice. matches)
       where
         apart_from : (m first many x : ℕ) → Outside first many m → first ≤ x → x < first + many → m ≢ x
         apart_from m first many x (inl before) from to same = omega (arith, before, from, same)
@@ -202,44 +247,38 @@ module _ (source : Program) (pages calls : ℕ) where
 
     -- it is too long
     raises : (focus : Focus) (k₀ : List Entry) (n : ℕ) → step source (Running focus k₀ e w) ≡ Running (Throwing array_size 0) k e w → SharedAt source pages calls k₀ e w c
-        → c.active.slots t ≡ n → (n ≤ most_elements → ⊥) → Waits c.active.next → IsMatched source pages calls (Running focus k₀ e w) (plain.Running c)
-    raises focus k₀ n does shared₀ is long (handle, d, h, r, s, q, owned, (m, (block_at, branch, raising_it, passed), count, index, none, size, ask, end), level_is, single, elements, lands) =
-        let g = c.active.function in
+        → c.active.slots t ≡ n → (n * words_of_kind wanted ≤ MOST_BLOCK_WORDS → ⊥) → Waits c.active.next → IsMatched source pages calls (Running focus k₀ e w) (plain.Running c)
+    raises focus k₀ n does shared₀ is long (handle, d, h, r, s, q, owned, (m, (block_at, branch, raising_it, passed), count, index, all, none, size, ask, end), level_is, elements, lands) =
+        let limit = most_elements (words_of_kind wanted) + 1 in
         by_one source pages calls does shared₀ branch
         (λ choice. subst (λ b. Matches source pages calls (Running (Throwing array_size 0) k e w) (plain_step.branches c b block_at))
-        (sym (ap (nat_le (most_elements + 1)) is ∙ too_long))
+        (sym (ap (nat_le limit) is ∙ too_long limit refl))
         (raised source pages calls array_size 0 k e w (at c block_at) (operands.Word array_size) (operands.Word 0) (omega arith) shared facts raising_it refl refl))
       where
-        few_by : (x : ℕ) → nat_le (most_elements + 1) x ≡ false → x ≤ most_elements
-        few_by x less = omega (arith, leb-false (most_elements + 1) x less)
+        few_by : (x : ℕ) → nat_le (most_elements (words_of_kind wanted) + 1) x ≡ false → x ≤ most_elements (words_of_kind wanted)
+        few_by x less = omega (arith, leb-false (most_elements (words_of_kind wanted) + 1) x less)
 
-        too_long : nat_le (most_elements + 1) n ≡ true
-        too_long = elim (cases_Bool (nat_le (most_elements + 1) n)) [
+        too_long : (limit : ℕ) → limit ≡ most_elements (words_of_kind wanted) + 1 → nat_le limit n ≡ true
+        too_long limit is_limit = elim (cases_Bool (nat_le limit n)) [
           | inl more ↦ more
-          | inr less ↦ absurd (long (few_by n less))
+          | inr less ↦ absurd (long (words_few wanted n (few_by n (subst (λ x. nat_le x n ≡ false) is_limit less))))
         ]
 
     measures : (i : Kind) (u : Value) → IsWell (makes_array owner level wanted element u k e w) → Is shared.tables i u c.active.slots t → SharedAt source pages calls (Needs (MakeArray owner level wanted element) ∷ k) e w c
         → Waits c.active.next → IsMatched source pages calls (Running (Given (record { kind = i; value = u })) (Needs (MakeArray owner level wanted element) ∷ k) e w) (plain.Running c)
-    measures i (Int n) well is shared₀ (handle, d, h, r, s, q, owned, begun_at, level_is, single, elements, lands) = by (nat_le (n * words_of_kind wanted) most_words) refl
+    measures i (Int n) well is shared₀ waits = by (nat_le (n * words_of_kind wanted) most_words) refl
       where
-        waits : Waits c.active.next
-        waits = (handle, d, h, r, s, q, owned, begun_at, level_is, single, elements, lands)
-
-        one_each : n * words_of_kind wanted ≡ n * 1
-        one_each = ap (λ x. n * x) single
-
         by : (fits : Bool) → nat_le (n * words_of_kind wanted) most_words ≡ fits
             → IsMatched source pages calls (Running (Given (record { kind = i; value = Int n })) (Needs (MakeArray owner level wanted element) ∷ k) e w) (plain.Running c)
         by true told =
             begins (Given (record { kind = i; value = Int n })) (Needs (MakeArray owner level wanted element) ∷ k) n
             (ap (λ (b : Bool). if b then Running (Beginning owner n level wanted element) k e w else Running (Throwing array_size 0) k e w) told) shared₀
-            (int_word shared.tables i n c.active.slots t is) (omega (arith, leb-true _ _ told, one_each)) waits
+            (int_word shared.tables i n c.active.slots t is) (omega (arith, leb-true _ _ told)) waits
         by false told =
             raises (Given (record { kind = i; value = Int n })) (Needs (MakeArray owner level wanted element) ∷ k) n
             (ap (λ (b : Bool). if b then Running (Beginning owner n level wanted element) k e w else Running (Throwing array_size 0) k e w) told) shared₀
             (int_word shared.tables i n c.active.slots t is)
-            (λ few. let f : false ≡ true = sym told ∙ le-leb (n * words_of_kind wanted) most_words (omega (arith, few, one_each)) in cc) waits
+            (λ few. let f : false ≡ true = sym told ∙ le-leb (n * words_of_kind wanted) most_words few in cc) waits
     measures i u well is shared₀ waits = absurd (well refl)
 
   -- the length of an array
@@ -248,19 +287,17 @@ module _ (source : Program) (pages calls : ℕ) where
       → IsIn shared.tables v c.active.slots o → Holds shared.tables c.active.slots (floor source c.active.function k) (held k)
       → ValueStack source c.active.function e.locals v.kind o c.active.next c.frames (Needs (MakeArray owner level wanted element) ∷ k)
       → IsMatched source pages calls (Running (Given v) (Needs (MakeArray owner level wanted element) ∷ k) e w) (plain.Running c)
-  array_sized owner level wanted element v o k e w c well shared facts is holds (handle, d, h, r, s, q, owned, there, begun_at, level_is, single, elements, lands) =
-      measures owner level wanted element k e w c shared facts holds v.kind v.value well (subst (IsIn shared.tables v c.active.slots) there is) shared (handle, d, h, r, s, q, owned, begun_at, level_is, single, elements, lands)
+  array_sized owner level wanted element v o k e w c well shared facts is holds (handle, d, h, r, s, q, owned, there, begun_at, level_is, elements, lands) =
+      measures owner level wanted element k e w c shared facts holds v.kind v.value well (subst (IsIn shared.tables v c.active.slots) there is) shared (handle, d, h, r, s, q, owned, begun_at, level_is, elements, lands)
 
   -- ---- the block
 
   module _ (k : List Entry) (e : Environment) (w : World) (c : Configuration) (shared : SharedAt source pages calls k e w c) (facts : DataIn source shared.tables c.active.slots k e w c)
-      (holds : Holds shared.tables c.active.slots (floor source c.active.function k) (held k)) (count : ℕ) (wanted : Kind) (r : Region) (there : slice_get w.regions heap_number ≡ Some r) (kept : has_home r ≡ true)
-      (choice : services.Choice) (free : refusal c.store (Allocate HEAP (block_size (blanks count wanted))) ≡ None) (served : plain_step.IsServed c.store (Allocate HEAP (block_size (blanks count wanted))) choice) where
+      (holds : Holds shared.tables c.active.slots (floor source c.active.function k) (held k)) (count : ℕ) (wanted : Kind) (owner : Owner) (handle : ℕ) (new : World)
+      (makes : Makes shared.tables w c.store owner handle (blanks count wanted) new)
+      (choice : services.Choice) (free : refusal c.store (Allocate handle (block_size (blanks count wanted))) ≡ None) (served : plain_step.IsServed c.store (Allocate handle (block_size (blanks count wanted))) choice) where
     abbrev cells : List Cell
     cells = blanks count wanted
-
-    abbrev new : World
-    new = made_in w heap_number r cells
 
     abbrev first : ℕ
     first = top source c.active.function k
@@ -269,7 +306,7 @@ module _ (source : Program) (pages calls : ℕ) where
     grown = with_row shared.tables (Placed choice.address (kinds_of cells))
 
     abbrev after : Configuration
-    after = served_to choice c first (Allocate HEAP (block_size cells))
+    after = served_to choice c first (Allocate handle (block_size cells))
 
     grows : Grows shared.tables grown
     grows = Grows-row shared.tables (Placed choice.address (kinds_of cells))
@@ -277,10 +314,10 @@ module _ (source : Program) (pages calls : ℕ) where
     abbrev shared_made : SharedAt source pages calls k e new after
     shared_made = record {
       tables = grown;
-      same_output = shared.same_output;
-      same_input = shared.same_input;
-      same_pages = shared.same_pages;
-      related = allocated shared.related heap_number HEAP r cells there kept shared.related.heap choice (blanks-blank count wanted) free served.allowed;
+      same_output = shared.same_output ∙ sym makes.output;
+      same_input = shared.same_input ∙ sym makes.input;
+      same_pages = makes.pages choice ∙ shared.same_pages;
+      related = makes.related choice free served.allowed;
       globals = shared.globals;
       variables = variables_grow shared.tables grown grows (e.home ∷ homes k) shared.variables;
       few_pages = within_pages;
@@ -289,7 +326,7 @@ module _ (source : Program) (pages calls : ℕ) where
     }
       where
         within_pages : demand after.store ≤ pages
-        within_pages = omega (arith, (served-sound c.store (Allocate HEAP (block_size cells)) choice shared.related.sound free served.allowed).demand, shared.same_pages)
+        within_pages = omega (arith, (served-sound c.store (Allocate handle (block_size cells)) choice shared.related.sound free served.allowed).demand, makes.pages choice, shared.same_pages)
 
     -- the slots differ in that of the address alone
     same_slots : (m : ℕ) → Outside first 1 m → after.active.slots m ≡ c.active.slots m
@@ -299,7 +336,7 @@ module _ (source : Program) (pages calls : ℕ) where
     data_made : DataIn source grown after.active.slots k e new after
     data_made =
         let g = c.active.function in
-        let many : length new.objects ≡ length w.objects + 1 = length-append w.objects (record { owner = InRegion heap_number; cells = cells } ∷ []) in
+        let many : length new.objects ≡ length w.objects + 1 = ap length makes.joined ∙ length-append w.objects (record { owner = owner; cells = cells } ∷ []) in
         data_written source grown g new.objects e.locals k c.active.slots after.active.slots c.active.handlers c.globals c.frames first 1 (omega (arith, height-least (floor source g k) (held k))) same_slots (
           data_grows shared.tables grown grows source g new.objects e.locals (callers k) c.active.slots c.globals c.frames
               (data_beside shared.tables source g w.objects new.objects e.locals (callers k) c.active.slots c.globals c.frames (omega (arith, many)) beside facts.0),
@@ -307,7 +344,7 @@ module _ (source : Program) (pages calls : ℕ) where
         )
       where
         beside : SameVariables shared.tables w.objects new.objects
-        beside o row = contents_made w.objects (record { owner = InRegion heap_number; cells = cells }) o (omega (arith, slice_get-below shared.tables.rows o Variable row, shared.related.rows))
+        beside o row = ap (λ l. contents l o) makes.joined ∙ contents_made w.objects (record { owner = owner; cells = cells }) o (omega (arith, slice_get-below shared.tables.rows o Variable row, shared.related.rows))
 
     holds_made : Holds grown after.active.slots (floor source c.active.function k) (held k)
     holds_made =
@@ -317,68 +354,59 @@ module _ (source : Program) (pages calls : ℕ) where
     -- the pointer to it stands in slots
     array_there : block_size cells ≤ MOST_BLOCK_WORDS → c.active.slots (first + 1) ≡ count → c.active.slots (first + 2) ≡ 0 → Is grown kinds.Fat (Fat (length w.objects) 0 count 0) after.active.slots first
     array_there short long start = (
-      subst (IsPartOf grown (length w.objects) 0 count) (sym (put-same c.active.slots first choice.address)) (part-made shared.related HEAP count wanted choice (omega (arith, short)) served.allowed),
+      subst (IsPartOf grown (length w.objects) 0 count) (sym (put-same c.active.slots first choice.address)) (part-made shared.related handle count wanted choice (omega (arith, short)) served.allowed),
       same_slots (first + 1) (inr (omega arith)) ∙ long,
       same_slots (first + 2) (inr (omega arith)) ∙ start,
     )
 
   -- the store is asked for it
   pub beginning : (owner : Owner) (count level : ℕ) (wanted : Kind) (element : Expression) (k : List Entry) (e : Environment) (w : World) (c : Configuration) → IsStep source pages calls (Beginning owner count level wanted element) k e w c
-  beginning (Unique live) count level wanted element k e w c well (shared, facts, (handle, d, h, r, s, q, owned, ask, next_is, few, long, start, block, level_is, single, elements, holds, lands)) = absurd owned
-  beginning (InRegion region) count level wanted element k e w c well (shared, facts, (handle, d, h, r, s, q, (region_is, handle_is), ask, next_is, few, long, start, block, level_is, single, elements, holds, lands)) =
+  beginning owner count level wanted element k e w c well (shared, facts, (handle, d, h, r, s, q, owned, ask, next_is, few, long, start, block, level_is, elements, holds, lands)) =
       let g = c.active.function in
       let t = top source g k in
       let cells = blanks count wanted in
-      let makes = λ (n : ℕ). begun (created_in w n (region_at w n) cells) (length w.objects) count level wanted element k e w in
-      let at_heap : makes region ≡ makes heap_number = ap makes region_is in
-      let (x, found) = region_open (region_at w heap_number) heap_number (length w.objects) count level wanted element k e w (subst IsWell at_heap well) in
-      let (there, kept) = open-home shared.related heap_number HEAP x found shared.related.heap in
-      let new = made_in w heap_number x cells in
+      let size : c.active.slots (t + 3) ≡ block_size cells = block ∙ ap (max 1) (sym (blank_words count wanted)) in
+      let small : block_size cells ≤ MOST_BLOCK_WORDS = omega (arith, size, block, at_most (count * words_of_kind wanted) few) in
+      let (made, creates) = array_made (created w owner cells) (length w.objects) count level wanted element k e w well in
+      let (new, makes) = made_for shared.related cells (blanks-blank count wanted) small owner handle made owned creates in
       let next = Running (Repeating (length w.objects) count 0 level wanted element) k e new in
-      let does : step source (Running (Beginning (InRegion region) count level wanted element) k e w) ≡ next
-      = at_heap ∙ ap (λ a. begun (created_in w heap_number a cells) (length w.objects) count level wanted element k e w) found in
-      let request = requests.Allocate t (operands.Word HEAP) (operands.Slot (t + 3)) in
-      let here : At (code_of source g) c.active.next (instructions.Ask request) = subst (λ n. At (code_of source g) c.active.next (instructions.Ask (requests.Allocate t (operands.Word n) (operands.Slot (t + 3))))) handle_is ask in
-      let size : c.active.slots (t + 3) ≡ block_size cells = block ∙ ap (max 1) (sym (blank_words count wanted single)) in
-      let small : block_size cells ≤ MOST_BLOCK_WORDS = omega (arith, size, block, at_most count few) in
-      let some : 1 ≤ block_size cells = le-max_left 1 (words_of_cells cells) in
-      let refuses = ap (λ n. refusal c.store (Allocate HEAP n)) size
-      ∙ refusal-allocate shared.related heap_number HEAP x cells there kept shared.related.heap (and_from _ _ (le-leb 1 (block_size cells) some) (le-leb (block_size cells) MOST_BLOCK_WORDS small)) in
+      let does : step source (Running (Beginning owner count level wanted element) k e w) ≡ next = ap (λ a. begun a (length w.objects) count level wanted element k e w) makes.creates in
+      let request = requests.Allocate t (operands.Word handle) (operands.Slot (t + 3)) in
+      let refuses = ap (λ n. refusal c.store (Allocate handle n)) size ∙ makes.refuses in
       elim (cases_Bool (nat_lt c.store.pages (pages_of new))) [
         | inl over ↦
-            by_full source pages calls (Beginning (InRegion region) count level wanted element) k e w c next request does
-            (past_pages pages (pages_of new) _ (subst (λ p. nat_lt p (pages_of new) ≡ true) shared.same_pages over)) shared here (refuses ∙ ap full_at over)
+            by_full source pages calls (Beginning owner count level wanted element) k e w c next request does
+            (past_pages pages (pages_of new) _ (subst (λ p. nat_lt p (pages_of new) ≡ true) shared.same_pages over)) shared ask (refuses ∙ ap full_at over)
         | inr room ↦
             let free = refuses ∙ ap full_at room in
-            let free_block = sym (ap (λ n. refusal c.store (Allocate HEAP n)) size) ∙ free in
-            by_asking source pages calls (Beginning (InRegion region) count level wanted element) k e w c next request does shared here free
+            let free_block = sym (ap (λ n. refusal c.store (Allocate handle n)) size) ∙ free in
+            by_asking source pages calls (Beginning owner count level wanted element) k e w c next request does shared ask free
             (λ choice served.
-            let given = subst (λ n. plain_step.IsServed c.store (Allocate HEAP n) choice) size served in
-            let made = shared_made k e w c shared facts holds count wanted x there kept choice free_block given in
-            subst (λ n. Matches source pages calls next (plain.Running (served_to choice c t (Allocate HEAP n))) × (plain_step.is_within pages calls (plain.Running (served_to choice c t (Allocate HEAP n))) ≡ true)) (sym size) (
+            let given = subst (λ n. plain_step.IsServed c.store (Allocate handle n) choice) size served in
+            let later = shared_made k e w c shared facts holds count wanted owner handle new makes choice free_block given in
+            subst (λ n. Matches source pages calls next (plain.Running (served_to choice c t (Allocate handle n))) × (plain_step.is_within pages calls (plain.Running (served_to choice c t (Allocate handle n))) ≡ true)) (sym size) (
               (
-                made,
-                data_made k e w c shared facts holds count wanted x there kept choice free_block given,
+                later,
+                data_made k e w c shared facts holds count wanted owner handle new makes choice free_block given,
                 (
                   d,
                   r,
                   s,
                   q,
-                  array_there k e w c shared facts holds count wanted x there kept choice free_block given small long start,
+                  array_there k e w c shared facts holds count wanted owner handle new makes choice free_block given small long start,
                   omega arith,
                   few,
                   level_is,
-                  single,
-                  subst (λ n. ElementsAt (code_of source g) (bounds_at source g) (types_on source g k) element t d n r s q) (sym next_is) elements,
-                  holds_made k e w c shared facts holds count wanted x there kept choice free_block given,
+                  subst (λ n. ElementsAt (code_of source g) (bounds_at source g) (types_on source g k) element (words_of_kind wanted) t d n r s q) (sym next_is) elements,
+                  holds_made k e w c shared facts holds count wanted owner handle new makes choice free_block given,
                   lands,
                 ),
               ),
-              shared_within source pages calls k e new (served_to choice c t (Allocate HEAP (block_size cells))) made,
+              shared_within source pages calls k e new (served_to choice c t (Allocate handle (block_size cells))) later,
             ))
       ]
     where
-      at_most : (n : ℕ) → n ≤ most_elements → max 1 n ≤ MOST_BLOCK_WORDS
+      at_most : (n : ℕ) → n ≤ MOST_BLOCK_WORDS → max 1 n ≤ MOST_BLOCK_WORDS
       at_most zero less = omega arith
       at_most (suc n) less = omega (arith, less)
 
@@ -446,7 +474,7 @@ module _ (source : Program) (pages calls : ℕ) where
   -- the next one is evaluated, or all are written
   pub repeating : (object count index level : ℕ) (wanted : Kind) (element : Expression) (k : List Entry) (e : Environment) (w : World) (c : Configuration)
       → IsStep source pages calls (Repeating object count index level wanted element) k e w c
-  repeating object count index level wanted element k e w c well (shared, facts, (d, r, s, q, (part, long, now), inside, few, level_is, single, (branch, before, at_element, filled, restart, copy), holds, lands)) =
+  repeating object count index level wanted element k e w c well (shared, facts, (d, r, s, q, (part, long, now), inside, few, level_is, (branch, before, at_element, filled, restart, copy), holds, lands)) =
       by (index == count) refl
     where
       g : ℕ
@@ -486,13 +514,232 @@ module _ (source : Program) (pages calls : ℕ) where
             counted,
             facts,
             into_slot (top source g k + 3) r at_element ((part, long, now), holds)
-                (in_temporary (omega arith) (d, c.active.next, s, q, refl, more, few, level_is, single, (branch, before, at_element, filled, restart, copy), lands)),
+                (in_temporary (omega arith) (d, c.active.next, s, q, refl, more, few, level_is, (branch, before, at_element, filled, restart, copy), lands)),
           ))
         where
           not_equal : index ≢ count
           not_equal same = let f : false ≡ true = sym told ∙ eq-eqb index count same in cc
 
   -- ---- an element
+
+  module _ (object count index level : ℕ) (wanted : Kind) (element : Expression) (v : Kinded) (k : List Entry) (e : Environment) (w : World) (c : Configuration)
+      (words : plain.HoldsWords (plain.Running c)) (shared₀ : SharedAt source pages calls (Needs (FillElement object count index level wanted element) ∷ k) e w c)
+      (facts : DataIn source shared₀.tables c.active.slots k e w c) (part : IsPartOf shared₀.tables object 0 count (c.active.slots (top source c.active.function k)))
+      (long : c.active.slots (top source c.active.function k + 1) ≡ count) (now : c.active.slots (top source c.active.function k + 2) ≡ index)
+      (holds : Holds shared₀.tables c.active.slots (floor source c.active.function k) (held k)) (d h s q : ℕ) (inside : index < count) (few : count * words_of_kind wanted ≤ MOST_BLOCK_WORDS)
+      (level_is : level ≡ length (counters_of (floor source c.active.function k) k))
+      (elements : ElementsAt (code_of source c.active.function) (bounds_at source c.active.function) (types_on source c.active.function k) element (words_of_kind wanted) (top source c.active.function k) d h c.active.next s q)
+      (lands : LandsStack source c.active.function e.locals kinds.Fat d q c.frames k) (cell : Located) (found : cell_at w object index ≡ Found cell) (same : cell.cell.kind ≡ wanted) (fits : v.kind ≡ wanted)
+      (does : step source (Running (Given v) (Needs (FillElement object count index level wanted element) ∷ k) e w)
+      ≡ Running (Repeating object count (suc index) level wanted element) k e (written w object index cell v.value)) where
+    abbrev g : ℕ
+    g = c.active.function
+
+    abbrev free : ℕ
+    free = top source g k
+
+    abbrev own : ℕ
+    own = words_of_kind wanted
+
+    abbrev z : ℕ
+    z = free + 3 + own
+
+    abbrev slots : Words
+    slots = c.active.slots
+
+    abbrev entry : Entry
+    entry = Needs (FillElement object count index level wanted element)
+
+    abbrev shared : SharedAt source pages calls k e w c
+    shared = shared_less source pages calls (FillElement object count index level wanted element) k e w c shared₀
+
+    abbrev new : World
+    new = written w object index cell v.value
+
+    abbrev bytes : ℕ
+    bytes = scaled own (slots (free + 2))
+
+    abbrev s1 : Words
+    s1 = put slots z bytes
+
+    abbrev s2 : Words
+    s2 = put s1 z (add_of (s1 free) (s1 z))
+
+    abbrev c1 : Configuration
+    c1 = advanced (with_slots c s1)
+
+    abbrev c2 : Configuration
+    c2 = advanced (with_slots c1 s2)
+
+    outside_one : (slots : Words) (n m x : ℕ) → Outside n 1 m → put slots n x m ≡ slots m
+    outside_one slots n m x (inl short) = put-other slots n m x (λ e. omega (arith, e, short))
+    outside_one slots n m x (inr far) = put-other slots n m x (λ e. omega (arith, e, far))
+
+    outside_both : (m : ℕ) → Outside z 1 m → s2 m ≡ slots m
+    outside_both m out = outside_one s1 z m (add_of (s1 free) (s1 z)) out ∙ outside_one slots z m bytes out
+
+    early : (m : ℕ) → m < z → s2 m ≡ slots m
+    early m less = outside_both m (inl less)
+
+    -- where the cell stands
+    points : Points shared.tables object index (slots free + 4 * (index * own))
+    points =
+        subst (λ kind. Points shared.tables object index (slots free + 4 * (index * words_of_kind kind))) same
+        (subst (λ n. Points shared.tables object n (slots free + 4 * (index * words_of_kind cell.cell.kind))) first_index
+        (element-found shared.related index cell part inside (ap (cell_at w object) first_index ∙ found)))
+      where
+        first_index : 0 + index ≡ index
+        first_index = omega arith
+
+    -- its address comes to a slot
+    place : s2 z ≡ slots free + 4 * (index * own)
+    place =
+        put-same s1 z (add_of (s1 free) (s1 z)) ∙ ap (λ n. add_of n (s1 z)) (outside_one slots z free bytes (inl (omega arith)))
+        ∙ ap (add_of (slots free)) (put-same slots z bytes ∙ ap (scaled own) now ∙ scaled_is wanted index (omega (arith, inside, elements_few wanted count few, most_is wanted)))
+        ∙ add_is (slots free) (4 * (index * own)) (pointer-word points)
+
+    here : Points shared.tables object index (s2 z)
+    here = subst (Points shared.tables object index) (sym place) points
+
+    scales : (narrow : Bool) (choice : Choice)
+        → performed (lower_program source) choice c
+        (if narrow then instructions.Binary plain_binary.ShiftLeft z (operands.Slot (free + 2)) (operands.Word 2) else instructions.Binary plain_binary.Multiply z (operands.Slot (free + 2)) (operands.Word 12))
+        ≡ plain.Running (advanced (with_slots c (put slots z (if narrow then shl_of (slots (free + 2)) 2 else mul_of (slots (free + 2)) 12))))
+    scales true choice = refl
+    scales false choice = refl
+
+    facts_there : DataIn source shared.tables s2 k e w c2
+    facts_there = data_written source shared.tables g w.objects e.locals k slots s2 c.active.handlers c.globals c.frames z 1 (omega (arith, height-least (floor source g k) (held k))) outside_both facts
+
+    -- the store changes, and the code goes on at this place
+    abbrev reached : StoreState → (m : ℕ) → Configuration
+    reached store m = record c2 { store = store; active = record c2.active { next = m } }
+
+    -- The words of the element come to its cell on a path, and behind it the index goes to the next one.
+    goes_on : (m : ℕ) (store : StoreState) (links : List Link) → end_of c2 links ≡ reached store m → IsPath source c2 links
+        → At (code_of source g) m (instructions.Binary plain_binary.Add (free + 2) (operands.Slot (free + 2)) (operands.Word 1)) → At (code_of source g) (m + 1) (instructions.Jump h)
+        → objects.Related shared.tables (silent new) store → store.pages ≡ pages → demand store ≤ pages → DataIn source shared.tables s2 k e new (reached store m)
+        → IsMatched source pages calls (Running (Given v) (entry ∷ k) e w) (plain.Running c)
+    goes_on m store links ends path count_up jump related same_pages few_pages facts_later =
+        let (branch, before, at_element, (p, scale, sum, stores, next_up, next_jump, end), restart, copy) = elements in
+        let s3 = put s2 (free + 2) (add_of (s2 (free + 2)) 1) in
+        let c3 = reached store m in
+        let c4 = advanced (with_slots c3 s3) in
+        let next = Running (Repeating object count (suc index) level wanted element) k e new in
+        let up : (x : ℕ) → Outside (free + 2) 1 x → s3 x ≡ s2 x = λ x out. outside_one s2 (free + 2) x (add_of (s2 (free + 2)) 1) out in
+        let index_is : s3 (free + 2) ≡ suc index
+        = put-same s2 (free + 2) (add_of (s2 (free + 2)) 1) ∙ ap (λ n. add_of n 1) (early (free + 2) (omega arith) ∙ now) ∙ add_is index 1 (omega (arith, inside, elements_few wanted count few, most_is wanted)) ∙ one_more index in
+        let later : SharedAt source pages calls k e new (reached store m)
+        = record {
+          tables = shared.tables;
+          same_output = shared.same_output;
+          same_input = shared.same_input;
+          related = related;
+          same_pages = same_pages;
+          globals = shared.globals;
+          variables = shared.variables;
+          few_pages = few_pages;
+          fits = shared.fits;
+          counters = shared.counters;
+        } in
+        let matches : Matches source pages calls next (plain.Running (at c4 h)) = (
+          later,
+          data_written source shared.tables g new.objects e.locals k s2 s3 c.active.handlers c.globals c.frames (free + 2) 1 (omega (arith, height-least (floor source g k) (held k))) up facts_later,
+          (
+            d,
+            c.active.next,
+            s,
+            q,
+            (
+              subst (IsPartOf shared.tables object 0 count) (sym (up free (inl (omega arith)) ∙ early free (omega arith))) part,
+              up (free + 1) (inl (omega arith)) ∙ early (free + 1) (omega arith) ∙ long,
+              index_is,
+            ),
+            omega (arith, inside),
+            few,
+            level_is,
+            elements,
+            Holds-same shared.tables slots s3 (floor source g k) (held k) (λ x less. up x (inl (omega (arith, less))) ∙ early x (omega (arith, less))) holds,
+            lands,
+          ),
+        ) in
+        let counts : Link = record { instruction = instructions.Binary plain_binary.Add (free + 2) (operands.Slot (free + 2)) (operands.Word 1); behind = c4 } in
+        let end_is : end_of c2 (links ++ counts ∷ []) ≡ c4 = end_joined c2 links (counts ∷ []) in
+        by_path source pages calls (Given v) (entry ∷ k) e w c next
+        (record { instruction = scale_of own z (free + 2); behind = c1 } ∷ record { instruction = instructions.Binary plain_binary.Add z (operands.Slot free) (operands.Slot z); behind = c2 } ∷ (links ++ counts ∷ []))
+        (instructions.Jump h) does shared₀ (
+          scale,
+          scales (own == 1),
+          omega arith,
+          is_quiet c c1.active,
+          (
+            sum,
+            (λ choice. refl),
+            omega arith,
+            is_quiet c1 c2.active,
+            path_joined source c2 links (counts ∷ []) path (subst (λ x. IsPath source x (counts ∷ [])) (sym ends) (count_up, (λ choice. refl), omega arith, is_quiet c3 c4.active, tt)),
+          ),
+        )
+        (subst (λ (x : Configuration). At (code_of source x.active.function) x.active.next (instructions.Jump h)) (sym end_is) jump)
+        (λ choice. subst (λ (x : Configuration). Matches source pages calls next (performed (lower_program source) choice x (instructions.Jump h))) (sym end_is) matches)
+      where
+        one_more : (n : ℕ) → n + 1 ≡ suc n
+        one_more n = omega arith
+
+    -- an element of one word
+    fills_word : own ≡ 1 → Is shared.tables v.kind v.value slots (free + 3) → IsMatched source pages calls (Running (Given v) (entry ∷ k) e w) (plain.Running c)
+    fills_word one is =
+        let (branch, before, at_element, (m, scale, sum, stores, count_up, jump, end), restart, copy) = elements in
+        let (store, last) = subst (λ n. StoresAt (code_of source g) (bounds_at source g) (types_on source g k) n z 0 (free + 3) (c.active.next + 1 + 1) m) one stores in
+        let address = add_of (s2 z) 0 in
+        let word = s2 (free + 3) in
+        let there : Points shared.tables object index address = stays here in
+        let word_is : word ≡ slots (free + 3) = early (free + 3) (omega (arith, one)) in
+        let value : IsWord shared.tables cell.cell.kind v.value word
+        = subst (λ i. IsWord shared.tables i v.value word) (fits ∙ sym same)
+        (subst (IsWord shared.tables v.kind v.value) (sym word_is) (one_word shared.tables v.kind v.value slots (free + 3) (ap words_of_kind fits ∙ one) is)) in
+        let machine : IsMachineWord word = subst IsMachineWord (sym word_is) (words.0 (free + 3)) in
+        let kept : SharedAt source pages calls k e new (advanced (with_memory c2 address word)) = shared_saved source pages calls k e w c2 shared object index address word cell v.value found there value machine in
+        let saves_it = saves_there source pages calls k e w c2 shared object index address word cell v.value found there value machine in
+        goes_on m (saved c2.store address word) (record { instruction = instructions.Store (operands.Slot z) 0 (operands.Slot (free + 3)); behind = advanced (with_memory c2 address word) } ∷ [])
+        (ap (reached (saved c2.store address word)) last)
+        (store, (λ choice. saves_it), omega arith, record { output = refl; demand = ap demand (saved_there source pages calls k e w c2 shared object index address word cell v.value found there value machine); frames = refl }, tt)
+        count_up jump (shared_saved source pages calls k e w c2 shared object index address word cell v.value found there value machine).related kept.same_pages kept.few_pages
+        (data_saved source pages calls k e w c2 shared object index address word cell v.value found there value machine facts_there)
+
+    -- slots hold words also with the address of the cell
+    words_there : plain.HoldsWords (plain.Running c2)
+    words_there = (with_word s1 (add_of (s1 free) (s1 z)) (with_word slots bytes words.0 (shifted_word wanted (slots (free + 2)))) (IsWord-add_of (s1 free) (s1 z)), words.1, words.2, words.3, words.4)
+      where
+        with_word : (slots : Words) (x : ℕ) → ((m : ℕ) → IsMachineWord (slots m)) → IsMachineWord x → (m : ℕ) → IsMachineWord (put slots z x m)
+        with_word slots x are is m = elim (cases_eq m z) [
+          | inl same ↦ subst (λ n. IsMachineWord (put slots z x n)) (sym same) (subst IsMachineWord (sym (put-same slots z x)) is)
+          | inr other ↦ subst IsMachineWord (sym (put-other slots z m x other)) (are m)
+        ]
+
+    -- an element of three words
+    fills_words : wanted ≡ kinds.Fat → Is shared.tables v.kind v.value slots (free + 3) → IsMatched source pages calls (Running (Given v) (entry ∷ k) e w) (plain.Running c)
+    fills_words fat is =
+        let (branch, before, at_element, (m, scale, sum, stores, count_up, jump, end), restart, copy) = elements in
+        let three : own ≡ 3 = ap words_of_kind fat in
+        let (at_first, (at_second, (at_third, last))) = subst (λ n. StoresAt (code_of source g) (bounds_at source g) (types_on source g k) n z 0 (free + 3) (c.active.next + 1 + 1) m) three stores in
+        let wide = same ∙ fat in
+        let fat_is : Is shared.tables kinds.Fat v.value s2 (free + 3)
+        = Is-same shared.tables kinds.Fat v.value slots s2 (free + 3) (free + 3) (λ i below. early (free + 3 + i) (omega (arith, three, below))) (subst (λ i. Is shared.tables i v.value slots (free + 3)) (fits ∙ fat) is) in
+        let kind_there = cell_kind shared.related cell here found in
+        let behind : (j : ℕ) → j < 3 → add_of (s2 z) (4 * j) ≡ s2 z + 4 * j = λ j below. word_is here cell.cell.kind j kind_there (omega (arith, below, ap words_of_kind wide)) in
+        let first = behind 0 (omega arith) in
+        let second = behind 1 (omega arith) in
+        let third = behind 2 (omega arith) in
+        let after = stored source pages calls k e w c2 shared object index (s2 z) z 0 (free + 3) cell v.value found here wide fat_is words_there first second third in
+        goes_on m after.store (all_links source pages calls k e w c2 shared object index (s2 z) z 0 (free + 3) cell v.value found here wide fat_is words_there first second third) (ap (reached after.store) last)
+        (all_path source pages calls k e w c2 shared object index (s2 z) z 0 (free + 3) cell v.value found here wide fat_is words_there first second third at_first at_second at_third)
+        count_up jump (shared_stored source pages calls k e w c2 shared object index (s2 z) z 0 (free + 3) cell v.value found here wide fat_is words_there first second third).related shared.same_pages shared.few_pages
+        (data_stored source pages calls k e w c2 shared object index (s2 z) z 0 (free + 3) cell v.value found here wide fat_is words_there first second third facts_there)
+
+    fills : (narrow : Bool) → (own == 1) ≡ narrow → Is shared.tables v.kind v.value slots (free + 3) → IsMatched source pages calls (Running (Given v) (entry ∷ k) e w) (plain.Running c)
+    fills true narrow is = fills_word (eqb-true own 1 narrow) is
+    fills false wide is = fills_words (wide_kind wanted wide) is
 
   -- it is written, and the index goes to the next one
   pub array_filled : (object count index level : ℕ) (wanted : Kind) (element : Expression) (v : Kinded) (o : Operand) (k : List Entry) (e : Environment) (w : World) (c : Configuration) → plain.HoldsWords (plain.Running c)
@@ -501,103 +748,12 @@ module _ (source : Program) (pages calls : ℕ) where
       → IsIn shared.tables v c.active.slots o → Holds shared.tables c.active.slots (floor source c.active.function k) (held (Needs (FillElement object count index level wanted element) ∷ k))
       → ValueStack source c.active.function e.locals v.kind o c.active.next c.frames (Needs (FillElement object count index level wanted element) ∷ k)
       → IsMatched source pages calls (Running (Given v) (Needs (FillElement object count index level wanted element) ∷ k) e w) (plain.Running c)
-  array_filled object count index level wanted element v o k e w c words well shared₀ facts is ((part, long, now), holds) (d, h, s, q, there, inside, few, level_is, single, (branch, before, at_element, (scale, sum, store, count_up, jump, end), restart, copy), lands) =
-      let g = c.active.function in
-      let t = top source g k in
-      let base = floor source g k in
-      let slots = c.active.slots in
-      let focus : Focus = Given v in
-      let k₀ : List Entry = Needs (FillElement object count index level wanted element) ∷ k in
-      let shared : SharedAt source pages calls k e w c = shared_less source pages calls (FillElement object count index level wanted element) k e w c shared₀ in
+  array_filled object count index level wanted element v o k e w c words well shared facts is ((part, long, now), holds) (d, h, s, q, there, inside, few, level_is, elements, lands) =
       let behind : Focus = Repeating object count (suc index) level wanted element in
-      let fits = is_fitting (is_kind v.kind wanted) (stored (cell_at w object index) object index v behind k e w) w well in
-      let does : step source (Running focus k₀ e w) ≡ stored (cell_at w object index) object index v behind k e w
-      = ap (λ (b : Bool). if b then stored (cell_at w object index) object index v behind k e w else wrong w) fits in
+      let fitting = is_fitting (is_kind v.kind wanted) (stored_in (cell_at w object index) object index v behind k e w) w well in
+      let does : step source (Running (Given v) (Needs (FillElement object count index level wanted element) ∷ k) e w) ≡ stored_in (cell_at w object index) object index v behind k e w
+      = ap (λ (b : Bool). if b then stored_in (cell_at w object index) object index v behind k e w else wrong w) fitting in
       let (cell, found, same, goes) = cell_is_there (cell_at w object index) object index v behind k e w (subst IsWell does well) in
-      let next = Running behind k e (written w object index cell v.value) in
-      let one : words_of_kind v.kind ≡ 1 = ap words_of_kind (same_kind v.kind wanted fits) ∙ single in
-      let cell_one : words_of_kind cell.cell.kind ≡ 1 = ap words_of_kind same ∙ one in
-      let same_index : 0 + index ≡ index = omega arith in
-      let first_points = element-found shared.related index cell part inside (ap (cell_at w object) same_index ∙ found) in
-      let points : Points shared.tables object index (slots t + 4 * (index * 1))
-      = subst (λ n. Points shared.tables object index (slots t + 4 * (index * n))) cell_one
-      (subst (λ n. Points shared.tables object n (slots t + 4 * (index * words_of_kind cell.cell.kind))) same_index first_points) in
-      let short : slots t + 4 * (index * 1) < 4294967296 = pointer-word points in
-      let s1 = put slots (t + 4) (shl_of (slots (t + 2)) 2) in
-      let s2 = put s1 (t + 4) (add_of (s1 t) (s1 (t + 4))) in
-      let s3 = put s2 (t + 2) (add_of (s2 (t + 2)) 1) in
-      let address = add_of (s2 (t + 4)) 0 in
-      let word = s2 (t + 3) in
-      let scaled : s1 (t + 4) ≡ 4 * (index * 1) = put-same slots (t + 4) (shl_of (slots (t + 2)) 2) ∙ ap (λ n. shl_of n 2) now ∙ shifted_is index (omega (arith, short)) in
-      let from : s1 t ≡ slots t = put-other slots (t + 4) t (shl_of (slots (t + 2)) 2) (λ e. omega (arith, e)) in
-      let place : s2 (t + 4) ≡ slots t + 4 * (index * 1) = put-same s1 (t + 4) (add_of (s1 t) (s1 (t + 4))) ∙ ap (λ n. add_of n (s1 (t + 4))) from ∙ ap (add_of (slots t)) scaled ∙ add_is (slots t) (4 * (index * 1)) short in
-      let here : Points shared.tables object index address = stays (subst (Points shared.tables object index) (sym place) points) in
-      let early : (m : ℕ) → m < t + 4 → s2 m ≡ slots m
-      = λ m less. put-other s1 (t + 4) m (add_of (s1 t) (s1 (t + 4))) (λ e. omega (arith, e, less)) ∙ put-other slots (t + 4) m (shl_of (slots (t + 2)) 2) (λ e. omega (arith, e, less)) in
-      let word_is : word ≡ slots (t + 3) = early (t + 3) (omega arith) in
-      let value : IsWord shared.tables cell.cell.kind v.value word
-      = subst (λ i. IsWord shared.tables i v.value word) (sym same)
-      (subst (IsWord shared.tables v.kind v.value) (sym word_is) (one_word shared.tables v.kind v.value slots (t + 3) one (subst (IsIn shared.tables v slots) there is))) in
-      let machine : IsMachineWord word = subst IsMachineWord (sym word_is) (words.0 (t + 3)) in
-      let c1 = advanced (with_slots c s1) in
-      let c2 = advanced (with_slots c1 s2) in
-      let c3 = advanced (with_memory c2 address word) in
-      let c4 = advanced (with_slots c3 s3) in
-      let c5 = at c4 h in
-      let new = written w object index cell v.value in
-      let later = shared_saved source pages calls k e w c2 shared object index address word cell v.value found here cell_one value machine in
-      let stays_data = data_saved source pages calls k e w c2 shared object index address word cell v.value found here cell_one value machine
-      (data_written source shared.tables g w.objects e.locals k slots s2 c.active.handlers c.globals c.frames (t + 4) 1 (omega (arith, height-least base (held k))) (λ m out. outside_both slots (t + 4) m _ _ out) facts) in
-      let up : (m : ℕ) → Outside (t + 2) 1 m → s3 m ≡ s2 m = λ m out. outside_one s2 (t + 2) m _ out in
-      let index_is : s3 (t + 2) ≡ suc index = put-same s2 (t + 2) (add_of (s2 (t + 2)) 1) ∙ ap (λ n. add_of n 1) (early (t + 2) (omega arith) ∙ now) ∙ add_is index 1 (omega (arith, inside, few)) ∙ one_more index in
-      let matches : Matches source pages calls next (plain.Running c5) = (
-        later,
-        data_written source shared.tables g new.objects e.locals k s2 s3 c.active.handlers c.globals c.frames (t + 2) 1 (omega (arith, height-least base (held k))) up stays_data,
-        (
-          d,
-          c.active.next,
-          s,
-          q,
-          (
-            subst (IsPartOf shared.tables object 0 count) (sym (up t (inl (omega arith)) ∙ early t (omega arith))) part,
-            up (t + 1) (inl (omega arith)) ∙ early (t + 1) (omega arith) ∙ long,
-            index_is,
-          ),
-          omega (arith, inside),
-          few,
-          level_is,
-          single,
-          (branch, before, at_element, (scale, sum, store, count_up, jump, end), restart, copy),
-          Holds-same shared.tables slots s3 base (held k) (λ m less. up m (inl (omega (arith, less))) ∙ early m (omega (arith, less))) holds,
-          lands,
-        ),
-      ) in
-      let now_at = Running focus k₀ e w in
-      by_places source pages calls now_at next (place_in source pages calls c) (place_in source pages calls c1 ∷ place_in source pages calls c2 ∷ place_in source pages calls c3 ∷ place_in source pages calls c4 ∷ []) (plain.Running c) (does ∙ goes) (
-        (apart source pages calls c c1 (λ e. omega (arith, e)), (apart source pages calls c c2 (λ e. omega (arith, e)), (apart source pages calls c c3 (λ e. omega (arith, e)), (apart source pages calls c c4 (λ e. omega (arith, e)), tt)))),
-        (
-          (apart source pages calls c1 c2 (λ e. omega (arith, e)), (apart source pages calls c1 c3 (λ e. omega (arith, e)), (apart source pages calls c1 c4 (λ e. omega (arith, e)), tt))),
-          (
-            (apart source pages calls c2 c3 (λ e. omega (arith, e)), (apart source pages calls c2 c4 (λ e. omega (arith, e)), tt)),
-            ((apart source pages calls c3 c4 (λ e. omega (arith, e)), tt), (tt, tt)),
-          ),
-        ),
-      )
-      (known source pages calls c _ scale, (known source pages calls c1 _ sum, (known source pages calls c2 _ store, (known source pages calls c3 _ count_up, (known source pages calls c4 _ jump, tt)))))
-      (through now_at next c c1 _ (place_in source pages calls c1 ∷ place_in source pages calls c2 ∷ place_in source pages calls c3 ∷ place_in source pages calls c4 ∷ []) scale (λ choice. refl) (shared_within source pages calls k e w c1 shared) (shared_way source pages calls focus k₀ e w c shared₀)
-      (through now_at next c1 c2 _ (place_in source pages calls c2 ∷ place_in source pages calls c3 ∷ place_in source pages calls c4 ∷ []) sum (λ choice. refl) (shared_within source pages calls k e w c2 shared) (shared_way source pages calls focus k₀ e w c1 shared₀)
-      (through now_at next c2 c3 _ (place_in source pages calls c3 ∷ place_in source pages calls c4 ∷ []) store (λ choice. saves_there source pages calls k e w c2 shared object index address word cell v.value found here cell_one value machine)
-      (shared_within source pages calls k e new c3 later) (shared_way source pages calls focus k₀ e w c2 shared₀)
-      (through now_at next c3 c4 _ (place_in source pages calls c4 ∷ []) count_up (λ choice. refl) (shared_within source pages calls k e new c4 later) (output_way source pages calls focus k₀ e w c3 shared.same_output)
-      (through now_at next c4 c5 _ [] jump (λ choice. refl) (shared_within source pages calls k e new c5 later) (output_way source pages calls focus k₀ e w c4 shared.same_output)
-      matches)))))
-    where
-      one_more : (n : ℕ) → n + 1 ≡ suc n
-      one_more n = omega arith
-
-      outside_one : (slots : Words) (n m x : ℕ) → Outside n 1 m → put slots n x m ≡ slots m
-      outside_one slots n m x (inl short) = put-other slots n m x (λ e. omega (arith, e, short))
-      outside_one slots n m x (inr far) = put-other slots n m x (λ e. omega (arith, e, far))
-
-      outside_both : (slots : Words) (n m x y : ℕ) → Outside n 1 m → put (put slots n x) n y m ≡ slots m
-      outside_both slots n m x y out = outside_one (put slots n x) n m y out ∙ outside_one slots n m x out
+      let fits = same_kind v.kind wanted fitting in
+      fills object count index level wanted element v k e w c words shared facts part long now holds d h s q inside few level_is elements lands cell found (same ∙ fits) fits (does ∙ goes)
+      (words_of_kind wanted == 1) refl (subst (IsIn shared.tables v c.active.slots) there is)

@@ -2,7 +2,7 @@
 use Rattle.std.proofs.Common.{◌≡◌, ℕ, zero, suc, ◌+◌, ◌≤◌, ◌<◌, Bool, true, false, List, [], ◌∷◌, ◌++◌, length, map, Option, None, Some, slice_get, refl, sym, ap, subst, ◌∙◌, arith, length-append}
 use Rattle.std.proofs.lemmas.Option.{same_Some, none-some, get_or_from_slice_get, slice_get-map}
 use Rattle.std.specs.Prelude.{unwrap_or, option_map, if◌then◌else◌, ◌==◌}
-use Rattle.cyc_meaning.specs.Operators.{array_size, null_exception, division_by_zero}
+use Rattle.cyc_meaning.specs.Operators.{array_size, null_exception, division_by_zero, array_bounds}
 use Rattle.cyc_types.specs.declared.typed.Kind.{Kind}
 use Rattle.cyc_types.specs.declared.typed.Kind.TheVariants as kinds
 use Rattle.cyc_types.specs.declared.typed.Callee.TheVariants as callees
@@ -12,13 +12,14 @@ use Rattle.cyc_types.specs.declared.typed.Operator.TheVariants as operators
 use Rattle.cyc_types.specs.declared.typed.PointerOperator.{PointerOperator}
 use Rattle.cyc_types.specs.declared.typed.PointerOperator.TheVariants as pointers
 use Rattle.cyc_types.specs.Types.{Ty, words_of}
-use Rattle.cyc_types.specs.TypedTrees.{Array, Counter, Load, New, OnHeap, AsUnique, ByHandle, Initial, Plain, Fields, Dereference, Target, Lvalue, Local, Global, Expression, Number, NullPointer, Copy, Call, Unary, Binary, Assign, Converted, Convert, Arguments, NoArguments, MoreArguments, Operations, NoOperations, ThenCompute, ThenTest, ThenPointer, Statement, Block, Empty, Evaluate, If, While, Return, Break, Continue, Items, NoItems, MoreItems, Execute, Declare, Signature, StructType, Function, Program, Move, Peek, ThenPointerPeek, type_of, AddressOfCell, Store, Member, type_of_place, FreeUnique, Side, VariableSide, CellSide, Swap, Throw, Try, Clauses, NoClauses, Default, Case}
+use Rattle.cyc_types.specs.TypedTrees.{Array, Counter, Load, New, OnHeap, AsUnique, ByHandle, Initial, Plain, Fields, Dereference, Target, Lvalue, Local, Global, Expression, Number, NullPointer, Copy, Call, Unary, Binary, Assign, Converted, Convert, Arguments, NoArguments, MoreArguments, Operations, NoOperations, ThenCompute, ThenTest, ThenPointer, Statement, Block, Empty, Evaluate, If, While, Return, Break, Continue, Items, NoItems, MoreItems, Execute, Declare, Signature, StructType, Function, Program, Move, Peek, ThenPointerPeek, type_of, AddressOfCell, Store, Member, type_of_place, FreeUnique, Side, VariableSide, CellSide, Swap, Throw, Try, Clauses, NoClauses, Default, Case, GlobalVariable, NumberOfElements, Element}
 use Rattle.cyc_types.specs.Numbered.{Numbering, argument_count, numbering_of, signatures_of}
 use Rattle.cyc_plain.specs.declared.instruction.UnaryOperator.TheVariants as plain_unary
 use Rattle.cyc_plain.specs.declared.instruction.BinaryOperator.TheVariants as plain_binary
 use Rattle.cyc_plain.specs.declared.instruction.Request.TheVariants as requests
 use Rattle.cyc_plain.specs.declared.limits.TheConstants.{RECORD_WORDS}
 use Rattle.cyc_plain.specs.declared.instruction.Comparison.{Comparison}
+use Rattle.cyc_plain.specs.declared.instruction.BinaryOperator.TheVariants as plain_binary
 use Rattle.cyc_plain.specs.declared.instruction.Comparison.TheVariants as comparisons
 use Rattle.cyc_plain.specs.declared.instruction.Operand.{Operand}
 use Rattle.cyc_plain.specs.declared.instruction.Operand.TheVariants as operands
@@ -28,21 +29,23 @@ use Rattle.cyc_plain.specs.Program.{Routine, no_routine, routine_at}
 use Rattle.cyc_plain.specs.Straight.{At, HasAt}
 use Rattle.cyc_plain.proofs.Straight.{has_front, has_back, has_whole}
 use Rattle.cyc_store.specs.declared.range.TheConstants.{MOST_BLOCK_WORDS, HEAP, UNIQUE}
-use Rattle.cyc_meaning.specs.Values.{kind_of, words_of_kind}
+use Rattle.cyc_meaning.specs.Values.{kind_of, words_of_kind, is_kind, is_thin}
 use Rattle.cyc_meaning.specs.FrameCount.{words_of_all, operand_words}
 use Rattle.cyc_objects.proofs.NumberLemmas.{slice_get-there}
-use Rattle.cyc_lower.specs.Slots.{counted, Types, starts_of, slot_of}
-use Rattle.cyc_lower.specs.Lowering.{most_elements, begun_code, filled_code, ended_code, elements_code, array_code, types_of, are_as_wide, converts_there, passed_words, source_of, source_slot, moved_by, move_of, operand_of, operand_or, code_unless, slot_or, code_unless_slot, left_with, left_of, value_slot, next_slot, slot_with, left_slot, value_operand, converted_operand, printed_operand, jump_if_nonzero, check_code, conversion_code, divisor_code, checked_code, operator_code, truth_code, load_code, low_byte, test_code, is_in, copy_code, expression_code, arguments_code, converted_code, converted_operand_code, printed_code, initial_code, assignment_code, assigned_operand, operations_code, discarded_code, failing_comparison, compared_or, compared_of, first_operand, first_code, second_code, pair_code, condition_code, condition_of, failing_jump, break_target, continue_target, return_code, declaration_code, statement_code, items_code, function_code, first_temporary, results_of, lower_function, lower_program, behind_left, pointer_code, outside_loops, inside_loop, pointer_operator, index_code, pointer_instructions, stores_code, object_code, made_code, place_operand, place_offset, place_code, address_code, raising, blocks, guard_code, body_code, free_code, jump_if_zero, right_slot, side_code, read_side, write_side, exchange_code, swap_code, leave_code, tag_operand, other_jump, goes_on, clause_code, thrown_code, thrown_operand, caught_code, clauses_code}
+use Rattle.cyc_lower.specs.Slots.{counted, Types, starts_of, slot_of, global_of, global_types}
+use Rattle.cyc_lower.specs.Lowering.{most_elements, begun_code, filled_code, ended_code, elements_code, array_code, types_of, are_as_wide, converts_there, passed_words, source_of, source_slot, moved_by, move_of, operand_of, operand_or, code_unless, slot_or, code_unless_slot, left_with, left_of, value_slot, next_slot, slot_with, left_slot, value_operand, converted_operand, printed_operand, jump_if_nonzero, check_code, conversion_code, divisor_code, checked_code, operator_code, truth_code, load_code, low_byte, test_code, is_in, copy_code, expression_code, arguments_code, converted_code, converted_operand_code, printed_code, initial_code, assignment_code, assigned_operand, operations_code, discarded_code, failing_comparison, compared_or, compared_of, first_operand, first_code, second_code, pair_code, condition_code, condition_of, failing_jump, break_target, continue_target, return_code, declaration_code, statement_code, items_code, function_code, first_temporary, results_of, lower_function, lower_program, behind_left, pointer_code, outside_loops, inside_loop, pointer_operator, index_code, pointer_instructions, stores_code, object_code, made_code, place_operand, place_offset, place_code, address_code, raising, blocks, guard_code, body_code, free_code, jump_if_zero, right_slot, side_code, read_side, write_side, exchange_code, swap_code, leave_code, tag_operand, other_jump, goes_on, clause_code, thrown_code, thrown_operand, caught_code, clauses_code, counter_operand, count_code, span_of, null_of, tested_code, widened_code, conversion_by, loaded_code, saved_code, all_passed, bounds_code, stepped_code, bounded_code, past_bounded, thinned_code, reached_code, followed_code, span_in, pointer_of, pointer_slot, word_by_word, load_word, store_word, global_code, globals_of, load_at}
 use Rattle.cyc_lower.specs.declared.statements.Exits.{Exits}
-use Rattle.cyc_lower.proofs.Stands.{BegunAt, FilledAt, OperandBy, CheckAt, ConversionBy, ConversionAt, DivisorAt, CheckedAt, OperatorAt, LoadAt, CopyBy, ExpressionAt, InitialAt, InitialBy, ConvertedAt, ConvertedOperandAt, PrintedAt, ArgumentsAt, OperationsAt, PairAt, ConditionAt, AssignmentAt, DiscardedAt, ReturnedAt, ReturnAt, DeclarationAt, StatementAt, ItemsAt, FirstTwoAt, IndexAt, PointerAt, StoresAt, ObjectAt, MadeAt, AddressAt, PlaceAt, GuardAt, FreedAt, HasSide, SideAt, ReadAt, WriteAt, SwapAt, LeaveBy, LeaveAt, ThrownAt, CaughtAt, ClausesAt}
-use Rattle.cyc_lower.proofs.Lengths.{body_long}
+use Rattle.cyc_lower.proofs.Stands.{BegunAt, FilledAt, OperandBy, CheckAt, ConversionBy, ConversionAt, DivisorAt, CheckedAt, OperatorAt, LoadAt, CopyBy, ExpressionAt, InitialAt, InitialBy, ConvertedAt, ConvertedOperandAt, PrintedAt, ArgumentsAt, OperationsAt, PairAt, ConditionAt, AssignmentAt, DiscardedAt, ReturnedAt, ReturnAt, DeclarationAt, StatementAt, ItemsAt, FirstTwoAt, IndexAt, PointerAt, StoresAt, ObjectAt, MadeAt, AddressAt, PlaceAt, GuardAt, FreedAt, HasSide, SideAt, ReadAt, WriteAt, SwapAt, LeaveBy, LeaveAt, ThrownAt, CaughtAt, ClausesAt, CountAt, TestedAt, WidenedAt, LoadedBy, SavedAt, BoundsAt, SteppedAt, ThinnedAt, ReachedAt, FollowedAt, EachAt, GlobalAt, ExchangeAt}
+use Rattle.cyc_lower.proofs.Lengths.{body_long, past_long}
 use Rattle.cyc_types.specs.typing.Expressions.{type_of_side}
-use Rattle.cyc_lower.specs.Lowerable.{may_wait}
-use Rattle.cyc_lower.proofs.Widths.{kind_of_result, given, passed_kind, type_words}
-use Rattle.cyc_lower.proofs.Fitting.{FitsPlace, FitsStored, FitsCell, FitsObject, Fits, FitsConverted, FitArguments, FitOperations, FitsReturn, FitsInitial, FitsStatement, FitItems, AreFitting, IsFitting, FitsSide, FitsThrown, FitsCaught, FitClauses}
+use Rattle.cyc_lower.specs.Lowerable.{is_converted, is_pointer}
+use Rattle.cyc_lower.proofs.Widths.{kind_of_result, given, passed_kind, type_words, kind_positive, kind_few}
+use Rattle.cyc_lower.proofs.Fitting.{FitsPlace, FitsCell, FitsObject, Fits, FitsConverted, FitArguments, FitOperations, FitsReturn, FitsInitial, FitsStatement, FitItems, AreFitting, IsFitting, FitsSide, FitsThrown, FitsCaught, FitClauses}
+use Rattle.cyc_lower.specs.Lowerable.{is_converted}
 use Rattle.cyc_lower.proofs.Values.{as_wide}
 use Rattle.cyc_lower.proofs.Relation.{bounds_in, types_in}
 use Rattle.cyc_lower.proofs.Calls.{FunctionsStand}
+use Rattle.cyc_lower.proofs.Slots.{global-inside}
 
 -- the end of the second part
 cut : (p q : ℕ) (a b : List Instruction) → p + length (a ++ b) ≡ q → p + length a + length b ≡ q
@@ -120,12 +123,123 @@ module _ (code : List Instruction) (b : Numbering) (types : Types) (raised : Blo
   check_stands : (tag : ℕ) (o : Operand) (p q : ℕ) → 1 ≤ tag → tag ≤ 4 → p + 1 ≡ q → HasAt code p (check_code (starts_of types) tag o) → CheckAt code b types tag o p q
   check_stands tag o p q some few end has = guard_stands tag comparisons.Equal o (operands.Word 0) p q some few end has
 
-  conversion_by : (to : Kind) (o : Operand) (p q : ℕ) → p + length (conversion_code (starts_of types) to o p) ≡ q → HasAt code p (conversion_code (starts_of types) to o p) → ConversionBy code b types to o p q
-  conversion_by kinds.NonNull o p q end has = check_stands null_exception o p q (omega arith) (omega arith) end has
-  conversion_by to o p q end has = omega (arith, end)
+  bounds_stands : (index bound : Operand) (p q : ℕ) → p + 1 ≡ q → HasAt code p (bounds_code (starts_of types) index bound) → BoundsAt code b types index bound p q
+  bounds_stands index bound p q end has = guard_stands array_bounds comparisons.GreaterOrEqualUnsigned index bound p q (omega arith) (omega arith) end has
 
-  conversion_stands : (from to : Kind) (o : Operand) (p q : ℕ) → are_as_wide from to ≡ true → p + length (conversion_code (starts_of types) to o p) ≡ q → HasAt code p (conversion_code (starts_of types) to o p) → ConversionAt code b types from to o p q
-  conversion_stands from to o p q wide end has = (wide, conversion_by to o p q end has)
+  stepped_stands : (span : Option ℕ) (n m t p q : ℕ) → p + length (stepped_code span n m t) ≡ q → HasAt code p (stepped_code span n m t) → SteppedAt code b types span n m t p q
+  stepped_stands None n m t p q end has = omega (arith, end)
+  stepped_stands (Some words) n m t p q end (scale, (sum, none)) = (scale, sum, omega (arith, end))
+
+  bounded_stands : (span : Option ℕ) (n m t p q : ℕ) → p + length (bounded_code (starts_of types) span n m t) ≡ q → HasAt code p (bounded_code (starts_of types) span n m t)
+      → (s : ℕ) × BoundsAt code b types (operands.Slot m) (operands.Slot (n + 1)) p s × SteppedAt code b types span n m t s q
+  bounded_stands span n m t p q end has =
+      let bounds = bounds_code (starts_of types) (operands.Slot m) (operands.Slot (n + 1)) in
+      let step = stepped_code span n m t in
+      let s = p + length bounds in (
+        s,
+        bounds_stands (operands.Slot m) (operands.Slot (n + 1)) p s refl (has_front code p bounds step has),
+        stepped_stands span n m t s q (cut p q bounds step end) (has_back code p bounds step has),
+      )
+
+  reached_stands : (span : Option ℕ) (n m t p q : ℕ) → p + length (reached_code (starts_of types) span n m t) ≡ q → HasAt code p (reached_code (starts_of types) span n m t) → ReachedAt code b types span n m t p q
+  reached_stands span n m t p q end has =
+      let check = check_code (starts_of types) null_exception (operands.Slot n) in
+      let r = p + length check in
+      let bounded = bounded_code (starts_of types) span n m t in
+      let (s, bounds, stepped) = bounded_stands span n m t r q (cut p q check bounded end) (has_back code p check bounded has) in
+      (r, s, check_stands null_exception (operands.Slot n) p r (omega arith) (omega arith) refl (has_front code p check bounded has), bounds, stepped)
+
+  -- a pointer that is not thin stands in slots
+  abbrev IsInSlots : (thin : Bool) → Operand → Type 0
+  IsInSlots true o = Unit {0}
+  IsInSlots false (operands.Slot n) = Unit {0}
+  IsInSlots false (operands.Word w) = ⊥
+
+  followed_stands : (thin : Bool) (span : Option ℕ) (o : Operand) (t p q : ℕ) → IsInSlots thin o → p + length (followed_code (starts_of types) thin span o t) ≡ q → HasAt code p (followed_code (starts_of types) thin span o t) → FollowedAt code b types thin span o t p q
+  followed_stands true span o t p q in_slots end has = check_stands null_exception o p q (omega arith) (omega arith) end has
+  followed_stands false span (operands.Slot n) t p q in_slots end has = reached_stands span n (n + 2) t p q end has
+  followed_stands false span (operands.Word w) t p q in_slots end has = absurd in_slots
+
+  slot_any : (thin : Bool) (n : ℕ) → IsInSlots thin (operands.Slot n)
+  slot_any true n = tt
+  slot_any false n = tt
+
+  counter_in_slot : (thin : Bool) (found : Option ℕ) (t : ℕ) → IsInSlots thin (operand_or (counter_operand found) t)
+  counter_in_slot thin (Some n) t = slot_any thin n
+  counter_in_slot thin None t = slot_any thin t
+
+  in_slots : (k : Kind) (a : Expression) (t : ℕ) → is_pointer k ≡ true → k ≡ given b.functions a → IsInSlots (is_thin k) (value_operand (starts_of types) a t)
+  in_slots k (Number n) t pointer is = absurd (let f : is_pointer kinds.Int ≡ true = ap is_pointer (sym is) ∙ pointer in cc)
+  in_slots k NullPointer t pointer is = subst (λ (x : Kind). IsInSlots (is_thin x) (operands.Word 0)) (sym is) tt
+  in_slots k (Copy (Local p n) ty) t pointer is = slot_any (is_thin k) (slot_of (starts_of types) n)
+  in_slots k (Move p n ty) t pointer is = slot_any (is_thin k) (slot_of (starts_of types) n)
+  in_slots k (Peek p n ty) t pointer is = slot_any (is_thin k) (slot_of (starts_of types) n)
+  in_slots k (Counter l) t pointer is = counter_in_slot (is_thin k) (slice_get types.counters l) t
+  in_slots k a t pointer is = slot_any (is_thin k) (value_slot (starts_of types) a t)
+
+  tested_stands : (to : Kind) (o : Operand) (p q : ℕ) → p + length (tested_code (starts_of types) to o) ≡ q → HasAt code p (tested_code (starts_of types) to o) → TestedAt code b types to o p q
+  tested_stands kinds.NonNull o p q end has = check_stands null_exception o p q (omega arith) (omega arith) end has
+  tested_stands to o p q end has = omega (arith, end)
+
+  -- what changes its words is in slot t, or is null, which becomes a fat pointer
+  abbrev IsBrought : (to : Kind) → Operand → (t : ℕ) → Type 0
+  IsBrought to (operands.Slot n) t = n ≡ t
+  IsBrought kinds.Fat (operands.Word w) t = w ≡ 0
+  IsBrought to (operands.Word w) t = ⊥
+
+  null_brought : (from to : Kind) (a : Expression) (t : ℕ) → from ≡ given b.functions a → are_as_wide from to ≡ false → IsBrought to (operand_or (null_of a) t) t
+  null_brought from to NullPointer t kind narrow = by to (ap (λ (k : Kind). are_as_wide k to) (sym kind) ∙ narrow)
+    where
+      by : (k : Kind) → are_as_wide kinds.Nullable k ≡ false → IsBrought k (operands.Word 0) t
+      by kinds.Fat wider = refl
+      by kinds.Int wider = absurd (let f : true ≡ false = wider in cc)
+      by kinds.Nullable wider = absurd (let f : true ≡ false = wider in cc)
+      by kinds.NonNull wider = absurd (let f : true ≡ false = wider in cc)
+      by kinds.Handle wider = absurd (let f : true ≡ false = wider in cc)
+      by kinds.Key wider = absurd (let f : true ≡ false = wider in cc)
+  null_brought from to a t kind narrow = refl
+
+  source_brought : (from to : Kind) (a : Expression) (t : ℕ) → from ≡ given b.functions a → are_as_wide from to ≡ false → IsBrought to (converted_operand (starts_of types) (Convert from to a) t) t
+  source_brought from to a t kind narrow =
+      subst (λ (same : Bool). IsBrought to (operand_or (if same then operand_of (starts_of types) a else null_of a) (if same then value_slot (starts_of types) a t else t)) t) (sym narrow) (null_brought from to a t kind narrow)
+
+  returned_null : (a : Expression) (t : ℕ) → slot_or (null_of a) t ≡ t
+  returned_null NullPointer t = refl
+  returned_null a t = refl
+
+  returned_brought : (from to : Kind) (a : Expression) (t : ℕ) → are_as_wide from to ≡ false → slot_or (source_of (starts_of types) (Convert from to a)) t ≡ t
+  returned_brought from to a t narrow = subst (λ (same : Bool). slot_or (if same then operand_of (starts_of types) a else null_of a) t ≡ t) (sym narrow) (returned_null a t)
+
+  widened_stands : (o : Operand) (t p q : ℕ) → IsBrought kinds.Fat o t → p + length (widened_code o) ≡ q → HasAt code p (widened_code o) → WidenedAt code b types o t p q
+  widened_stands (operands.Slot n) t p q brought end (first, (second, none)) = (brought, first, second, end)
+  widened_stands (operands.Word w) t p q brought end has = (brought, omega (arith, end))
+
+  thinned_stands : (to : Kind) (span : Option ℕ) (o : Operand) (t p q : ℕ) → is_thin to ≡ true → IsBrought to o t
+      → p + length (thinned_code (starts_of types) to span o p) ≡ q → HasAt code p (thinned_code (starts_of types) to span o p) → ThinnedAt code b types to span o t p q
+  thinned_stands kinds.NonNull span (operands.Slot n) t p q thin brought end has = (brought, reached_stands span n (n + 2) n p q end has)
+  thinned_stands kinds.Nullable span (operands.Slot n) t p q thin brought end (jump, has) =
+      let (s, bounds, stepped) = bounded_stands span n (n + 2) n (p + 1) q (omega (arith, end)) has in
+      (brought, (p + 1, s, (p + past_bounded span, jump, omega (arith, end, past_long (starts_of types) span n (n + 2) n), refl), bounds, stepped))
+  thinned_stands kinds.NonNull span (operands.Word w) t p q thin brought end has = absurd brought
+  thinned_stands kinds.Nullable span (operands.Word w) t p q thin brought end has = absurd brought
+  thinned_stands kinds.Int span o t p q thin brought end has = absurd (let f : false ≡ true = thin in cc)
+  thinned_stands kinds.Fat span o t p q thin brought end has = absurd (let f : false ≡ true = thin in cc)
+  thinned_stands kinds.Handle span o t p q thin brought end has = absurd (let f : false ≡ true = thin in cc)
+  thinned_stands kinds.Key span o t p q thin brought end has = absurd (let f : false ≡ true = thin in cc)
+
+  conversion_by_stands : (wide : Bool) (to : Kind) (span : Option ℕ) (o : Operand) (t p q : ℕ) → (if wide then true else is_pointer to) ≡ true → (wide ≡ false → IsBrought to o t)
+      → p + length (conversion_by (starts_of types) wide to span o p) ≡ q → HasAt code p (conversion_by (starts_of types) wide to span o p) → ConversionBy code b types wide to span o t p q
+  conversion_by_stands true to span o t p q known brought end has = tested_stands to o p q end has
+  conversion_by_stands false kinds.Fat span o t p q known brought end has = widened_stands o t p q (brought refl) end has
+  conversion_by_stands false kinds.NonNull span o t p q known brought end has = thinned_stands kinds.NonNull span o t p q refl (brought refl) end has
+  conversion_by_stands false kinds.Nullable span o t p q known brought end has = thinned_stands kinds.Nullable span o t p q refl (brought refl) end has
+  conversion_by_stands false kinds.Int span o t p q known brought end has = absurd (let f : false ≡ true = known in cc)
+  conversion_by_stands false kinds.Handle span o t p q known brought end has = absurd (let f : false ≡ true = known in cc)
+  conversion_by_stands false kinds.Key span o t p q known brought end has = absurd (let f : false ≡ true = known in cc)
+
+  conversion_stands : (from to : Kind) (span : Option ℕ) (o : Operand) (t p q : ℕ) → is_converted from to ≡ true → (are_as_wide from to ≡ false → IsBrought to o t)
+      → p + length (conversion_code (starts_of types) from to span o p) ≡ q → HasAt code p (conversion_code (starts_of types) from to span o p) → ConversionAt code b types from to span o t p q
+  conversion_stands from to span o t p q known brought end has = conversion_by_stands (are_as_wide from to) to span o t p q known brought end has
 
   divisor_stands : (o : Operand) (p q : ℕ) → p + length (divisor_code (starts_of types) o) ≡ q → HasAt code p (divisor_code (starts_of types) o) → DivisorAt code b types o p q
   divisor_stands (operands.Word (suc n)) p q end has = omega (arith, end)
@@ -167,30 +281,68 @@ module _ (code : List Instruction) (b : Numbering) (types : Types) (raised : Blo
   pointer_stands o l r t d p q left end has =
       slot_stands o r t d p q (subst (λ x. p + length (pointer_instructions o x r d) ≡ q) left end) (subst (λ x. HasAt code p (pointer_instructions o x r d)) left has)
 
+  each_stands : (each : (global slot : ℕ) → Instruction) (words first slot p q : ℕ) → p + length (word_by_word each words first slot) ≡ q → HasAt code p (word_by_word each words first slot)
+      → EachAt code each words first slot p q
+  each_stands each zero first slot p q end has = omega (arith, end)
+  each_stands each (suc words) first slot p q end (here, rest) = (here, each_stands each words (suc first) (suc slot) (p + 1) q (omega (arith, end)) rest)
+
+  global_stands : (words first : ℕ) (o : Operand) (p q : ℕ) → p + length (global_code words first o) ≡ q → HasAt code p (global_code words first o) → GlobalAt code words first o p q
+  global_stands words first (operands.Slot n) p q end has = each_stands store_word words first n p q end has
+  global_stands words first (operands.Word n) p q end (here, none) = (here, end)
+
+  -- the fourth of five instructions jumps behind them
+  count_stands : (o : Operand) (d p q : ℕ) → p + length (count_code o p d) ≡ q → HasAt code p (count_code o p d) → CountAt code b types o d p q
+  count_stands (operands.Word n) d p q end (move, none) = (move, end)
+  count_stands (operands.Slot n) d p q end (null, (past, (subtract, (jump, (move, none))))) = (
+    null,
+    past,
+    further 2 (instructions.Binary plain_binary.Subtract d (operands.Slot (n + 1)) (operands.Slot (n + 2))) (omega arith) subtract,
+    further 3 (instructions.Jump q) (omega arith) (subst (λ m. At code (p + 1 + 1 + 1) (instructions.Jump m)) end jump),
+    further 4 (instructions.Move d (operands.Word 0)) (omega arith) move,
+    end,
+  )
+    where
+      further : (n : ℕ) (i : Instruction) {m : ℕ} → m ≡ p + n → At code m i → At code (p + n) i
+      further n i same at = subst (λ x. At code x i) same at
+
   load_stands : (l : Lvalue) (kind : Kind) (words d p q : ℕ) → FitsPlace b types l kind → p + length (load_code (starts_of types) words l d) ≡ q → HasAt code p (load_code (starts_of types) words l d)
       → LoadAt code b types words l d p q
   load_stands (Local w n) kind words d p q few end (here, none) = (here, end)
-  load_stands (Global n) kind words d p q few end (here, none) = (few, here, end)
+  load_stands (Global n) kind words d p q room end has = (global-inside types n kind room, each_stands load_word words (global_of (starts_of types) n) d p q end has)
 
   stores_stand : (many address offset slot p q : ℕ) → p + length (stores_code many address offset slot) ≡ q → HasAt code p (stores_code many address offset slot) → StoresAt code b types many address offset slot p q
   stores_stand zero address offset slot p q end has = omega (arith, end)
   stores_stand (suc many) address offset slot p q end (here, rest) = (here, stores_stand many address (offset + 4) (suc slot) (p + 1) q (omega (arith, end)) rest)
 
-  object_stands : (handle words d t p q : ℕ) → 1 ≤ words → words ≤ MOST_BLOCK_WORDS → p + length (object_code handle words d t) ≡ q → HasAt code p (object_code handle words d t)
-      → ObjectAt code b types handle words words t d p q
-  object_stands handle words d t p q some few end (ask, rest) =
+  saved_stands : (words address : ℕ) (o : Operand) (p q : ℕ) → p + length (saved_code words address o) ≡ q → HasAt code p (saved_code words address o) → SavedAt code b types words address o p q
+  saved_stands words address (operands.Slot n) p q end has = stores_stand words address 0 n p q end has
+  saved_stands words address (operands.Word n) p q end (here, none) = (here, end)
+
+  -- each value that is passed has a word or more
+  passed_least : (cs : Arguments) → argument_count cs ≤ all_passed cs
+  passed_least NoArguments = omega arith
+  passed_least (MoreArguments (Convert from to a) cs) = omega (arith, passed_least cs, kind_positive to)
+
+  object_stands : (handle cells words d t p q : ℕ) → cells ≤ words → 1 ≤ words → words ≤ MOST_BLOCK_WORDS → p + length (object_code handle words d t) ≡ q → HasAt code p (object_code handle words d t)
+      → ObjectAt code b types handle cells words t d p q
+  object_stands handle cells words d t p q least some few end (ask, rest) =
       let stores = stores_code words (t + words) 0 t in
       let move = instructions.Move d (operands.Slot (t + words)) ∷ [] in
       let m = p + 1 + length stores in
       let (here, none) = has_back code (p + 1) stores move rest in
-      (m, refl, some, few, ask, stores_stand words (t + words) 0 t (p + 1) m refl (has_front code (p + 1) stores move rest), here, omega (arith, end, length-append stores move))
+      (m, least, some, few, ask, stores_stand words (t + words) 0 t (p + 1) m refl (has_front code (p + 1) stores move rest), here, omega (arith, end, length-append stores move))
 
-  begun_stands : (handle t p q : ℕ) → p + 6 ≡ q → HasAt code p (begun_code (starts_of types) handle t) → BegunAt code b types handle t p q
-  begun_stands handle t p q end (guard, (count, (index, (none, (size, (ask, rest)))))) =
-      (p + 1, guard_stands array_size comparisons.GreaterOrEqualUnsigned (operands.Slot t) (operands.Word (most_elements + 1)) p (p + 1) (omega arith) (omega arith) refl (guard, tt), count, index, none, size, ask, omega (arith, end))
+  begun_stands : (handle words t p q : ℕ) → p + 7 ≡ q → HasAt code p (begun_code (starts_of types) handle words t) → BegunAt code b types handle words t p q
+  begun_stands handle words t p q end (guard, (count, (index, (all, (none, (size, (ask, rest))))))) =
+      (p + 1, guard_stands array_size comparisons.GreaterOrEqualUnsigned (operands.Slot t) (operands.Word (most_elements words + 1)) p (p + 1) (omega arith) (omega arith) refl (guard, tt), count, index, all, none, size, ask, omega (arith, end))
 
-  filled_stands : (t head p q : ℕ) → p + 5 ≡ q → HasAt code p (filled_code head t) → FilledAt code b types t head p q
-  filled_stands t head p q end (scaled, (address, (store, (next, (again, rest))))) = (scaled, address, store, next, again, end)
+  filled_stands : (words t head p q : ℕ) → p + length (filled_code words head t) ≡ q → HasAt code p (filled_code words head t) → FilledAt code b types words t head p q
+  filled_stands words t head p q end (scaled, (address, rest)) =
+      let stores = stores_code words (t + 3 + words) 0 (t + 3) in
+      let up = instructions.Binary plain_binary.Add (t + 2) (operands.Slot (t + 2)) (operands.Word 1) ∷ instructions.Jump head ∷ [] in
+      let m = p + 1 + 1 + length stores in
+      let (next, (again, none)) = has_back code (p + 1 + 1) stores up rest in
+      (m, scaled, address, stores_stand words (t + 3 + words) 0 (t + 3) (p + 1 + 1) m refl (has_front code (p + 1 + 1) stores up rest), next, again, omega (arith, end, length-append stores up))
 
   copy_by : (is : Bool) (words : ℕ) (o : Operand) (d p q : ℕ) → p + length (if is then [] else move_of words d o ∷ []) ≡ q → HasAt code p (if is then [] else move_of words d o ∷ []) → CopyBy code is words o d p q
   copy_by true words o d p q end has = omega (arith, end)
@@ -200,18 +352,25 @@ module _ (code : List Instruction) (b : Numbering) (types : Types) (raised : Blo
   address_stands o zero d p q end has = copy_by (is_in o d) 1 o d p q end has
   address_stands o (suc bytes) d p q end (here, none) = (here, end)
 
-  cell_single : (x : Dereference) → FitsCell b types x → words_of (type_of_place x) ≡ 1
-  cell_single (Target k a ty) (thin, single, numbered) = single
-  cell_single (Member k a s f ty) (thin, single, there, numbered) = single
-  cell_single x numbered = absurd numbered
+  loaded_stands : (narrow : Bool) (o : Operand) (bytes d p q : ℕ)
+      → p + length (if narrow then instructions.Load d o bytes ∷ [] else address_code o bytes d ++ (instructions.Load (d + 2) (operands.Slot d) 8 ∷ instructions.Load (d + 1) (operands.Slot d) 4 ∷ instructions.Load d (operands.Slot d) 0 ∷ [])) ≡ q
+      → HasAt code p (if narrow then instructions.Load d o bytes ∷ [] else address_code o bytes d ++ (instructions.Load (d + 2) (operands.Slot d) 8 ∷ instructions.Load (d + 1) (operands.Slot d) 4 ∷ instructions.Load d (operands.Slot d) 0 ∷ []))
+      → LoadedBy code narrow o bytes d p q
+  loaded_stands true o bytes d p q end (here, none) = (here, end)
+  loaded_stands false o bytes d p q end has =
+      let front = address_code o bytes d in
+      let back = instructions.Load (d + 2) (operands.Slot d) 8 ∷ instructions.Load (d + 1) (operands.Slot d) 4 ∷ instructions.Load d (operands.Slot d) 0 ∷ [] in
+      let r = p + length front in
+      let (first, (second, (third, none))) = has_back code p front back has in
+      (r, address_stands o bytes d p r refl (has_front code p front back has), first, second, third, omega (arith, cut p q front back end))
 
   words_kept : (from to : Kind) (a : Expression) → from ≡ given b.functions a → converts_there from to ≡ true → words_of_kind (given b.functions a) ≡ words_of_kind to
   words_kept from to a kind lands = ap words_of_kind (sym kind) ∙ as_wide from to lands
 
-  initial_by : (there : Bool) (from to : Kind) (a : Expression) (d t p q : ℕ) → from ≡ given b.functions a → are_as_wide from to ≡ true → converts_there from to ≡ there
+  initial_by : (there : Bool) (from to : Kind) (a : Expression) (d t p q : ℕ) → from ≡ given b.functions a → is_converted from to ≡ true → converts_there from to ≡ there
       → ((slot r : ℕ) → p + length (expression_code (starts_of types) a p slot t) ≡ r → HasAt code p (expression_code (starts_of types) a p slot t) → ExpressionAt code b types a slot t p r)
-      → p + length (if there then expression_code (starts_of types) a p d t else moved_by (starts_of types) (source_of (starts_of types) (Convert from to a)) (expression_code (starts_of types) a p (source_slot (starts_of types) (Convert from to a) t) t) to (converted_operand (starts_of types) (Convert from to a) t) p d) ≡ q
-      → HasAt code p (if there then expression_code (starts_of types) a p d t else moved_by (starts_of types) (source_of (starts_of types) (Convert from to a)) (expression_code (starts_of types) a p (source_slot (starts_of types) (Convert from to a) t) t) to (converted_operand (starts_of types) (Convert from to a) t) p d)
+      → p + length (if there then expression_code (starts_of types) a p d t else moved_by (starts_of types) (source_of (starts_of types) (Convert from to a)) (expression_code (starts_of types) a p (source_slot (starts_of types) (Convert from to a) t) t) from to (span_of a) (converted_operand (starts_of types) (Convert from to a) t) p d) ≡ q
+      → HasAt code p (if there then expression_code (starts_of types) a p d t else moved_by (starts_of types) (source_of (starts_of types) (Convert from to a)) (expression_code (starts_of types) a p (source_slot (starts_of types) (Convert from to a) t) t) from to (span_of a) (converted_operand (starts_of types) (Convert from to a) t) p d)
       → InitialBy code b types there from to a d t p q
   initial_by true from to a d t p q kind wide lands stands end has = (words_kept from to a kind lands, stands d q end has)
   initial_by false from to a d t p q kind wide lands stands end has =
@@ -221,12 +380,12 @@ module _ (code : List Instruction) (b : Numbering) (types : Types) (raised : Blo
       let inner = expression_code (starts_of types) a p slot t in
       let front = code_unless known inner in
       let m = p + length front in
-      let conversion = conversion_code (starts_of types) to o m in
+      let conversion = conversion_code (starts_of types) from to (span_of a) o m in
       let both = front ++ conversion in
       let r = p + length both in
       let has_both = has_front code p both _ has in
       let (here, none) = has_back code p both _ has in
-      (o, m, r, operand_by known _ inner slot p m refl (has_front code p front conversion has_both) (λ e h. stands slot m e h), conversion_stands from to o m r wide (cut p r front conversion refl) (has_back code p front conversion has_both), here, cut p q both _ end)
+      (o, m, r, operand_by known _ inner slot p m refl (has_front code p front conversion has_both) (λ e h. stands slot m e h), conversion_stands from to (span_of a) o t m r wide (λ narrow. source_brought from to a t kind narrow) (cut p r front conversion refl) (has_back code p front conversion has_both), here, cut p q both _ end)
 
 module _ (code : List Instruction) (b : Numbering) where
   mutual
@@ -253,6 +412,14 @@ module _ (code : List Instruction) (b : Numbering) where
         let front = arguments_code (starts_of types) cs p t in
         let (here, none) = has_back code p front _ has in
         (p + length front, arguments_stand types raised cs t p (p + length front) numbered refl (has_front code p front _ has), here, cut p q front _ end)
+    expression_stands types raised (NumberOfElements a) d t p q (fat, numbered) end has =
+        let slot = value_slot (starts_of types) a t in
+        let inner = expression_code (starts_of types) a p slot t in
+        let front = code_unless (operand_of (starts_of types) a) inner in
+        let o = value_operand (starts_of types) a t in
+        let m = p + length front in
+        let count = count_code o m d in
+        (o, m, operand_by code b types raised (operand_of (starts_of types) a) _ inner slot p m refl (has_front code p front count has) (λ e h. expression_stands types raised a slot t p m numbered e h), count_stands code b types raised o d m q (cut p q front count end) (has_back code p front count has))
     expression_stands types raised (Unary o a) d t p q numbered end has =
         let inner = expression_code (starts_of types) a p (value_slot (starts_of types) a t) t in
         let front = code_unless (operand_of (starts_of types) a) inner in
@@ -272,27 +439,34 @@ module _ (code : List Instruction) (b : Numbering) where
         let back = copy_code (passed_words c) o d in
         let m = p + length front in
         (o, m, (refl, room, initial_stands types raised c (slot_of (starts_of types) n) t p m numbered refl (has_front code p front back has)), copy_by code b types raised (is_in o d) (passed_words c) o d m q (cut p q front back end) (has_back code p front back has))
-    expression_stands types raised (Assign (Global n) c ty) d t p q ((few, single), numbered) end has =
+    expression_stands types raised (Assign (Global n) c ty) d t p q (room, numbered) end has =
         let o = converted_operand (starts_of types) c t in
         let front = converted_operand_code (starts_of types) c p t in
-        let both = front ++ instructions.StoreGlobal n o ∷ [] in
+        let store = global_code (passed_words c) (global_of (starts_of types) n) o in
+        let both = front ++ store in
         let back = copy_code (passed_words c) o d in
         let m = p + length both in
         let has_both = has_front code p both back has in
-        let (here, none) = has_back code p front _ has_both in
-        (o, m, (p + length front, converted_operand_stands types raised c t p (p + length front) numbered refl (has_front code p front _ has_both), few, single, here, cut p m front _ refl), copy_by code b types raised (is_in o d) (passed_words c) o d m q (cut p q both back end) (has_back code p both back has))
+        let stored = global_stands code b types raised (passed_words c) (global_of (starts_of types) n) o (p + length front) m (cut p m front store refl) (has_back code p front store has_both) in
+        (o, m, (p + length front, converted_operand_stands types raised c t p (p + length front) numbered refl (has_front code p front store has_both), room, stored), copy_by code b types raised (is_in o d) (passed_words c) o d m q (cut p q both back end) (has_back code p both back has))
     expression_stands types raised (Load x) d t p q numbered end has =
         let front = place_code (starts_of types) x p t in
-        let r = p + length front in
-        let (here, none) = has_back code p front _ has in
-        (place_operand (starts_of types) x t, place_offset (starts_of types) x, r, place_stands types raised x t p r numbered refl (has_front code p front _ has), cell_single code b types raised x numbered, here, cut p q front _ end)
+        let o = place_operand (starts_of types) x t in
+        let back = loaded_code (words_of (type_of_place x)) o (place_offset (starts_of types) x) d in
+        let r = p + length front in (
+          o,
+          place_offset (starts_of types) x,
+          r,
+          place_stands types raised x t p r numbered refl (has_front code p front back has),
+          loaded_stands code b types raised (words_of (type_of_place x) == 1) o (place_offset (starts_of types) x) d r q (cut p q front back end) (has_back code p front back has),
+        )
     expression_stands types raised (AddressOfCell x ty) d t p q numbered end has =
         let o = place_operand (starts_of types) x t in
         let front = place_code (starts_of types) x p t in
         let back = address_code o (place_offset (starts_of types) x) d in
         let r = p + length front in
         (o, place_offset (starts_of types) x, r, place_stands types raised x t p r numbered refl (has_front code p front back has), address_stands code b types raised o (place_offset (starts_of types) x) d r q (cut p q front back end) (has_back code p front back has))
-    expression_stands types raised (Store x c ty) d t p q (place, single, numbered) end has =
+    expression_stands types raised (Store x c ty) d t p q (place, numbered) end has =
         let a = place_operand (starts_of types) x t in
         let bytes = place_offset (starts_of types) x in
         let o = converted_operand (starts_of types) c (t + 1) in
@@ -303,14 +477,13 @@ module _ (code : List Instruction) (b : Numbering) where
         let s = p + length address in
         let value = converted_operand_code (starts_of types) c s (t + 1) in
         let u = s + length value in
-        let write = instructions.Store (operands.Slot t) 0 o ∷ [] in
+        let write = saved_code (passed_words c) t o in
         let both = address ++ (value ++ write) in
         let back = copy_code (passed_words c) o d in
         let m = p + length both in
         let has_both = has_front code p both back has in
         let has_address = has_front code p address (value ++ write) has_both in
-        let has_value = has_back code p address (value ++ write) has_both in
-        let (here, none) = has_back code s value write has_value in (
+        let has_value = has_back code p address (value ++ write) has_both in (
           o,
           m,
           (
@@ -322,9 +495,7 @@ module _ (code : List Instruction) (b : Numbering) where
             place_stands types raised x t p r place refl (has_front code p front bring has_address),
             address_stands code b types raised a bytes t r s (cut p s front bring refl) (has_back code p front bring has_address),
             converted_operand_stands types raised c (t + 1) s u numbered refl (has_front code s value write has_value),
-            single,
-            here,
-            cut s m value write (cut p m address (value ++ write) refl),
+            saved_stands code b types raised (passed_words c) t o u m (cut s m value write (cut p m address (value ++ write) refl)) (has_back code s value write has_value),
           ),
           copy_by code b types raised (is_in o d) (passed_words c) o d m q (cut p q both back end) (has_back code p both back has),
         )
@@ -335,40 +506,6 @@ module _ (code : List Instruction) (b : Numbering) where
         let m = p + length front in
         let back = free_code o m in
         (o, m, operand_by code b types raised (operand_of (starts_of types) a) _ inner (value_slot (starts_of types) a t) p m refl (has_front code p front back has) (λ e h. expression_stands types raised a (value_slot (starts_of types) a t) t p m numbered e h), freed_stands code b types raised o m q (cut p q front back end) (has_back code p front back has))
-    expression_stands types raised (New OnHeap (Array w level n kind a) ty) d t p q (level_is, single, kind_is, fits_n, fits_a) end has =
-        let count = expression_code (starts_of types) n p t t in
-        let m = p + length count in
-        let h = m + 6 in
-        let begun = begun_code (starts_of types) HEAP t in
-        let element = expression_code (starts_of (counted types (t + 2))) a (h + 1) (t + 3) (t + 3) in
-        let filled = filled_code h t in
-        let ended = ended_code d t in
-        let both = element ++ filled in
-        let elements = elements_code element h d t in
-        let has_rest = has_back code p count (begun ++ elements) has in
-        let (branch, has_behind) = has_back code m begun elements has_rest in
-        let has_both = has_front code (h + 1) both ended has_behind in
-        let s = h + 1 + length both in
-        let (first_index, has_copy) = has_back code (h + 1) both ended has_behind in
-        let r = h + 1 + length element in (
-          m,
-          h,
-          r,
-          s,
-          expression_stands types raised n t t p m fits_n refl (has_front code p count (begun ++ elements) has),
-          begun_stands code b types raised HEAP t m h refl (has_front code m begun elements has_rest),
-          level_is,
-          single,
-          (
-            branch,
-            omega arith,
-            expression_stands (counted types (t + 2)) raised a (t + 3) (t + 3) (h + 1) r (fits_a (t + 2)) refl (has_front code (h + 1) element filled has_both),
-            filled_stands code b types raised t h r s (omega (arith, length-append element filled)) (has_back code (h + 1) element filled has_both),
-            first_index,
-            copy_by code b types raised (is_in (operands.Slot t) d) 3 (operands.Slot t) d (s + 1) q
-                (omega (arith, cut m q begun elements (cut p q count (begun ++ elements) end), length-append both ended)) has_copy,
-          ),
-        )
     expression_stands types raised (New OnHeap i ty) d t p q numbered end has = made_stands types raised i HEAP d t p q numbered end has
     expression_stands types raised (New AsUnique i ty) d t p q numbered end has = made_stands types raised i UNIQUE d t p q numbered end has
     expression_stands types raised (New (ByHandle h) i ty) d t p q numbered end has = absurd numbered
@@ -376,20 +513,21 @@ module _ (code : List Instruction) (b : Numbering) where
 
     place_stands : (types : Types) (raised : BlocksStand code types.raises) → (x : Dereference) (t p q : ℕ) → FitsCell b types x → p + length (place_code (starts_of types) x p t) ≡ q → HasAt code p (place_code (starts_of types) x p t)
         → PlaceAt code b types x (place_operand (starts_of types) x t) (place_offset (starts_of types) x) t p q
-    place_stands types raised (Target k a ty) t p q (thin, single, numbered) end has =
+    place_stands types raised (Target k a ty) t p q (pointer, kind_is, numbered) end has =
         let slot = value_slot (starts_of types) a t in
         let o = value_operand (starts_of types) a t in
         let inner = expression_code (starts_of types) a p slot t in
         let front = code_unless (operand_of (starts_of types) a) inner in
         let m = p + length front in
-        let check = check_code (starts_of types) null_exception o in (
+        let access = followed_code (starts_of types) (is_thin k) (span_in ty) o t in (
+          o,
           m,
-          operand_by code b types raised (operand_of (starts_of types) a) _ inner slot p m refl (has_front code p front check has) (λ e h. expression_stands types raised a slot t p m numbered e h),
-          thin,
-          check_stands code b types raised null_exception o m q (omega arith) (omega arith) (cut p q front check end) (has_back code p front check has),
+          operand_by code b types raised (operand_of (starts_of types) a) _ inner slot p m refl (has_front code p front access has) (λ e h. expression_stands types raised a slot t p m numbered e h),
+          followed_stands code b types raised (is_thin k) (span_in ty) o t m q (in_slots code b types raised k a t pointer kind_is) (cut p q front access end) (has_back code p front access has),
+          refl,
           refl,
         )
-    place_stands types raised (Member k a s f ty) t p q (thin, single, there, numbered) end has =
+    place_stands types raised (Member k a s f ty) t p q (thin, there, numbered) end has =
         let slot = value_slot (starts_of types) a t in
         let o = value_operand (starts_of types) a t in
         let inner = expression_code (starts_of types) a p slot t in
@@ -403,27 +541,86 @@ module _ (code : List Instruction) (b : Numbering) where
           there,
           refl,
         )
-    place_stands types raised x t p q numbered end has = absurd numbered
+    place_stands types raised (Element a i ty) t p q (fat, three, first, second) end has =
+        let known = pointer_of (starts_of types) a i in
+        let n = pointer_slot (starts_of types) a i t in
+        let pointer = expression_code (starts_of types) a p t t in
+        let front = code_unless_slot known pointer in
+        let m = p + length front in
+        let slot = value_slot (starts_of types) i (t + 3) in
+        let o = value_operand (starts_of types) i (t + 3) in
+        let inner = expression_code (starts_of types) i m slot (t + 3) in
+        let operand = code_unless (operand_of (starts_of types) i) inner in
+        let reached = reached_code (starts_of types) (span_in ty) n (t + 2) t in
+        let back = instructions.Binary plain_binary.Add (t + 2) (operands.Slot (n + 2)) o ∷ reached in
+        let r = m + length operand in
+        let rest = has_back code p front (operand ++ back) has in
+        let end_rest = cut p q front (operand ++ back) end in
+        let (sum, has_reached) = has_back code m operand back rest in (
+          n,
+          o,
+          m,
+          r,
+          returned_by code b types raised known _ pointer t p m refl (has_front code p front (operand ++ back) has) (λ e h. expression_stands types raised a t t p m first e h),
+          operand_by code b types raised (operand_of (starts_of types) i) _ inner slot m r refl (has_front code m operand back rest) (λ e h. expression_stands types raised i slot (t + 3) m r second e h),
+          sum,
+          reached_stands code b types raised (span_in ty) n (t + 2) t (r + 1) q (omega (arith, cut m q operand back end_rest)) has_reached,
+          refl,
+          refl,
+        )
 
     made_stands : (types : Types) (raised : BlocksStand code types.raises) → (i : Initial) (handle d t p q : ℕ) → FitsObject b types i → p + length (made_code (starts_of types) i handle p d t) ≡ q → HasAt code p (made_code (starts_of types) i handle p d t) → MadeAt code b types i handle d t p q
-    made_stands types raised (Plain kind a) handle d t p q (single, kind_is, numbered) end has =
+    made_stands types raised (Plain kind a) handle d t p q (kind_is, numbered) end has =
         let front = expression_code (starts_of types) a p t t in
-        let back = object_code handle 1 d t in
+        let back = object_code handle (words_of_kind kind) d t in
         let m = p + length front in (
           m,
           expression_stands types raised a t t p m numbered refl (has_front code p front back has),
           ap words_of_kind (sym kind_is),
-          subst (λ n. ObjectAt code b types handle 1 n t d m q) (sym single) (object_stands code b types raised handle 1 d t m q (omega arith) (omega arith) (cut p q front back end) (has_back code p front back has)),
+          object_stands code b types raised handle 1 (words_of_kind kind) d t m q (kind_positive kind) (kind_positive kind) (omega (arith, kind_few kind)) (cut p q front back end) (has_back code p front back has),
         )
-    made_stands types raised (Fields cs) handle d t p q (single, some, few, numbered) end has =
+    made_stands types raised (Fields cs) handle d t p q (some, few, numbered) end has =
         let front = arguments_code (starts_of types) cs p t in
-        let back = object_code handle (argument_count cs) d t in
+        let back = object_code handle (all_passed cs) d t in
         let m = p + length front in (
           m,
           arguments_stand types raised cs t p m numbered refl (has_front code p front back has),
-          subst (λ n. ObjectAt code b types handle (argument_count cs) n t d m q) single (object_stands code b types raised handle (argument_count cs) d t m q some few (cut p q front back end) (has_back code p front back has)),
+          object_stands code b types raised handle (argument_count cs) (all_passed cs) d t m q (passed_least code b types raised cs) (omega (arith, some, passed_least code b types raised cs)) few (cut p q front back end) (has_back code p front back has),
         )
-    made_stands types raised i handle d t p q numbered end has = absurd numbered
+    made_stands types raised (Array w level n kind a) handle d t p q (level_is, kind_is, fits_n, fits_a) end has =
+        let words = words_of_kind kind in
+        let count = expression_code (starts_of types) n p t t in
+        let m = p + length count in
+        let h = m + 7 in
+        let begun = begun_code (starts_of types) handle words t in
+        let element = expression_code (starts_of (counted types (t + 2))) a (h + 1) (t + 3) (t + 3) in
+        let filled = filled_code words h t in
+        let ended = ended_code d t in
+        let both = element ++ filled in
+        let elements = elements_code words element h d t in
+        let has_rest = has_back code p count (begun ++ elements) has in
+        let (branch, has_behind) = has_back code m begun elements has_rest in
+        let has_both = has_front code (h + 1) both ended has_behind in
+        let s = h + 1 + length both in
+        let (first_index, has_copy) = has_back code (h + 1) both ended has_behind in
+        let r = h + 1 + length element in (
+          m,
+          h,
+          r,
+          s,
+          expression_stands types raised n t t p m fits_n refl (has_front code p count (begun ++ elements) has),
+          begun_stands code b types raised handle words t m h refl (has_front code m begun elements has_rest),
+          level_is,
+          (
+            branch,
+            omega arith,
+            expression_stands (counted types (t + 2)) raised a (t + 3) (t + 3) (h + 1) r (fits_a (t + 2)) refl (has_front code (h + 1) element filled has_both),
+            filled_stands code b types raised words t h r s (omega (arith, length-append element filled)) (has_back code (h + 1) element filled has_both),
+            first_index,
+            copy_by code b types raised (is_in (operands.Slot t) d) 3 (operands.Slot t) d (s + 1) q
+                (omega (arith, cut m q begun elements (cut p q count (begun ++ elements) end), length-append both ended)) has_copy,
+          ),
+        )
 
     initial_stands : (types : Types) (raised : BlocksStand code types.raises) → (c : Converted) (d t p q : ℕ) → FitsConverted b types c → p + length (initial_code (starts_of types) c p d t) ≡ q → HasAt code p (initial_code (starts_of types) c p d t) → InitialAt code b types c d t p q
     initial_stands types raised (Convert from to a) d t p q (kind, wide, numbered) end has =
@@ -432,8 +629,8 @@ module _ (code : List Instruction) (b : Numbering) where
     converted_stands : (types : Types) (raised : BlocksStand code types.raises) → (c : Converted) (t p q : ℕ) → FitsConverted b types c → p + length (converted_code (starts_of types) c p t) ≡ q → HasAt code p (converted_code (starts_of types) c p t) → ConvertedAt code b types c t p q
     converted_stands types raised (Convert from to a) t p q (kind, wide, numbered) end has =
         let front = expression_code (starts_of types) a p t t in
-        let back = conversion_code (starts_of types) to (operands.Slot t) (p + length front) in
-        (p + length front, expression_stands types raised a t t p (p + length front) numbered refl (has_front code p front back has), conversion_stands code b types raised from to (operands.Slot t) (p + length front) q wide (cut p q front back end) (has_back code p front back has))
+        let back = conversion_code (starts_of types) from to (span_of a) (operands.Slot t) (p + length front) in
+        (p + length front, expression_stands types raised a t t p (p + length front) numbered refl (has_front code p front back has), conversion_stands code b types raised from to (span_of a) (operands.Slot t) t (p + length front) q wide (λ narrow. refl) (cut p q front back end) (has_back code p front back has))
 
     converted_operand_stands : (types : Types) (raised : BlocksStand code types.raises) → (c : Converted) (t p q : ℕ) → FitsConverted b types c → p + length (converted_operand_code (starts_of types) c p t) ≡ q → HasAt code p (converted_operand_code (starts_of types) c p t) → ConvertedOperandAt code b types c t (converted_operand (starts_of types) c t) p q
     converted_operand_stands types raised (Convert from to a) t p q (kind, wide, numbered) end has =
@@ -442,8 +639,8 @@ module _ (code : List Instruction) (b : Numbering) where
         let inner = expression_code (starts_of types) a p slot t in
         let front = code_unless known inner in
         let m = p + length front in
-        let back = conversion_code (starts_of types) to (converted_operand (starts_of types) (Convert from to a) t) m in
-        (m, operand_by code b types raised known _ inner slot p m refl (has_front code p front back has) (λ e h. expression_stands types raised a slot t p m numbered e h), conversion_stands code b types raised from to (converted_operand (starts_of types) (Convert from to a) t) m q wide (cut p q front back end) (has_back code p front back has))
+        let back = conversion_code (starts_of types) from to (span_of a) (converted_operand (starts_of types) (Convert from to a) t) m in
+        (m, operand_by code b types raised known _ inner slot p m refl (has_front code p front back has) (λ e h. expression_stands types raised a slot t p m numbered e h), conversion_stands code b types raised from to (span_of a) (converted_operand (starts_of types) (Convert from to a) t) t m q wide (λ narrow. source_brought code b types raised from to a t kind narrow) (cut p q front back end) (has_back code p front back has))
 
     printed_stands : (types : Types) (raised : BlocksStand code types.raises) → (cs : Arguments) (o : Operand) (t p q : ℕ) → argument_count cs ≡ 1 → FitArguments b types cs → p + length (printed_code (starts_of types) cs p t) ≡ q → HasAt code p (printed_code (starts_of types) cs p t) → PrintedAt code b types cs t (printed_operand (starts_of types) cs o t) p q
     printed_stands types raised NoArguments o t p q single numbered end has = absurd (omega (arith, single))
@@ -532,12 +729,13 @@ module _ (code : List Instruction) (b : Numbering) where
         )
 
 module _ (code : List Instruction) (b : Numbering) (types : Types) (raised : BlocksStand code types.raises) where
-  assignment_stands : (l : Lvalue) (c : Converted) (t p q : ℕ) → FitsStored b types l (passed_kind c) → FitsConverted b types c → p + length (assignment_code (starts_of types) l c p t) ≡ q → HasAt code p (assignment_code (starts_of types) l c p t) → AssignmentAt code b types l c (assigned_operand (starts_of types) l c t) t p q
+  assignment_stands : (l : Lvalue) (c : Converted) (t p q : ℕ) → FitsPlace b types l (passed_kind c) → FitsConverted b types c → p + length (assignment_code (starts_of types) l c p t) ≡ q → HasAt code p (assignment_code (starts_of types) l c p t) → AssignmentAt code b types l c (assigned_operand (starts_of types) l c t) t p q
   assignment_stands (Local w n) c t p q (few, room) numbered end has = (refl, room, initial_stands code b types raised c (slot_of (starts_of types) n) t p q numbered end has)
-  assignment_stands (Global n) c t p q (few, single) numbered end has =
+  assignment_stands (Global n) c t p q room numbered end has =
+      let o = converted_operand (starts_of types) c t in
       let front = converted_operand_code (starts_of types) c p t in
-      let (here, none) = has_back code p front _ has in
-      (p + length front, converted_operand_stands code b types raised c t p (p + length front) numbered refl (has_front code p front _ has), few, single, here, cut p q front _ end)
+      let store = global_code (passed_words c) (global_of (starts_of types) n) o in
+      (p + length front, converted_operand_stands code b types raised c t p (p + length front) numbered refl (has_front code p front store has), room, global_stands code b types raised (passed_words c) (global_of (starts_of types) n) o (p + length front) q (cut p q front store end) (has_back code p front store has))
 
   discarded_stands : (a : Expression) (t p q : ℕ) → Fits b types a → p + length (discarded_code (starts_of types) a p t) ≡ q → HasAt code p (discarded_code (starts_of types) a p t) → DiscardedAt code b types a t p q
   discarded_stands (Call callees.Putchar cs ty) t p q (s, signature, many, passed, result, numbered) end has =
@@ -546,7 +744,7 @@ module _ (code : List Instruction) (b : Numbering) (types : Types) (raised : Blo
       let single : argument_count cs ≡ 1 = many ∙ ap (λ (x : Signature). length x.parameters) signature in
       (printed_operand (starts_of types) cs (operands.Slot t) t, p + length front, printed_stands code b types raised cs (operands.Slot t) t p (p + length front) single numbered refl (has_front code p front _ has), write, cut p q front _ end)
   discarded_stands (Assign l c ty) t p q (few, numbered) end has = (assigned_operand (starts_of types) l c t, assignment_stands l c t p q few numbered end has)
-  discarded_stands (Store x c ty) t p q (place, single, numbered) end has =
+  discarded_stands (Store x c ty) t p q (place, numbered) end has =
       let a = place_operand (starts_of types) x t in
       let bytes = place_offset (starts_of types) x in
       let o = converted_operand (starts_of types) c (t + 1) in
@@ -557,10 +755,9 @@ module _ (code : List Instruction) (b : Numbering) (types : Types) (raised : Blo
       let s = p + length address in
       let value = converted_operand_code (starts_of types) c s (t + 1) in
       let u = s + length value in
-      let write = instructions.Store (operands.Slot t) 0 o ∷ [] in
+      let write = saved_code (passed_words c) t o in
       let has_address = has_front code p address (value ++ write) has in
-      let has_value = has_back code p address (value ++ write) has in
-      let (here, none) = has_back code s value write has_value in (
+      let has_value = has_back code p address (value ++ write) has in (
         o,
         (
           a,
@@ -571,9 +768,7 @@ module _ (code : List Instruction) (b : Numbering) (types : Types) (raised : Blo
           place_stands code b types raised x t p r place refl (has_front code p front bring has_address),
           address_stands code b types raised a bytes t r s (cut p s front bring refl) (has_back code p front bring has_address),
           converted_operand_stands code b types raised c (t + 1) s u numbered refl (has_front code s value write has_value),
-          single,
-          here,
-          cut s q value write (cut p q address (value ++ write) end),
+          saved_stands code b types raised (passed_words c) t o u q (cut s q value write (cut p q address (value ++ write) end)) (has_back code s value write has_value),
         ),
       )
   discarded_stands a t p q numbered end has =
@@ -638,7 +833,7 @@ module _ (code : List Instruction) (b : Numbering) (types : Types) (raised : Blo
       let front = code_unless_slot known inner in
       let m = p + length front in
       let s = slot_or known t in
-      let conversion = conversion_code (starts_of types) to (operands.Slot s) m in
+      let conversion = conversion_code (starts_of types) from to (span_of a) (operands.Slot s) m in
       let both = front ++ conversion in
       let r = p + length both in
       let leave = leave_code exits.first_record t in
@@ -653,7 +848,7 @@ module _ (code : List Instruction) (b : Numbering) (types : Types) (raised : Blo
         r,
         u,
         returned_by code b types raised known _ inner t p m refl (has_front code p front conversion has_both) (λ e h. expression_stands code b types raised a t t p m fitting e h),
-        conversion_stands code b types raised from to (operands.Slot s) m r wide (cut p r front conversion refl) (has_back code p front conversion has_both),
+        conversion_stands code b types raised from to (span_of a) (operands.Slot s) t m r wide (λ narrow. returned_brought code b types raised from to a t narrow) (cut p r front conversion refl) (has_back code p front conversion has_both),
         leave_stands exits.first_record t r u (cut p u both leave refl) (has_back code p both leave has_left),
         here,
         words,
@@ -681,42 +876,54 @@ module _ (code : List Instruction) (b : Numbering) (types : Types) (raised : Blo
       let r = p + length front in
       (o, bytes, r, place_stands code b types raised x t p r numbered refl (has_front code p front back has), address_stands code b types raised o bytes t r q (cut p q front back end) (has_back code p front back has))
 
-  read_stands : (a : Side) (s d p : ℕ) → At code p (read_side (starts_of types) a s d) → ReadAt code b types a s d p
-  read_stands (VariableSide (Local w n) ty) s d p here = here
-  read_stands (VariableSide (Global n) ty) s d p here = here
-  read_stands (CellSide x) s d p here = here
+  read_stands : (a : Side) (kind : Kind) (words s d p q : ℕ) → FitsSide b types a kind → p + length (read_side (starts_of types) a words s d) ≡ q → HasAt code p (read_side (starts_of types) a words s d) → ReadAt code b types a words s d p q
+  read_stands (VariableSide l ty) kind words s d p q fits end has = load_stands code b types raised l kind words d p q fits end has
+  read_stands (CellSide x) kind words s d p q fits end has = each_stands code b types raised (load_at s) words 0 d p q end has
 
-  write_stands : (a : Side) (s v p : ℕ) → At code p (write_side (starts_of types) a s v) → WriteAt code b types a s v p
-  write_stands (VariableSide (Local w n) ty) s v p here = here
-  write_stands (VariableSide (Global n) ty) s v p here = here
-  write_stands (CellSide x) s v p here = here
+  write_stands : (a : Side) (words s v p q : ℕ) → p + length (write_side (starts_of types) a words s v) ≡ q → HasAt code p (write_side (starts_of types) a words s v) → WriteAt code b types a words s v p q
+  write_stands (VariableSide (Local w n) ty) words s v p q end (here, none) = (here, end)
+  write_stands (VariableSide (Global n) ty) words s v p q end has = global_stands code b types raised words (global_of (starts_of types) n) (operands.Slot v) p q end has
+  write_stands (CellSide x) words s v p q end has = stores_stand code b types raised words s 0 v p q end has
 
-  swap_stands : (x y : Side) (t p q : ℕ) → words_of (type_of_side x) ≡ 1 → FitsSide b types x (kind_of (type_of_side x)) → FitsSide b types y (kind_of (type_of_side x)) → may_wait x y ≡ true
+  swap_stands : (x y : Side) (t p q : ℕ) → FitsSide b types x (kind_of (type_of_side x)) → FitsSide b types y (kind_of (type_of_side x))
       → p + length (swap_code (starts_of types) x y p t) ≡ q → HasAt code p (swap_code (starts_of types) x y p t) → SwapAt code b types x y t p q
-  swap_stands x y t p q single fits_x fits_y waits end has =
+  swap_stands x y t p q fits_x fits_y end has =
       let kind = kind_of (type_of_side x) in
+      let words = words_of (type_of_side x) in
       let front = side_code (starts_of types) x p t in
       let m = p + length front in
       let middle = side_code (starts_of types) y m (right_slot x t) in
       let r = m + length middle in
-      let back = exchange_code (starts_of types) x y t in
+      let first = read_side (starts_of types) x words t (t + 2) in
+      let second = read_side (starts_of types) y words (right_slot x t) (t + 2 + words) in
+      let third = write_side (starts_of types) x words t (t + 2 + words) in
+      let fourth = write_side (starts_of types) y words (right_slot x t) (t + 2) in
+      let back = exchange_code (starts_of types) words x y t in
       let has_rest = has_back code p front (middle ++ back) has in
-      let (first, (second, (third, (fourth, none)))) = has_back code m middle back has_rest in (
+      let has_all = has_back code m middle back has_rest in
+      let has_three = has_back code r first (second ++ (third ++ fourth)) has_all in
+      let has_two = has_back code (r + length first) second (third ++ fourth) has_three in
+      let s = r + length first in
+      let u = s + length second in
+      let v = u + length third in
+      let end_two = cut s q second (third ++ fourth) (cut r q first (second ++ (third ++ fourth)) (cut m q middle back (cut p q front (middle ++ back) end))) in
+      let exchange : ExchangeAt code b types words x y t r q
+      = (
+        s,
+        u,
+        v,
+        read_stands x kind words t (t + 2) r s fits_x refl (has_front code r first (second ++ (third ++ fourth)) has_all),
+        read_stands y kind words (right_slot x t) (t + 2 + words) s u fits_y refl (has_front code s second (third ++ fourth) has_three),
+        write_stands x words t (t + 2 + words) u v refl (has_front code u third fourth has_two),
+        write_stands y words (right_slot x t) (t + 2) v q (cut u q third fourth end_two) (has_back code u third fourth has_two),
+      ) in (
         m,
         r,
-        single,
         has_side x kind fits_x,
         has_side y kind fits_y,
-        waits,
         side_stands x kind t p m fits_x refl (has_front code p front (middle ++ back) has),
         side_stands y kind (right_slot x t) m r fits_y refl (has_front code m middle back has_rest),
-        (
-          read_stands x t (t + 2) r first,
-          read_stands y (right_slot x t) (t + 3) (r + 1) second,
-          write_stands x t (t + 3) (r + 1 + 1) third,
-          write_stands y (right_slot x t) (t + 2) (r + 1 + 1 + 1) fourth,
-          omega (arith, cut m q middle back (cut p q front (middle ++ back) end)),
-        ),
+        subst (λ n. ExchangeAt code b types n x y t r q) (sym (type_words (type_of_side x))) exchange,
       )
 
   thrown_stands : (v : Option Expression) (t p q : ℕ) → FitsThrown b types v → p + length (thrown_code (starts_of types) v p t) ≡ q → HasAt code p (thrown_code (starts_of types) v p t)
@@ -735,7 +942,7 @@ module _ (code : List Instruction) (b : Numbering) (types : Types) (raised : Blo
     statement_stands (Block r js) in_loop exits d p q numbered end has = items_stand js in_loop exits d p q numbered end has
     statement_stands Empty in_loop exits d p q numbered end has = omega (arith, end)
     statement_stands (Evaluate a) in_loop exits t p q numbered end has = discarded_stands a t p q numbered end has
-    statement_stands (Swap x y) in_loop exits t p q (single, fits_x, fits_y, waits) end has = swap_stands x y t p q single fits_x fits_y waits end has
+    statement_stands (Swap x y) in_loop exits t p q (fits_x, fits_y) end has = swap_stands x y t p q fits_x fits_y end has
     statement_stands (If a s u) in_loop exits t p q (numbered_a, numbered_s, numbered_u) end has =
         let condition = condition_code (starts_of types) a p t in
         let m = p + length condition in
@@ -868,17 +1075,17 @@ module _ (code : List Instruction) (b : Numbering) (types : Types) (raised : Blo
 
 -- ---- functions
 
-fitting_function : (structs : List StructType) (globals : ℕ) (signatures : List Signature) (hs : List Function) (n : ℕ) (h : Function) → AreFitting structs globals signatures hs → slice_get hs n ≡ Some h
-    → FitItems (numbering_of globals signatures h) (types_of structs h) false h.body
+fitting_function : (structs : List StructType) (globals : List GlobalVariable) (signatures : List Signature) (hs : List Function) (n : ℕ) (h : Function) → AreFitting structs globals signatures hs → slice_get hs n ≡ Some h
+    → FitItems (numbering_of (length globals) signatures h) (types_of structs (global_types globals) h) false h.body
 fitting_function structs globals signatures [] n h numbered there = absurd (none-some h there)
 fitting_function structs globals signatures (g ∷ hs) zero h (first, rest) there =
-    subst (λ (f : Function). FitItems (numbering_of globals signatures f) (types_of structs f) false f.body) (same_Some g h there) first
+    subst (λ (f : Function). FitItems (numbering_of (length globals) signatures f) (types_of structs (global_types globals) f) false f.body) (same_Some g h there) first
 fitting_function structs globals signatures (g ∷ hs) (suc n) h (first, rest) there = fitting_function structs globals signatures hs n h rest there
 
 module _ (source : Program) where
   -- each function is lowered by itself
-  pub routine_there : (n : ℕ) (h : Function) → slice_get source.functions n ≡ Some h → routine_at (lower_program source) n ≡ lower_function source.structs h
-  routine_there n h there = get_or_from_slice_get (map (lower_function source.structs) source.functions) n (lower_function source.structs h) no_routine (slice_get-map (lower_function source.structs) source.functions n ∙ ap (option_map (lower_function source.structs)) there)
+  pub routine_there : (n : ℕ) (h : Function) → slice_get source.functions n ≡ Some h → routine_at (lower_program source) n ≡ lower_function source.structs (globals_of source) h
+  routine_there n h there = get_or_from_slice_get (map (lower_function source.structs (globals_of source)) source.functions) n (lower_function source.structs (globals_of source) h) no_routine (slice_get-map (lower_function source.structs (globals_of source)) source.functions n ∙ ap (option_map (lower_function source.structs (globals_of source))) there)
 
   -- the code of a function, with its body at the beginning, and a return behind it
   abbrev BodyStands : Function → List Instruction → Option Function → Type 0
@@ -886,20 +1093,20 @@ module _ (source : Program) where
       (m : ℕ) × ItemsAt code (bounds_in source o) (types_in source o) h.body (outside_loops (words_of_all (types_in source o).locals)) (words_of_all (types_in source o).locals) 0 m
       × At code m (instructions.Finish (words_of_all (types_in source o).locals))
 
-  body_stands : (h : Function) → FitItems (bounds_in source (Some h)) (types_of source.structs h) false h.body → BodyStands h (function_code source.structs h) (Some h)
+  body_stands : (h : Function) → FitItems (bounds_in source (Some h)) (types_of source.structs (global_types source.globals) h) false h.body → BodyStands h (function_code source.structs (globals_of source) h) (Some h)
   body_stands h numbered =
       let d = first_temporary h in
-      let types = types_of source.structs h in
-      let body = body_code types h in
+      let types = types_of source.structs (global_types source.globals) h in
+      let body = body_code (starts_of types) h in
       let end = instructions.Finish d ∷ blocks in
       let code = body ++ end in
       let has = has_whole code in
       let (here, raising_all) = has_back code 0 body end has in
-      let raised = blocks_stand code types.raises (subst (λ n. HasAt code (n + 1) blocks) (let e : 0 + length body ≡ types.raises = omega (arith, body_long source.structs h) in e) raising_all) in
+      let raised = blocks_stand code types.raises (subst (λ n. HasAt code (n + 1) blocks) (let e : 0 + length body ≡ types.raises = omega (arith, body_long source.structs (globals_of source) h) in e) raising_all) in
       (0 + length body, items_stand code (bounds_in source (Some h)) types raised h.body false (outside_loops d) d 0 (0 + length body) numbered refl (has_front code 0 body end has), here)
 
   pub functions_stand : (pages calls : ℕ) → IsFitting source → FunctionsStand source pages calls
   functions_stand pages calls numbered n h there =
       subst (λ (code : List Instruction). BodyStands h code (slice_get source.functions n)) (sym (ap (λ (r : Routine). r.code) (routine_there n h there)))
-      (subst (λ (o : Option Function). BodyStands h (function_code source.structs h) o) (sym there)
-      (body_stands h (fitting_function source.structs (length source.globals) (signatures_of source.functions) source.functions n h numbered.functions there)))
+      (subst (λ (o : Option Function). BodyStands h (function_code source.structs (globals_of source) h) o) (sym there)
+      (body_stands h (fitting_function source.structs source.globals (signatures_of source.functions) source.functions n h numbered.functions there)))

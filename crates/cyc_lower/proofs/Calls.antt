@@ -29,9 +29,9 @@ use Rattle.cyc_meaning.specs.State.{World, Environment, no_locals, with_local, v
 use Rattle.cyc_meaning.specs.Step.{wrong, declared, inside, region_end, called, step}
 use Rattle.cyc_meaning.specs.SourceMachine.{status_in}
 use Rattle.cyc_meaning.specs.Run.{is_within, limited_step}
-use Rattle.cyc_lower.specs.Lowering.{outside_loops, lower_program, raises_of}
+use Rattle.cyc_lower.specs.Lowering.{outside_loops, lower_program, raises_of, globals_of}
 use Rattle.cyc_lower.proofs.Stands.{ItemsAt}
-use Rattle.cyc_lower.specs.Slots.{starts_of, slot_of}
+use Rattle.cyc_lower.specs.Slots.{starts_of, slot_of, global_types}
 use Rattle.cyc_lower.proofs.Slots.{slot-parameter, words-parameter, slot_types-many, words-append}
 use Rattle.cyc_lower.proofs.Widths.{kind_of_result, result_kind, same_kind, type_words, words_in, HasRoom}
 use Rattle.cyc_lower.proofs.Values.{of_kind, int_is}
@@ -135,7 +135,7 @@ module _ (source : Program) (pages calls : ℕ) where
   parameter_in None first rest t own = absurd (omega (arith, ap length own, length-append first (t ∷ rest)))
   parameter_in (Some h) first rest t own = (
     omega (arith, slot_types-many h, ap length own, length-append first (t ∷ rest)),
-    ap (λ (ts : List Ty). slot_of (starts_of (record { locals = ts ++ h.locals; structs = source.structs; raises = raises_of source.structs h; counters = [] })) (length first)) own ∙ slot-parameter source.structs (raises_of source.structs h) first rest t h.locals,
+    ap (λ (ts : List Ty). slot_of (starts_of (record { locals = ts ++ h.locals; structs = source.structs; raises = raises_of source.structs (globals_of source) h; counters = []; globals = global_types source.globals })) (length first)) own ∙ slot-parameter source.structs (raises_of source.structs (globals_of source) h) (global_types source.globals) first rest t h.locals,
     ap (λ (ts : List Ty). words_in (ts ++ h.locals) (length first)) own ∙ words-parameter first rest t h.locals,
   )
 

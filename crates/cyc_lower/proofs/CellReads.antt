@@ -1,5 +1,6 @@
--- What a cell of one word holds, by its address.
+-- What a cell holds, by its address.
 use Rattle.std.proofs.Common.{◌≡◌, ℕ, ◌+◌, ◌*◌, Option, Some, ap, subst, ◌∙◌, arith}
+use Rattle.cyc_types.specs.declared.typed.Kind.TheVariants as kinds
 use Rattle.cyc_store.specs.State.{StoreState, word_at}
 use Rattle.cyc_meaning.specs.Values.{Value, words_of_kind}
 use Rattle.cyc_meaning.specs.State.{World, Found, Located, cell_at}
@@ -26,3 +27,16 @@ module _ {t : Tables} {w : World} {s : StoreState} (related : objects.Related t 
             ap slots at_d ∙ same ∙ ap s.memory at_word)
             content,
       )
+
+  -- the words of a cell
+  pub cell_words : (object offset word : ℕ) (at : Located) (v : Value) → cell_at w object offset ≡ Found at → Points t object offset word → at.cell.content ≡ Some v
+      → Is t at.cell.kind v (words_from s.memory word) 0
+  cell_words object offset word at v found points has =
+      let (h, alive, cell) = found-alive related object offset word at found points in
+      subst (λ (x : Option Value). IsContent t at.cell.kind x (words_from s.memory word) 0) has (cell-read related alive points cell)
+
+  -- the words of a cell of three
+  pub wide_read : (object offset word : ℕ) (at : Located) (v : Value) → cell_at w object offset ≡ Found at → Points t object offset word → at.cell.kind ≡ kinds.Fat → at.cell.content ≡ Some v
+      → Is t kinds.Fat v (words_from s.memory word) 0
+  wide_read object offset word at v found points fat has =
+      subst (λ i. Is t i v (words_from s.memory word) 0) fat (cell_words object offset word at v found points has)

@@ -10,14 +10,14 @@ use Rattle.cyc_store.proofs.WordLemmas.{words-put}
 use Rattle.cyc_plain.specs.State as plain
 use Rattle.cyc_plain.specs.State.{Words, Frame, Configuration, memory_at, with_memory}
 use Rattle.cyc_plain.specs.Step.{advanced, saves}
-use Rattle.cyc_meaning.specs.Values.{Value, Operand as Kinded, is_kind, words_of_kind}
+use Rattle.cyc_meaning.specs.Values.{Value, Operand as Kinded, is_kind}
 use Rattle.cyc_meaning.specs.State.{Object, World, Access, Found, Closed, Missing, Located, cell_at, written, Environment, Entry, Focus, Running}
 use Rattle.cyc_meaning.specs.Step.{wrong, stored}
 use Rattle.cyc_objects.specs.Tables.{Variable, Tables}
 use Rattle.cyc_objects.specs.Words.{words_from, Points}
 use Rattle.cyc_objects.specs.Related as objects
 use Rattle.cyc_objects.proofs.Cells.{not-placed, found-alive, cell-live, related-written, saved-is}
-use Rattle.cyc_lower.proofs.Widths.{same_kind}
+use Rattle.cyc_lower.proofs.Widths.{same_kind, kind_positive}
 use Rattle.cyc_lower.proofs.Relation.{IsWord, content_of, contents, Waiting, LocalsHold, GlobalsHold, FramesHold, DataAt, DataIn, SharedAt, callers, silent, types_at}
 use Rattle.cyc_lower.proofs.Data.{IsWord-is, get_set_other, locals_raised}
 use Rattle.cyc_lower.proofs.Accesses.{IsWell, is_fitting}
@@ -51,9 +51,9 @@ module _ (t : Tables) where
       frames_beside objects others low frames outer same rest,
     )
 
-    globals_beside : (objects others : List Object) (globals : Words) → SameVariables objects others → GlobalsHold t (length source.globals) objects globals
-        → GlobalsHold t (length source.globals) others globals
-    globals_beside objects others globals same hold number below =
+    globals_beside : (g : ℕ) (objects others : List Object) (globals : Words) → SameVariables objects others → GlobalsHold t (types_at source g) objects globals
+        → GlobalsHold t (types_at source g) others globals
+    globals_beside g objects others globals same hold number below =
         let (row, is) = hold number below in
         (row, λ v has. is v (sym (same number row) ∙ has))
 
@@ -65,7 +65,7 @@ module _ (t : Tables) where
       omega (arith, below, many),
       locals_raised t (types_at source g) others locals low (length objects) (length others) slots many (locals_beside (types_at source g) objects others locals low (length objects) slots same hold),
       frames_beside objects others low frames outer same waiting,
-      globals_beside objects others globals same words,
+      globals_beside g objects others globals same words,
     )
 
 -- ---- a cell is written
@@ -80,15 +80,15 @@ cell_is_there (Found at) number offset v focus k e w well =
 cell_is_there Closed number offset v focus k e w well = absurd (well refl)
 cell_is_there Missing number offset v focus k e w well = absurd (well refl)
 
--- The word of a cell of one word is written: what is shared stays, with the same tables.
+-- The word of a cell is written that tells its value: what is shared stays, with the same tables.
 module _ (source : Program) (pages calls : ℕ) (k : List Entry) (e : Environment) (w : World) (c : Configuration) (shared : SharedAt source pages calls k e w c)
     (object offset address word : ℕ) (at : Located) (v : Value) (found : cell_at w object offset ≡ Found at) (points : Points shared.tables object offset address)
-    (one : words_of_kind at.cell.kind ≡ 1) (is : IsWord shared.tables at.cell.kind v word) (fits : words.IsWord word) where
+    (is : IsWord shared.tables at.cell.kind v word) (fits : words.IsWord word) where
   there : word_at c.store address ≡ Some (c.store.memory address)
   there =
       let (h, alive, cell) = found-alive shared.related object offset address at found points in
       subst (λ n. word_at c.store n ≡ Some (c.store.memory n)) (let e : address + 4 * 0 ≡ address = omega arith in e)
-      (cell-live shared.related alive points cell 0 (omega (arith, one)))
+      (cell-live shared.related alive points cell 0 (kind_positive at.cell.kind))
 
   -- the instruction goes on
   pub saves_there : saves c address word (memory_at c address) ≡ plain.Running (advanced (with_memory c address word))
@@ -104,7 +104,7 @@ module _ (source : Program) (pages calls : ℕ) (k : List Entry) (e : Environmen
       let zero_far : address + 4 * 0 ≡ address = omega arith in
       subst (objects.Related shared.tables (silent (written w object offset at v))) (sym saved_there)
       (related-written shared.related alive points cell m v (words-put c.store.memory address word shared.related.sound.words fits)
-      (λ y other. when_other y address word (c.store.memory y) (λ same. other 0 (omega (arith, one)) (same ∙ sym zero_far)))
+      (λ y other. when_other y address word (c.store.memory y) (λ same. other 0 (kind_positive at.cell.kind) (same ∙ sym zero_far)))
       (IsWord-is shared.tables at.cell.kind v word (words_from m address) 0 (ap m zero_far ∙ when_equal address address word (c.store.memory address) refl) is))
 
   abbrev pub shared_saved : SharedAt source pages calls k e (written w object offset at v) (advanced (with_memory c address word))

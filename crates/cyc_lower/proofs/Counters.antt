@@ -5,10 +5,10 @@ use Rattle.std.proofs.lemmas.Bool.{eqb-true, eq-eqb, false_from_ne_true}
 use Rattle.std.proofs.lemmas.Option.{same_Some, none-some}
 use Rattle.cyc_plain.specs.State.{Words}
 use Rattle.cyc_meaning.specs.Values.{Operand as Kinded}
-use Rattle.cyc_meaning.specs.State.{FreeObject, LoadFrom, TakeAddress, StoreTo, Awaiting, ConvertTo, Operate, Chain, Apply, ApplyPointer, Follow, FollowMember, Decide, Store, StoreCell, Pass, MakePlain, MakeFields, MakeArray, FillElement, Entry, Needs, NeedsPlace, Caller}
+use Rattle.cyc_meaning.specs.State.{FreeObject, CountElements, Index, Advance, LoadFrom, TakeAddress, StoreTo, Awaiting, ConvertTo, Operate, Chain, Apply, ApplyPointer, Follow, FollowMember, Decide, Store, StoreCell, Pass, MakePlain, MakeFields, MakeArray, FillElement, Entry, Needs, NeedsPlace, Caller}
 use Rattle.cyc_objects.specs.Tables.{Tables}
-use Rattle.cyc_lower.proofs.Relation.{height, Holds, held, counters_of, arrays_in, AreCounted}
-use Rattle.cyc_lower.proofs.Data.{Holds-rest}
+use Rattle.cyc_lower.proofs.Relation.{words_held, height, Holds, held, counters_of, arrays_in, AreCounted}
+use Rattle.cyc_lower.proofs.Data.{Holds-rest, height-append}
 
 -- what is found in a list with one more
 pub found_last : (xs : List ℕ) (y n z : ℕ) → slice_get (xs ++ y ∷ []) n ≡ Some z → (slice_get xs n ≡ Some z) ⊎ ((n ≡ length xs) × (z ≡ y))
@@ -29,6 +29,7 @@ counters-many base (Needs (Chain os) ∷ k) = counters-many base k
 counters-many base (Needs (Apply u left) ∷ k) = counters-many base k
 counters-many base (Needs (ApplyPointer peek u left) ∷ k) = counters-many base k
 counters-many base (Needs Decide ∷ k) = counters-many base k
+counters-many base (Needs CountElements ∷ k) = counters-many base k
 counters-many base (Needs (Store place) ∷ k) = counters-many base k
 counters-many base (Needs (StoreCell peek place) ∷ k) = counters-many base k
 counters-many base (Needs (Pass callee before cs) ∷ k) = counters-many base k
@@ -40,10 +41,42 @@ counters-many base (Needs (FillElement object count index level kind a) ∷ k) =
 counters-many base (Needs (Follow pointer target) ∷ k) = counters-many base k
 counters-many base (Needs (FollowMember pointer fields field) ∷ k) = counters-many base k
 counters-many base (Needs FreeObject ∷ k) = counters-many base k
+counters-many base (Needs (Index peek target i) ∷ k) = counters-many base k
+counters-many base (Needs (Advance peek target pointer) ∷ k) = counters-many base k
 counters-many base (NeedsPlace (LoadFrom cell) ∷ k) = counters-many base k
 counters-many base (NeedsPlace TakeAddress ∷ k) = counters-many base k
 counters-many base (NeedsPlace (StoreTo peek c) ∷ k) = counters-many base k
 counters-many base (entry ∷ k) = refl
+
+-- each slot of a counter is before the first free one
+pub counters_low : (base : ℕ) (k : List Entry) (level slot : ℕ) → slice_get (counters_of base k) level ≡ Some slot → slot ≤ height base (held k)
+counters_low base [] level slot found = absurd (none-some slot found)
+counters_low base (Needs (ConvertTo from to target) ∷ k) level slot found = counters_low base k level slot found
+counters_low base (Needs (Operate u) ∷ k) level slot found = counters_low base k level slot found
+counters_low base (Needs (Chain os) ∷ k) level slot found = counters_low base k level slot found
+counters_low base (Needs (Apply u left) ∷ k) level slot found = omega (arith, counters_low base k level slot found)
+counters_low base (Needs (ApplyPointer peek u left) ∷ k) level slot found = omega (arith, counters_low base k level slot found)
+counters_low base (Needs Decide ∷ k) level slot found = counters_low base k level slot found
+counters_low base (Needs CountElements ∷ k) level slot found = counters_low base k level slot found
+counters_low base (Needs (Store place) ∷ k) level slot found = counters_low base k level slot found
+counters_low base (Needs (StoreCell peek place) ∷ k) level slot found = omega (arith, counters_low base k level slot found)
+counters_low base (Needs (Pass callee before cs) ∷ k) level slot found = omega (arith, height-append base before (held k), counters_low base k level slot found)
+counters_low base (Needs (MakePlain owner kind) ∷ k) level slot found = counters_low base k level slot found
+counters_low base (Needs (MakeFields owner before cs) ∷ k) level slot found = omega (arith, height-append base before (held k), counters_low base k level slot found)
+counters_low base (Needs (MakeArray owner inner kind a) ∷ k) level slot found = counters_low base k level slot found
+counters_low base (Needs (FillElement object count index inner kind a) ∷ k) level slot found = elim (found_last (counters_of base k) (height base (held k) + 2) level slot found) [
+  | inl before ↦ omega (arith, counters_low base k level slot before)
+  | inr (level_is, slot_is) ↦ omega (arith, slot_is)
+]
+counters_low base (Needs (Follow pointer target) ∷ k) level slot found = counters_low base k level slot found
+counters_low base (Needs (FollowMember pointer fields field) ∷ k) level slot found = counters_low base k level slot found
+counters_low base (Needs FreeObject ∷ k) level slot found = counters_low base k level slot found
+counters_low base (Needs (Index peek target i) ∷ k) level slot found = counters_low base k level slot found
+counters_low base (Needs (Advance peek target pointer) ∷ k) level slot found = omega (arith, counters_low base k level slot found)
+counters_low base (NeedsPlace (LoadFrom cell) ∷ k) level slot found = counters_low base k level slot found
+counters_low base (NeedsPlace TakeAddress ∷ k) level slot found = counters_low base k level slot found
+counters_low base (NeedsPlace (StoreTo peek c) ∷ k) level slot found = counters_low base k level slot found
+counters_low base (entry ∷ k) level slot found = absurd (none-some slot found)
 
 -- each counter is in its slot
 abbrev pub CountersHold : (counters : ℕ → Option ℕ) → Words → (base : ℕ) → List Entry → Type 0
@@ -58,6 +91,7 @@ counters_hold t counters slots base (Needs (Chain os) ∷ k) count holds level s
 counters_hold t counters slots base (Needs (Apply u left) ∷ k) count holds level slot found = counters_hold t counters slots base k count holds.1 level slot found
 counters_hold t counters slots base (Needs (ApplyPointer peek u left) ∷ k) count holds level slot found = counters_hold t counters slots base k count holds.1 level slot found
 counters_hold t counters slots base (Needs Decide ∷ k) count holds level slot found = counters_hold t counters slots base k count holds level slot found
+counters_hold t counters slots base (Needs CountElements ∷ k) count holds level slot found = counters_hold t counters slots base k count holds level slot found
 counters_hold t counters slots base (Needs (Store place) ∷ k) count holds level slot found = counters_hold t counters slots base k count holds level slot found
 counters_hold t counters slots base (Needs (StoreCell peek place) ∷ k) count holds level slot found = counters_hold t counters slots base k count holds.1 level slot found
 counters_hold t counters slots base (Needs (Pass callee before cs) ∷ k) count holds level slot found = counters_hold t counters slots base k count (Holds-rest t slots base before (held k) holds) level slot found
@@ -72,6 +106,8 @@ counters_hold t counters slots base (Needs (FillElement object count index inner
 counters_hold t counters slots base (Needs (Follow pointer target) ∷ k) count holds level slot found = counters_hold t counters slots base k count holds level slot found
 counters_hold t counters slots base (Needs (FollowMember pointer fields field) ∷ k) count holds level slot found = counters_hold t counters slots base k count holds level slot found
 counters_hold t counters slots base (Needs FreeObject ∷ k) count holds level slot found = counters_hold t counters slots base k count holds level slot found
+counters_hold t counters slots base (Needs (Index peek target i) ∷ k) count holds level slot found = counters_hold t counters slots base k count holds level slot found
+counters_hold t counters slots base (Needs (Advance peek target pointer) ∷ k) count holds level slot found = counters_hold t counters slots base k count holds.1 level slot found
 counters_hold t counters slots base (NeedsPlace (LoadFrom cell) ∷ k) count holds level slot found = counters_hold t counters slots base k count holds level slot found
 counters_hold t counters slots base (NeedsPlace TakeAddress ∷ k) count holds level slot found = counters_hold t counters slots base k count holds level slot found
 counters_hold t counters slots base (NeedsPlace (StoreTo peek c) ∷ k) count holds level slot found = counters_hold t counters slots base k count holds level slot found

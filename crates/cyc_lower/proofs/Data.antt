@@ -14,9 +14,9 @@ use Rattle.cyc_types.specs.declared.typed.Kind.TheVariants as kinds
 use Rattle.cyc_meaning.specs.Values.{Value, Int, Null, Thin, Handle, Key, Operand, words_of_kind}
 use Rattle.cyc_meaning.specs.State.{Object, Environment, with_local, Entry, Handler, Caller, Main, calls_in, CloseLexical, EndLoan, Loop}
 use Rattle.cyc_meaning.specs.FrameCount.{words_of_all}
-use Rattle.cyc_lower.specs.Slots.{starts_of, slot_of, Types}
-use Rattle.cyc_lower.proofs.Widths.{words_in, HasRoom, Outside}
-use Rattle.cyc_lower.proofs.Slots.{slot-room, slot-apart}
+use Rattle.cyc_lower.specs.Slots.{starts_of, slot_of, global_of, global_types, Types}
+use Rattle.cyc_lower.proofs.Widths.{words_in, HasRoom, HasGlobal, Outside}
+use Rattle.cyc_lower.proofs.Slots.{slot-room, slot-apart, global-apart, global-inside}
 use Rattle.cyc_plain.specs.declared.instruction.Operand.{Operand as Place}
 use Rattle.cyc_plain.specs.declared.instruction.Operand.TheVariants as operands
 use Rattle.cyc_objects.specs.Tables.{Variable, Tables, Grows}
@@ -332,7 +332,7 @@ module _ (t : Tables) where
 
   module _ (source : Program) where
     abbrev global_count : ℕ
-    global_count = length source.globals
+    global_count = length (global_types source.globals)
 
     pub globals_below : (objects : List Object) (high : ℕ) (frames : List Frame) (outer : List Waiting) → FramesHold source t objects high frames outer → global_count ≤ high
     globals_below objects high [] [] hold = hold
@@ -352,8 +352,8 @@ module _ (t : Tables) where
           frames_kept objects others low frames outer (λ o from to. same o from (omega (arith, to, below))) rest,
         )
 
-    pub globals_kept : (objects others : List Object) (words : Words) → SameBetween 0 global_count objects others → GlobalsHold t global_count objects words → GlobalsHold t global_count others words
-    globals_kept objects others words same hold number below =
+    pub globals_kept : (g : ℕ) (objects others : List Object) (words : Words) → SameBetween 0 global_count objects others → GlobalsHold t (types_at source g) objects words → GlobalsHold t (types_at source g) others words
+    globals_kept g objects others words same hold number below =
         let (row, is) = hold number below in
         (row, λ v has. is v (sym (same number (omega arith) below) ∙ has))
 
@@ -384,14 +384,30 @@ module _ (t : Tables) where
           subst (λ high. LocalsHold t (types_at source g) others locals low high after) (sym long)
               (locals_assigned (types_at source g) objects others locals low (length objects) slots after number object v here now same room is elsewhere hold),
           frames_kept objects others low frames outer (λ o from to. same o (not o to)) waiting,
-          globals_kept objects others globals (λ o from to. same o (not o (omega (arith, to, above)))) words,
+          globals_kept g objects others globals (λ o from to. same o (not o (omega (arith, to, above)))) words,
         )
 
-    pub data_assigned_global : (g : ℕ) (objects others : List Object) (locals : ℕ → Option ℕ) (outer : List Waiting) (slots globals : Words) (frames : List Frame) (number : ℕ) (v : Operand) (w : ℕ)
-        → number < global_count → contents others number ≡ Some v → ((o : ℕ) → o ≢ number → contents others o ≡ contents objects o) → length others ≡ length objects → IsWord t v.kind v.value w
-        → DataAt source t g objects locals outer slots globals frames → DataAt source t g others locals outer slots (put globals number w) frames
-    data_assigned_global g objects others locals outer slots globals frames number v w few now same long is (low, below, hold, waiting, words) =
+    -- where the words of one global are written, another has what it had
+    global_same : (g number other : ℕ) (v u : Operand) (globals after : Words) → HasGlobal (types_at source g) number v.kind → HasGlobal (types_at source g) other u.kind → other ≢ number
+        → ((m : ℕ) → Outside (global_of (starts_at source g) number) (words_of_kind v.kind) m → after m ≡ globals m) → Is t u.kind u.value globals (global_of (starts_at source g) other)
+        → Is t u.kind u.value after (global_of (starts_at source g) other)
+    global_same g number other v u globals after room room_u apart elsewhere is =
+        let types = types_at source g in
+        words_same t u.kind u.value globals after (global_of (starts_at source g) other) (global_of (starts_at source g) other) (λ i below.
+        elsewhere (global_of (starts_at source g) other + i) (
+        elim (global-apart types other number (global-inside types other u.kind room_u) (global-inside types number v.kind room) apart) [
+          | inl before ↦ inl (omega (arith, below, before, room_u))
+          | inr behind ↦ inr (omega (arith, below, behind, room))
+        ])) is
+
+    pub data_assigned_global : (g : ℕ) (objects others : List Object) (locals : ℕ → Option ℕ) (outer : List Waiting) (slots globals after : Words) (frames : List Frame) (number : ℕ) (v : Operand)
+        → HasGlobal (types_at source g) number v.kind → contents others number ≡ Some v → ((o : ℕ) → o ≢ number → contents others o ≡ contents objects o) → length others ≡ length objects
+        → Is t v.kind v.value after (global_of (starts_at source g) number)
+        → ((m : ℕ) → Outside (global_of (starts_at source g) number) (words_of_kind v.kind) m → after m ≡ globals m)
+        → DataAt source t g objects locals outer slots globals frames → DataAt source t g others locals outer slots after frames
+    data_assigned_global g objects others locals outer slots globals after frames number v room now same long is elsewhere (low, below, hold, waiting, words) =
         let above = globals_below objects low frames outer waiting in
+        let few = global-inside (types_at source g) number v.kind room in
         let not : (o : ℕ) → global_count ≤ o → o ≢ number = λ o from e. absurd (omega (arith, e, from, few)) in (
           low,
           omega (arith, below, long),
@@ -404,9 +420,11 @@ module _ (t : Tables) where
                 λ u has. elim (cases_eq n number) [
                   | inl equal ↦
                       let u_is : v ≡ u = same_Some v u (sym now ∙ sym (ap (contents others) equal) ∙ has) in
-                      subst (λ (x : Operand). IsWord t x.kind x.value (put globals number w n)) u_is
-                      (subst (IsWord t v.kind v.value) (sym (ap (put globals number w) equal ∙ put-same globals number w)) is)
-                  | inr other ↦ subst (IsWord t u.kind u.value) (sym (put-other globals number n w other)) (held u (sym (same n other) ∙ has))
+                      subst (λ (x : Operand). Is t x.kind x.value after (global_of (starts_at source g) n) × HasGlobal (types_at source g) n x.kind) u_is
+                      (subst (λ m. Is t v.kind v.value after (global_of (starts_at source g) m) × HasGlobal (types_at source g) m v.kind) (sym equal) (is, room))
+                  | inr other ↦
+                      let (is_u, room_u) = held u (sym (same n other) ∙ has) in
+                      (global_same g number n v u globals after room room_u other elsewhere is_u, room_u)
                 ],
               ),
         )
@@ -422,7 +440,7 @@ module _ (t : Tables) where
           omega (arith, below, length-append objects (x ∷ [])),
           locals_declared (types_at source g) objects e low slots other number many x inside few below row same is hold,
           frames_kept objects (objects ++ x ∷ []) low frames outer (λ o from to. contents_made objects x o (omega (arith, to, below))) waiting,
-          globals_kept objects (objects ++ x ∷ []) globals (λ o from to. contents_made objects x o (omega (arith, to, above, below))) words,
+          globals_kept g objects (objects ++ x ∷ []) globals (λ o from to. contents_made objects x o (omega (arith, to, above, below))) words,
         )
 
     -- the callee has no locals yet, and its caller waits
@@ -594,7 +612,7 @@ module _ (t u : Tables) (grows : Grows t u) where
     below,
     locals_grow (types_at source g) objects locals low (length objects) slots hold,
     frames_grow source objects low frames outer waiting,
-    λ number few. let (row, is) = words number few in (grows.rows number Variable row, λ v has. IsWord-grows v.kind v.value (globals number) (is v has)),
+    λ number few. let (row, holds) = words number few in (grows.rows number Variable row, λ v has. let (is, room) = holds v has in (Is-grows grows v.kind v.value globals (global_of (starts_at source g) number) is, room)),
   )
 
   pub variables_grow : (regions : List ℕ) → AreOfVariables t regions → AreOfVariables u regions

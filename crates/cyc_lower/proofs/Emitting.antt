@@ -22,6 +22,7 @@ use Rattle.cyc_types.specs.declared.typed.Expr.TheVariants as expr
 use Rattle.cyc_types.specs.declared.typed.Initial.{Initial as InitialCode}
 use Rattle.cyc_types.specs.declared.typed.Initial.TheVariants as initial
 use Rattle.cyc_types.specs.declared.typed.Dereference.{Dereference as DereferenceCode}
+use Rattle.cyc_types.specs.declared.typed.Dereference.TheVariants as dereference
 use Rattle.cyc_types.specs.declared.typed.Converted.{Converted as ConvertedCode}
 use Rattle.cyc_types.specs.declared.typed.Operation.{Operation}
 use Rattle.cyc_types.specs.declared.typed.Operation.TheVariants as operation
@@ -29,25 +30,38 @@ use Rattle.cyc_types.specs.Numbered.{argument_count}
 use Rattle.cyc_store.specs.declared.range.TheConstants.{HEAP, UNIQUE}
 use Rattle.cyc_types.specs.Types.{ValueType, Void, words_of}
 use Rattle.cyc_types.specs.TypeView.{view_ty, view_value_type}
-use Rattle.cyc_types.specs.TypedTrees.{Load, New, OnHeap, AsUnique, ByHandle, Initial, Plain, Fields, Array, Dereference, Target, Lvalue, Local, Global, Expression, Number, Copy, Call, Unary, Binary, Assign, Converted, Convert, Arguments, Operations, NoOperations, ThenCompute, ThenTest, Move, Peek, AddressOfCell, Store, Member, Element, FreeUnique}
+use Rattle.cyc_types.specs.TypedTrees.{Load, New, OnHeap, AsUnique, ByHandle, Initial, Plain, Fields, Array, Dereference, Target, Lvalue, Local, Global, Expression, Number, Copy, Call, Unary, Binary, Assign, Converted, Convert, Arguments, Operations, NoOperations, ThenCompute, ThenTest, Move, Peek, AddressOfCell, Store, Member, Element, FreeUnique, NumberOfElements, type_of_place}
 use Rattle.cyc_types.specs.TypedTreeView.{view_lvalue, view_initial, view_expression, view_converted, arguments_of, operations_of, view_dereference}
 use Rattle.cyc_types.specs.declared.typed.Kind.{Kind}
-use Rattle.cyc_meaning.specs.Values.{words_of_kind}
+use Rattle.cyc_meaning.specs.Values.{words_of_kind, is_thin}
 use Rattle.cyc_types.proofs.TypedTreeViewLemmas.{view_call, view_binary, view_fields}
+use Rattle.cyc_plain.specs.declared.instruction.BinaryOperator.TheVariants as plain_binary
+use Rattle.cyc_plain.specs.declared.instruction.Comparison.TheVariants as comparisons
 use Rattle.cyc_plain.specs.declared.instruction.Operand.{Operand}
 use Rattle.cyc_plain.specs.declared.instruction.Operand.TheVariants as operands
 use Rattle.cyc_plain.specs.declared.instruction.Instruction.{Instruction}
 use Rattle.cyc_plain.specs.declared.instruction.Instruction.TheVariants as instructions
-use Rattle.cyc_lower.specs.Slots.{with_counter, slot_of, Starts}
+use Rattle.cyc_lower.specs.Slots.{with_counter, slot_of, Starts, global_of}
 use Rattle.cyc_lower.specs.declared.operands.Condition.{Condition}
-use Rattle.cyc_lower.specs.Lowering.{measured_code, asked_code, begun_code, written_code, filled_code, restarted_code, ended_code, elements_code, last_element, failing_jump, passed_words, all_passed, converts_there, source_of, source_slot, converted_by, moved_by, move_of, operand_of, operand_or, code_unless, left_with, left_of, slot_with, left_slot, low_byte, value_operand, next_slot, converted_operand, printed_operand, operator_code, load_code, compute_code, test_jump, truth_code, test_code, copy_code, expression_code, value_slot, arguments_code, converted_code, converted_operand_code, printed_code, initial_code, assignment_code, assigned_operand, operations_code, discarded_code, binary_operator, behind_left, pointer_instructions, stores_code, object_code, made_code, address_code, addressed_by, place_operand, place_offset, place_code, store_address_code, store_code}
+use Rattle.cyc_lower.specs.Lowering.{measured_code, asked_code, begun_code, written_code, filled_code, restarted_code, ended_code, elements_code, last_element, failing_jump, passed_words, all_passed, converts_there, source_of, source_slot, converted_by, moved_by, move_of, operand_of, operand_or, code_unless, left_with, left_of, slot_with, left_slot, low_byte, value_operand, next_slot, converted_operand, printed_operand, operator_code, load_code, compute_code, test_jump, truth_code, test_code, copy_code, expression_code, value_slot, arguments_code, converted_code, converted_operand_code, printed_code, initial_code, assignment_code, assigned_operand, operations_code, discarded_code, binary_operator, behind_left, pointer_instructions, stores_code, object_code, made_code, address_code, addressed_by, place_operand, place_offset, place_code, store_address_code, store_code, jump_if_zero, reached_code, count_code, span_of, saved_code, loaded_code, followed_code, span_in, pointer_of, pointer_slot, code_unless_slot, global_code, word_by_word}
 use Rattle.cyc_lower.specs.Emission.{most_locals, value_code, print_code, left_code, takes_operand, HasRoom, operation_code}
+use Rattle.cyc_lower.proofs.Widths.{kind_positive}
+use Rattle.cyc_lower.proofs.Slots.{words_positive}
 
 behind : (xs ys : List Instruction) → 0 < length ys → 0 < length (xs ++ ys)
 behind xs ys some = omega (arith, length-append xs ys)
 
 before : (xs ys : List Instruction) → 0 < length xs → 0 < length (xs ++ ys)
 before xs ys some = omega (arith, length-append xs ys)
+
+loaded_some : (narrow : Bool) (o : Operand) (bytes d : ℕ)
+    → 0 < length (if narrow then instructions.Load d o bytes ∷ [] else address_code o bytes d ++ (instructions.Load (d + 2) (operands.Slot d) 8 ∷ instructions.Load (d + 1) (operands.Slot d) 4 ∷ instructions.Load d (operands.Slot d) 0 ∷ []))
+loaded_some true o bytes d = omega arith
+loaded_some false o bytes d = behind (address_code o bytes d) _ (omega arith)
+
+counted_some : (o : Operand) (p d : ℕ) → 0 < length (count_code o p d)
+counted_some (operands.Slot n) p d = omega arith
+counted_some (operands.Word n) p d = omega arith
 
 operates : (starts : Starts) (o : Operator) (l r : Operand) (d : ℕ) → 0 < length (operator_code starts o l r d)
 operates starts operators.Divide l r d = behind _ (instructions.Binary (binary_operator operators.Divide) d l r ∷ []) (omega arith)
@@ -182,6 +196,49 @@ slot_by_count xs i (suc many) to d t counted none some = some (omega arith) ∙ 
 
 -- ---- new objects
 
+-- how many elements a fat pointer in a slot has
+pub made_count : (pointer : Operand) (j : Instruction) (n behind here d : ℕ) (old m1 m2 m3 m4 m5 m6 : List Instruction)
+    → pointer ≡ operands.Slot n
+    → behind ≡ n + 3
+    → here ≡ length old
+    → j ≡ jump_if_zero (operands.Slot n) (here + 4)
+    → m1 ≡ old ++ j ∷ []
+    → m2 ≡ m1 ++ instructions.Branch comparisons.LessUnsigned (operands.Slot (behind - 2)) (operands.Slot (behind - 1)) (here + 4) ∷ []
+    → m3 ≡ m2 ++ instructions.Binary plain_binary.Subtract d (operands.Slot (behind - 2)) (operands.Slot (behind - 1)) ∷ []
+    → m4 ≡ m3 ++ instructions.Jump (here + 4 + 1) ∷ []
+    → m5 ≡ m4
+    → m6 ≡ m5 ++ instructions.Move d (operands.Word 0) ∷ []
+    → m6 ≡ old ++ count_code pointer (length old) d
+made_count pointer j n behind here d old m1 m2 m3 m4 m5 m6 pointer_is behind_is here_is j_is e1 e2 e3 e4 e5 e6 =
+    let first : behind - 2 ≡ n + 1 = omega (arith, behind_is) in
+    let second : behind - 1 ≡ n + 2 = omega (arith, behind_is) in
+    let target = length old + 4 in
+    let there : here + 4 ≡ target = omega (arith, here_is) in
+    let past : here + 4 + 1 ≡ length old + 5 = omega (arith, here_is) in
+    let a = jump_if_zero (operands.Slot n) target in
+    let b = instructions.Branch comparisons.LessUnsigned (operands.Slot (n + 1)) (operands.Slot (n + 2)) target in
+    let less = instructions.Binary plain_binary.Subtract d (operands.Slot (n + 1)) (operands.Slot (n + 2)) in
+    let jump = instructions.Jump (length old + 5) in
+    let none = instructions.Move d (operands.Word 0) in
+    let s1 : m1 ≡ old ++ a ∷ [] =
+    e1 ∙ ap (λ (x : Instruction). old ++ x ∷ []) (j_is ∙ ap (λ (x : ℕ). jump_if_zero (operands.Slot n) x) there) in
+    let s2 : m2 ≡ m1 ++ b ∷ [] =
+    e2
+    ∙ ap (λ (x : ℕ). m1 ++ instructions.Branch comparisons.LessUnsigned (operands.Slot x) (operands.Slot (behind - 1)) (here + 4) ∷ []) first
+    ∙ ap (λ (x : ℕ). m1 ++ instructions.Branch comparisons.LessUnsigned (operands.Slot (n + 1)) (operands.Slot x) (here + 4) ∷ []) second
+    ∙ ap (λ (x : ℕ). m1 ++ instructions.Branch comparisons.LessUnsigned (operands.Slot (n + 1)) (operands.Slot (n + 2)) x ∷ []) there in
+    let s3 : m3 ≡ m2 ++ less ∷ [] =
+    e3
+    ∙ ap (λ (x : ℕ). m2 ++ instructions.Binary plain_binary.Subtract d (operands.Slot x) (operands.Slot (behind - 1)) ∷ []) first
+    ∙ ap (λ (x : ℕ). m2 ++ instructions.Binary plain_binary.Subtract d (operands.Slot (n + 1)) (operands.Slot x) ∷ []) second in
+    let s4 : m4 ≡ m3 ++ jump ∷ [] = e4 ∙ ap (λ (x : ℕ). m3 ++ instructions.Jump x ∷ []) past in
+    let s5 : m6 ≡ m4 ++ none ∷ [] = e6 ∙ ap (λ (l : List Instruction). l ++ none ∷ []) e5 in
+    let two = joined old (a ∷ []) (λ p. b ∷ []) m1 m2 s1 s2 in
+    let three = joined old (a ∷ b ∷ []) (λ p. less ∷ []) m2 m3 two s3 in
+    let four = joined old (a ∷ b ∷ less ∷ []) (λ p. jump ∷ []) m3 m4 three s4 in
+    joined old (a ∷ b ∷ less ∷ jump ∷ []) (λ p. none ∷ []) m4 m6 four s5
+    ∙ ap (λ (o : Operand). old ++ count_code o (length old) d) (sym pointer_is)
+
 -- words that come to memory one after the other: from the word of this number on they are left
 abbrev pub StoresLeft : (old code : List Instruction) → (many address first i : ℕ) → Type 0
 StoresLeft old code many address first i =
@@ -212,45 +269,77 @@ stores_end old code many address first i done (suc left, count, made) = absurd (
 
 -- ---- arrays
 
-pub made_begun : (starts : Starts) (old m1 m2 : List Instruction) (handle behind t : ℕ) → behind ≡ t + 3 → m1 ≡ old ++ measured_code starts (behind - 2) (behind - 1) t → m2 ≡ m1 ++ asked_code handle behind t
-    → m2 ≡ old ++ begun_code starts handle t
-made_begun starts old m1 m2 handle behind t is e1 e2 =
+pub made_begun : (starts : Starts) (old m1 m2 : List Instruction) (handle words behind t : ℕ) → behind ≡ t + 3 → m1 ≡ old ++ measured_code starts words (behind - 2) (behind - 1) t
+    → m2 ≡ m1 ++ asked_code handle words behind t → m2 ≡ old ++ begun_code starts handle words t
+made_begun starts old m1 m2 handle words behind t is e1 e2 =
     let x : behind - 2 ≡ t + 1 = omega (arith, is) in
     let y : behind - 1 ≡ t + 2 = omega (arith, is) in
     e2
-    ∙ ap (λ (s : ℕ). m1 ++ asked_code handle s t) is
-    ∙ ap (λ (l : List Instruction). l ++ asked_code handle (t + 3) t) (e1 ∙ ap (λ (n : ℕ). old ++ measured_code starts n (behind - 1) t) x ∙ ap (λ (n : ℕ). old ++ measured_code starts (t + 1) n t) y)
-    ∙ append_assoc old (measured_code starts (t + 1) (t + 2) t) (asked_code handle (t + 3) t)
+    ∙ ap (λ (s : ℕ). m1 ++ asked_code handle words s t) is
+    ∙ ap (λ (l : List Instruction). l ++ asked_code handle words (t + 3) t) (e1 ∙ ap (λ (n : ℕ). old ++ measured_code starts words n (behind - 1) t) x ∙ ap (λ (n : ℕ). old ++ measured_code starts words (t + 1) n t) y)
+    ∙ append_assoc old (measured_code starts words (t + 1) (t + 2) t) (asked_code handle words (t + 3) t)
 
 -- the elements, whose loop begins at place head
-pub made_elements : (starts : Starts) (counters : List ℕ) (a : Expression) (old begun made filled patched new : List Instruction) (x : Instruction) (last : Condition) (head behind d t : ℕ) → behind ≡ t + 3
+pub made_elements : (starts : Starts) (counters : List ℕ) (a : Expression) (old begun made filled patched new : List Instruction) (x : Instruction) (last : Condition) (words head behind d t : ℕ) → behind ≡ t + 3
     → counters ≡ starts.counters ++ (behind - 1) ∷ [] → head ≡ length old → begun ≡ old ++ x ∷ []
-    → made ≡ begun ++ expression_code (record { locals = starts.locals; structs = starts.structs; raises = starts.raises; counters = counters }) a (length begun) behind behind
-    → filled ≡ made ++ written_code head (behind - 1) behind (behind + 1) t → last ≡ last_element (behind - 2) (behind - 1)
+    → made ≡ begun ++ expression_code (record { locals = starts.locals; structs = starts.structs; raises = starts.raises; counters = counters; globals = starts.globals }) a (length begun) behind behind
+    → filled ≡ made ++ written_code words head (behind - 1) behind (behind + words) t → last ≡ last_element (behind - 2) (behind - 1)
     → patched ≡ set filled head (failing_jump last (length filled)) → new ≡ patched ++ restarted_code d (behind - 1) t
-    → new ≡ old ++ elements_code (expression_code (with_counter starts (t + 2)) a (length old + 1) (t + 3) (t + 3)) (length old) d t
-made_elements starts counters a old begun made filled patched new i last head behind d t is counters_are here e0 e1 e2 last_is e3 e4 =
+    → new ≡ old ++ elements_code words (expression_code (with_counter starts (t + 2)) a (length old + 1) (t + 3) (t + 3)) (length old) d t
+made_elements starts counters a old begun made filled patched new i last words head behind d t is counters_are here e0 e1 e2 last_is e3 e4 =
     let x : behind - 2 ≡ t + 1 = omega (arith, is) in
     let y : behind - 1 ≡ t + 2 = omega (arith, is) in
-    let z : behind + 1 ≡ t + 4 = omega (arith, is) in
+    let z : behind + words ≡ t + 3 + words = omega (arith, is) in
     let first : made ≡ begun ++ expression_code (with_counter starts (t + 2)) a (length begun) (t + 3) (t + 3)
     = e1
-    ∙ ap (λ (cs : List ℕ). begun ++ expression_code (record { locals = starts.locals; structs = starts.structs; raises = starts.raises; counters = cs }) a (length begun) behind behind) (counters_are ∙ ap (λ (n : ℕ). starts.counters ++ n ∷ []) y)
+    ∙ ap (λ (cs : List ℕ). begun ++ expression_code (record { locals = starts.locals; structs = starts.structs; raises = starts.raises; counters = cs; globals = starts.globals }) a (length begun) behind behind) (counters_are ∙ ap (λ (n : ℕ). starts.counters ++ n ∷ []) y)
     ∙ ap (λ (n : ℕ). begun ++ expression_code (with_counter starts (t + 2)) a (length begun) n n) is in
-    let second : filled ≡ made ++ filled_code (length old) t
+    let second : filled ≡ made ++ filled_code words (length old) t
     = e2
-    ∙ ap (λ (n : ℕ). made ++ written_code n (behind - 1) behind (behind + 1) t) here
-    ∙ ap (λ (n : ℕ). made ++ written_code (length old) n behind (behind + 1) t) y
-    ∙ ap (λ (n : ℕ). made ++ written_code (length old) (t + 2) n (behind + 1) t) is
-    ∙ ap (λ (n : ℕ). made ++ written_code (length old) (t + 2) (t + 3) n t) z in
+    ∙ ap (λ (n : ℕ). made ++ written_code words n (behind - 1) behind (behind + words) t) here
+    ∙ ap (λ (n : ℕ). made ++ written_code words (length old) n behind (behind + words) t) y
+    ∙ ap (λ (n : ℕ). made ++ written_code words (length old) (t + 2) n (behind + words) t) is
+    ∙ ap (λ (n : ℕ). made ++ written_code words (length old) (t + 2) (t + 3) n t) z in
     let element = λ (p : ℕ). expression_code (with_counter starts (t + 2)) a p (t + 3) (t + 3) in
     let third : patched ≡ set filled head (failing_jump (last_element (t + 1) (t + 2)) (length filled))
     = e3
     ∙ ap (λ (c : Condition). set filled head (failing_jump c (length filled))) (last_is ∙ ap (λ (n : ℕ). last_element n (behind - 1)) x ∙ ap (λ (n : ℕ). last_element (t + 1) n) y) in
-    tested old i (λ (p : ℕ). element p ++ filled_code (length old) t) (λ (q : ℕ). failing_jump (last_element (t + 1) (t + 2)) q) begun filled patched new (ended_code d t) head here (length filled)
+    tested old i (λ (p : ℕ). element p ++ filled_code words (length old) t) (λ (q : ℕ). failing_jump (last_element (t + 1) (t + 2)) q) begun filled patched new (ended_code d t) head here (length filled)
     e0
-    (second ∙ ap (λ (l : List Instruction). l ++ filled_code (length old) t) first ∙ append_assoc begun (element (length begun)) (filled_code (length old) t))
+    (second ∙ ap (λ (l : List Instruction). l ++ filled_code words (length old) t) first ∙ append_assoc begun (element (length begun)) (filled_code words (length old) t))
     refl third (e4 ∙ ap (λ (n : ℕ). patched ++ restarted_code d n t) y)
+
+-- ---- words of globals
+
+-- the instructions for words that are emitted so far, with those still to come
+abbrev pub WordsLeft : (each : (global slot : ℕ) → Instruction) → (old code : List Instruction) → (words first slot i : ℕ) → Type 0
+WordsLeft each old code words first slot i =
+    (left : ℕ) × (i + left ≡ words) × (code ++ word_by_word each left (first + i) (slot + i) ≡ old ++ word_by_word each words first slot)
+
+pub words_begin : (each : (global slot : ℕ) → Instruction) (old : List Instruction) (words first slot : ℕ) → WordsLeft each old old words first slot 0
+words_begin each old words first slot = (
+  words,
+  omega arith,
+  ap (λ (n : ℕ). old ++ word_by_word each words n (slot + 0)) (let e : first + 0 ≡ first = omega arith in e)
+      ∙ ap (λ (n : ℕ). old ++ word_by_word each words first n) (let e : slot + 0 ≡ slot = omega arith in e),
+)
+
+pub words_next : (each : (global slot : ℕ) → Instruction) (old code new : List Instruction) (words first slot i : ℕ) → i < words → new ≡ code ++ each (first + i) (slot + i) ∷ []
+    → WordsLeft each old code words first slot i → WordsLeft each old new words first slot (i + 1)
+words_next each old code new words first slot i below added (zero, count, made) = absurd (omega (arith, count, below))
+words_next each old code new words first slot i below added (suc left, count, made) = (
+  left,
+  omega (arith, count),
+  ap (λ (n : ℕ). new ++ word_by_word each left n (slot + (i + 1))) (let e : first + (i + 1) ≡ suc (first + i) = omega arith in e)
+      ∙ ap (λ (n : ℕ). new ++ word_by_word each left (suc (first + i)) n) (let e : slot + (i + 1) ≡ suc (slot + i) = omega arith in e)
+      ∙ ap (λ (l : List Instruction). l ++ word_by_word each left (suc (first + i)) (suc (slot + i))) added
+      ∙ append_assoc code (each (first + i) (slot + i) ∷ []) (word_by_word each left (suc (first + i)) (suc (slot + i)))
+      ∙ made,
+)
+
+pub words_end : (each : (global slot : ℕ) → Instruction) (old code : List Instruction) (words first slot i : ℕ) → words ≤ i → WordsLeft each old code words first slot i → code ≡ old ++ word_by_word each words first slot
+words_end each old code words first slot i done (zero, count, made) = sym (append-nil code) ∙ made
+words_end each old code words first slot i done (suc left, count, made) = absurd (omega (arith, count, done))
 
 -- a list of fields has as many as it is long
 fields_counted : (cs : List ConvertedCode) → argument_count (arguments_of cs) ≡ length cs
@@ -262,9 +351,18 @@ fields_counted (c ∷ cs) = ap suc (fields_counted cs)
 module _ (starts : Starts) where
   -- ---- no expression is without code
 
-  loads : (words : ℕ) (l : Lvalue) (d : ℕ) → 0 < length (load_code starts words l d)
-  loads words (Local p n) d = omega arith
-  loads words (Global n) d = omega arith
+  loads : (words : ℕ) (l : Lvalue) (d : ℕ) → 1 ≤ words → 0 < length (load_code starts words l d)
+  loads words (Local p n) d some = omega arith
+  loads zero (Global n) d some = absurd (omega (arith, some))
+  loads (suc words) (Global n) d some = omega arith
+
+  saves : (words first : ℕ) (o : Operand) → 1 ≤ words → 0 < length (global_code words first o)
+  saves zero first (operands.Slot n) some = absurd (omega (arith, some))
+  saves (suc words) first (operands.Slot n) some = omega arith
+  saves words first (operands.Word n) some = omega arith
+
+  passed_some : (c : Converted) → 1 ≤ passed_words c
+  passed_some (Convert from to a) = kind_positive to
 
   computes : (o : Operator) (b : Expression) (os : Operations) (p : ℕ) (l : Operand) (d t : ℕ) → 0 < length (operations_code starts (ThenCompute o b os) p l d t)
   computes o b os p l d t =
@@ -274,25 +372,34 @@ module _ (starts : Starts) where
   tests : (o : LogicalOperator) (b : Expression) (os : Operations) (p : ℕ) (l : Operand) (d t : ℕ) → 0 < length (operations_code starts (ThenTest o b os) p l d t)
   tests o b os p l d t = before (test_code o (expression_code starts b (p + 1) t t) p (next_slot os d t) t) _ (omega arith)
 
-  initial_by : (there : Bool) (known : Option Operand) (at_once inner : List Instruction) (to : Kind) (o : Operand) (p d : ℕ) → 0 < length at_once
-      → 0 < length (if there then at_once else moved_by starts known inner to o p d)
-  initial_by true known at_once inner to o p d some = some
-  initial_by false known at_once inner to o p d some = behind (converted_by starts known inner to o p) (move_of (words_of_kind to) d o ∷ []) (omega arith)
+  initial_by : (there : Bool) (known : Option Operand) (at_once inner : List Instruction) (from to : Kind) (span : Option ℕ) (o : Operand) (p d : ℕ) → 0 < length at_once
+      → 0 < length (if there then at_once else moved_by starts known inner from to span o p d)
+  initial_by true known at_once inner from to span o p d some = some
+  initial_by false known at_once inner from to span o p d some = behind (converted_by starts known inner from to span o p) (move_of (words_of_kind to) d o ∷ []) (omega arith)
+
+  followed_some : (thin : Bool) (span : Option ℕ) (o : Operand) (t : ℕ) → 0 < length (followed_code starts thin span o t)
+  followed_some true span o t = omega arith
+  followed_some false span (operands.Slot n) t = omega arith
+  followed_some false span (operands.Word w) t = omega arith
 
   place_some : (x : Dereference) (p t : ℕ) → 0 < length (place_code starts x p t)
-  place_some (Target k a ty) p t = behind (code_unless (operand_of starts a) (expression_code starts a p (value_slot starts a t) t)) _ (omega arith)
+  place_some (Target k a ty) p t =
+      behind (code_unless (operand_of starts a) (expression_code starts a p (value_slot starts a t) t)) _ (followed_some (is_thin k) (span_in ty) (value_operand starts a t) t)
   place_some (Member k a s f ty) p t = behind (code_unless (operand_of starts a) (expression_code starts a p (value_slot starts a t) t)) _ (omega arith)
-  place_some (Element a i ty) p t = omega arith
+  place_some (Element a i ty) p t =
+      let front = code_unless_slot (pointer_of starts a i) (expression_code starts a p t t) in
+      behind front _ (behind (code_unless (operand_of starts i) (expression_code starts i (p + length front) (value_slot starts i (t + 3)) (t + 3))) _ (omega arith))
 
   mutual
     pub expression_some : (a : Expression) (p d t : ℕ) → 0 < length (expression_code starts a p d t)
     expression_some (Number n) p d t = omega arith
-    expression_some (Copy l ty) p d t = loads (words_of ty) l d
-    expression_some (Move w n ty) p d t = loads (words_of ty) (Local w n) d
-    expression_some (Peek w n ty) p d t = loads (words_of ty) (Local w n) d
+    expression_some (Copy l ty) p d t = loads (words_of ty) l d (words_positive ty)
+    expression_some (Move w n ty) p d t = loads (words_of ty) (Local w n) d (words_positive ty)
+    expression_some (Peek w n ty) p d t = loads (words_of ty) (Local w n) d (words_positive ty)
     expression_some (Call callees.Putchar cs ty) p d t = behind (printed_code starts cs p t) _ (omega arith)
     expression_some (Call callees.Getchar cs ty) p d t = behind (arguments_code starts cs p t) _ (omega arith)
     expression_some (Call (callees.Function n) cs ty) p d t = behind (arguments_code starts cs p t) _ (omega arith)
+    expression_some (NumberOfElements a) p d t = behind (value_code starts a p t) _ (counted_some (value_operand starts a t) (p + length (value_code starts a p t)) d)
     expression_some (Unary o a) p d t = behind (value_code starts a p t) _ (omega arith)
     expression_some (Binary a NoOperations ty) p d t = before (expression_code starts a p d t) _ (expression_some a p d t)
     expression_some (Binary a (ThenCompute o b os) ty) p d t =
@@ -304,8 +411,8 @@ module _ (starts : Starts) where
     expression_some (Binary a os ty) p d t = before (expression_code starts a p t t) _ (expression_some a p t t)
     expression_some (Assign (Local w n) c ty) p d t = before (initial_code starts c p (slot_of starts n) t) _ (initial_some c p (slot_of starts n) t)
     expression_some (Assign (Global n) c ty) p d t =
-        before (converted_operand_code starts c p t ++ _) (copy_code (passed_words c) (converted_operand starts c t) d) (behind (converted_operand_code starts c p t) _ (omega arith))
-    expression_some (Load x) p d t = behind (place_code starts x p t) _ (omega arith)
+        before (converted_operand_code starts c p t ++ _) (copy_code (passed_words c) (converted_operand starts c t) d) (behind (converted_operand_code starts c p t) _ (saves (passed_words c) (global_of starts n) (converted_operand starts c t) (passed_some c)))
+    expression_some (Load x) p d t = behind (place_code starts x p t) _ (loaded_some (words_of (type_of_place x) == 1) (place_operand starts x t) (place_offset starts x) d)
     expression_some (AddressOfCell x ty) p d t = before (place_code starts x p t) _ (place_some x p t)
     expression_some (Store x c ty) p d t = before (store_code starts x c p t) _ (before (store_address_code starts x p t) _ (before (place_code starts x p t) _ (place_some x p t)))
     expression_some (FreeUnique a) p d t = behind (value_code starts a p t) _ (omega arith)
@@ -315,14 +422,14 @@ module _ (starts : Starts) where
     expression_some a p d t = omega arith
 
     made_some : (i : Initial) (handle p d t : ℕ) → 0 < length (made_code starts i handle p d t)
-    made_some (Plain kind a) handle p d t = behind (expression_code starts a p t t) (object_code handle 1 d t) (omega arith)
-    made_some (Fields cs) handle p d t = behind (arguments_code starts cs p t) (object_code handle (argument_count cs) d t) (omega arith)
+    made_some (Plain kind a) handle p d t = behind (expression_code starts a p t t) (object_code handle (words_of_kind kind) d t) (omega arith)
+    made_some (Fields cs) handle p d t = behind (arguments_code starts cs p t) (object_code handle (all_passed cs) d t) (omega arith)
     made_some (Array w level n kind a) handle p d t = behind (expression_code starts n p t t) _ (omega arith)
 
     initial_some : (c : Converted) (p d t : ℕ) → 0 < length (initial_code starts c p d t)
     initial_some (Convert from to a) p d t =
         let slot = source_slot starts (Convert from to a) t in
-        initial_by (converts_there from to) (source_of starts (Convert from to a)) (expression_code starts a p d t) (expression_code starts a p slot t) to (converted_operand starts (Convert from to a) t) p d (expression_some a p d t)
+        initial_by (converts_there from to) (source_of starts (Convert from to a)) (expression_code starts a p d t) (expression_code starts a p slot t) from to (span_of a) (converted_operand starts (Convert from to a) t) p d (expression_some a p d t)
 
   -- arguments: the state is the slot of the next
   abbrev pub all_arguments : List ConvertedCode → (p t : ℕ) → List Instruction
@@ -421,11 +528,11 @@ module _ (starts : Starts) where
       ∙ ap (λ (a : Expression). old ++ expression_code starts a (length old) d t) (sym (call_viewed value f v ty is items same))
 
   -- a new struct, of its fields
-  pub made_fields : (value : InitialCode) (v : Vec ConvertedCode Heap) (items : List ConvertedCode) (old m1 m2 : List Instruction) (handle many d t : ℕ) → value ≡ initial.Fields v → items ≡ v.items → many ≡ length v.items
+  pub made_fields : (value : InitialCode) (v : Vec ConvertedCode Heap) (items : List ConvertedCode) (old m1 m2 : List Instruction) (handle many d t : ℕ) → value ≡ initial.Fields v → items ≡ v.items → many ≡ all_passed (arguments_of items)
       → m1 ≡ old ++ arguments_code starts (arguments_of items) (length old) t → m2 ≡ m1 ++ object_code handle many d t → m2 ≡ old ++ made_code starts (view_initial value) handle (length old) d t
   made_fields value v items old m1 m2 handle many d t is same count first second =
       let cs = arguments_of v.items in
-      let counted : many ≡ argument_count cs = count ∙ sym (fields_counted v.items) in
+      let counted : many ≡ all_passed cs = count ∙ ap (λ (l : List ConvertedCode). all_passed (arguments_of l)) same in
       second
       ∙ ap (λ (l : List Instruction). l ++ object_code handle many d t) (first ∙ ap (λ (l : List ConvertedCode). old ++ arguments_code starts (arguments_of l) (length old) t) same)
       ∙ append_assoc old (arguments_code starts cs (length old) t) (object_code handle many d t)
@@ -611,18 +718,33 @@ module _ (starts : Starts) where
       ∙ ap (λ (z : DereferenceCode). Store (view_dereference z) (view_converted b'.value) (view_value_type ty)) (sym x_at)
       ∙ ap (λ (z : ConvertedCode). Store (view_dereference x) (view_converted z) (view_value_type ty)) (sym y_at)
 
+  -- the third word of a fat pointer moves, and behind that stands the access
+  pub made_element : (span : Option ℕ) (old m1 m2 : List Instruction) (o : Operand) (n past behind t : ℕ) → past ≡ n + 3 → behind ≡ t + 3
+      → m1 ≡ old ++ instructions.Binary plain_binary.Add (behind - 1) (operands.Slot (past - 1)) o ∷ []
+      → m2 ≡ m1 ++ reached_code starts span n (behind - 1) t
+      → m2 ≡ old ++ (instructions.Binary plain_binary.Add (t + 2) (operands.Slot (n + 2)) o ∷ reached_code starts span n (t + 2) t)
+  made_element span old m1 m2 o n past behind t past_is behind_is e1 e2 =
+      let less : behind - 1 ≡ t + 2 = omega (arith, behind_is) in
+      let third : past - 1 ≡ n + 2 = omega (arith, past_is) in
+      let sum = instructions.Binary plain_binary.Add (t + 2) (operands.Slot (n + 2)) o in
+      let summed : m1 ≡ old ++ sum ∷ [] =
+      e1
+      ∙ ap (λ (x : ℕ). old ++ instructions.Binary plain_binary.Add x (operands.Slot (past - 1)) o ∷ []) less
+      ∙ ap (λ (x : ℕ). old ++ instructions.Binary plain_binary.Add (t + 2) (operands.Slot x) o ∷ []) third in
+      joined old (sum ∷ []) (λ p. reached_code starts span n (t + 2) t) m1 m2 summed (e2 ∙ ap (λ (x : ℕ). m1 ++ reached_code starts span n x t) less)
+
   -- the address, and behind it what is stored there
   made_store : (x : Dereference) (c : Converted) (old m1 m2 : List Instruction) (t : ℕ)
       → m1 ≡ old ++ addressed_by (place_code starts x (length old) t) (place_operand starts x t) (place_offset starts x) t
-      → m2 ≡ m1 ++ (converted_operand_code starts c (length m1) (t + 1) ++ instructions.Store (operands.Slot t) 0 (converted_operand starts c (t + 1)) ∷ []) → m2 ≡ old ++ store_code starts x c (length old) t
+      → m2 ≡ m1 ++ (converted_operand_code starts c (length m1) (t + 1) ++ saved_code (passed_words c) t (converted_operand starts c (t + 1))) → m2 ≡ old ++ store_code starts x c (length old) t
   made_store x c old m1 m2 t e1 e2 =
-      joined old (store_address_code starts x (length old) t) (λ p. converted_operand_code starts c p (t + 1) ++ instructions.Store (operands.Slot t) 0 (converted_operand starts c (t + 1)) ∷ []) m1 m2 e1 e2
+      joined old (store_address_code starts x (length old) t) (λ p. converted_operand_code starts c p (t + 1) ++ saved_code (passed_words c) t (converted_operand starts c (t + 1))) m1 m2 e1 e2
 
   -- a value that is stored in a cell comes to a slot then
   pub made_stored : (value : Expr) (b : Box DereferenceCode Heap) (b' : Box ConvertedCode Heap) (ty : ValueTypeCode) → value ≡ expr.Store b b' ty → (x : DereferenceCode) → x ≡ b.value → (y : ConvertedCode) → y ≡ b'.value
       → (old m1 m2 m3 : List Instruction) (o : Operand) (d t : ℕ) → o ≡ converted_operand starts (view_converted y) (t + 1)
       → m1 ≡ old ++ addressed_by (place_code starts (view_dereference x) (length old) t) (place_operand starts (view_dereference x) t) (place_offset starts (view_dereference x)) t
-      → m2 ≡ m1 ++ (converted_operand_code starts (view_converted y) (length m1) (t + 1) ++ instructions.Store (operands.Slot t) 0 (converted_operand starts (view_converted y) (t + 1)) ∷ [])
+      → m2 ≡ m1 ++ (converted_operand_code starts (view_converted y) (length m1) (t + 1) ++ saved_code (words_of_kind y.to) t (converted_operand starts (view_converted y) (t + 1)))
       → m3 ≡ m2 ++ copy_code (words_of_kind y.to) o d → m3 ≡ old ++ expression_code starts (view_expression value) (length old) d t
   made_stored value b b' ty is x x_at y y_at old m1 m2 m3 o d t o_is e1 e2 e3 =
       let front = store_code starts (view_dereference x) (view_converted y) (length old) t in
@@ -634,7 +756,7 @@ module _ (starts : Starts) where
   pub made_stored_only : (value : Expr) (b : Box DereferenceCode Heap) (b' : Box ConvertedCode Heap) (ty : ValueTypeCode) → value ≡ expr.Store b b' ty → (x : DereferenceCode) → x ≡ b.value → (y : ConvertedCode) → y ≡ b'.value
       → (old m1 m2 : List Instruction) (t : ℕ)
       → m1 ≡ old ++ addressed_by (place_code starts (view_dereference x) (length old) t) (place_operand starts (view_dereference x) t) (place_offset starts (view_dereference x)) t
-      → m2 ≡ m1 ++ (converted_operand_code starts (view_converted y) (length m1) (t + 1) ++ instructions.Store (operands.Slot t) 0 (converted_operand starts (view_converted y) (t + 1)) ∷ [])
+      → m2 ≡ m1 ++ (converted_operand_code starts (view_converted y) (length m1) (t + 1) ++ saved_code (words_of_kind y.to) t (converted_operand starts (view_converted y) (t + 1)))
       → m2 ≡ old ++ discarded_code starts (view_expression value) (length old) t
   made_stored_only value b b' ty is x x_at y y_at old m1 m2 t e1 e2 =
       made_store (view_dereference x) (view_converted y) old m1 m2 t e1 e2

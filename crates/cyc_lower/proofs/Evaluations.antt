@@ -1,6 +1,6 @@
 -- The steps that begin an expression.
-use Rattle.std.proofs.Common.{◌≡◌, ℕ, ◌+◌, ◌≤◌, ◌<◌, Bool, true, false, List, [], ◌∷◌, ◌++◌, length, map, Option, None, Some, slice_get, refl, sym, ap, subst, ◌∙◌, arith, inl, inr}
-use Rattle.std.specs.Prelude.{if◌then◌else◌}
+use Rattle.std.proofs.Common.{◌≡◌, ℕ, ◌+◌, ◌≤◌, ◌<◌, Bool, true, false, List, [], ◌∷◌, ◌++◌, length, map, Option, None, Some, slice_get, refl, sym, ap, subst, ◌∙◌, arith, inl, inr, zero, suc}
+use Rattle.std.specs.Prelude.{if◌then◌else◌, option_map}
 use Rattle.std.proofs.lemmas.Bool.{eq-eqb}
 use Rattle.std.proofs.lemmas.List.{length-map}
 use Rattle.std.proofs.lemmas.Option.{same_Some, none-some}
@@ -11,40 +11,45 @@ use Rattle.cyc_types.specs.declared.typed.Kind.TheVariants as kinds
 use Rattle.cyc_types.specs.declared.typed.UnaryOperator.TheVariants as unary
 use Rattle.cyc_types.specs.declared.typed.Operator.{Operator}
 use Rattle.cyc_types.specs.Types.{Ty, ValueType, words_of}
-use Rattle.cyc_types.specs.TypedTrees.{type_of_place, Dereference, Placement, Initial, Target, Lvalue, Local, Global, Expression, Number, Copy, Call, Unary, Binary, Assign, Converted, Convert, Arguments, NoArguments, MoreArguments, Operations, NoOperations, ThenCompute, ThenTest, ThenPointer, Function, Program, ThenPointerPeek, peeked, Member}
+use Rattle.cyc_types.specs.TypedTrees.{type_of_place, Dereference, Placement, Initial, Target, Lvalue, Local, Global, Expression, Number, Copy, Call, Unary, Binary, Assign, Converted, Convert, Arguments, NoArguments, MoreArguments, Operations, NoOperations, ThenCompute, ThenTest, ThenPointer, Function, Program, ThenPointerPeek, peeked, Member, Element}
 use Rattle.cyc_types.specs.TypedTrees as typed
 use Rattle.cyc_plain.specs.declared.instruction.Comparison.{Comparison}
 use Rattle.cyc_plain.specs.declared.instruction.Comparison.TheVariants as comparisons
 use Rattle.cyc_plain.specs.declared.instruction.Operand.{Operand}
 use Rattle.cyc_plain.specs.declared.instruction.Operand.TheVariants as operands
+use Rattle.cyc_plain.specs.declared.instruction.BinaryOperator.TheVariants as plain_binary
 use Rattle.cyc_plain.specs.declared.instruction.Instruction.{Instruction}
+use Rattle.cyc_plain.specs.declared.instruction.Instruction.TheVariants as instructions
 use Rattle.cyc_plain.specs.State as plain
 use Rattle.cyc_plain.specs.State.{Words, put, Frame, Configuration}
 use Rattle.cyc_plain.specs.Straight.{At as CodeAt}
-use Rattle.cyc_plain.specs.Step.{Choice, with_slots, advanced, performed}
+use Rattle.cyc_plain.specs.Step.{Choice, with_slots, advanced, performed, at}
 use Rattle.cyc_plain.proofs.SlotLaws.{put-same}
-use Rattle.cyc_meaning.specs.Values.{Int, Null, Thin, Operand as Kinded, kind_of, words_of_kind}
+use Rattle.cyc_meaning.specs.Values.{Int, Null, Thin, Operand as Kinded, kind_of, words_of_kind, is_thin}
 use Rattle.cyc_store.specs.declared.range.TheConstants.{HEAP, UNIQUE}
 use Rattle.cyc_meaning.specs.SourceMachine.{status_in}
-use Rattle.cyc_meaning.specs.State.{status_of, InRegion, World, heap_number, Environment, ConvertTo, Operate, Chain, Apply, Store, Pass, MakePlain, MakeFields, MakeArray, Choose, Test, Follow, LoadFrom, Entry, Needs, NeedsPlace, Discard, Focus, Evaluating, Locating, Given, Running, FollowMember, TakeAddress, StoreTo, Owner, Unique, FreeObject}
-use Rattle.cyc_lower.proofs.Counters.{CountersHold, counters_hold}
+use Rattle.cyc_meaning.specs.State.{status_of, InRegion, World, heap_number, Environment, ConvertTo, Operate, Chain, Apply, Store, Pass, MakePlain, MakeFields, MakeArray, Choose, Test, Follow, LoadFrom, Entry, Needs, NeedsPlace, Discard, Focus, Evaluating, Locating, Given, Running, FollowMember, TakeAddress, StoreTo, Owner, Unique, FreeObject, CountElements, Index, Advance}
+use Rattle.cyc_lower.proofs.Counters.{CountersHold, counters_hold, counters_low}
 use Rattle.cyc_meaning.specs.Step.{counts, target_of, target_by, object_of, assigned, passes, step, loaded_from}
 use Rattle.cyc_meaning.specs.Allocation.{makes, allocates}
-use Rattle.cyc_lower.specs.Slots.{slot_of, field_in}
+use Rattle.cyc_lower.specs.Slots.{slot_of, field_in, global_of, Types, starts_of}
 use Rattle.cyc_meaning.specs.Places.{locates_member}
 use Rattle.cyc_lower.proofs.PlaceWords.{field_bytes}
-use Rattle.cyc_lower.proofs.Slots.{slot-room}
+use Rattle.cyc_lower.proofs.Slots.{slot-room, slot-low}
 use Rattle.cyc_lower.proofs.Widths.{kind_positive, type_words, made_kind, HasRoom, Outside}
 use Rattle.cyc_lower.proofs.Moves.{moved_slots, moves, put_elsewhere, moved_elsewhere, moved_is}
-use Rattle.cyc_lower.specs.Lowering.{counter_operand, failing_comparison, operand_of, value_slot, source_of, source_slot, are_as_wide, converts_there, all_passed, move_of, left_with, slot_with, compared_or, compared_of, lower_program}
+use Rattle.cyc_lower.specs.Lowering.{counter_operand, failing_comparison, operand_of, value_slot, source_of, source_slot, are_as_wide, converts_there, all_passed, move_of, left_with, slot_with, compared_or, compared_of, lower_program, null_of, followed_operand, span_in, operand_or, reached_operand, pointer_of, load_word}
 use Rattle.cyc_lower.proofs.Weights.{weight, stack_weight, expression_weight, arguments_weight}
-use Rattle.cyc_lower.proofs.Stands.{CopyBy, CopyAt, OperandBy, InitialBy, ExpressionAt, ArgumentsAt, ObjectAt, MadeAt, ValueAt, PairAt, ConditionAt, AssignmentAt, PrintedAt, DiscardedAt, StoredAt}
+use Rattle.cyc_lower.proofs.Stands.{CopyBy, CopyAt, OperandBy, InitialBy, ExpressionAt, ArgumentsAt, ObjectAt, MadeAt, ValueAt, PairAt, ConditionAt, AssignmentAt, PrintedAt, DiscardedAt, StoredAt, CountAt, LoadedAt, ReturnedAt, ReachedAt, EachAt}
 use Rattle.cyc_objects.specs.Tables.{Tables}
 use Rattle.cyc_objects.specs.Words.{Is}
-use Rattle.cyc_lower.proofs.Relation.{counters_of, types_on, starts_on, IsIn, types_at, starts_at, given_at, called_at, words_held, height, Holds, held, contents, callers, in_temporary, in_local, drops, leaves, copies, prints_only, gives_byte, DataIn, SharedAt, CallAt, to_slot, to_jump, ValueStack, PlaceStack, ConditionStack, DroppedStack, AheadStack, LandsStack, HandsOnStack, PrintsStack, RightAt, EvaluatingAt, as_operand, into_slot, for_effect, as_right, as_condition, in_operand, ahead, with_left, Related, Matches, code_of, bounds_in, bounds_at, base_of, top, IsHandleOf, floor}
+use Rattle.cyc_lower.proofs.Relation.{counters_of, types_on, starts_on, IsIn, types_at, starts_at, given_at, called_at, words_held, height, Holds, held, contents, callers, in_temporary, in_local, drops, leaves, copies, prints_only, gives_byte, DataIn, SharedAt, CallAt, to_slot, to_jump, ValueStack, PlaceStack, ConditionStack, DroppedStack, AheadStack, LandsStack, HandsOnStack, PrintsStack, RightAt, EvaluatingAt, as_operand, into_slot, for_effect, as_right, as_condition, in_operand, ahead, with_left, Related, Matches, code_of, bounds_in, bounds_at, base_of, top, IsHandleOf, floor, IsLow}
 use Rattle.cyc_lower.proofs.Data.{IsWord-is, height-least, Holds-same, Holds-above, data_above, behind-least, data_written}
+use Rattle.cyc_types.specs.Numbered.{Numbering}
+use Rattle.cyc_meaning.specs.FrameCount.{words_of_all}
 use Rattle.cyc_lower.proofs.Accesses.{IsWell, is_loaded}
 use Rattle.cyc_lower.proofs.Matched.{IsMatched, silently, by_one}
+use Rattle.cyc_lower.proofs.GlobalSteps.{each_put, each-outside, each_is, load_links, load_end, load_path, by_links}
 
 -- an object is found in the same way, wherever new variables live
 pub object_of_same : (l : Lvalue) (e : Environment) → object_of (record { locals = e.locals; home = 0; counters = λ level. None }) l ≡ object_of e l
@@ -207,16 +212,6 @@ module _ (source : Program) (pages calls : ℕ) where
   passes_weight f before NoArguments k e w = omega arith
   passes_weight f before (MoreArguments (Convert from to a) cs) k e w = omega arith
 
-  -- ---- places
-
-  globals_in : (h : Option Function) → (bounds_in source h).globals ≡ length source.globals
-  globals_in None = refl
-  globals_in (Some h) = refl
-
-  -- a global of the program, in the bounds of any of its functions
-  pub global_there : (g n : ℕ) → n < (bounds_at source g).globals → n < length source.globals
-  global_there g n few = omega (arith, few, globals_in (slice_get source.functions g))
-
   -- ---- an expression, by where its value is to be
 
   -- what is known at each such step
@@ -239,6 +234,17 @@ module _ (source : Program) (pages calls : ℕ) where
       )
       (omega (arith, found.some))
 
+  -- a value whose words change is brought to a temporary, but null
+  brought : (t : Tables) (a : Expression) (k : List Entry) (e : Environment) (w : World) (c : Configuration) (o : Operand) (m : ℕ)
+      → OperandBy (code_of source c.active.function) (bounds_at source c.active.function) (types_on source c.active.function k) (null_of a)
+      (ExpressionAt (code_of source c.active.function) (bounds_at source c.active.function) (types_on source c.active.function k) a (top source c.active.function k) (top source c.active.function k) c.active.next m)
+      (top source c.active.function k) o c.active.next m
+      → Holds t c.active.slots (floor source c.active.function k) (held k) → ValueStack source c.active.function e.locals (given_at source c.active.function a) o m c.frames k
+      → EvaluatingAt source t a e.locals c.active.function c.active.next c.active.slots c.frames k
+  brought t typed.NullPointer k e w c o m at holds stack = as_operand o m at holds stack
+  brought t a k e w c o m (is, at) holds stack =
+      into_slot (top source c.active.function k) m at holds (in_temporary (omega arith) (subst (λ x. ValueStack source c.active.function e.locals (given_at source c.active.function a) x m c.frames k) is stack))
+
   -- a value that is to be converted: in an operand, or in a temporary where its words change
   pub sources : (t : Tables) (from to : Kind) (a : Expression) (k : List Entry) (e : Environment) (w : World) (c : Configuration) (o : Operand) (m : ℕ)
       → OperandBy (code_of source c.active.function) (bounds_at source c.active.function) (types_on source c.active.function k) (source_of (starts_on source c.active.function k) (Convert from to a))
@@ -249,12 +255,12 @@ module _ (source : Program) (pages calls : ℕ) where
   sources t from to a k e w c o m at holds stack = by (are_as_wide from to) at
     where
       by : (same : Bool)
-          → OperandBy (code_of source c.active.function) (bounds_at source c.active.function) (types_on source c.active.function k) (if same then operand_of (starts_on source c.active.function k) a else None)
+          → OperandBy (code_of source c.active.function) (bounds_at source c.active.function) (types_on source c.active.function k) (if same then operand_of (starts_on source c.active.function k) a else null_of a)
           (ExpressionAt (code_of source c.active.function) (bounds_at source c.active.function) (types_on source c.active.function k) a (if same then value_slot (starts_on source c.active.function k) a (top source c.active.function k) else top source c.active.function k) (top source c.active.function k) c.active.next m)
           (if same then value_slot (starts_on source c.active.function k) a (top source c.active.function k) else top source c.active.function k) o c.active.next m
           → EvaluatingAt source t a e.locals c.active.function c.active.next c.active.slots c.frames k
       by true at = as_operand o m at holds stack
-      by false (is, at) = into_slot (top source c.active.function k) m at holds (in_temporary (omega arith) (subst (λ x. ValueStack source c.active.function e.locals (given_at source c.active.function a) x m c.frames k) is stack))
+      by false at = brought t a k e w c o m at holds stack
 
   -- what is assigned to a local comes to its slots at once, or is moved there once it is converted
   assigns_local : (there : Bool) (n : ℕ) (from to : Kind) (a : Expression) (k : List Entry) (e : Environment) (w : World) (c : Configuration) (object : ℕ) (o : Operand) (m : ℕ)
@@ -289,11 +295,11 @@ module _ (source : Program) (pages calls : ℕ) where
       (ap (λ x. assigned x (Convert from to a) k e w) found)
       (assigns_local (converts_there from to) n from to a k e w c object o m refl found shared facts holds there room at hands)
       (omega arith)
-  assigns (Global n) from to a t k e w c (Some object) o m found (well, shared, facts, holds) (s, (r, at_a, at_to), few, single, store, end) hands =
+  assigns (Global n) from to a t k e w c (Some object) o m found (well, shared, facts, holds) (s, (r, at_a, at_to), room, store) hands =
       silently source pages calls (Running (Evaluating (Assign (Global n) (Convert from to a) t)) k e w)
       (Running (Evaluating a) (Needs (ConvertTo from to (target_by a)) ∷ Needs (Store (Thin object 0)) ∷ k) e w) (plain.Running c)
       (ap (λ x. assigned x (Convert from to a) k e w) found)
-      (shared, facts, sources shared.tables from to a (Needs (ConvertTo from to (target_by a)) ∷ Needs (Store (Thin object 0)) ∷ k) e w c o r at_a holds (s, at_to, (Global n, o, m, (store, end, refl, few, single), (object, refl, found), hands)))
+      (shared, facts, sources shared.tables from to a (Needs (ConvertTo from to (target_by a)) ∷ Needs (Store (Thin object 0)) ∷ k) e w c o r at_a holds (s, at_to, (Global n, o, m, (store, refl, room), (object, refl, found), hands)))
       (omega arith)
 
   -- a cell that is stored to: its place is found first
@@ -301,9 +307,9 @@ module _ (source : Program) (pages calls : ℕ) where
       → At_step (typed.Store x (Convert from to a) t) k e w c
       → StoredAt (code_of source c.active.function) (bounds_at source c.active.function) (types_on source c.active.function k) x (Convert from to a) (top source c.active.function k) o c.active.next m
       → HandsOnStack source c.active.function e.locals to o m c.frames k → IsBegun (typed.Store x (Convert from to a) t) k e w c
-  cell_begins x from to a t k e w c o m (well, shared, facts, holds) (b, offset, r, s, u, at, address, at_a, single, store, end) hands =
+  cell_begins x from to a t k e w c o m (well, shared, facts, holds) (b, offset, r, s, u, at, address, at_a, store) hands =
       silently source pages calls (Running (Evaluating (typed.Store x (Convert from to a) t)) k e w) (Running (Locating x) (NeedsPlace (StoreTo (peeked x) (Convert from to a)) ∷ k) e w) (plain.Running c) refl
-      (shared, facts, (b, offset, r, at, holds, (o, s, u, address, at_a, store, single, subst (λ q. HandsOnStack source c.active.function e.locals to o q c.frames k) (sym end) hands)))
+      (shared, facts, (b, offset, r, at, holds, (o, s, u, m, address, at_a, store, hands)))
       (omega arith)
 
   -- a byte is printed
@@ -381,7 +387,26 @@ module _ (source : Program) (pages calls : ℕ) where
             (in_temporary (omega arith) (r, at_to, (handle, d, p, q, words_of_kind to + all_passed cs, owned, refl, at_cs, (m, omega (arith, single), some, few, ask, stores, move, there), omega arith, lands))),
       )
       (omega arith)
-  made_of placement owner handle (typed.Array p level n kind a) t k e w c d q does owned known at lands = absurd at
+  made_of placement owner handle (typed.Array p level n kind a) t k e w c d q does owned (well, shared, facts, holds) (m, h, r, s, at_n, begun, level_is, at_a) lands =
+      let g = c.active.function in
+      silently source pages calls (Running (Evaluating (typed.New placement (typed.Array p level n kind a) t)) k e w) (Running (Evaluating n) (Needs (MakeArray owner level kind a) ∷ k) e w) (plain.Running c) does
+      (shared, facts, into_slot (top source g k) m at_n holds (in_temporary (omega arith) (handle, d, h, r, s, q, owned, refl, begun, level_is, at_a, lands)))
+      (omega arith)
+
+  -- a value comes from a global
+  global_comes : {focus : Focus} (v : Kinded) (words first d : ℕ) (k : List Entry) (e : Environment) (w : World) (c : Configuration) (q : ℕ) → words_of_kind v.kind ≡ words
+      → step source (Running focus k e w) ≡ Running (Given v) k e w → (shared : SharedAt source pages calls k e w c) → Is shared.tables v.kind v.value c.globals first
+      → DataIn source shared.tables c.active.slots k e w c → Holds shared.tables c.active.slots (floor source c.active.function k) (held k)
+      → EachAt (code_of source c.active.function) load_word words first d c.active.next q → LandsStack source c.active.function e.locals v.kind d q c.frames k
+      → IsMatched source pages calls (Running focus k e w) (plain.Running c)
+  global_comes {focus} v zero first d k e w c q wide does shared is facts holds at_c lands = absurd (omega (arith, wide, kind_positive v.kind))
+  global_comes {focus} v (suc words) first d k e w c q wide does shared is facts holds at_c lands =
+      let (path, end) = load_path source c (suc words) first d q at_c in
+      let after = each_put c.globals c.active.slots (suc words) first d in
+      by_links source pages calls focus k e w c (Running (Given v) k e w) (load_links c (suc words) first d) (omega arith) does shared path
+      (subst (λ x. Matches source pages calls (Running (Given v) k e w) (plain.Running x)) (sym (load_end c words first d))
+      (landed v after d k e w (at c (c.active.next + words)) q shared (each_is shared.tables v c.globals c.active.slots (suc words) first d wide is)
+      (λ m out. each-outside c.globals c.active.slots (suc words) first d m (subst (λ many. Outside d many m) wide out)) facts holds (omega (arith, end)) lands))
 
   comes : (a : Expression) (k : List Entry) (e : Environment) (w : World) (c : Configuration) (d q : ℕ) → At_step a k e w c
       → ExpressionAt (code_of source c.active.function) (bounds_at source c.active.function) (types_on source c.active.function k) a d (top source c.active.function k) c.active.next q
@@ -398,19 +423,20 @@ module _ (source : Program) (pages calls : ℕ) where
   comes (Copy (Local p n) t) k e w c d q (well, shared, facts, holds) (at, end) lands = comes_from (Copy (Local p n) t) n t k e w c d q refl well shared facts holds at end lands
   comes (typed.Move p n t) k e w c d q (well, shared, facts, holds) (at, end) lands = comes_from (typed.Move p n t) n t k e w c d q refl well shared facts holds at end lands
   comes (typed.Peek p n t) k e w c d q (well, shared, facts, holds) (at, end) lands = comes_from (typed.Peek p n t) n t k e w c d q refl well shared facts holds at end lands
-  comes (Copy (Global n) t) k e w c d q (well, shared, facts, holds) (few, at, end) lands =
+  comes (Copy (Global n) t) k e w c d q (well, shared, facts, holds) (few, at_c) lands =
       let found = is_loaded (kind_of t) (Some n) k e w well in
       let v : Kinded = record { kind = kind_of t; value = found.value } in
-      let word = c.globals n in
       let same : n ≡ found.number = same_Some n found.number found.there in
-      let is = (facts.0.4 n (global_there c.active.function n few)).1 v (ap (contents w.objects) same ∙ found.has) in
-      by_one source pages calls found.gives shared at
-      (λ choice. landed v (put c.active.slots d word) d k e w c q shared (IsWord-is shared.tables v.kind v.value word (put c.active.slots d word) d (put-same c.active.slots d word) is)
-      (λ m out. put_elsewhere c.active.slots d word (words_of_kind v.kind) m (kind_positive v.kind) out) facts holds end lands)
+      let (is, room) = (facts.0.4 n few).1 v (ap (contents w.objects) same ∙ found.has) in
+      global_comes v (words_of t) (global_of (starts_at source c.active.function) n) d k e w c q (type_words t) found.gives shared is facts holds at_c lands
   comes (Call callees.Putchar cs t) k e w c d q known (o, m, at, write, low, end) lands =
       prints cs t k e w c o m known at (write, gives_byte d low (lands_at c.active.function e.locals kinds.Int d (m + 1 + 1) q c.frames k end lands))
   comes (Call callees.Getchar cs t) k e w c d q known (m, at, here, end) lands = calls_out callees.Getchar cs t k e w c d m q known at (here, end) lands
   comes (Call (callees.Function n) cs t) k e w c d q known (m, at, here, end) lands = calls_out (callees.Function n) cs t k e w c d m q known at (here, end) lands
+  comes (typed.NumberOfElements a) k e w c d q (well, shared, facts, holds) (r, m, at_a, at) lands =
+      silently source pages calls (Running (Evaluating (typed.NumberOfElements a)) k e w) (Running (Evaluating a) (Needs CountElements ∷ k) e w) (plain.Running c) refl
+      (shared, facts, as_operand r m at_a holds (d, q, at, lands))
+      (omega arith)
   comes (Unary o a) k e w c d q (well, shared, facts, holds) (r, m, at_a, at, end) lands =
       silently source pages calls (Running (Evaluating (Unary o a)) k e w) (Running (Evaluating a) (Needs (Operate o) ∷ k) e w) (plain.Running c) refl
       (shared, facts, as_operand r m at_a holds (to_slot (d, at, lands_at c.active.function e.locals kinds.Int d (m + 1) q c.frames k end lands)))
@@ -428,10 +454,11 @@ module _ (source : Program) (pages calls : ℕ) where
       chain_begins None a (ThenPointerPeek n o b os) t k e w c l m known at_a (to_slot (d, q, at, lands))
   comes (Assign (Local p n) (Convert from to a) t) k e w c d q known (o, m, at, copy) lands = assigns (Local p n) from to a t k e w c (object_of e (Local p n)) o m refl known at (copies d q copy lands)
   comes (Assign (Global n) (Convert from to a) t) k e w c d q known (o, m, at, copy) lands = assigns (Global n) from to a t k e w c (object_of e (Global n)) o m refl known at (copies d q copy lands)
-  comes (typed.Load x) k e w c d q (well, shared, facts, holds) (o, offset, r, at, single, load, end) lands =
+  comes (typed.Load x) k e w c d q (well, shared, facts, holds) (o, offset, r, at, load) lands =
+      let g = c.active.function in
       let kind = kind_of (type_of_place x) in
       silently source pages calls (Running (Evaluating (typed.Load x)) k e w) (Running (Locating x) (NeedsPlace (LoadFrom kind) ∷ k) e w) (plain.Running c) refl
-      (shared, facts, (o, offset, r, at, holds, (d, load, type_words (type_of_place x) ∙ single, lands_at c.active.function e.locals kind d (r + 1) q c.frames k end lands)))
+      (shared, facts, (o, offset, r, at, holds, (d, q, subst (λ n. LoadedAt (code_of source g) n o offset d r q) (sym (type_words (type_of_place x))) load, lands)))
       (omega arith)
   comes (typed.AddressOfCell x t) k e w c d q (well, shared, facts, holds) (o, offset, r, at, address) lands =
       silently source pages calls (Running (Evaluating (typed.AddressOfCell x t)) k e w) (Running (Locating x) (NeedsPlace TakeAddress ∷ k) e w) (plain.Running c) refl
@@ -441,11 +468,6 @@ module _ (source : Program) (pages calls : ℕ) where
   comes (typed.FreeUnique a) k e w c d q (well, shared, facts, holds) (o, m, at_a, (jump, ask, end)) lands =
       silently source pages calls (Running (Evaluating (typed.FreeUnique a)) k e w) (Running (Evaluating a) (Needs FreeObject ∷ k) e w) (plain.Running c) refl
       (shared, facts, as_operand o m at_a holds (d, q, (jump, ask, end), lands))
-      (omega arith)
-  comes (typed.New typed.OnHeap (typed.Array p level n kind a) t) k e w c d q (well, shared, facts, holds) (m, h, r, s, at_n, begun, level_is, single, at_a) lands =
-      let g = c.active.function in
-      silently source pages calls (Running (Evaluating (typed.New typed.OnHeap (typed.Array p level n kind a) t)) k e w) (Running (Evaluating n) (Needs (MakeArray (InRegion heap_number) level kind a) ∷ k) e w) (plain.Running c) refl
-      (shared, facts, into_slot (top source g k) m at_n holds (in_temporary (omega arith) (HEAP, d, h, r, s, q, (refl, refl), refl, begun, level_is, single, at_a, lands)))
       (omega arith)
   comes (typed.New typed.OnHeap i t) k e w c d q known at lands = made_of typed.OnHeap (InRegion heap_number) HEAP i t k e w c d q refl (refl, refl) known at lands
   comes (typed.New typed.AsUnique i t) k e w c d q known at lands = made_of typed.AsUnique (Unique true) UNIQUE i t k e w c d q refl refl known at lands
@@ -482,6 +504,7 @@ module _ (source : Program) (pages calls : ℕ) where
   operand (typed.Peek p n t) k e w c o q known (is, end) stack = known_operand (typed.Peek p n t) o k e w c q (ap Some (sym is)) end known stack
   operand (Copy (Global n) t) k e w c o q known at stack = in_top (Copy (Global n) t) k e w c o q known at stack
   operand (Call f cs t) k e w c o q known at stack = in_top (Call f cs t) k e w c o q known at stack
+  operand (typed.NumberOfElements a) k e w c o q known at stack = in_top (typed.NumberOfElements a) k e w c o q known at stack
   operand (Unary u a) k e w c o q known at stack = in_top (Unary u a) k e w c o q known at stack
   operand (Binary a os t) k e w c o q known at stack = in_top (Binary a os t) k e w c o q known at stack
   operand (Assign (Local p n) (Convert from to a) t) k e w c o q known (is, (there, m, (is_there, room, at), copy)) stack =
@@ -519,7 +542,7 @@ module _ (source : Program) (pages calls : ℕ) where
   for_its_effect (typed.Load x) k e w c q known (o, at) stack = in_top (typed.Load x) k e w c o q known at (dropped_value c.active.function e.locals (given_at source c.active.function (typed.Load x)) o q c.frames k stack)
   for_its_effect (typed.AddressOf l t) k e w c q known (o, (is, at)) stack = absurd at
   for_its_effect (typed.AddressOfCell x t) k e w c q known (o, at) stack = in_top (typed.AddressOfCell x t) k e w c o q known at (dropped_value c.active.function e.locals (given_at source c.active.function (typed.AddressOfCell x t)) o q c.frames k stack)
-  for_its_effect (typed.NumberOfElements a) k e w c q known (o, (is, at)) stack = absurd at
+  for_its_effect (typed.NumberOfElements a) k e w c q known (o, at) stack = in_top (typed.NumberOfElements a) k e w c o q known at (dropped_value c.active.function e.locals (given_at source c.active.function (typed.NumberOfElements a)) o q c.frames k stack)
   for_its_effect (typed.FreeUnique a) k e w c q known (o, at) stack = in_top (typed.FreeUnique a) k e w c o q known at (dropped_value c.active.function e.locals (given_at source c.active.function (typed.FreeUnique a)) o q c.frames k stack)
   for_its_effect (typed.FreeKey a) k e w c q known (o, (is, at)) stack = absurd at
   for_its_effect (typed.Store x (Convert from to a) t) k e w c q known (o, at) stack = cell_begins x from to a t k e w c o q known at (drops stack)
@@ -532,6 +555,11 @@ module _ (source : Program) (pages calls : ℕ) where
       let found = reads shared.tables a r (Needs (Apply u left) ∷ k) e w c known well (counters_hold shared.tables e.counters c.active.slots (floor source c.active.function k) k shared.counters holds) facts in
       silently source pages calls (Running (Evaluating a) (Needs (Apply u left) ∷ k) e w) (Running (Given found.value) (Needs (Apply u left) ∷ k) e w) (plain.Running c) found.gives
       (shared, with_left facts (l, r, is_left, found.is, holds, applied))
+      (omega (arith, found.some))
+  beside_left a (Needs (Advance peek target base) ∷ k) e w c well shared facts (n, x, q, known, is_base, low, holds, advances) =
+      let found = reads shared.tables a x (Needs (Advance peek target base) ∷ k) e w c known well (counters_hold shared.tables e.counters c.active.slots (floor source c.active.function k) k shared.counters holds) facts in
+      silently source pages calls (Running (Evaluating a) (Needs (Advance peek target base) ∷ k) e w) (Running (Given found.value) (Needs (Advance peek target base) ∷ k) e w) (plain.Running c) found.gives
+      (shared, with_left facts (n, x, q, found.is, is_base, low, holds, advances))
       (omega (arith, found.some))
   beside_left a k e w c well shared facts right = absurd right
 
@@ -573,11 +601,103 @@ module _ (source : Program) (pages calls : ℕ) where
   condition (Binary a (ThenCompute o b NoOperations) t) k e w c l r q known at stack = compares (failing_comparison o) o a b t k e w c l r q refl known at stack
   condition a k e w c l r q known at stack = not_zero a k e w c l r q known at stack
 
+  -- the operand of an expression is that of a local, or the next temporary
+  operand_is : (code : List Instruction) (b : Numbering) (types : Types) (a : Expression) (t p q : ℕ) (o : Operand) → ValueAt code b types a t o p q → o ≡ operand_or (operand_of (starts_of types) a) (value_slot (starts_of types) a t)
+  operand_is code b types a t p q o at = by (operand_of (starts_of types) a) at
+    where
+      by : (known : Option Operand) → OperandBy code b types known (ExpressionAt code b types a (value_slot (starts_of types) a t) t p q) (value_slot (starts_of types) a t) o p q → o ≡ operand_or known (value_slot (starts_of types) a t)
+      by (Some x) (is, end) = is
+      by None (is, computed) = is
+
+  operand_low : (types : Types) (a : Expression) (t : ℕ) (o : Operand) → words_of_all types.locals ≤ t → ((l slot : ℕ) → slice_get types.counters l ≡ Some slot → slot ≤ t) → o ≡ operand_or (operand_of (starts_of types) a) (value_slot (starts_of types) a t) → IsLow o t
+  operand_low types a t o few counters is = subst (λ x. IsLow x t) (sym is) (by a)
+    where
+      local_low : (n : ℕ) → slot_of (starts_of types) n ≤ t
+      local_low n = omega (arith, few, slot-low types n)
+
+      counter_low : (found : Option ℕ) → ((slot : ℕ) → found ≡ Some slot → slot ≤ t) → IsLow (operand_or (counter_operand found) t) t
+      counter_low None below = omega arith
+      counter_low (Some slot) below = below slot refl
+
+      by : (x : Expression) → IsLow (operand_or (operand_of (starts_of types) x) (value_slot (starts_of types) x t)) t
+      by (Number n) = tt
+      by typed.NullPointer = tt
+      by (Copy (Local p n) ty) = local_low n
+      by (typed.Move p n ty) = local_low n
+      by (typed.Peek p n ty) = local_low n
+      by (typed.Counter l) = counter_low (slice_get types.counters l) (counters l)
+      by (Assign (Local p n) c ty) = local_low n
+      by x = omega arith
+
+  -- a fat pointer whose index is evaluated behind it: it comes to temporaries, or stays in its local
+  pointer_begins : (t : Tables) (peek : Option ℕ) (target : Option Kind) (a i : Expression) (n : ℕ) (x : Operand) (m r q : ℕ) (k : List Entry) (e : Environment) (w : World) (c : Configuration)
+      → Holds t c.active.slots (floor source c.active.function k) (held k)
+      → ReturnedAt (code_of source c.active.function) (bounds_at source c.active.function) (types_on source c.active.function k) (pointer_of (starts_on source c.active.function k) a i)
+      (ExpressionAt (code_of source c.active.function) (bounds_at source c.active.function) (types_on source c.active.function k) a (top source c.active.function k) (top source c.active.function k) c.active.next m)
+      (top source c.active.function k) n c.active.next m
+      → ValueAt (code_of source c.active.function) (bounds_at source c.active.function) (types_on source c.active.function k) i (top source c.active.function k + 3) x m r
+      → CodeAt (code_of source c.active.function) r (instructions.Binary plain_binary.Add (top source c.active.function k + 2) (operands.Slot (n + 2)) x)
+      → ReachedAt (code_of source c.active.function) (bounds_at source c.active.function) (types_on source c.active.function k) (option_map words_of_kind target) n (top source c.active.function k + 2) (top source c.active.function k) (r + 1) q
+      → PlaceStack source c.active.function e.locals (reached_operand (option_map words_of_kind target) n (top source c.active.function k)) 0 q c.frames k
+      → EvaluatingAt source t a e.locals c.active.function c.active.next c.active.slots c.frames (Needs (Index peek target i) ∷ k)
+  pointer_begins t peek target a i n x m r q k e w c holds at_a at_i sum reached place =
+      by (operand_of (starts_on source g k) i) (operand_of (starts_on source g k) a) refl refl at_a
+    where
+      g : ℕ
+      g = c.active.function
+
+      Computed : Type 0
+      Computed = ExpressionAt (code_of source g) (bounds_at source g) (types_on source g k) a (top source g k) (top source g k) c.active.next m
+
+      Begun : Type 0
+      Begun = EvaluatingAt source t a e.locals g c.active.next c.active.slots c.frames (Needs (Index peek target i) ∷ k)
+
+      -- in temporaries
+      brought_there : n ≡ top source g k → Computed → Begun
+      brought_there there computed =
+          into_slot (top source g k) m computed holds (in_temporary (omega arith) (inl (
+            x,
+            r,
+            q,
+            refl,
+            at_i,
+            subst (λ s. CodeAt (code_of source g) r (instructions.Binary plain_binary.Add (top source g k + 2) (operands.Slot (s + 2)) x)) there sum,
+            subst (λ s. ReachedAt (code_of source g) (bounds_at source g) (types_on source g k) (option_map words_of_kind target) s (top source g k + 2) (top source g k) (r + 1) q) there reached,
+            subst (λ s. PlaceStack source g e.locals (reached_operand (option_map words_of_kind target) s (top source g k)) 0 q c.frames k) there place,
+          )))
+
+      by : (index pointer : Option Operand) → operand_of (starts_on source g k) i ≡ index → operand_of (starts_on source g k) a ≡ pointer
+          → ReturnedAt (code_of source g) (bounds_at source g) (types_on source g k) (left_with index pointer) Computed (top source g k) n c.active.next m → Begun
+      by None pointer i_is a_is (there, computed) = brought_there there computed
+      by (Some y) None i_is a_is (there, computed) = brought_there there computed
+      by (Some y) (Some (operands.Word z)) i_is a_is (there, computed) = brought_there there computed
+      by (Some y) (Some (operands.Slot s)) i_is a_is (there, begins) =
+          let at_pointer : ValueAt (code_of source g) (bounds_at source g) (types_on source g k) a (top source g k) (operands.Slot n) c.active.next m =
+          subst (λ (known : Option Operand). OperandBy (code_of source g) (bounds_at source g) (types_on source g k) known (ExpressionAt (code_of source g) (bounds_at source g) (types_on source g k) a (value_slot (starts_on source g k) a (top source g k)) (top source g k) c.active.next m) (value_slot (starts_on source g k) a (top source g k)) (operands.Slot n) c.active.next m)
+          (sym a_is) (ap operands.Slot there, begins) in
+          let (y_is, ends) =
+          subst (λ (known : Option Operand). OperandBy (code_of source g) (bounds_at source g) (types_on source g k) known (ExpressionAt (code_of source g) (bounds_at source g) (types_on source g k) i (value_slot (starts_on source g k) i (top source g k + 3)) (top source g k + 3) m r) (value_slot (starts_on source g k) i (top source g k + 3)) x m r)
+          i_is at_i in
+          as_operand (operands.Slot n) m at_pointer holds (inr (
+            n,
+            x,
+            q,
+            refl,
+            operand_low (types_on source g k) a (top source g k) (operands.Slot n) (omega (arith, height-least (floor source g k) (held k), behind-least k (base_of source g))) (counters_low (floor source g k) k)
+                (operand_is (code_of source g) (bounds_at source g) (types_on source g k) a (top source g k) c.active.next m (operands.Slot n) at_pointer),
+            i_is ∙ ap Some (sym y_is),
+            subst (λ p. CodeAt (code_of source g) p (instructions.Binary plain_binary.Add (top source g k + 2) (operands.Slot (n + 2)) x)) (sym ends) sum,
+            subst (λ p. ReachedAt (code_of source g) (bounds_at source g) (types_on source g k) (option_map words_of_kind target) n (top source g k + 2) (top source g k) (p + 1) q) (sym ends) reached,
+            place,
+          ))
+
   -- a place that a pointer leads to: the pointer is evaluated
   pub locating : (x : Dereference) (k : List Entry) (e : Environment) (w : World) (c : Configuration) → IsStep (Locating x) k e w c
-  locating (Target pointer a t) k e w c well (shared, facts, (o, offset, q, (m, at_a, thin, check, none), holds, place)) =
+  locating (Target pointer a t) k e w c well (shared, facts, (o, offset, q, (x, m, at_a, access, is, none), holds, place)) =
+      let g = c.active.function in
+      let there = subst (λ b. PlaceStack source g e.locals (followed_operand (is_thin pointer) (span_in t) x (top source g k)) b q c.frames k) none (subst (λ y. PlaceStack source g e.locals y offset q c.frames k) is place) in
       silently source pages calls (Running (Locating (Target pointer a t)) k e w) (Running (Evaluating a) (Needs (Follow pointer (target_of t)) ∷ k) e w) (plain.Running c) refl
-      (shared, facts, as_operand o m at_a holds (q, thin, check, subst (λ b. PlaceStack source c.active.function e.locals o b q c.frames k) none place))
+      (shared, facts, as_operand x m at_a holds (q, operand_low (types_on source g k) a (top source g k) x (omega (arith, height-least (floor source g k) (held k), behind-least k (base_of source g))) (counters_low (floor source g k) k) (operand_is (code_of source g) (bounds_at source g) (types_on source g k) a (top source g k) c.active.next m x at_a), access, there))
       (omega arith)
   locating (Member pointer a s field t) k e w c well (shared, facts, (o, offset, q, (m, at_a, thin, check, (st, there, inside), is), holds, place)) =
       let fields = map kind_of st.fields in
@@ -589,7 +709,12 @@ module _ (source : Program) (pages calls : ℕ) where
             (offset, q, thin, check, omega (arith, inside, length-map st.fields kind_of), λ below. is ∙ ap (λ z. field_in z field) there ∙ field_bytes st.fields field below, place),
       )
       (omega arith)
-  locating x k e w c well (shared, facts, (o, offset, q, at, holds, place)) = absurd at
+  locating (Element a i t) k e w c well (shared, facts, (o, offset, q, (n, x, m, r, at_a, at_i, sum, reached, is, none), holds, place)) =
+      let g = c.active.function in
+      let there = subst (λ b. PlaceStack source g e.locals (reached_operand (span_in t) n (top source g k)) b q c.frames k) none (subst (λ y. PlaceStack source g e.locals y offset q c.frames k) is place) in
+      silently source pages calls (Running (Locating (Element a i t)) k e w) (Running (Evaluating a) (Needs (Index (peeked (Element a i t)) (target_of t) i) ∷ k) e w) (plain.Running c) refl
+      (shared, facts, pointer_begins shared.tables (peeked (Element a i t)) (target_of t) a i n x m r q k e w c holds at_a at_i sum reached there)
+      (omega arith)
 
   pub evaluating : (a : Expression) (k : List Entry) (e : Environment) (w : World) (c : Configuration) → IsStep (Evaluating a) k e w c
   evaluating a k e w c well (shared, facts, as_operand o q at holds stack) = operand a k e w c o q (well, shared, facts, holds) at stack

@@ -10,7 +10,7 @@ use Rattle.cyc_types.specs.declared.typed.UnaryOperator.TheVariants as unary
 use Rattle.cyc_types.specs.declared.typed.Operator.TheVariants.{Equal, NotEqual, Less, Greater, Add, Subtract, Multiply, Divide, Remainder}
 use Rattle.cyc_types.specs.declared.typed.LogicalOperator.TheVariants.{AndThen, OrElse}
 use Rattle.cyc_types.specs.Types.{Ty, Int, Pointer, Value}
-use Rattle.cyc_types.specs.TypedTrees.{Local, Global, Expression, Number, Copy, Call, Unary, Binary, Assign, Converted, Convert, Arguments, NoArguments, MoreArguments, Operations, NoOperations, ThenCompute, ThenTest, Statement, Block, Empty, Evaluate, If, While, Return, Break, Continue, Items, NoItems, MoreItems, Execute, Declare, Word, Null, Function, Program, Throw, Try, Case, Default, NoClauses}
+use Rattle.cyc_types.specs.TypedTrees.{Local, Global, Expression, Number, Copy, Call, Unary, Binary, Assign, Converted, Convert, Arguments, NoArguments, MoreArguments, Operations, NoOperations, ThenCompute, ThenTest, Statement, Block, Empty, Evaluate, If, While, Return, Break, Continue, Items, NoItems, MoreItems, Execute, Declare, Word, Null, Function, Program, Throw, Try, Case, Default, NoClauses, GlobalVariable}
 use Rattle.cyc_types.specs.declared.region.Region.TheVariants.{Heap}
 use Rattle.cyc_syntax.specs.declared.tree.PointerKind.TheVariants.{Nullable, NonNull, Fat}
 use Rattle.cyc_plain.specs.declared.instruction.Instruction.{Instruction}
@@ -28,8 +28,9 @@ use Rattle.cyc_plain.proofs.RunLaws.{zeros}
 use Rattle.cyc_meaning.specs.State.{status_of as status_of_source}
 use Rattle.cyc_meaning.specs.Run.{limited_run}
 use Rattle.cyc_meaning.specs.FrameCount.{frame_count, expression_need}
-use Rattle.cyc_lower.specs.Lowering.{jump_if_zero, function_code, lower_program, blocks}
+use Rattle.cyc_lower.specs.Lowering.{jump_if_zero, function_code, lower_program, blocks, lower_globals}
 use Rattle.cyc_meaning.specs.SourceMachine.{status_in}
+use Rattle.cyc_lower.specs.Slots.{starts_from, global_types}
 
 -- ---- trees
 
@@ -311,7 +312,7 @@ source_catches_null = refl
 -- ---- code, with the blocks that raise exceptions behind it
 
 abbrev code_of_body : Items → List Instruction
-code_of_body body = function_code [] (function [] ints body)
+code_of_body body = function_code [] [] (function [] ints body)
 
 -- a loop, with its two jumps in front
 loop_code : code_of_body (all (While nowhere (local 0) Break ∷ returns (local 1) ∷ [])) ≡
@@ -357,10 +358,30 @@ chain_code : code_of_body (all (Evaluate (sets 0 (two (local 1) (ThenCompute Sub
 chain_code = refl
 
 -- a local behind a fat pointer has the slot behind its three words, and temporaries stand behind both
-wide_code : function_code [] (function [] (Pointer Fat Int Heap ∷ Int ∷ []) (all (Evaluate (sets 1 (two (local 1) (ThenCompute Add (Number 1) NoOperations))) ∷ []))) ≡
+wide_code : function_code [] [] (function [] (Pointer Fat Int Heap ∷ Int ∷ []) (all (Evaluate (sets 1 (two (local 1) (ThenCompute Add (Number 1) NoOperations))) ∷ []))) ≡
     instructions.Binary plain_binary.Add 3 (Slot 3) (Constant 1)
     ∷ instructions.Finish 4 ∷ blocks
 wide_code = refl
+
+-- a fat global has three words, which come and go one by one, and the global behind it begins behind them
+abbrev fat_global : GlobalVariable
+fat_global = record { name = 0; of_type = Pointer Fat Int Heap; value = Null }
+
+abbrev int_global : GlobalVariable
+int_global = record { name = 0; of_type = Int; value = Word 7 }
+
+words_of_globals : lower_globals (fat_global ∷ int_global ∷ []) ≡ 0 ∷ 0 ∷ 0 ∷ 7 ∷ []
+words_of_globals = refl
+
+wide_globals : function_code [] (starts_from 0 (global_types (fat_global ∷ int_global ∷ []))) (function [] (Pointer Fat Int Heap ∷ Int ∷ []) (all (
+    Evaluate (Assign (Local nowhere 0) (Convert kinds.Fat kinds.Fat (Copy (Global 0) (Pointer Fat Int Heap))) (Value (Pointer Fat Int Heap)))
+    ∷ Evaluate (Assign (Global 0) (Convert kinds.Fat kinds.Fat (Copy (Local nowhere 0) (Pointer Fat Int Heap))) (Value (Pointer Fat Int Heap)))
+    ∷ Evaluate (sets 1 (global 1)) ∷ []))) ≡
+    instructions.LoadGlobal 0 0 ∷ instructions.LoadGlobal 1 1 ∷ instructions.LoadGlobal 2 2
+    ∷ instructions.StoreGlobal 0 (Slot 0) ∷ instructions.StoreGlobal 1 (Slot 1) ∷ instructions.StoreGlobal 2 (Slot 2)
+    ∷ instructions.LoadGlobal 3 3
+    ∷ instructions.Finish 4 ∷ blocks
+wide_globals = refl
 
 -- ---- frame counts
 

@@ -16,34 +16,30 @@ use Rattle.cyc_types.specs.declared.typed.PointerOperator.{PointerOperator}
 use Rattle.cyc_types.specs.declared.typed.PointerOperator.TheVariants as pointers
 use Rattle.cyc_types.specs.Types.{Ty, words_of, words_of_mark, substituted_ty, ValueType, Void, Value, result_type}
 use Rattle.cyc_types.specs.Types as type_forms
-use Rattle.cyc_types.specs.TypedTrees.{Load, New, OnHeap, AsUnique, ByHandle, Initial, Plain, Fields, Array, Dereference, Target, Lvalue, Local, Global, Expression, Number, NullPointer, Copy, Peek, Call, Unary, Binary, Assign, Converted, Convert, Arguments, NoArguments, MoreArguments, Operations, NoOperations, ThenCompute, ThenTest, ThenPointer, Statement, Block, Empty, Evaluate, If, While, Return, Break, Continue, Items, NoItems, MoreItems, Execute, Declare, Signature, StructType, Function, Program, Store, Member, Element, type_of_place, type_of, HeapRegion, Counter, Move, AddressOf, AddressOfCell, NumberOfElements, FreeUnique, FreeKey, ThenPointerPeek, Side, VariableSide, CellSide, Swap, Throw, Try, Clauses, NoClauses, Default, Case}
+use Rattle.cyc_types.specs.TypedTrees.{Load, New, OnHeap, AsUnique, ByHandle, Initial, Plain, Fields, Array, Dereference, Target, Lvalue, Local, Global, Expression, Number, NullPointer, Copy, Peek, Call, Unary, Binary, Assign, Converted, Convert, Arguments, NoArguments, MoreArguments, Operations, NoOperations, ThenCompute, ThenTest, ThenPointer, Statement, Block, Empty, Evaluate, If, While, Return, Break, Continue, Items, NoItems, MoreItems, Execute, Declare, Signature, StructType, GlobalVariable, Function, Program, Store, Member, Element, type_of_place, type_of, HeapRegion, Counter, Move, AddressOf, AddressOfCell, NumberOfElements, FreeUnique, FreeKey, ThenPointerPeek, Side, VariableSide, CellSide, Swap, Throw, Try, Clauses, NoClauses, Default, Case}
 use Rattle.cyc_types.specs.typing.Scopes.{signature_of_ints}
 use Rattle.cyc_types.specs.typing.Tests as tests
 use Rattle.cyc_types.specs.typing.Expressions.{instantiated, type_of_side}
 use Rattle.cyc_types.specs.typing.WellTyped.{with_counter, Context, PointerOperation, adds, subtracts, equals, differs, thin_null, thin_there, fat_null, fat_there, null_is, null_is_not, IsCallee, Converts, IsPeek, WellTyped, IsCell, IsConverted, ArePassed, IsChain, IsCondition, IsReturned, IsInitial, WellTypedStatement, WellTypedItems, behind, in_block, in_body, with_local, body_context, AreWellTypedFunctions, AreWellTypedGlobals, IsWellTypedProgram, IsLeft, IsMade, IsSide, IsThrown, IsCaught, WellTypedClauses, with_caught, behind_clause}
 use Rattle.cyc_types.specs.Numbered.{Numbering, signatures_of, IsSignature, argument_count, numbering_of}
 use Rattle.cyc_meaning.specs.Pointers.{result_kind as operator_kind}
-use Rattle.cyc_lower.specs.Lowerable.{IsLowerable, IsLowerableConverted, AreLowerableArguments, AreLowerableOperations, IsLowerableReturn, IsLowerableInitial, IsLowerableStatement, AreLowerableItems, AreLowerableFunctions, IsLowerableProgram, is_comparison, are_sums, stands_alone, IsLowerableCell, IsLowerableObject, IsLowerableSide, may_wait, IsLowerableThrown, IsLowerableCaught, AreLowerableClauses}
+use Rattle.cyc_lower.specs.Lowerable.{IsLowerable, IsLowerableConverted, AreLowerableArguments, AreLowerableOperations, IsLowerableReturn, IsLowerableInitial, IsLowerableStatement, AreLowerableItems, AreLowerableFunctions, IsLowerableProgram, is_comparison, are_sums, stands_alone, IsLowerableCell, IsLowerableObject, IsLowerableSide, IsLowerableThrown, IsLowerableCaught, AreLowerableClauses, is_converted, is_pointer}
 use Rattle.cyc_store.specs.declared.range.TheConstants.{MOST_BLOCK_WORDS}
-use Rattle.cyc_meaning.specs.Values.{kind_of, is_thin, words_of_kind}
+use Rattle.cyc_meaning.specs.Values.{kind_of, is_thin, words_of_kind, is_kind}
 use Rattle.cyc_meaning.specs.FrameCount.{result_words, words_of_all, operand_words}
-use Rattle.cyc_lower.specs.Slots.{Types, counted}
+use Rattle.cyc_lower.specs.Slots.{Types, counted, global_types}
 use Rattle.cyc_lower.specs.Lowering.{types_of, are_as_wide, passed_words, all_passed, results_of, left_kind}
-use Rattle.cyc_lower.proofs.Widths.{kind_of_result, result_kind, called_kind, given, passed_kind, type_words, HasRoom, chain_kind, HasField}
+use Rattle.cyc_lower.proofs.Widths.{kind_of_result, result_kind, called_kind, given, passed_kind, type_words, HasRoom, HasGlobal, chain_kind, HasField}
 use Rattle.cyc_lower.proofs.Slots.{words-there, words_positive}
 use Rattle.cyc_plain.proofs.Placed.{below_of_get}
 
 -- ---- what is asked
 
 module _ (b : Numbering) (types : Types) where
-  -- a variable that is read as a value of a kind, and one that such a value is stored in: a global has one word yet
+  -- a variable that is read as a value of a kind, or that such a value is stored in
   abbrev pub FitsPlace : Lvalue → Kind → Type 0
   FitsPlace (Local p n) kind = (n < b.locals) × HasRoom types n kind
-  FitsPlace (Global n) kind = n < b.globals
-
-  abbrev pub FitsStored : Lvalue → Kind → Type 0
-  FitsStored (Local p n) kind = (n < b.locals) × HasRoom types n kind
-  FitsStored (Global n) kind = (n < b.globals) × (words_of_kind kind ≡ 1)
+  FitsPlace (Global n) kind = HasGlobal types n kind
 
 module _ (b : Numbering) where
   abbrev mutual
@@ -57,32 +53,32 @@ module _ (b : Numbering) where
     Fits types (Call f cs t) =
         (s : Signature) × IsSignature b f s × (argument_count cs ≡ length s.parameters) × (all_passed cs ≡ words_of_all s.parameters)
         × (results_of s.result ≤ result_words t) × FitArguments types cs
+    Fits types (NumberOfElements a) = (given b.functions a ≡ kinds.Fat) × Fits types a
     Fits types (Unary o a) = Fits types a
     Fits types (Binary a os t) = Fits types a × FitOperations types (operand_words (type_of a)) t os
-    Fits types (Assign l c t) = FitsStored b types l (passed_kind c) × FitsConverted types c
+    Fits types (Assign l c t) = FitsPlace b types l (passed_kind c) × FitsConverted types c
     Fits types (Load x) = FitsCell types x
     Fits types (FreeUnique a) = Fits types a
-    Fits types (New OnHeap (Array w level n kind a) t) =
-        (level ≡ length types.counters) × (words_of_kind kind ≡ 1) × (kind ≡ given b.functions a) × Fits types n × ((slot : ℕ) → Fits (counted types slot) a)
     Fits types (New OnHeap i t) = FitsObject types i
     Fits types (New AsUnique i t) = FitsObject types i
     Fits types (AddressOfCell x t) = FitsCell types x
-    Fits types (Store x c t) = FitsCell types x × (words_of_kind (passed_kind c) ≡ 1) × FitsConverted types c
+    Fits types (Store x c t) = FitsCell types x × FitsConverted types c
     Fits types a = ⊥
 
     pub FitsCell : (types : Types) → Dereference → Type 0
-    FitsCell types (Target k a t) = (is_thin k ≡ true) × (words_of t ≡ 1) × Fits types a
-    FitsCell types (Member k a s f t) = (is_thin k ≡ true) × (words_of t ≡ 1) × HasField types s f × Fits types a
-    FitsCell types x = ⊥
+    FitsCell types (Element a i t) = (given b.functions a ≡ kinds.Fat) × (3 ≤ operand_words (type_of a)) × Fits types a × Fits types i
+    FitsCell types (Target k a t) = (is_pointer k ≡ true) × (k ≡ given b.functions a) × Fits types a
+    FitsCell types (Member k a s f t) = (is_thin k ≡ true) × HasField types s f × Fits types a
 
     -- what a new object holds
     pub FitsObject : (types : Types) → Initial → Type 0
-    FitsObject types (Plain kind a) = (words_of_kind kind ≡ 1) × (kind ≡ given b.functions a) × Fits types a
-    FitsObject types (Fields cs) = (argument_count cs ≡ all_passed cs) × (1 ≤ argument_count cs) × (argument_count cs ≤ MOST_BLOCK_WORDS) × FitArguments types cs
-    FitsObject types i = ⊥
+    FitsObject types (Plain kind a) = (kind ≡ given b.functions a) × Fits types a
+    FitsObject types (Fields cs) = (1 ≤ argument_count cs) × (all_passed cs ≤ MOST_BLOCK_WORDS) × FitArguments types cs
+    FitsObject types (Array w level n kind a) =
+        (level ≡ length types.counters) × (kind ≡ given b.functions a) × Fits types n × ((slot : ℕ) → Fits (counted types slot) a)
 
     pub FitsConverted : (types : Types) → Converted → Type 0
-    FitsConverted types (Convert from to a) = (from ≡ given b.functions a) × (are_as_wide from to ≡ true) × Fits types a
+    FitsConverted types (Convert from to a) = (from ≡ given b.functions a) × (is_converted from to ≡ true) × Fits types a
 
     pub FitArguments : (types : Types) → Arguments → Type 0
     FitArguments types NoArguments = Unit {0}
@@ -126,7 +122,7 @@ module _ (b : Numbering) (types : Types) where
     FitsStatement l Empty = Unit {0}
     FitsStatement l (Evaluate a) = Fits b types a
     FitsStatement l (Swap x y) =
-        (words_of (type_of_side x) ≡ 1) × FitsSide x (kind_of (type_of_side x)) × FitsSide y (kind_of (type_of_side x)) × (may_wait x y ≡ true)
+        FitsSide x (kind_of (type_of_side x)) × FitsSide y (kind_of (type_of_side x))
     FitsStatement l (If a s t) = Fits b types a × FitsStatement l s × FitsStatement l t
     FitsStatement l (While p a s) = Fits b types a × FitsStatement true s
     FitsStatement l (Return v) = FitsReturn b.result v
@@ -146,12 +142,13 @@ module _ (b : Numbering) (types : Types) where
     FitClauses l (Default r js) = FitItems l js
     FitClauses l (Case tag x r js cs) = IsWord tag × FitsCaught x × FitItems l js × FitClauses l cs
 
-abbrev pub AreFitting : List StructType → ℕ → List Signature → List Function → Type 0
+abbrev pub AreFitting : List StructType → List GlobalVariable → List Signature → List Function → Type 0
 AreFitting structs globals functions [] = Unit {0}
-AreFitting structs globals functions (h ∷ hs) = FitItems (numbering_of globals functions h) (types_of structs h) false h.body × AreFitting structs globals functions hs
+AreFitting structs globals functions (h ∷ hs) =
+    FitItems (numbering_of (length globals) functions h) (types_of structs (global_types globals) h) false h.body × AreFitting structs globals functions hs
 
 pub record IsFitting (p : Program) : Type 0 where
-  pub functions : AreFitting p.structs (length p.globals) (signatures_of p.functions) p.functions
+  pub functions : AreFitting p.structs p.globals (signatures_of p.functions) p.functions
   pub globals : AreWellTypedGlobals p.globals
   pub main : slice_get (signatures_of p.functions) p.main ≡ Some (signature_of_ints [])
 
@@ -318,12 +315,17 @@ module _ (b : Numbering) (types : Types) where
     functions : c.functions ≡ b.functions
     structs : c.structs ≡ types.structs
     variables : c.variables ≡ types.locals
+    globals : c.globals ≡ types.globals
     counters : c.counters ≡ length types.counters
     result : c.result ≡ b.result
 
   room_in : (c : Context) (n : ℕ) (t : Ty) (kind : Kind) → Suits c → slice_get c.variables n ≡ Some t → kind ≡ kind_of t → HasRoom types n kind
   room_in c n t kind suits at same =
       omega (arith, words-there types.locals n t (ap (λ (ts : List Ty). slice_get ts n) (sym suits.variables) ∙ at), type_words t, ap words_of_kind same)
+
+  global_in : (c : Context) (n : ℕ) (t : Ty) (kind : Kind) → Suits c → slice_get c.globals n ≡ Some t → kind ≡ kind_of t → HasGlobal types n kind
+  global_in c n t kind suits at same =
+      omega (arith, words-there types.globals n t (ap (λ (ts : List Ty). slice_get ts n) (sym suits.globals) ∙ at), type_words t, ap words_of_kind same)
 
   same_signature : (f : Callee) (c : Context) (s u : Signature) → Suits c → IsCallee c f s → IsSignature b f u → s ≡ u
   same_signature callees.Putchar c s u suits is also = is ∙ sym also
@@ -353,15 +355,20 @@ module _ (b : Numbering) (types : Types) where
   stored_given : (x : Dereference) (d : Converted) (u : ValueType) (t : Ty) (v : ValueType) → passed_kind d ≡ kind_of t → v ≡ (if tests.is_moved t then Void else Value t) → IsGiven (given b.functions (Store x d u)) v
   stored_given x (Convert from to a) u t v kind is = assigned_given (Global 0) (Convert from to a) u t v kind is
 
-  cell_single : (x : Dereference) → IsLowerableCell b x → words_of (type_of_place x) ≡ 1
-  cell_single (Target k a t) (thin, single, numbered) = single
-  cell_single (Member k a s f t) (thin, single, numbered) = single
-  cell_single x numbered = absurd numbered
-
   passed_is : (d : Converted) → passed_words d ≡ words_of_kind (passed_kind d)
   passed_is (Convert from to a) = refl
 
   -- a value that is looked at is one that is given, or a peek
+  pointer_mark : (m : PointerKind) (k : Kind) → k ≡ tests.kind_of_mark m → is_pointer k ≡ true
+  pointer_mark marks.Nullable k is = ap is_pointer is
+  pointer_mark marks.NonNull k is = ap is_pointer is
+  pointer_mark marks.Fat k is = ap is_pointer is
+
+  kind_of_pointer : (m : PointerKind) (u : Ty) (r : Region) → tests.kind_of_mark m ≡ kind_of (type_forms.Pointer m u r)
+  kind_of_pointer marks.Nullable u r = refl
+  kind_of_pointer marks.NonNull u r = refl
+  kind_of_pointer marks.Fat u r = refl
+
   looked_fits : (a : Expression) (c : Context) (v : ValueType) → Suits c → IsLowerable b a → (WellTyped c a v → IsGiven (given b.functions a) v × Fits b types a) → WellTyped c a v ⊎ IsPeek c a v
       → IsGiven (given b.functions a) v × Fits b types a
   looked_fits (Peek p n u) c v suits few well_fits (inr (there, unique, is)) = (subst (IsGiven (kind_of u)) (sym is) refl, (few, room_in c n u (kind_of u) suits there.1 refl))
@@ -375,6 +382,7 @@ module _ (b : Numbering) where
     functions = suits.functions;
     structs = suits.structs;
     variables = suits.variables;
+    globals = suits.globals;
     counters = ap suc suits.counters ∙ sym (length-append types.counters (slot ∷ []) ∙ omega arith);
     result = suits.result;
   }
@@ -387,7 +395,7 @@ module _ (b : Numbering) where
     fits types (Move p n t) c v suits few (there, moved, is) = (subst (IsGiven (kind_of t)) (sym is) refl, (few, room_in b types c n t (kind_of t) suits there.1 refl))
     fits types (Peek p n t) c v suits few well = absurd well
     fits types (Counter l) c v suits numbered (few, is) = (subst (IsGiven kinds.Int) (sym is) refl, omega (arith, few, suits.counters))
-    fits types (Copy (Global n) t) c v suits few (there, stays, is) = (subst (IsGiven (kind_of t)) (sym is) refl, few)
+    fits types (Copy (Global n) t) c v suits few (there, stays, is) = (subst (IsGiven (kind_of t)) (sym is) refl, global_in b types c n t (kind_of t) suits there refl)
     fits types (Call f cs u) c v suits (s, signature, many, numbered) (s', m, callee, long, regions, passed, live, outliving, u_is, v_is) =
         let agree = same_signature b types f c s' s suits callee signature in
         let u_result : u ≡ result_type (option_map (substituted_ty m) s.result) = u_is ∙ ap (λ (x : Signature). result_type (option_map (substituted_ty m) x.result)) agree in
@@ -402,6 +410,9 @@ module _ (b : Numbering) where
             fitting,
           ),
         )
+    fits types (NumberOfElements a) c v suits numbered (u, r, well, is) =
+        let fat = Value (type_forms.Pointer marks.Fat u r) in
+        (subst (IsGiven kinds.Int) (sym is) refl, looked_fits b types a c fat suits numbered (λ h. fits types a c fat suits numbered h) well)
     fits types (Unary unary.Not a) c v suits numbered (w, (well, tested), is) = (subst (IsGiven kinds.Int) (sym is) refl, (looked_fits b types a c w suits numbered (λ h. fits types a c w suits numbered h) well).1)
     fits types (Unary unary.Negate a) c v suits numbered (w, (well, int), is) = (subst (IsGiven kinds.Int) (sym is) refl, (fits types a c w suits numbered well).1)
     fits types (Unary unary.Complement a) c v suits numbered (w, (well, int), is) = (subst (IsGiven kinds.Int) (sym is) refl, (fits types a c w suits numbered well).1)
@@ -414,9 +425,9 @@ module _ (b : Numbering) where
     fits types (Assign (Local p n) d u) c v suits (few, numbered) (t, r, (m, place, home, there), converted, u_is, is) =
         let (kind, fitting) = fits_converted types d c t suits numbered converted in
         (assigned_given b types (Local p n) d u t v kind (is ∙ u_is), ((few, room_in b types c n t (passed_kind d) suits there kind), fitting))
-    fits types (Assign (Global n) d u) c v suits ((few, single), numbered) (t, r, (home, there), converted, u_is, is) =
+    fits types (Assign (Global n) d u) c v suits (few, numbered) (t, r, (home, there), converted, u_is, is) =
         let (kind, fitting) = fits_converted types d c t suits numbered converted in
-        (assigned_given b types (Global n) d u t v kind (is ∙ u_is), ((few, sym (passed_is b types d) ∙ single), fitting))
+        (assigned_given b types (Global n) d u t v kind (is ∙ u_is), (global_in b types c n t (passed_kind d) suits there kind, fitting))
     fits types (Load x) c v suits numbered (u, r, cell, flat, shared, is) =
         let (same, fitting) = fits_cell types x c u r suits numbered cell in
         (subst (IsGiven (kind_of (type_of_place x))) (sym (is ∙ ap Value same)) refl, fitting)
@@ -425,46 +436,50 @@ module _ (b : Numbering) where
     fits types (Store x d u) c v suits (place, numbered) (t, r, cell, converted, u_is, is) =
         let (same, fits_place) = fits_cell types x c t r suits place cell in
         let (kind, fitting) = fits_converted types d c t suits numbered converted in
-        let single = ap words_of_kind kind ∙ type_words t ∙ ap words_of same ∙ cell_single b types x place in
-        (stored_given b types x d u t v kind (is ∙ u_is), (fits_place, single, fitting))
+        (stored_given b types x d u t v kind (is ∙ u_is), (fits_place, fitting))
     fits types (FreeUnique a) c v suits numbered (k, u, well, is) = (subst (IsGiven kinds.Int) (sym is) tt, (fits types a c _ suits numbered well).1)
     fits types (New OnHeap (Plain kind a) t) c v suits numbered (mark, u, r, place, made, t_is, is) =
         (pointer_given b types mark u r t v made.3 t_is is, fits_object types (Plain kind a) c mark u suits numbered made)
     fits types (New OnHeap (Fields cs) t) c v suits numbered (mark, u, r, place, (n, rs, s, there, many, passed, u_is, mark_is), t_is, is) =
         (pointer_given b types mark u r t v mark_is t_is is, fits_object types (Fields cs) c mark u suits numbered (n, rs, s, there, many, passed, u_is, mark_is))
-    fits types (New OnHeap (Array p level n kind a) t) c v suits (single, count, numbered) (mark, u, r, place, (level_is, length, well, unlocked, kind_is, mark_is), t_is, is) =
-        let inside = λ (slot : ℕ). fits (counted types slot) a (with_counter c) (Value u) (suits_inside types c slot suits) numbered well in
-        (array_given b types mark u r t v mark_is t_is is, (level_is ∙ suits.counters, single, kind_is ∙ sym (kinds_same u) ∙ sym (inside 0).0, (fits types n c (Value type_forms.Int) suits count length).1, λ slot. (inside slot).1))
+    fits types (New OnHeap (Array p level n kind a) t) c v suits numbered (mark, u, r, place, (level_is, length, well, unlocked, kind_is, mark_is), t_is, is) =
+        (array_given b types mark u r t v mark_is t_is is, fits_object types (Array p level n kind a) c mark u suits numbered (level_is, length, well, unlocked, kind_is, mark_is))
     fits types (New AsUnique (Plain kind a) t) c v suits numbered (mark, u, r, place, made, t_is, is) =
         (pointer_given b types mark u r t v made.3 t_is is, fits_object types (Plain kind a) c mark u suits numbered made)
     fits types (New AsUnique (Fields cs) t) c v suits numbered (mark, u, r, place, (n, rs, s, there, many, passed, u_is, mark_is), t_is, is) =
         (pointer_given b types mark u r t v mark_is t_is is, fits_object types (Fields cs) c mark u suits numbered (n, rs, s, there, many, passed, u_is, mark_is))
-    fits types (New AsUnique (Array p level n kind a) t) c v suits numbered well = absurd numbered
+    fits types (New AsUnique (Array p level n kind a) t) c v suits numbered (mark, u, r, place, (level_is, length, well, unlocked, kind_is, mark_is), t_is, is) =
+        (array_given b types mark u r t v mark_is t_is is, fits_object types (Array p level n kind a) c mark u suits numbered (level_is, length, well, unlocked, kind_is, mark_is))
     fits types (New (ByHandle h) i t) c v suits numbered well = absurd numbered
     fits types a c v suits numbered well = absurd numbered
 
     fits_object : (types : Types) → (i : Initial) (c : Context) (mark : PointerKind) (u : Ty) → Suits b types c → IsLowerableObject b i → IsMade c i mark u → FitsObject b types i
-    fits_object types (Plain kind a) c mark u suits (single, numbered) (well, unlocked, kind_is, mark_is) =
+    fits_object types (Plain kind a) c mark u suits numbered (well, unlocked, kind_is, mark_is) =
         let (given_is, fitting) = fits types a c (Value u) suits numbered well in
-        (single, kind_is ∙ sym (kinds_same u) ∙ sym given_is, fitting)
-    fits_object types (Fields cs) c mark u suits (single, some, few, numbered) (n, rs, s, there, many, passed, u_is, mark_is) =
-        (single, some, few, (fit_arguments types cs c (map (substituted_ty rs) s.fields) suits numbered passed).1)
-    fits_object types (Array p level n kind a) c mark u suits numbered made = absurd numbered
+        (kind_is ∙ sym (kinds_same u) ∙ sym given_is, fitting)
+    fits_object types (Fields cs) c mark u suits (some, few, numbered) (n, rs, s, there, many, passed, u_is, mark_is) =
+        (some, few, (fit_arguments types cs c (map (substituted_ty rs) s.fields) suits numbered passed).1)
+    fits_object types (Array p level n kind a) c mark u suits (count, numbered) (level_is, length, well, unlocked, kind_is, mark_is) =
+        let inside = λ (slot : ℕ). fits (counted types slot) a (with_counter c) (Value u) (suits_inside types c slot suits) numbered well in
+        (level_is ∙ suits.counters, kind_is ∙ sym (kinds_same u) ∙ sym (inside 0).0, (fits types n c (Value type_forms.Int) suits count length).1, λ slot. (inside slot).1)
 
     fits_cell : (types : Types) → (x : Dereference) (c : Context) (t : Ty) (r : Region) → Suits b types c → IsLowerableCell b x → IsCell c x t r → (t ≡ type_of_place x) × FitsCell b types x
-    fits_cell types (Target k a u) c t r suits (thin, single, numbered) (m, well, live, kind, same) =
-        (same, (thin, single, (looked_fits b types a c (Value (type_forms.Pointer m u r)) suits numbered (λ h. fits types a c (Value (type_forms.Pointer m u r)) suits numbered h) well).1))
-    fits_cell types (Member k a s f u) c t r suits (thin, single, numbered) (m, rs, st, w, well, mark, live, kind, there, field, is_u, same) =
+    fits_cell types (Target k a u) c t r suits numbered (m, well, live, kind, same) =
+        let (given_is, fitting) = looked_fits b types a c (Value (type_forms.Pointer m u r)) suits numbered (λ h. fits types a c (Value (type_forms.Pointer m u r)) suits numbered h) well in
+        (same, (pointer_mark b types m k kind, kind ∙ (kind_of_pointer b types m u r ∙ sym given_is), fitting))
+    fits_cell types (Member k a s f u) c t r suits (thin, numbered) (m, rs, st, w, well, mark, live, kind, there, field, is_u, same) =
         let pointer = Value (type_forms.Pointer m (type_forms.Struct s rs) r) in (
           same,
           (
             thin,
-            single,
             (st, ap (λ (ss : List StructType). slice_get ss s) (sym suits.structs) ∙ there, below_of_get st.fields f w field),
             (looked_fits b types a c pointer suits numbered (λ h. fits types a c pointer suits numbered h) well).1,
           ),
         )
-    fits_cell types x c t r suits numbered cell = absurd numbered
+    fits_cell types (Element a i u) c t r suits (first, second) (well, index, live, same) =
+        let fat = Value (type_forms.Pointer marks.Fat u r) in
+        let (given_is, fitting) = looked_fits b types a c fat suits first (λ h. fits types a c fat suits first h) well in
+        (same, (given_is, omega (arith, ap operand_words (type_given a c fat well)), fitting, (fits types i c (Value type_forms.Int) suits second index).1))
 
     fits_converted : (types : Types) → (d : Converted) (c : Context) (t : Ty) → Suits b types c → IsLowerableConverted b d → IsConverted c d t → (passed_kind d ≡ kind_of t) × FitsConverted b types d
     fits_converted types (Convert from to a) c t suits (wide, numbered) (v, well, converts, from_is, to_is) =
@@ -520,18 +535,16 @@ module _ (b : Numbering) (types : Types) where
       (room_in b types c n t (passed_kind d) suits there kind, fitting)
 
   suits_behind : (s : Statement) (c : Context) → Suits b types c → Suits b types (behind c s)
-  suits_behind s c suits = record { functions = suits.functions; structs = suits.structs; variables = suits.variables; counters = suits.counters; result = suits.result }
+  suits_behind s c suits = record { functions = suits.functions; structs = suits.structs; variables = suits.variables; globals = suits.globals; counters = suits.counters; result = suits.result }
 
-  fits_side : (x : Side) (c : Context) (t : Ty) → Suits b types c → IsLowerableSide b x → IsSide c x t → (t ≡ type_of_side x) × (words_of (type_of_side x) ≡ 1) × FitsSide b types x (kind_of t)
-  fits_side (VariableSide (Local p n) u) c t suits (single, within) (r, (m, place, home, there), is) = (is, single, (within, room_in b types c n u (kind_of t) suits there (ap kind_of is)))
-  fits_side (VariableSide (Global n) u) c t suits (single, within) (r, place, is) = (is, single, within)
-  fits_side (CellSide x) c t suits numbered (r, cell) =
-      let (same, fitting) = fits_cell b types x c t r suits numbered cell in
-      (same, cell_single b types x numbered, fitting)
+  fits_side : (x : Side) (c : Context) (t : Ty) → Suits b types c → IsLowerableSide b x → IsSide c x t → (t ≡ type_of_side x) × FitsSide b types x (kind_of t)
+  fits_side (VariableSide (Local p n) u) c t suits within (r, (m, place, home, there), is) = (is, (within, room_in b types c n u (kind_of t) suits there (ap kind_of is)))
+  fits_side (VariableSide (Global n) u) c t suits within (r, (home, there), is) = (is, global_in b types c n u (kind_of t) suits there (ap kind_of is))
+  fits_side (CellSide x) c t suits numbered (r, cell) = fits_cell b types x c t r suits numbered cell
 
   suits_caught : (x : Option ℕ) (c : Context) → Suits b types c → Suits b types (with_caught x (in_block c))
-  suits_caught None c suits = record { functions = suits.functions; structs = suits.structs; variables = suits.variables; counters = suits.counters; result = suits.result }
-  suits_caught (Some n) c suits = record { functions = suits.functions; structs = suits.structs; variables = suits.variables; counters = suits.counters; result = suits.result }
+  suits_caught None c suits = record { functions = suits.functions; structs = suits.structs; variables = suits.variables; globals = suits.globals; counters = suits.counters; result = suits.result }
+  suits_caught (Some n) c suits = record { functions = suits.functions; structs = suits.structs; variables = suits.variables; globals = suits.globals; counters = suits.counters; result = suits.result }
 
   fits_thrown : (v : Option Expression) (has : Bool) (c : Context) → Suits b types c → IsLowerableThrown b v → IsThrown c has v → FitsThrown b types v
   fits_thrown None has c suits numbered well = tt
@@ -546,18 +559,18 @@ module _ (b : Numbering) (types : Types) where
   mutual
     fits_statement : (s : Statement) (l : Bool) (c : Context) → Suits b types c → IsLowerableStatement b l s → WellTypedStatement c s → FitsStatement b types l s
     fits_statement (Block r js) l c suits numbered (next, well) =
-        fit_items js l (in_block c) (record { functions = suits.functions; structs = suits.structs; variables = suits.variables; counters = suits.counters; result = suits.result }) numbered well
+        fit_items js l (in_block c) (record { functions = suits.functions; structs = suits.structs; variables = suits.variables; globals = suits.globals; counters = suits.counters; result = suits.result }) numbered well
     fits_statement Empty l c suits numbered well = tt
     fits_statement (Evaluate a) l c suits numbered (t, well) = (fits b types a c t suits numbered well).1
-    fits_statement (Swap x y) l c suits (low_x, low_y, waits) (t, side_x, side_y, flat) =
-        let (same, single, fits_x) = fits_side x c t suits low_x side_x in
-        let (same_y, single_y, fits_y) = fits_side y c t suits low_y side_y in
-        (single, subst (λ u. FitsSide b types x (kind_of u)) same fits_x, subst (λ u. FitsSide b types y (kind_of u)) same fits_y, waits)
+    fits_statement (Swap x y) l c suits (low_x, low_y) (t, side_x, side_y, flat) =
+        let (same, fits_x) = fits_side x c t suits low_x side_x in
+        let (same_y, fits_y) = fits_side y c t suits low_y side_y in
+        (subst (λ u. FitsSide b types x (kind_of u)) same fits_x, subst (λ u. FitsSide b types y (kind_of u)) same fits_y)
     fits_statement (If a s t) l c suits (numbered_a, numbered_s, numbered_t) (well_a, well_s, well_t) =
         (fits_condition a c suits numbered_a well_a, fits_statement s l c suits numbered_s well_s, fits_statement t l (behind c s) (suits_behind s c suits) numbered_t well_t)
     fits_statement (While p a s) l c suits (numbered_a, numbered_s) (well_a, well_s) = (
       fits_condition a c suits numbered_a well_a,
-      fits_statement s true (in_body c) (record { functions = suits.functions; structs = suits.structs; variables = suits.variables; counters = suits.counters; result = suits.result }) numbered_s well_s,
+      fits_statement s true (in_body c) (record { functions = suits.functions; structs = suits.structs; variables = suits.variables; globals = suits.globals; counters = suits.counters; result = suits.result }) numbered_s well_s,
     )
     fits_statement (Return v) l c suits numbered well = fits_return b.result v c suits numbered (subst (λ (r : Option Ty). IsReturned c r v) suits.result well)
     fits_statement Break l c suits numbered well = numbered
@@ -572,30 +585,30 @@ module _ (b : Numbering) (types : Types) where
     fit_items (MoreItems (Declare n t v) js) l c suits (few, one, all) ((next, there, live), well, rest) = (
       few,
       fits_initial v n t c suits there one well,
-      fit_items js l (with_local true t c) (record { functions = suits.functions; structs = suits.structs; variables = suits.variables; counters = suits.counters; result = suits.result }) all rest,
+      fit_items js l (with_local true t c) (record { functions = suits.functions; structs = suits.structs; variables = suits.variables; globals = suits.globals; counters = suits.counters; result = suits.result }) all rest,
     )
     fit_items js l c suits numbered well = absurd numbered
 
     fit_clauses : (cs : Clauses) (l : Bool) (c : Context) → Suits b types c → AreLowerableClauses b l cs → WellTypedClauses c cs → FitClauses b types l cs
     fit_clauses NoClauses l c suits numbered well = tt
     fit_clauses (Default r js) l c suits numbered (next, well) =
-        fit_items js l (in_block c) (record { functions = suits.functions; structs = suits.structs; variables = suits.variables; counters = suits.counters; result = suits.result }) numbered well
+        fit_items js l (in_block c) (record { functions = suits.functions; structs = suits.structs; variables = suits.variables; globals = suits.globals; counters = suits.counters; result = suits.result }) numbered well
     fit_clauses (Case tag x r js cs) l c suits (word, few, one, all) (has, known, caught, next, well, rest) = (
       word,
       fits_caught x has c suits few caught,
       fit_items js l (with_caught x (in_block c)) (suits_caught x c suits) one well,
-      fit_clauses cs l (behind_clause c x js) (record { functions = suits.functions; structs = suits.structs; variables = suits.variables; counters = suits.counters; result = suits.result }) all rest,
+      fit_clauses cs l (behind_clause c x js) (record { functions = suits.functions; structs = suits.structs; variables = suits.variables; globals = suits.globals; counters = suits.counters; result = suits.result }) all rest,
     )
 
-  pub body_fits : (js : Items) (c : Context) → c.functions ≡ b.functions → c.structs ≡ types.structs → c.variables ≡ types.locals → c.counters ≡ length types.counters → c.result ≡ b.result → AreLowerableItems b false js → WellTypedItems c js → FitItems b types false js
-  body_fits js c functions structs variables counters result numbered well = fit_items js false c (record { functions = functions; structs = structs; variables = variables; counters = counters; result = result }) numbered well
+  pub body_fits : (js : Items) (c : Context) → c.functions ≡ b.functions → c.structs ≡ types.structs → c.variables ≡ types.locals → c.globals ≡ types.globals → c.counters ≡ length types.counters → c.result ≡ b.result → AreLowerableItems b false js → WellTypedItems c js → FitItems b types false js
+  body_fits js c functions structs variables globals counters result numbered well = fit_items js false c (record { functions = functions; structs = structs; variables = variables; globals = globals; counters = counters; result = result }) numbered well
 
 -- ---- programs
 
-functions_fit : (p : Program) (hs : List Function) → AreLowerableFunctions (length p.globals) (signatures_of p.functions) hs → AreWellTypedFunctions p hs → AreFitting p.structs (length p.globals) (signatures_of p.functions) hs
+functions_fit : (p : Program) (hs : List Function) → AreLowerableFunctions (length p.globals) (signatures_of p.functions) hs → AreWellTypedFunctions p hs → AreFitting p.structs p.globals (signatures_of p.functions) hs
 functions_fit p [] numbered well = tt
 functions_fit p (h ∷ hs) (one, all) (well, rest) =
-    (body_fits (numbering_of (length p.globals) (signatures_of p.functions) h) (types_of p.structs h) h.body (body_context p h) refl refl refl refl refl one well.body, functions_fit p hs all rest)
+    (body_fits (numbering_of (length p.globals) (signatures_of p.functions) h) (types_of p.structs (global_types p.globals) h) h.body (body_context p h) refl refl refl refl refl refl one well.body, functions_fit p hs all rest)
 
 pub is_fitting_program : (p : Program) → IsLowerableProgram p → IsWellTypedProgram p → IsFitting p
 is_fitting_program p numbered well = record {

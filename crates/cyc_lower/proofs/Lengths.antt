@@ -1,5 +1,6 @@
 -- How long code is does not depend on where it stands, nor on where the blocks stand that raise exceptions. So a function's code, which
 -- is made for the length that it had with them elsewhere, has its blocks where its checks lead to.
+use Rattle.cyc_types.specs.typing.Expressions.{type_of_side}
 use Rattle.std.proofs.Common.{◌≡◌, ℕ, zero, suc, ◌+◌, Bool, true, false, List, [], ◌∷◌, ◌++◌, length, Option, None, Some, refl, sym, ap, ◌∙◌, arith, length-append}
 use Rattle.std.specs.Prelude.{if◌then◌else◌}
 use Rattle.cyc_types.specs.declared.typed.Kind.{Kind}
@@ -9,23 +10,27 @@ use Rattle.cyc_types.specs.declared.typed.Operator.{Operator}
 use Rattle.cyc_types.specs.declared.typed.Operator.TheVariants as operators
 use Rattle.cyc_types.specs.declared.typed.PointerOperator.{PointerOperator}
 use Rattle.cyc_types.specs.declared.typed.PointerOperator.TheVariants as pointers
-use Rattle.cyc_types.specs.TypedTrees.{Load, New, OnHeap, Initial, Plain, Fields, Array, Dereference, Target, Member, Element, Lvalue, Local, Global, Expression, Number, NullPointer, Copy, Call, Unary, Binary, Assign, Converted, Convert, Arguments, NoArguments, MoreArguments, Operations, NoOperations, ThenCompute, ThenTest, ThenPointer, ThenPointerPeek, Statement, Block, Empty, Evaluate, If, While, Return, Break, Continue, Items, NoItems, MoreItems, Execute, Declare, StructType, Function, Move, Peek, AddressOfCell, Store, AsUnique, FreeUnique, Side, VariableSide, CellSide, Swap, Throw, Try, Clauses, NoClauses, Default, Case}
+use Rattle.cyc_types.specs.TypedTrees.{Load, New, OnHeap, Initial, Plain, Fields, Array, Dereference, Target, Member, Element, Lvalue, Local, Global, Expression, Number, NullPointer, Copy, Call, Unary, Binary, Assign, Converted, Convert, Arguments, NoArguments, MoreArguments, Operations, NoOperations, ThenCompute, ThenTest, ThenPointer, ThenPointerPeek, Statement, Block, Empty, Evaluate, If, While, Return, Break, Continue, Items, NoItems, MoreItems, Execute, Declare, StructType, Function, Move, Peek, AddressOfCell, Store, AsUnique, FreeUnique, Side, VariableSide, CellSide, Swap, Throw, Try, Clauses, NoClauses, Default, Case, NumberOfElements, type_of_place}
 use Rattle.cyc_types.specs.Types.{words_of}
-use Rattle.cyc_types.specs.Numbered.{argument_count}
 use Rattle.cyc_plain.specs.declared.instruction.Operand.{Operand}
 use Rattle.cyc_plain.specs.declared.instruction.Operand.TheVariants as operands
 use Rattle.cyc_plain.specs.declared.instruction.Instruction.{Instruction}
 use Rattle.cyc_store.specs.declared.range.TheConstants.{HEAP, UNIQUE}
 use Rattle.cyc_lower.specs.declared.statements.Exits.{Exits}
-use Rattle.cyc_lower.specs.Slots.{with_counter, Starts, starts_of, slot_of}
-use Rattle.cyc_lower.specs.Lowering.{begun_code, filled_code, elements_code, ended_code, types_with, types_of, raises_of, body_code, first_temporary, outside_loops, are_as_wide, converts_there, passed_words, operand_of, operand_or, code_unless, code_unless_slot, left_with, left_of, value_slot, slot_with, left_slot, value_operand, next_slot, source_of, source_slot, converted_operand, converted_by, moved_by, conversion_code, divisor_code, operator_code, pointer_instructions, first_two, load_code, copy_code, address_code, object_code, place_operand, place_offset, expression_code, place_code, made_code, arguments_code, converted_code, converted_operand_code, printed_code, initial_code, operations_code, assignment_code, discarded_code, first_code, second_code, pair_code, condition_code, return_code, declaration_code, statement_code, items_code, behind_left, if_code, while_code, condition_of, failing_jump, compared_of, inside_loop, checked_code, right_slot, side_code, swap_code, thrown_code, caught_code, clauses_code, leave_code, try_code, clause_code, break_target, continue_target}
+use Rattle.cyc_lower.specs.Slots.{with_counter, Starts, starts_of, slot_of, global_of}
+use Rattle.cyc_lower.specs.Lowering.{begun_code, filled_code, elements_code, ended_code, types_of, raises_of, body_code, first_temporary, outside_loops, are_as_wide, converts_there, passed_words, operand_of, operand_or, code_unless, code_unless_slot, left_with, left_of, value_slot, slot_with, left_slot, value_operand, next_slot, source_of, source_slot, converted_operand, converted_by, moved_by, conversion_code, divisor_code, operator_code, pointer_instructions, first_two, load_code, copy_code, address_code, object_code, place_operand, place_offset, expression_code, place_code, made_code, arguments_code, converted_code, converted_operand_code, printed_code, initial_code, operations_code, assignment_code, discarded_code, first_code, second_code, pair_code, condition_code, return_code, declaration_code, statement_code, items_code, behind_left, if_code, while_code, condition_of, failing_jump, compared_of, inside_loop, checked_code, right_slot, side_code, swap_code, thrown_code, caught_code, clauses_code, leave_code, try_code, clause_code, break_target, continue_target, null_of, span_of, span_in, followed_operand, followed_code, conversion_by, widened_code, count_code, loaded_code, saved_code, slot_or, all_passed, thinned_code, bounded_code, past_bounded, pointer_of, pointer_slot, reached_operand, reached_code, word_by_word, load_word, global_code, starts_with, stores_code, read_side, write_side, exchange_code}
 use Rattle.cyc_plain.specs.declared.instruction.Instruction.TheVariants as instructions
 use Rattle.cyc_plain.specs.declared.limits.TheConstants.{RECORD_WORDS}
+use Rattle.cyc_meaning.specs.Values.{is_thin, words_of_kind}
 
 -- ---- lists
 
 joined : (a b x y : List Instruction) → length a ≡ length x → length b ≡ length y → length (a ++ b) ≡ length (x ++ y)
 joined a b x y first second = omega (arith, length-append a b, length-append x y, first, second)
+
+-- an element of an array is written
+filled_long : (words h i t : ℕ) → length (filled_code words h t) ≡ length (filled_code words i t)
+filled_long words h i t = ap (λ n. suc (suc n)) (joined (stores_code words (t + 3 + words) 0 (t + 3)) (_ ∷ _ ∷ []) (stores_code words (t + 3 + words) 0 (t + 3)) (_ ∷ _ ∷ []) refl refl)
 
 unless_long : (known same : Option Operand) (a x : List Instruction) → known ≡ same → length a ≡ length x → length (code_unless known a) ≡ length (code_unless same x)
 unless_long (Some o) same a x is long = ap (λ z. length (code_unless z x)) is
@@ -68,6 +73,11 @@ clause_long a x tag t p q out aim same = ap suc (joined a (_ ∷ []) x (_ ∷ []
 
 -- ---- code that begins at any two places, with the blocks at any two
 
+-- a jump over the comparison of an index
+pub past_long : (starts : Starts) (span : Option ℕ) (n m t : ℕ) → suc (length (bounded_code starts span n m t)) ≡ past_bounded span
+past_long starts None n m t = refl
+past_long starts (Some words) n m t = refl
+
 module _ (starts : Starts) (raises : ℕ) where
   abbrev other : Starts
   other = record starts { raises = raises }
@@ -101,7 +111,7 @@ module _ (starts : Starts) (raises : ℕ) where
   same_left_slot a os d e t same = refl
 
   same_source : (c : Converted) → source_of starts c ≡ source_of other c
-  same_source (Convert from to a) = λ i. if are_as_wide from to then same_operand a i else None
+  same_source (Convert from to a) = λ i. if are_as_wide from to then same_operand a i else null_of a
 
   same_source_slot : (c : Converted) (t : ℕ) → source_slot starts c t ≡ source_slot other c t
   same_source_slot (Convert from to a) t = λ i. if are_as_wide from to then same_slot a t i else t
@@ -109,10 +119,13 @@ module _ (starts : Starts) (raises : ℕ) where
   same_converted : (c : Converted) (t : ℕ) → converted_operand starts c t ≡ converted_operand other c t
   same_converted c t = λ i. operand_or (same_source c i) (same_source_slot c t i)
 
+  same_pointer : (a x : Expression) → pointer_of starts a x ≡ pointer_of other a x
+  same_pointer a x = λ i. left_with (same_operand x i) (same_operand a i)
+
   same_place : (x : Dereference) (t : ℕ) → place_operand starts x t ≡ place_operand other x t
-  same_place (Target k a ty) t = same_value a t
+  same_place (Target k a ty) t = λ i. followed_operand (is_thin k) (span_in ty) (same_value a t i) t
   same_place (Member k a s f ty) t = same_value a t
-  same_place (Element a i ty) t = refl
+  same_place (Element a x ty) t = λ i. reached_operand (span_in ty) (slot_or (same_pointer a x i) t) t
 
   same_offset : (x : Dereference) → place_offset starts x ≡ place_offset other x
   same_offset (Target k a ty) = refl
@@ -121,13 +134,37 @@ module _ (starts : Starts) (raises : ℕ) where
 
   -- so code is as long as it was
 
+  loads_long : (words first d e : ℕ) → length (word_by_word load_word words first d) ≡ length (word_by_word load_word words first e)
+  loads_long zero first d e = refl
+  loads_long (suc words) first d e = ap suc (loads_long words (suc first) (suc d) (suc e))
+
   load_long : (words : ℕ) (l : Lvalue) (d e : ℕ) → length (load_code starts words l d) ≡ length (load_code other words l e)
   load_long words (Local w n) d e = refl
-  load_long words (Global n) d e = refl
+  load_long words (Global n) d e = loads_long words (global_of starts n) d e
 
-  conversion_long : (to : Kind) (o r : Operand) (p q : ℕ) → length (conversion_code starts to o p) ≡ length (conversion_code other to r q)
-  conversion_long kinds.NonNull o r p q = refl
-  conversion_long to o r p q = refl
+  thinned_long : (to : Kind) (span : Option ℕ) (o : Operand) (p q : ℕ) → length (thinned_code starts to span o p) ≡ length (thinned_code other to span o q)
+  thinned_long kinds.NonNull span (operands.Slot n) p q = refl
+  thinned_long kinds.Nullable span (operands.Slot n) p q = refl
+  thinned_long to span o p q = refl
+
+  conversion_by_long : (wide : Bool) (to : Kind) (span : Option ℕ) (o r : Operand) (p q : ℕ) → o ≡ r → length (conversion_by starts wide to span o p) ≡ length (conversion_by other wide to span r q)
+  conversion_by_long true kinds.NonNull span o r p q same = refl
+  conversion_by_long true to span o r p q same = refl
+  conversion_by_long false kinds.Fat span o r p q same = λ i. length (widened_code (same i))
+  conversion_by_long false to span o r p q same = thinned_long to span o p q ∙ (λ i. length (thinned_code other to span (same i) q))
+
+  conversion_long : (from to : Kind) (span : Option ℕ) (o r : Operand) (p q : ℕ) → o ≡ r → length (conversion_code starts from to span o p) ≡ length (conversion_code other from to span r q)
+  conversion_long from to span o r p q same = conversion_by_long (are_as_wide from to) to span o r p q same
+
+  -- an access by a pointer, and the number of its elements
+  followed_long : (thin : Bool) (span : Option ℕ) (o r : Operand) (t : ℕ) → o ≡ r → length (followed_code starts thin span o t) ≡ length (followed_code other thin span r t)
+  followed_long true span o r t same = refl
+  followed_long false span (operands.Slot n) r t same = ap (λ x. length (followed_code other false span x t)) same
+  followed_long false span (operands.Word w) r t same = ap (λ x. length (followed_code other false span x t)) same
+
+  counted_long : (o r : Operand) (p q d e : ℕ) → o ≡ r → length (count_code o p d) ≡ length (count_code r q e)
+  counted_long (operands.Slot n) r p q d e same = ap (λ x. length (count_code x q e)) same
+  counted_long (operands.Word w) r p q d e same = ap (λ x. length (count_code x q e)) same
 
   divisor_long : (o r : Operand) → o ≡ r → length (divisor_code starts o) ≡ length (divisor_code other r)
   divisor_long (operands.Word (suc n)) r same = ap (λ x. length (divisor_code other x)) same
@@ -142,9 +179,9 @@ module _ (starts : Starts) (raises : ℕ) where
   operator_long operators.Remainder l m r s d e left right = checked_long operators.Remainder l m r s d e left right
   operator_long o l m r s d e left right = refl
 
-  converted_by_long : (known same : Option Operand) (a x : List Instruction) (to : Kind) (o r : Operand) (p q : ℕ) → known ≡ same → length a ≡ length x
-      → length (converted_by starts known a to o p) ≡ length (converted_by other same x to r q)
-  converted_by_long known same a x to o r p q is long = joined _ _ _ _ (unless_long known same a x is long) (conversion_long to o r _ _)
+  converted_by_long : (known same : Option Operand) (a x : List Instruction) (from to : Kind) (span : Option ℕ) (o r : Operand) (p q : ℕ) → known ≡ same → length a ≡ length x → o ≡ r
+      → length (converted_by starts known a from to span o p) ≡ length (converted_by other same x from to span r q)
+  converted_by_long known same a x from to span o r p q is long there = joined _ _ _ _ (unless_long known same a x is long) (conversion_long from to span o r _ _ there)
 
   -- an expression that is an operand
   operand_by : (a : Expression) (p q t : ℕ) → length (expression_code starts a p (value_slot starts a t) t) ≡ length (expression_code other a q (value_slot other a t) t)
@@ -160,6 +197,7 @@ module _ (raises : ℕ) where
     expression_long starts (Call callees.Putchar cs ty) p q d e t same = joined _ _ _ _ (printed_long starts cs p q t) refl
     expression_long starts (Call callees.Getchar cs ty) p q d e t same = joined _ _ _ _ (arguments_long starts cs p q t) refl
     expression_long starts (Call (callees.Function n) cs ty) p q d e t same = joined _ _ _ _ (arguments_long starts cs p q t) refl
+    expression_long starts (NumberOfElements a) p q d e t same = joined _ _ _ _ (operand_by starts raises a p q t (expression_long starts a p q _ _ t (same_slot starts raises a t))) (counted_long starts raises _ _ _ _ d e (same_value starts raises a t))
     expression_long starts (Unary o a) p q d e t same = joined _ _ _ _ (operand_by starts raises a p q t (expression_long starts a p q _ _ t (same_slot starts raises a t))) refl
     expression_long starts (Binary a os ty) p q d e t same =
         joined _ _ _ _ (unless_long _ _ _ _ (same_left starts raises a os) (expression_long starts a p q _ _ t (same_left_slot starts raises a os d e t same)))
@@ -167,12 +205,12 @@ module _ (raises : ℕ) where
     expression_long starts (Assign (Local w n) c ty) p q d e t same =
         joined _ _ _ _ (initial_long starts c p q (slot_of starts n) (slot_of starts n) t refl) (λ i. length (copy_code (passed_words c) (operands.Slot (slot_of starts n)) (same i)))
     expression_long starts (Assign (Global n) c ty) p q d e t same =
-        joined _ _ _ _ (joined _ _ _ _ (converted_operand_long starts c p q t) refl) (λ i. length (copy_code (passed_words c) (same_converted starts raises c t i) (same i)))
-    expression_long starts (Load x) p q d e t same = joined _ _ _ _ (place_long starts x p q t) refl
+        joined _ _ _ _ (joined _ _ _ _ (converted_operand_long starts c p q t) (λ i. length (global_code (passed_words c) (global_of starts n) (same_converted starts raises c t i)))) (λ i. length (copy_code (passed_words c) (same_converted starts raises c t i) (same i)))
+    expression_long starts (Load x) p q d e t same = joined _ _ _ _ (place_long starts x p q t) (λ i. length (loaded_code (words_of (type_of_place x)) (same_place starts raises x t i) (same_offset starts raises x i) (same i)))
     expression_long starts (AddressOfCell x ty) p q d e t same = joined _ _ _ _ (place_long starts x p q t) (λ i. length (address_code (same_place starts raises x t i) (same_offset starts raises x i) (same i)))
     expression_long starts (Store x c ty) p q d e t same =
         joined _ _ _ _
-        (joined _ _ _ _ (joined _ _ _ _ (place_long starts x p q t) (λ i. length (address_code (same_place starts raises x t i) (same_offset starts raises x i) t))) (joined _ _ _ _ (converted_operand_long starts c _ _ (t + 1)) refl))
+        (joined _ _ _ _ (joined _ _ _ _ (place_long starts x p q t) (λ i. length (address_code (same_place starts raises x t i) (same_offset starts raises x i) t))) (joined _ _ _ _ (converted_operand_long starts c _ _ (t + 1)) (λ i. length (saved_code (passed_words c) t (same_converted starts raises c (t + 1) i)))))
         (λ i. length (copy_code (passed_words c) (same_converted starts raises c (t + 1) i) (same i)))
     expression_long starts (New OnHeap x ty) p q d e t same = made_long starts x HEAP p q d e t same
     expression_long starts (New AsUnique x ty) p q d e t same = made_long starts x UNIQUE p q d e t same
@@ -180,25 +218,30 @@ module _ (raises : ℕ) where
     expression_long starts a p q d e t same = refl
 
     place_long : (starts : Starts) → (x : Dereference) (p q t : ℕ) → length (place_code starts x p t) ≡ length (place_code (other starts raises) x q t)
-    place_long starts (Target k a ty) p q t = joined _ _ _ _ (operand_by starts raises a p q t (expression_long starts a p q _ _ t (same_slot starts raises a t))) refl
+    place_long starts (Target k a ty) p q t =
+        joined _ _ _ _ (operand_by starts raises a p q t (expression_long starts a p q _ _ t (same_slot starts raises a t))) (followed_long starts raises (is_thin k) (span_in ty) (value_operand starts a t) (value_operand (other starts raises) a t) t (same_value starts raises a t))
     place_long starts (Member k a s f ty) p q t = joined _ _ _ _ (operand_by starts raises a p q t (expression_long starts a p q _ _ t (same_slot starts raises a t))) refl
-    place_long starts (Element a x ty) p q t = refl
+    place_long starts (Element a x ty) p q t =
+        joined _ _ _ _ (unless_slot_long _ _ _ _ (same_pointer starts raises a x) (expression_long starts a p q t t t refl))
+        (joined _ _ _ _ (operand_by starts raises x _ _ (t + 3) (expression_long starts x _ _ _ _ (t + 3) (same_slot starts raises x (t + 3))))
+        (λ i. suc (length (reached_code (other starts raises) (span_in ty) (slot_or (same_pointer starts raises a x i) t) (t + 2) t))))
 
     made_long : (starts : Starts) → (x : Initial) (handle p q d e t : ℕ) → d ≡ e → length (made_code starts x handle p d t) ≡ length (made_code (other starts raises) x handle q e t)
-    made_long starts (Plain kind a) handle p q d e t same = joined _ _ _ _ (expression_long starts a p q t t t refl) (λ i. length (object_code handle 1 (same i) t))
-    made_long starts (Fields cs) handle p q d e t same = joined _ _ _ _ (arguments_long starts cs p q t) (λ i. length (object_code handle (argument_count cs) (same i) t))
+    made_long starts (Plain kind a) handle p q d e t same = joined _ _ _ _ (expression_long starts a p q t t t refl) (λ i. length (object_code handle (words_of_kind kind) (same i) t))
+    made_long starts (Fields cs) handle p q d e t same = joined _ _ _ _ (arguments_long starts cs p q t) (λ i. length (object_code handle (all_passed cs) (same i) t))
     made_long starts (Array w level n kind a) handle p q d e t same =
+        let words = words_of_kind kind in
         let first = expression_code starts n p t t in
         let second = expression_code (other starts raises) n q t t in
-        let h = p + length first + 6 in
-        let i = q + length second + 6 in
+        let h = p + length first + 7 in
+        let i = q + length second + 7 in
         let inner = expression_code (with_counter starts (t + 2)) a (h + 1) (t + 3) (t + 3) in
         let alike = expression_code (with_counter (other starts raises) (t + 2)) a (i + 1) (t + 3) (t + 3) in
-        joined first (begun_code starts handle t ++ elements_code inner h d t) second (begun_code (other starts raises) handle t ++ elements_code alike i e t) (expression_long starts n p q t t t refl)
-        (joined (begun_code starts handle t) (elements_code inner h d t) (begun_code (other starts raises) handle t) (elements_code alike i e t) refl
+        joined first (begun_code starts handle words t ++ elements_code words inner h d t) second (begun_code (other starts raises) handle words t ++ elements_code words alike i e t) (expression_long starts n p q t t t refl)
+        (joined (begun_code starts handle words t) (elements_code words inner h d t) (begun_code (other starts raises) handle words t) (elements_code words alike i e t) refl
         (ap suc
-        (joined (inner ++ filled_code h t) (ended_code d t) (alike ++ filled_code i t) (ended_code e t)
-        (joined inner (filled_code h t) alike (filled_code i t) (expression_long (with_counter starts (t + 2)) a (h + 1) (i + 1) (t + 3) (t + 3) (t + 3) refl) refl)
+        (joined (inner ++ filled_code words h t) (ended_code d t) (alike ++ filled_code words i t) (ended_code e t)
+        (joined inner (filled_code words h t) alike (filled_code words i t) (expression_long (with_counter starts (t + 2)) a (h + 1) (i + 1) (t + 3) (t + 3) (t + 3) refl) (filled_long words h i t))
         (λ z. length (ended_code (same z) t)))))
 
     arguments_long : (starts : Starts) → (cs : Arguments) (p q t : ℕ) → length (arguments_code starts cs p t) ≡ length (arguments_code (other starts raises) cs q t)
@@ -206,11 +249,11 @@ module _ (raises : ℕ) where
     arguments_long starts (MoreArguments c cs) p q t = joined _ _ _ _ (converted_long starts c p q t) (arguments_long starts cs _ _ (t + passed_words c))
 
     converted_long : (starts : Starts) → (c : Converted) (p q t : ℕ) → length (converted_code starts c p t) ≡ length (converted_code (other starts raises) c q t)
-    converted_long starts (Convert from to a) p q t = joined _ _ _ _ (expression_long starts a p q t t t refl) (conversion_long starts raises to _ _ _ _)
+    converted_long starts (Convert from to a) p q t = joined _ _ _ _ (expression_long starts a p q t t t refl) (conversion_long starts raises from to (span_of a) (operands.Slot t) (operands.Slot t) _ _ refl)
 
     converted_operand_long : (starts : Starts) → (c : Converted) (p q t : ℕ) → length (converted_operand_code starts c p t) ≡ length (converted_operand_code (other starts raises) c q t)
     converted_operand_long starts (Convert from to a) p q t =
-        converted_by_long starts raises _ _ _ _ to _ _ p q (same_source starts raises (Convert from to a)) (expression_long starts a p q _ _ t (same_source_slot starts raises (Convert from to a) t))
+        converted_by_long starts raises _ _ _ _ from to (span_of a) _ _ p q (same_source starts raises (Convert from to a)) (expression_long starts a p q _ _ t (same_source_slot starts raises (Convert from to a) t)) (same_converted starts raises (Convert from to a) t)
 
     printed_long : (starts : Starts) → (cs : Arguments) (p q t : ℕ) → length (printed_code starts cs p t) ≡ length (printed_code (other starts raises) cs q t)
     printed_long starts NoArguments p q t = refl
@@ -219,7 +262,8 @@ module _ (raises : ℕ) where
     initial_long : (starts : Starts) → (c : Converted) (p q d e t : ℕ) → d ≡ e → length (initial_code starts c p d t) ≡ length (initial_code (other starts raises) c q e t)
     initial_long starts (Convert from to a) p q d e t same =
         either_long (converts_there from to) _ _ _ _ (expression_long starts a p q d e t same)
-        (joined _ _ _ _ (converted_by_long starts raises _ _ _ _ to _ _ p q (same_source starts raises (Convert from to a)) (expression_long starts a p q _ _ t (same_source_slot starts raises (Convert from to a) t))) refl)
+        (joined _ _ _ _
+        (converted_by_long starts raises _ _ _ _ from to (span_of a) _ _ p q (same_source starts raises (Convert from to a)) (expression_long starts a p q _ _ t (same_source_slot starts raises (Convert from to a) t)) (same_converted starts raises (Convert from to a) t)) refl)
 
     operations_long : (starts : Starts) → (os : Operations) (p q : ℕ) (l m : Operand) (d e t : ℕ) → l ≡ m → d ≡ e → length (operations_code starts os p l d t) ≡ length (operations_code (other starts raises) os q m e t)
     operations_long starts NoOperations p q l m d e t left same = refl
@@ -240,13 +284,13 @@ module _ (raises : ℕ) where
 module _ (starts : Starts) (raises : ℕ) where
   assignment_long : (l : Lvalue) (c : Converted) (p q t : ℕ) → length (assignment_code starts l c p t) ≡ length (assignment_code (other starts raises) l c q t)
   assignment_long (Local w n) c p q t = initial_long raises starts c p q (slot_of starts n) (slot_of starts n) t refl
-  assignment_long (Global n) c p q t = joined _ _ _ _ (converted_operand_long raises starts c p q t) refl
+  assignment_long (Global n) c p q t = joined _ _ _ _ (converted_operand_long raises starts c p q t) (λ i. length (global_code (passed_words c) (global_of starts n) (same_converted starts raises c t i)))
 
   discarded_long : (a : Expression) (p q t : ℕ) → length (discarded_code starts a p t) ≡ length (discarded_code (other starts raises) a q t)
   discarded_long (Call callees.Putchar cs ty) p q t = joined _ _ _ _ (printed_long raises starts cs p q t) refl
   discarded_long (Assign l c ty) p q t = assignment_long l c p q t
   discarded_long (Store x c ty) p q t =
-      joined _ _ _ _ (joined _ _ _ _ (place_long raises starts x p q t) (λ i. length (address_code (same_place starts raises x t i) (same_offset starts raises x i) t))) (joined _ _ _ _ (converted_operand_long raises starts c _ _ (t + 1)) refl)
+      joined _ _ _ _ (joined _ _ _ _ (place_long raises starts x p q t) (λ i. length (address_code (same_place starts raises x t i) (same_offset starts raises x i) t))) (joined _ _ _ _ (converted_operand_long raises starts c _ _ (t + 1)) (λ i. length (saved_code (passed_words c) t (same_converted starts raises c (t + 1) i))))
   discarded_long a p q t = unless_long (operand_of starts a) (operand_of (other starts raises) a) (expression_code starts a p t t) (expression_code (other starts raises) a q t t) (same_operand starts raises a) (expression_long raises starts a p q t t t refl)
 
   condition_long : (a b : Expression) (p q t : ℕ) → length (pair_code starts a b p t) ≡ length (pair_code (other starts raises) a b q t)
@@ -258,7 +302,7 @@ module _ (starts : Starts) (raises : ℕ) where
   return_long : (v : Option Converted) (p q head : ℕ) (exits : Exits) (t : ℕ) → length (return_code starts v p exits t) ≡ length (return_code (other starts raises) v q (record exits { head = head }) t)
   return_long None p q head exits t = refl
   return_long (Some (Convert from to a)) p q head exits t =
-      joined _ _ _ _ (joined _ _ _ _ (joined _ _ _ _ (unless_slot_long _ _ _ _ (same_source starts raises (Convert from to a)) (expression_long raises starts a p q t t t refl)) (conversion_long starts raises to _ _ _ _)) refl) refl
+      joined _ _ _ _ (joined _ _ _ _ (joined _ _ _ _ (unless_slot_long _ _ _ _ (same_source starts raises (Convert from to a)) (expression_long raises starts a p q t t t refl)) (conversion_long starts raises from to (span_of a) _ _ _ _ (λ i. operands.Slot (slot_or (same_source starts raises (Convert from to a) i) t)))) refl) refl
 
   declaration_long : (n : ℕ) (v : Option Converted) (p q t : ℕ) → length (declaration_code starts n v p t) ≡ length (declaration_code (other starts raises) n v q t)
   declaration_long n None p q t = refl
@@ -268,8 +312,23 @@ module _ (starts : Starts) (raises : ℕ) where
   side_long (VariableSide l ty) p q t = refl
   side_long (CellSide x) p q t = joined _ _ _ _ (place_long raises starts x p q t) (λ i. length (address_code (same_place starts raises x t i) (same_offset starts raises x i) t))
 
+  read_long : (x : Side) (words s d : ℕ) → length (read_side starts x words s d) ≡ length (read_side (other starts raises) x words s d)
+  read_long (VariableSide (Local w n) ty) words s d = refl
+  read_long (VariableSide (Global n) ty) words s d = refl
+  read_long (CellSide x) words s d = refl
+
+  write_long : (x : Side) (words s v : ℕ) → length (write_side starts x words s v) ≡ length (write_side (other starts raises) x words s v)
+  write_long (VariableSide (Local w n) ty) words s v = refl
+  write_long (VariableSide (Global n) ty) words s v = refl
+  write_long (CellSide x) words s v = refl
+
+  exchange_long : (words : ℕ) (x y : Side) (t : ℕ) → length (exchange_code starts words x y t) ≡ length (exchange_code (other starts raises) words x y t)
+  exchange_long words x y t =
+      joined _ _ _ _ (read_long x words t (t + 2))
+      (joined _ _ _ _ (read_long y words (right_slot x t) (t + 2 + words)) (joined _ _ _ _ (write_long x words t (t + 2 + words)) (write_long y words (right_slot x t) (t + 2))))
+
   swap_long : (x y : Side) (p q t : ℕ) → length (swap_code starts x y p t) ≡ length (swap_code (other starts raises) x y q t)
-  swap_long x y p q t = joined _ _ _ _ (side_long x p q t) (joined _ _ _ _ (side_long y _ _ (right_slot x t)) refl)
+  swap_long x y p q t = joined _ _ _ _ (side_long x p q t) (joined _ _ _ _ (side_long y _ _ (right_slot x t)) (exchange_long (words_of (type_of_side x)) x y t))
 
   thrown_long : (v : Option Expression) (p q t : ℕ) → length (thrown_code starts v p t) ≡ length (thrown_code (other starts raises) v q t)
   thrown_long None p q t = refl
@@ -340,5 +399,5 @@ module _ (starts : Starts) (raises : ℕ) where
         (clauses_long cs m n out aim head exits t)
 
 -- so the blocks stand behind the place that the checks are told
-pub body_long : (structs : List StructType) (h : Function) → length (body_code (types_of structs h) h) ≡ raises_of structs h
-body_long structs h = sym (items_long (starts_of (types_with 0 structs h)) (raises_of structs h) h.body 0 0 0 (outside_loops (first_temporary h)) (first_temporary h))
+pub body_long : (structs : List StructType) (globals : List ℕ) (h : Function) → length (body_code (starts_with (raises_of structs globals h) structs globals h) h) ≡ raises_of structs globals h
+body_long structs globals h = sym (items_long (starts_with 0 structs globals h) (raises_of structs globals h) h.body 0 0 0 (outside_loops (first_temporary h)) (first_temporary h))

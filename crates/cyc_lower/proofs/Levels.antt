@@ -1,7 +1,7 @@
 -- Where a value goes that waits for it, the arrays that are being filled are as many as there are slots of counters: behind a statement
 -- there is none.
-use Rattle.std.proofs.Common.{length-append, ◌≡◌, ◌≢◌, ℕ, suc, ◌+◌, ◌≤◌, ◌<◌, Bool, true, false, List, [], ◌∷◌, length, Option, None, Some, refl, sym, ap, subst, ◌∙◌, arith}
-use Rattle.std.specs.Prelude.{Contains, if◌then◌else◌}
+use Rattle.std.proofs.Common.{length-append, ◌≡◌, ◌≢◌, ℕ, suc, ◌+◌, ◌≤◌, ◌<◌, Bool, true, false, List, [], ◌∷◌, length, Option, None, Some, refl, sym, ap, subst, ◌∙◌, arith, inl, inr}
+use Rattle.std.specs.Prelude.{Contains, if◌then◌else◌, option_map}
 use Rattle.std.specs.List.{AllByRecursion}
 use Rattle.std.proofs.lemmas.Bool.{le-leb, and_from}
 use Rattle.cyc_words.specs.Ending.{Ending, Full}
@@ -10,7 +10,7 @@ use Rattle.cyc_types.specs.declared.typed.Kind.TheVariants as kinds
 use Rattle.cyc_types.specs.declared.typed.Callee.TheVariants as callees
 use Rattle.cyc_types.specs.declared.typed.Operator.{Operator}
 use Rattle.cyc_types.specs.TypedTrees.{Expression, Convert, NoOperations, Program}
-use Rattle.cyc_meaning.specs.Values.{Thin, Operand as Kinded}
+use Rattle.cyc_meaning.specs.Values.{Thin, Operand as Kinded, is_thin, words_of_kind}
 use Rattle.cyc_plain.specs.declared.instruction.Comparison.{Comparison}
 use Rattle.cyc_plain.specs.declared.instruction.Comparison.TheVariants as comparisons
 use Rattle.cyc_plain.specs.declared.instruction.Operand.{Operand}
@@ -28,13 +28,13 @@ use Rattle.cyc_words.proofs.Matching.{by_none, way_before}
 use Rattle.cyc_plain.proofs.Steps.{step_performs, place_known}
 use Rattle.cyc_plain.specs.Straight.{At}
 use Rattle.cyc_words.specs.Demand.{demand_of}
-use Rattle.cyc_meaning.specs.State.{FreeObject, ThrowWith, SwapLeft, SwapRight, Handler, World, Environment, ConvertTo, Operate, Chain, Apply, ApplyPointer, Follow, LoadFrom, Decide, Store, Pass, MakePlain, MakeFields, MakeArray, FillElement, Initialise, Choose, Test, Return, Entry, Needs, NeedsPlace, Discard, Rest, Join, Loop, CloseRegion, Caller, Main, counted, calls_in, Focus, Evaluating, Locating, Given, Executing, Proceeding, Calling, Entering, Binding, Writing, Beginning, Repeating, Breaking, Continuing, Returning, Throwing, State, Running, Ended, Dead, Wrong, output_of, input_of, status_of, GivenPlace, FollowMember, TakeAddress, StoreTo, StoreCell}
+use Rattle.cyc_meaning.specs.State.{FreeObject, CountElements, Index, Advance, ThrowWith, SwapLeft, SwapRight, Handler, World, Environment, ConvertTo, Operate, Chain, Apply, ApplyPointer, Follow, LoadFrom, Decide, Store, Pass, MakePlain, MakeFields, MakeArray, FillElement, Initialise, Choose, Test, Return, Entry, Needs, NeedsPlace, Discard, Rest, Join, Loop, CloseRegion, Caller, Main, counted, calls_in, Focus, Evaluating, Locating, Given, Executing, Proceeding, Calling, Entering, Binding, Writing, Beginning, Repeating, Breaking, Continuing, Returning, Throwing, State, Running, Ended, Dead, Wrong, output_of, input_of, status_of, GivenPlace, FollowMember, TakeAddress, StoreTo, StoreCell}
 use Rattle.cyc_meaning.specs.Step.{step}
 use Rattle.cyc_meaning.specs.Run.{is_within, limited_step}
 use Rattle.cyc_objects.specs.Tables.{Tables}
 use Rattle.cyc_objects.proofs.RegionLemmas.{counted-same}
 use Rattle.cyc_lower.specs.declared.statements.Exits.{Exits}
-use Rattle.cyc_lower.specs.Lowering.{compared_of, outside_loops, lower_program}
+use Rattle.cyc_lower.specs.Lowering.{reached_operand, followed_operand, compared_of, outside_loops, lower_program}
 use Rattle.cyc_meaning.specs.Pointers.{result_kind as operator_kind}
 use Rattle.cyc_lower.proofs.Widths.{chain_kind}
 use Rattle.cyc_meaning.specs.SourceMachine.{status_in, source_machine}
@@ -66,13 +66,15 @@ module _ (source : Program) where
     value_arrays g locals kind o p frames (Needs (Apply u left) ∷ k) (to_jump (failing, is, stack)) = condition_arrays g failing (operands.Slot (top source g k)) o p frames k stack
     value_arrays g locals kind o p frames (Needs (ApplyPointer peek u left) ∷ k) (d, q, at, lands) =
         by_lands source lands (λ stack. value_arrays g locals (operator_kind u) (operands.Slot d) q frames k stack) (λ stack. ahead_arrays g locals (operator_kind u) d q frames k stack)
+    value_arrays g locals kind o p frames (Needs CountElements ∷ k) (d, q, at, lands) =
+        by_lands source lands (λ stack. value_arrays g locals kinds.Int (operands.Slot d) q frames k stack) (λ stack. ahead_arrays g locals kinds.Int d q frames k stack)
     value_arrays g locals kind o p frames (Needs Decide ∷ k) (d, q, is, at, lands) =
         by_lands source lands (λ stack. value_arrays g locals kinds.Int (operands.Slot d) q frames k stack) (λ stack. ahead_arrays g locals kinds.Int d q frames k stack)
     value_arrays g locals kind o p frames (Needs (Store place) ∷ k) (l, to, q, at, is, hands) =
         by_hands source hands (λ stack. dropped_arrays g q frames k stack) (λ stack. value_arrays g locals kind to q frames k stack)
         (λ d r lands. by_lands source lands (λ stack. value_arrays g locals kind (operands.Slot d) r frames k stack) (λ stack. ahead_arrays g locals kind d r frames k stack))
-    value_arrays g locals kind o p frames (Needs (StoreCell peek place) ∷ k) (at, single, hands) =
-        by_hands source hands (λ stack. dropped_arrays g (p + 1) frames k stack) (λ stack. value_arrays g locals kind o (p + 1) frames k stack)
+    value_arrays g locals kind o p frames (Needs (StoreCell peek place) ∷ k) (q, at, hands) =
+        by_hands source hands (λ stack. dropped_arrays g q frames k stack) (λ stack. value_arrays g locals kind o q frames k stack)
         (λ d r lands. by_lands source lands (λ stack. value_arrays g locals kind (operands.Slot d) r frames k stack) (λ stack. ahead_arrays g locals kind d r frames k stack))
     value_arrays g locals kind o p frames (Needs (Pass callees.Putchar before cs) ∷ k) (none, single, at, prints) =
         by_prints source prints (λ stack. dropped_arrays g (p + 1) frames k stack)
@@ -85,15 +87,21 @@ module _ (source : Program) where
         by_lands source lands (λ stack. value_arrays g locals kinds.NonNull (operands.Slot d) q frames k stack) (λ stack. ahead_arrays g locals kinds.NonNull d q frames k stack)
     value_arrays g locals kind o p frames (Needs (MakeFields owner before cs) ∷ k) (handle, d, m, q, all, owned, is, at_cs, at, long, lands) =
         by_lands source lands (λ stack. value_arrays g locals kinds.NonNull (operands.Slot d) q frames k stack) (λ stack. ahead_arrays g locals kinds.NonNull d q frames k stack)
-    value_arrays g locals kind o p frames (Needs (MakeArray owner level wanted a) ∷ k) (handle, d, h, r, s, q, owned, is, begun, level_is, single, at, lands) =
+    value_arrays g locals kind o p frames (Needs (MakeArray owner level wanted a) ∷ k) (handle, d, h, r, s, q, owned, is, begun, level_is, at, lands) =
         by_lands source lands (λ stack. value_arrays g locals kinds.Fat (operands.Slot d) q frames k stack) (λ stack. ahead_arrays g locals kinds.Fat d q frames k stack)
-    value_arrays g locals kind o p frames (Needs (FillElement object count index level wanted a) ∷ k) (d, h, s, q, is, inside, few, level_is, single, at, lands) =
+    value_arrays g locals kind o p frames (Needs (FillElement object count index level wanted a) ∷ k) (d, h, s, q, is, inside, few, level_is, at, lands) =
         fill_counts object count index level wanted a k (by_lands source lands (λ stack. value_arrays g locals kinds.Fat (operands.Slot d) q frames k stack) (λ stack. ahead_arrays g locals kinds.Fat d q frames k stack))
     value_arrays g locals kind o p frames (Needs (Initialise n wanted items) ∷ k) (exits, q, at, below, items_at, stack) = statement_arrays g exits q frames k stack
     value_arrays g locals kind o p frames (Needs (Choose s t) ∷ k) (exits, r, q, at, at_s, jump, at_t, stack) = statement_arrays g exits q frames k stack
     value_arrays g locals kind o p frames (Needs (Test a s) ∷ k) (exits, outer, q, at, r, jump, body, back, stack) = statement_arrays g outer q frames k stack
     value_arrays g locals kind o p frames (Needs Return ∷ k) (exits, q, s, r, is, leave, at, one, stack) = statement_arrays g exits q frames k stack
-    value_arrays g locals kind o p frames (Needs (Follow pointer target) ∷ k) (q, thin, check, place) = place_arrays g locals o 0 q frames k place
+    value_arrays g locals kind o p frames (Needs (Follow pointer target) ∷ k) (q, low, at, place) = place_arrays g locals (followed_operand (is_thin pointer) (option_map words_of_kind target) o (top source g k)) 0 q frames k place
+    value_arrays g locals kind o p frames (Needs (Index peek target i) ∷ k) (inl (x, m, q, there, at, sum, reached, place)) =
+        place_arrays g locals (reached_operand (option_map words_of_kind target) (top source g k) (top source g k)) 0 q frames k place
+    value_arrays g locals kind o p frames (Needs (Index peek target i) ∷ k) (inr (n, x, q, there, low, known, sum, reached, place)) =
+        place_arrays g locals (reached_operand (option_map words_of_kind target) n (top source g k)) 0 q frames k place
+    value_arrays g locals kind o p frames (Needs (Advance peek target pointer) ∷ k) (q, sum, reached, place) =
+        place_arrays g locals (reached_operand (option_map words_of_kind target) (top source g k) (top source g k)) 0 q frames k place
     value_arrays g locals kind o p frames (Needs (FollowMember pointer fields field) ∷ k) (c, q, thin, check, inside, is, place) = place_arrays g locals o c q frames k place
     value_arrays g locals kind o p frames (Discard ∷ k) (exits, stack) = statement_arrays g exits p frames k stack
     value_arrays g locals kind o p frames (Needs FreeObject ∷ k) (d, q, freed, lands) =
@@ -102,15 +110,15 @@ module _ (source : Program) where
     value_arrays g locals kind o p frames (entry ∷ k) stack = absurd stack
 
     place_arrays : (g : ℕ) (locals : ℕ → Option ℕ) (o : Operand) (c p : ℕ) (frames : List Frame) (k : List Entry) → PlaceStack source g locals o c p frames k → AllCount k
-    place_arrays g locals o c p frames (NeedsPlace (LoadFrom cell) ∷ k) (d, at, single, lands) =
-        by_lands source lands (λ stack. value_arrays g locals cell (operands.Slot d) (p + 1) frames k stack) (λ stack. ahead_arrays g locals cell d (p + 1) frames k stack)
+    place_arrays g locals o c p frames (NeedsPlace (LoadFrom cell) ∷ k) (d, q, at, lands) =
+        by_lands source lands (λ stack. value_arrays g locals cell (operands.Slot d) q frames k stack) (λ stack. ahead_arrays g locals cell d q frames k stack)
     place_arrays g locals o c p frames (NeedsPlace TakeAddress ∷ k) (d, q, at, lands) =
         by_lands source lands (λ stack. value_arrays g locals kinds.NonNull (operands.Slot d) q frames k stack) (λ stack. ahead_arrays g locals kinds.NonNull d q frames k stack)
-    place_arrays g locals o c p frames (NeedsPlace (StoreTo peek (Convert from to a)) ∷ k) (x, s, u, at, at_a, store, single, hands) =
-        by_hands source hands (λ stack. dropped_arrays g (u + 1) frames k stack) (λ stack. value_arrays g locals to x (u + 1) frames k stack)
+    place_arrays g locals o c p frames (NeedsPlace (StoreTo peek (Convert from to a)) ∷ k) (x, s, u, q, at, at_a, store, hands) =
+        by_hands source hands (λ stack. dropped_arrays g q frames k stack) (λ stack. value_arrays g locals to x q frames k stack)
         (λ d r lands. by_lands source lands (λ stack. value_arrays g locals to (operands.Slot d) r frames k stack) (λ stack. ahead_arrays g locals to d r frames k stack))
-    place_arrays g locals o c p frames (NeedsPlace (SwapLeft kind peek right) ∷ k) (exits, x, m, r, q, single, has, waits, address, side, exchange, stack) = statement_arrays g exits q frames k stack
-    place_arrays g locals o c p frames (NeedsPlace (SwapRight kind peek left) ∷ k) (exits, a, y, m, q, single, has, is, address, exchange, stack) = statement_arrays g exits q frames k stack
+    place_arrays g locals o c p frames (NeedsPlace (SwapLeft kind peek right) ∷ k) (exits, x, m, r, q, has, address, side, exchange, stack) = statement_arrays g exits q frames k stack
+    place_arrays g locals o c p frames (NeedsPlace (SwapRight kind peek is_cell left) ∷ k) (exits, a, y, m, q, has, is, address, exchange, stack) = statement_arrays g exits q frames k stack
     place_arrays g locals o c p frames k place = absurd place
 
     condition_arrays : (g : ℕ) (failing : Comparison) (l r : Operand) (p : ℕ) (frames : List Frame) (k : List Entry) → ConditionStack source g failing l r p frames k → AllCount k

@@ -11,22 +11,29 @@ pub mod Lengths
 pub mod Relation
 pub mod Matched
 pub mod Handling
+pub mod Paths
+pub mod GlobalSteps
 pub mod Stands
 pub mod Fitting
 pub mod Bridge
 pub mod Data
 pub mod Sharing
 pub mod CellWrites
+pub mod WideCells
 pub mod Allocations
 pub mod Arrays
 pub mod UniqueBlocks
 pub mod PlaceWords
-pub mod CellReads
+pub mod CellLoads
+mod CellReads
 pub mod AddressSteps
 pub mod SwapSteps
 pub mod PlaceSteps
 pub mod Values
 pub mod PointerSteps
+pub mod FatSteps
+pub mod Elements
+pub mod ThinSteps
 pub mod Evaluations
 pub mod Accesses
 pub mod Branching
@@ -51,6 +58,7 @@ pub mod NeedsFound
 -- the slots of locals
 pub mod Slots
 pub mod LocalSlots
+pub mod GlobalWords
 pub mod Widths
 pub mod Moves
 -- worked examples

@@ -1,6 +1,6 @@
 -- A well typed program that is built is lowered.
-use Rattle.std.proofs.Common.{◌≡◌, ◌⊎◌, inl, inr, ℕ, suc, ◌<◌, true, ◌&&◌, List, [], ◌∷◌, Option, Some, None, map, length, slice_get, refl, ap, subst, ◌∙◌, arith, length-append, Bool, false}
-use Rattle.std.specs.Prelude.{◌==◌, nat_le}
+use Rattle.std.proofs.Common.{◌≡◌, ◌⊎◌, inl, inr, ℕ, suc, ◌*◌, ◌<◌, ◌≤◌, true, ◌&&◌, List, [], ◌∷◌, Option, Some, None, map, length, slice_get, refl, sym, ap, subst, ◌∙◌, arith, length-append, Bool, false}
+use Rattle.std.specs.Prelude.{nat_le, not}
 use Rattle.std.specs.List.{list_all}
 use Rattle.std.proofs.lemmas.Bool.{and_parts, leb-true}
 use Rattle.std.proofs.lemmas.Option.{slice_get_within}
@@ -10,85 +10,136 @@ use Rattle.cyc_types.specs.declared.region.Region.{Region}
 use Rattle.cyc_types.specs.declared.typed.Callee.{Callee}
 use Rattle.cyc_types.specs.declared.typed.Callee.TheVariants as callees
 use Rattle.cyc_types.specs.declared.typed.Kind.{Kind}
-use Rattle.cyc_types.specs.declared.typed.Kind.TheVariants as kinds
 use Rattle.cyc_types.specs.declared.typed.PointerOperator.{PointerOperator}
 use Rattle.cyc_types.specs.declared.typed.PointerOperator.TheVariants as pointers
 use Rattle.cyc_types.specs.declared.typed.UnaryOperator.{UnaryOperator}
 use Rattle.cyc_types.specs.declared.typed.UnaryOperator.TheVariants as unary
 use Rattle.cyc_syntax.specs.declared.tree.PointerKind.{PointerKind}
 use Rattle.cyc_syntax.specs.declared.tree.PointerKind.TheVariants as marks
-use Rattle.cyc_types.specs.Types.{Ty, Int, Pointer, Struct, ValueType, Value, substituted_ty, words_of}
-use Rattle.cyc_types.specs.TypedTrees.{Lvalue, Local, Global, Expression, Number, NullPointer, Copy, Peek, Load, AddressOfCell, Call, Unary, Binary, Assign, Store, New, Dereference, Target, Member, OnHeap, Initial, Plain, Fields, Converted, Convert, Arguments, NoArguments, MoreArguments, Operations, NoOperations, ThenCompute, ThenTest, ThenPointer, Statement, Block, Empty, Evaluate, If, While, Return, Break, Continue, Items, NoItems, MoreItems, Execute, Declare, GlobalVariable, Signature, Function, Program, Throw, Try, Clauses, NoClauses, Default, Case, Array}
-use Rattle.cyc_types.specs.Built.{is_built_type, is_built_result, is_built_value_type, is_built_kind, is_built_operator, is_built_expression, is_built_place, is_built_size, is_built_initial, is_built_converted, are_built_arguments, are_built_operations, is_built_value, is_built_statement, are_built_items, is_built_struct, is_built_global, is_built_function, is_built, is_built_tag, is_built_thrown, are_built_clauses}
+use Rattle.cyc_types.specs.Types.{Ty, Int, Pointer, Handle, Key, Struct, ValueType, Null, Value, substituted_ty}
+use Rattle.cyc_types.specs.TypedTrees.{Lvalue, Local, Global, Expression, Number, NullPointer, Counter, NumberOfElements, Copy, Move, Peek, FreeUnique, Load, AddressOfCell, Call, Unary, Binary, Assign, Store, New, Dereference, Target, Member, Element, OnHeap, AsUnique, Initial, Plain, Fields, Converted, Convert, Arguments, NoArguments, MoreArguments, Operations, NoOperations, ThenCompute, ThenTest, ThenPointer, ThenPointerPeek, Side, VariableSide, CellSide, Statement, Block, Empty, Evaluate, Swap, If, While, Return, Break, Continue, Items, NoItems, MoreItems, Execute, Declare, GlobalVariable, Signature, Function, Program, Throw, Try, Clauses, NoClauses, Default, Case, Array}
+use Rattle.cyc_types.specs.Built.{is_built_type, is_built_result, is_built_value_type, is_built_kind, is_built_operator, is_built_expression, is_built_place, is_built_size, is_built_initial, is_built_converted, are_built_arguments, are_built_operations, is_built_value, is_built_side, is_built_statement, are_built_items, is_built_struct, is_built_global, is_built_function, is_built, is_built_tag, is_built_thrown, are_built_clauses}
 use Rattle.cyc_types.specs.Numbered.{signatures_of, Numbering, IsSignature, argument_count, IsWithin, numbering_of}
-use Rattle.cyc_types.specs.typing.Tests.{kind_of_mark}
-use Rattle.cyc_types.specs.typing.WellTyped.{Context, IsVariable, IsPlace, IsCallee, WellTyped, IsPeek, IsLeft, IsUnaryOperand, IsConverted, ArePassed, IsCell, IsMade, IsChain, IsCondition, behind, in_block, in_body, with_local, IsInitial, IsReturned, WellTypedStatement, WellTypedItems, body_context, AreWellTypedFunctions, IsWellTypedProgram, IsThrown, IsCaught, with_caught, behind_clause, WellTypedClauses}
+use Rattle.cyc_types.specs.typing.Tests.{is_thin_mark, is_pointer, is_int, kind_of_mark, kind_of, kind_of_value}
+use Rattle.cyc_types.specs.typing.WellTyped.{PointerOperation, adds, subtracts, equals, differs, thin_null, thin_there, fat_null, fat_there, null_is, null_is_not, Converts, with_counter, Context, IsVariable, IsPlace, IsCallee, WellTyped, IsPeek, IsLeft, IsSide, IsUnaryOperand, IsConverted, ArePassed, IsCell, IsMade, IsChain, IsCondition, behind, in_block, in_body, with_local, IsInitial, IsReturned, WellTypedStatement, WellTypedItems, body_context, AreWellTypedFunctions, IsWellTypedProgram, IsThrown, IsCaught, behind_clause, WellTypedClauses}
 use Rattle.cyc_meaning.specs.Values.{is_thin, words_of_kind}
-use Rattle.cyc_lower.specs.Lowering.{are_as_wide, passed_words, all_passed}
-use Rattle.cyc_lower.specs.Lowerable.{stands_alone, HasPlace, IsLowerable, IsLowerableObject, IsLowerableCell, IsLowerableConverted, AreLowerableArguments, AreLowerableOperations, IsLowerableReturn, IsLowerableInitial, IsLowerableStatement, AreLowerableItems, AreLowerableFunctions, IsLowerableProgram, IsLowerableThrown, IsLowerableCaught, AreLowerableClauses}
+use Rattle.cyc_lower.specs.Lowering.{all_passed}
+use Rattle.cyc_lower.specs.Lowerable.{is_comparison, are_sums, stands_alone, is_converted, IsLowerable, IsLowerableObject, IsLowerableSide, IsLowerableCell, IsLowerableConverted, AreLowerableArguments, AreLowerableOperations, IsLowerableReturn, IsLowerableInitial, IsLowerableStatement, AreLowerableItems, AreLowerableFunctions, IsLowerableProgram, IsLowerableThrown, IsLowerableCaught, AreLowerableClauses}
+use Rattle.cyc_lower.proofs.Widths.{kind_few}
 
--- ---- what is built has one word
-
-single_kind : (k : Kind) → is_built_kind k ≡ true → words_of_kind k ≡ 1
-single_kind kinds.Int i = refl
-single_kind kinds.Nullable i = refl
-single_kind kinds.NonNull i = refl
-single_kind k i = absurd (cc)
-
-as_wide : (from to : Kind) → is_built_kind from ≡ true → is_built_kind to ≡ true → are_as_wide from to ≡ true
-as_wide from to i j = ap (λ n. n == words_of_kind to) (single_kind from i) ∙ ap (λ n. 1 == n) (single_kind to j)
-
-single_type : (t : Ty) → is_built_type t ≡ true → words_of t ≡ 1
-single_type Int i = refl
-single_type (Pointer marks.Nullable t r) i = refl
-single_type (Pointer marks.NonNull t r) i = refl
-single_type (Struct n rs) i = refl
-single_type t i = absurd (cc)
-
-thin_kind : (k : Kind) (m : PointerKind) → k ≡ kind_of_mark m → is_built_kind k ≡ true → is_thin k ≡ true
-thin_kind k marks.Nullable eq i = ap is_thin eq
-thin_kind k marks.NonNull eq i = ap is_thin eq
-thin_kind k marks.Fat eq i = absurd (let fat : is_built_kind kinds.Fat ≡ true = subst (λ l. is_built_kind l ≡ true) eq i in cc)
-
-alone : (o : PointerOperator) (os : Operations) → is_built_operator o ≡ true → stands_alone o os ≡ true
-alone pointers.AddFat os i = absurd (cc)
-alone pointers.SubtractFat os i = absurd (cc)
-alone o os i = refl
+-- ---- tags and objects
 
 word_tag : (n : ℕ) → is_built_tag n ≡ true → IsWord n
 word_tag n i = let few = leb-true n 4294967295 i in omega (arith, few)
 
-passed_single : (c : Converted) → is_built_converted c ≡ true → passed_words c ≡ 1
-passed_single (Convert from to a) i =
-    single_kind to (and_parts (is_built_kind from) (is_built_kind to) (and_parts (is_built_expression a) (is_built_kind from && is_built_kind to) i).1).1
+-- no value has more than three words
+all_few : (cs : Arguments) → all_passed cs ≤ 3 * argument_count cs
+all_few NoArguments = omega arith
+all_few (MoreArguments (Convert from to a) cs) =
+    let first : words_of_kind to ≤ 3 = kind_few to in
+    let rest : all_passed cs ≤ 3 * argument_count cs = all_few cs in
+    omega (arith, first, rest)
 
-all_single : (cs : Arguments) → are_built_arguments cs ≡ true → argument_count cs ≡ all_passed cs
-all_single NoArguments i = refl
-all_single (MoreArguments c cs) i =
-    let (first, rest) = and_parts (is_built_converted c) (are_built_arguments cs) i in
-    let single : passed_words c ≡ 1 = passed_single c first in
-    let same : argument_count cs ≡ all_passed cs = all_single cs rest in
-    omega (arith, single, same)
+-- ---- pointers
+
+thin_kind : (k : Kind) (m : PointerKind) → k ≡ kind_of_mark m → is_thin_mark m ≡ true → is_thin k ≡ true
+thin_kind k marks.Nullable eq thin = ap is_thin eq
+thin_kind k marks.NonNull eq thin = ap is_thin eq
+thin_kind k marks.Fat eq thin = absurd (cc)
+
+pointers_converted : (m l : PointerKind) → is_converted (kind_of_mark m) (kind_of_mark l) ≡ true
+pointers_converted marks.Nullable marks.Nullable = refl
+pointers_converted marks.Nullable marks.NonNull = refl
+pointers_converted marks.Nullable marks.Fat = refl
+pointers_converted marks.NonNull marks.Nullable = refl
+pointers_converted marks.NonNull marks.NonNull = refl
+pointers_converted marks.NonNull marks.Fat = refl
+pointers_converted marks.Fat marks.Nullable = refl
+pointers_converted marks.Fat marks.NonNull = refl
+pointers_converted marks.Fat marks.Fat = refl
+
+types_converted : (c : Context) (v : ValueType) (t : Ty) → Converts c v t → is_converted (kind_of_value v) (kind_of t) ≡ true
+types_converted c (Value Int) Int converts = refl
+types_converted c (Value (Pointer m t r)) (Pointer l u s) converts = pointers_converted m l
+types_converted c (Value (Handle r)) (Handle s) converts = refl
+types_converted c (Value (Key r)) (Key s) converts = refl
+types_converted c Null (Pointer l u s) converts = pointers_converted marks.Nullable l
+types_converted c v t converts = absurd converts
+
+-- ---- chains
+
+-- an int is no operand on the left of what is done with pointers
+pointer_left : (c : Context) (o : PointerOperator) (left right result : ValueType) → PointerOperation c o left right result → is_int left ≡ false
+pointer_left c pointers.AddFat left right result (adds t r other) = refl
+pointer_left c pointers.SubtractFat left right result (subtracts t r other) = refl
+pointer_left c pointers.EqualThin left right result (equals k l t r s is also live other) = refl
+pointer_left c pointers.NotEqualThin left right result (differs k l t r s is also live other) = refl
+pointer_left c pointers.ThinIsNull left right result (thin_null k t r is) = refl
+pointer_left c pointers.ThinIsNotNull left right result (thin_there k t r is) = refl
+pointer_left c pointers.FatIsNull left right result (fat_null k t r is) = refl
+pointer_left c pointers.FatIsNotNull left right result (fat_there k t r is) = refl
+pointer_left c pointers.NullIs left right result (null_is k t r) = refl
+pointer_left c pointers.NullIsNot left right result (null_is_not k t r) = refl
+
+int_type : (u : Ty) → is_int (Value u) ≡ true → is_pointer u ≡ false
+int_type (Pointer m t r) int = absurd (cc)
+int_type u int = refl
+
+-- so what is computed of an int is no pointer
+int_chain : (c : Context) (left : ValueType) (os : Operations) (u : Ty) → is_int left ≡ true → IsChain c left os u → is_pointer u ≡ false
+int_chain c left NoOperations u int w = int_type u (sym (ap is_int w) ∙ int)
+int_chain c left (ThenCompute o a os) u int (l, w, ws) = int_chain c (Value Int) os u refl ws
+int_chain c left (ThenTest o a os) u int (l, w, ws) = int_chain c (Value Int) os u refl ws
+int_chain c left (ThenPointer o a os) u int (v, x, w, operation, ws) = absurd (let f : true ≡ false = sym int ∙ pointer_left c o left v x operation in cc)
+int_chain c left (ThenPointerPeek n o a os) u int (v, x, w, operation, ws) = absurd (let f : true ≡ false = sym int ∙ pointer_left c o left v x operation in cc)
+
+-- a sum, or what compares
+sum_or_int : (c : Context) (o : PointerOperator) (left right result : ValueType) → PointerOperation c o left right result → (is_comparison o ≡ false) ⊎ (is_int result ≡ true)
+sum_or_int c pointers.AddFat left right result operation = inl refl
+sum_or_int c pointers.SubtractFat left right result operation = inl refl
+sum_or_int c pointers.EqualThin left right result (equals k l t r s is also live other) = inr refl
+sum_or_int c pointers.NotEqualThin left right result (differs k l t r s is also live other) = inr refl
+sum_or_int c pointers.ThinIsNull left right result (thin_null k t r is) = inr refl
+sum_or_int c pointers.ThinIsNotNull left right result (thin_there k t r is) = inr refl
+sum_or_int c pointers.FatIsNull left right result (fat_null k t r is) = inr refl
+sum_or_int c pointers.FatIsNotNull left right result (fat_there k t r is) = inr refl
+sum_or_int c pointers.NullIs left right result (null_is k t r) = inr refl
+sum_or_int c pointers.NullIsNot left right result (null_is_not k t r) = inr refl
+
+sum_first : (c : Context) (o : PointerOperator) (x : ValueType) (os : Operations) (u : Ty) → is_pointer u ≡ true → (is_comparison o ≡ false) ⊎ (is_int x ≡ true) → IsChain c x os u → are_sums os ≡ true
+    → (not (is_comparison o) && are_sums os) ≡ true
+sum_first c o x os u there (inl sum) ws rest = ap (λ b. not b && are_sums os) sum ∙ rest
+sum_first c o x os u there (inr int) ws rest = absurd (let f : true ≡ false = sym there ∙ int_chain c x os u int ws in cc)
+
+-- a chain whose value is a pointer has sums alone
+sums_alone : (c : Context) (left : ValueType) (os : Operations) (u : Ty) → is_pointer u ≡ true → IsChain c left os u → are_sums os ≡ true
+sums_alone c left NoOperations u there w = refl
+sums_alone c left (ThenCompute o a os) u there (l, w, ws) = absurd (let f : true ≡ false = sym there ∙ int_chain c (Value Int) os u refl ws in cc)
+sums_alone c left (ThenTest o a os) u there (l, w, ws) = absurd (let f : true ≡ false = sym there ∙ int_chain c (Value Int) os u refl ws in cc)
+sums_alone c left (ThenPointer o a os) u there (v, x, w, operation, ws) = sum_first c o x os u there (sum_or_int c o left v x operation) ws (sums_alone c x os u there ws)
+sums_alone c left (ThenPointerPeek n o a os) u there (v, x, w, operation, ws) = sum_first c o x os u there (sum_or_int c o left v x operation) ws (sums_alone c x os u there ws)
+
+-- a sum of a pointer and an int stands among sums
+alone : (c : Context) (o : PointerOperator) (x : ValueType) (os : Operations) (u : Ty) → is_built_operator u o ≡ true → IsChain c x os u → stands_alone o os ≡ true
+alone c pointers.AddFat x os (Pointer m t r) i w = sums_alone c x os (Pointer m t r) refl w
+alone c pointers.SubtractFat x os (Pointer m t r) i w = sums_alone c x os (Pointer m t r) refl w
+alone c pointers.AddFat x os u i w = absurd (cc)
+alone c pointers.SubtractFat x os u i w = absurd (cc)
+alone c o x os u i w = refl
 
 -- ---- forms that are looked at
 
--- a peek is not built
-seen_well : (c : Context) (a : Expression) (v : ValueType) → is_built_expression a ≡ true → WellTyped c a v ⊎ IsPeek c a v → WellTyped c a v
-seen_well c a v i (inl w) = w
-seen_well c (Peek p n u) v i (inr w) = absurd (cc)
-seen_well c a v i (inr w) = absurd w
+left_seen : (c : Context) (a : Expression) (v : ValueType) (os : Operations) → IsLeft (WellTyped c a v) c a v os → WellTyped c a v ⊎ IsPeek c a v
+left_seen c a v NoOperations w = inl w
+left_seen c a v (ThenCompute o b os) w = inl w
+left_seen c a v (ThenTest o b os) w = w
+left_seen c a v (ThenPointer o b os) w = inl w
+left_seen c a v (ThenPointerPeek n o b os) (w, of) = inr w
 
-left_well : (c : Context) (a : Expression) (v : ValueType) (os : Operations) → is_built_expression a ≡ true → are_built_operations os ≡ true → IsLeft (WellTyped c a v) c a v os → WellTyped c a v
-left_well c a v NoOperations i is w = w
-left_well c a v (ThenCompute o b os) i is w = w
-left_well c a v (ThenTest o b os) i is w = seen_well c a v i w
-left_well c a v (ThenPointer o b os) i is w = w
-left_well c a v os i is w = absurd (cc)
-
-operand_well : (c : Context) (o : UnaryOperator) (a : Expression) (v : ValueType) → is_built_expression a ≡ true → IsUnaryOperand (WellTyped c a v) c o a v → WellTyped c a v
-operand_well c unary.Not a v i (w, tested) = seen_well c a v i w
-operand_well c unary.Negate a v i (w, eq) = w
-operand_well c unary.Complement a v i (w, eq) = w
+operand_seen : (c : Context) (o : UnaryOperator) (a : Expression) (v : ValueType) → IsUnaryOperand (WellTyped c a v) c o a v → WellTyped c a v ⊎ IsPeek c a v
+operand_seen c unary.Not a v (w, tested) = w
+operand_seen c unary.Negate a v (w, eq) = inl w
+operand_seen c unary.Complement a v (w, eq) = inl w
 
 -- what there is to name is what is known
 record Agrees (b : Numbering) (c : Context) : Type 0 where
@@ -110,6 +161,9 @@ module _ (b : Numbering) where
   looping : (c : Context) → Agrees b c → Agrees b (in_body c)
   looping c k = record { globals = k.globals; functions = k.functions; variables = k.variables; result = k.result }
 
+  counting : (c : Context) → Agrees b c → Agrees b (with_counter c)
+  counting c k = record { globals = k.globals; functions = k.functions; variables = k.variables; result = k.result }
+
   declared : (c : Context) → Agrees b c → (t : Ty) → Agrees b (with_local true t c)
   declared c k t = record { globals = k.globals; functions = k.functions; variables = k.variables; result = k.result }
 
@@ -117,9 +171,15 @@ module _ (b : Numbering) where
   within c k (Local p n) t (there, known) = let l : n < length c.variables = slice_get_within c.variables n t known in omega (arith, l, k.variables)
   within c k (Global n) t known = let l : n < length c.globals = slice_get_within c.globals n t known in omega (arith, l, k.globals)
 
-  has_place : (c : Context) → Agrees b c → (l : Lvalue) (t : Ty) (r : Region) (words : ℕ) → words ≡ 1 → IsPlace c l t r → HasPlace b l words
-  has_place c k (Local p n) t r words single (m, there, eq, known) = let l : n < length c.variables = slice_get_within c.variables n t known in omega (arith, l, k.variables)
-  has_place c k (Global n) t r words single (eq, known) = let l : n < length c.globals = slice_get_within c.globals n t known in (omega (arith, l, k.globals), single)
+  placed : (c : Context) → Agrees b c → (l : Lvalue) (t : Ty) (r : Region) → IsPlace c l t r → IsWithin b l
+  placed c k (Local p n) t r (m, there, eq, known) = let l : n < length c.variables = slice_get_within c.variables n t known in omega (arith, l, k.variables)
+  placed c k (Global n) t r (eq, known) = let l : n < length c.globals = slice_get_within c.globals n t known in omega (arith, l, k.globals)
+
+  -- a peek has no type of its own, but its local is there
+  seen : (c : Context) → Agrees b c → (a : Expression) (v : ValueType) → (WellTyped c a v → IsLowerable b a) → WellTyped c a v ⊎ IsPeek c a v → IsLowerable b a
+  seen c k a v well (inl w) = well w
+  seen c k (Peek p n u) v well (inr (known, is, eq)) = within c k (Local p n) u known
+  seen c k a v well (inr w) = absurd w
 
   callee : (c : Context) → Agrees b c → (f : Callee) (s : Signature) → IsCallee c f s → IsSignature b f s
   callee c k callees.Putchar s is = is
@@ -130,53 +190,62 @@ module _ (b : Numbering) where
     lowerable : (c : Context) → Agrees b c → (a : Expression) (t : ValueType) → is_built_expression a ≡ true → WellTyped c a t → IsLowerable b a
     lowerable c k (Number n) t i w = tt
     lowerable c k NullPointer t i w = tt
+    lowerable c k (Counter l) t i w = tt
     lowerable c k (Copy l u) t i (v, moved, eq) = within c k l u v
+    lowerable c k (Move p n u) t i (v, moved, eq) = within c k (Local p n) u v
+    lowerable c k (Peek p n u) t i w = absurd w
     lowerable c k (Load d) t i (u, r, cell, whole, shared, eq) = cell_lowerable c k d u r i cell
     lowerable c k (AddressOfCell d u) t i (v, r, cell, moved, shared, is, eq) = cell_lowerable c k d v r (and_parts (is_built_place d) (is_built_type u) i).0 cell
+    lowerable c k (NumberOfElements a) t i (u, r, w, eq) = let v = Value (Pointer marks.Fat u r) in seen c k a v (λ h. lowerable c k a v i h) w
+    lowerable c k (FreeUnique a) t i (m, u, w, eq) = lowerable c k a _ i w
     lowerable c k (Call f ds u) t i (s, m, is, long, unique, passed, live, outlives, result, eq) =
         let (arguments, of_type) = and_parts (are_built_arguments ds) (is_built_value_type u) i in
         let (count, all) = passed_lowerable c k (map (substituted_ty m) s.parameters) ds arguments passed in
         (s, callee c k f s is, count ∙ length-map s.parameters (substituted_ty m), all)
-    lowerable c k (Unary o a) t i (v, w, eq) = lowerable c k a v i (operand_well c o a v i w)
+    lowerable c k (Unary o a) t i (v, w, eq) = seen c k a v (λ h. lowerable c k a v i h) (operand_seen c o a v w)
     lowerable c k (Binary a os u) t i (v, w, chain, eq) =
-        let (first, more) = and_parts (is_built_expression a) (are_built_operations os && is_built_type u) i in
-        let (rest, of_type) = and_parts (are_built_operations os) (is_built_type u) more in
-        (lowerable c k a v first (left_well c a v os first rest w), chain_lowerable c k v os u rest chain)
+        let (first, more) = and_parts (is_built_expression a) (are_built_operations u os && is_built_type u) i in
+        let (rest, of_type) = and_parts (are_built_operations u os) (is_built_type u) more in
+        (seen c k a v (λ h. lowerable c k a v first h) (left_seen c a v os w), chain_lowerable c k v os u rest chain)
     lowerable c k (Assign l d u) t i (v, r, place, w, same, eq) =
         let (value, of_type) = and_parts (is_built_converted d) (is_built_value_type u) i in
-        (has_place c k l v r (passed_words d) (passed_single d value) place, converted_lowerable c k d v value w)
+        (placed c k l v r place, converted_lowerable c k d v value w)
     lowerable c k (Store d e u) t i (v, r, cell, w, same, eq) =
         let (place, more) = and_parts (is_built_place d) (is_built_converted e && is_built_value_type u) i in
         let (value, of_type) = and_parts (is_built_converted e) (is_built_value_type u) more in
         (cell_lowerable c k d v r place cell, converted_lowerable c k e v value w)
-    lowerable c k (New OnHeap (Array p level n kind a) u) t i (l, v, r, placed, made, is, eq) = absurd (let f : false ≡ true = (and_parts false (is_built_type u) i).0 in cc)
-    lowerable c k (New OnHeap m u) t i (l, v, r, placed, made, is, eq) = made_lowerable c k m l v (and_parts (is_built_initial m) (is_built_type u) i).0 made
+    lowerable c k (New OnHeap m u) t i (l, v, r, there, made, is, eq) = made_lowerable c k m l v (and_parts (is_built_initial m) (is_built_type u) i).0 made
+    lowerable c k (New AsUnique m u) t i (l, v, r, there, made, is, eq) = made_lowerable c k m l v (and_parts (is_built_initial m) (is_built_type u) i).0 made
     lowerable c k a t i w = absurd (cc)
 
     cell_lowerable : (c : Context) → Agrees b c → (d : Dereference) (t : Ty) (r : Region) → is_built_place d ≡ true → IsCell c d t r → IsLowerableCell b d
-    cell_lowerable c k (Target l a u) t r i (m, seen, live, mark, eq) =
-        let (pointer, more) = and_parts (is_built_expression a) (is_built_kind l && is_built_type u) i in
-        let (kind, of_type) = and_parts (is_built_kind l) (is_built_type u) more in
-        (thin_kind l m mark kind, single_type u of_type, lowerable c k a (Value (Pointer m u r)) pointer (seen_well c a _ pointer seen))
-    cell_lowerable c k (Member l a n f u) t r i (m, rs, s, v, seen, thin, live, mark, struct, field, is, eq) =
-        let (pointer, more) = and_parts (is_built_expression a) (is_built_kind l && is_built_type u) i in
-        let (kind, of_type) = and_parts (is_built_kind l) (is_built_type u) more in
-        (thin_kind l m mark kind, single_type u of_type, lowerable c k a (Value (Pointer m (Struct n rs) r)) pointer (seen_well c a _ pointer seen))
-    cell_lowerable c k d t r i w = absurd (cc)
+    cell_lowerable c k (Target l a u) t r i (m, w, live, mark, eq) =
+        let v = Value (Pointer m u r) in
+        let first = (and_parts (is_built_expression a) (is_built_kind l && is_built_type u) i).0 in seen c k a v (λ h. lowerable c k a v first h) w
+    cell_lowerable c k (Member l a n f u) t r i (m, rs, s, x, w, thin, live, mark, struct, field, is, eq) =
+        let v = Value (Pointer m (Struct n rs) r) in
+        let first = (and_parts (is_built_expression a) (is_built_kind l && is_built_type u) i).0 in (thin_kind l m mark thin, seen c k a v (λ h. lowerable c k a v first h) w)
+    cell_lowerable c k (Element a j u) t r i (w, index, live, eq) =
+        let v = Value (Pointer marks.Fat u r) in
+        let (first, more) = and_parts (is_built_expression a) (is_built_expression j && is_built_type u) i in
+        let (second, of_type) = and_parts (is_built_expression j) (is_built_type u) more in (seen c k a v (λ h. lowerable c k a v first h) w, lowerable c k j (Value Int) second index)
 
     made_lowerable : (c : Context) → Agrees b c → (m : Initial) (l : PointerKind) (t : Ty) → is_built_initial m ≡ true → IsMade c m l t → IsLowerableObject b m
-    made_lowerable c k (Plain l a) m t i (w, key, kind, mark) =
-        let (value, of_kind) = and_parts (is_built_expression a) (is_built_kind l) i in (single_kind l of_kind, lowerable c k a (Value t) value w)
+    made_lowerable c k (Plain l a) m t i (w, key, kind, mark) = lowerable c k a (Value t) (and_parts (is_built_expression a) (is_built_kind l) i).0 w
     made_lowerable c k (Fields ds) m t i (n, rs, s, struct, long, passed, is, mark) =
         let (size, values) = and_parts (is_built_size (argument_count ds)) (are_built_arguments ds) i in
-        let (some, few) = and_parts (nat_le 1 (argument_count ds)) (nat_le (argument_count ds) 1000) size in
-        (all_single ds values, leb-true 1 (argument_count ds) some, leb-true (argument_count ds) 1000 few, (passed_lowerable c k (map (substituted_ty rs) s.fields) ds values passed).1)
-    made_lowerable c k n m t i w = absurd (cc)
+        let (some, few) = and_parts (nat_le 1 (argument_count ds)) (nat_le (argument_count ds) 64) size in
+        let most : argument_count ds ≤ 64 = leb-true (argument_count ds) 64 few in
+        let words : all_passed ds ≤ 3 * argument_count ds = all_few ds in
+        (leb-true 1 (argument_count ds) some, omega (arith, most, words), (passed_lowerable c k (map (substituted_ty rs) s.fields) ds values passed).1)
+    made_lowerable c k (Array p level n l a) m t i (is, count, w, key, kind, mark) =
+        let (length, more) = and_parts (is_built_expression n) (is_built_expression a && is_built_kind l) i in
+        (lowerable c k n (Value Int) length count, lowerable (with_counter c) (counting c k) a (Value t) (and_parts (is_built_expression a) (is_built_kind l) more).0 w)
 
     converted_lowerable : (c : Context) → Agrees b c → (d : Converted) (t : Ty) → is_built_converted d ≡ true → IsConverted c d t → IsLowerableConverted b d
     converted_lowerable c k (Convert from to a) t i (v, w, converts, given, wanted) =
         let (value, both) = and_parts (is_built_expression a) (is_built_kind from && is_built_kind to) i in
-        let (first, second) = and_parts (is_built_kind from) (is_built_kind to) both in (as_wide from to first second, lowerable c k a v value w)
+        (ap (λ l. is_converted l to) given ∙ ap (λ l. is_converted (kind_of_value v) l) wanted ∙ types_converted c v t converts, lowerable c k a v value w)
 
     passed_lowerable : (c : Context) → Agrees b c → (ts : List Ty) (ds : Arguments) → are_built_arguments ds ≡ true → ArePassed c ts ds → (argument_count ds ≡ length ts) × AreLowerableArguments b ds
     passed_lowerable c k [] NoArguments i w = (refl, tt)
@@ -185,20 +254,23 @@ module _ (b : Numbering) where
         let (count, all) = passed_lowerable c k ts ds rest ws in (ap suc count, (converted_lowerable c k d t first w, all))
     passed_lowerable c k ts ds i w = absurd w
 
-    chain_lowerable : (c : Context) → Agrees b c → (left : ValueType) (os : Operations) (u : Ty) → are_built_operations os ≡ true → IsChain c left os u → AreLowerableOperations b os
+    chain_lowerable : (c : Context) → Agrees b c → (left : ValueType) (os : Operations) (u : Ty) → are_built_operations u os ≡ true → IsChain c left os u → AreLowerableOperations b os
     chain_lowerable c k left NoOperations u i w = tt
     chain_lowerable c k left (ThenCompute o a os) u i (l, w, ws) =
-        let (first, rest) = and_parts (is_built_expression a) (are_built_operations os) i in (lowerable c k a (Value Int) first w, chain_lowerable c k (Value Int) os u rest ws)
+        let (first, rest) = and_parts (is_built_expression a) (are_built_operations u os) i in (lowerable c k a (Value Int) first w, chain_lowerable c k (Value Int) os u rest ws)
     chain_lowerable c k left (ThenTest o a os) u i (l, (v, w, tested), ws) =
-        let (first, rest) = and_parts (is_built_expression a) (are_built_operations os) i in (lowerable c k a v first (seen_well c a v first w), chain_lowerable c k (Value Int) os u rest ws)
+        let (first, rest) = and_parts (is_built_expression a) (are_built_operations u os) i in (seen c k a v (λ h. lowerable c k a v first h) w, chain_lowerable c k (Value Int) os u rest ws)
     chain_lowerable c k left (ThenPointer o a os) u i (v, x, w, operation, ws) =
-        let (operator, more) = and_parts (is_built_operator o) (is_built_expression a && are_built_operations os) i in
-        let (first, rest) = and_parts (is_built_expression a) (are_built_operations os) more in
-        (alone o os operator, lowerable c k a v first (seen_well c a v first w), chain_lowerable c k x os u rest ws)
-    chain_lowerable c k left os u i w = absurd (cc)
+        let (operator, more) = and_parts (is_built_operator u o) (is_built_expression a && are_built_operations u os) i in
+        let (first, rest) = and_parts (is_built_expression a) (are_built_operations u os) more in
+        (alone c o x os u operator ws, seen c k a v (λ h. lowerable c k a v first h) w, chain_lowerable c k x os u rest ws)
+    chain_lowerable c k left (ThenPointerPeek n o a os) u i (v, x, w, operation, ws) =
+        let (operator, more) = and_parts (is_built_operator u o) (is_built_expression a && are_built_operations u os) i in
+        let (first, rest) = and_parts (is_built_expression a) (are_built_operations u os) more in
+        (alone c o x os u operator ws, seen c k a v (λ h. lowerable c k a v first h) w, chain_lowerable c k x os u rest ws)
 
   condition_lowerable : (c : Context) → Agrees b c → (a : Expression) → is_built_expression a ≡ true → IsCondition c a → IsLowerable b a
-  condition_lowerable c k a i (v, w, tested) = lowerable c k a v i (seen_well c a v i w)
+  condition_lowerable c k a i (v, w, tested) = seen c k a v (λ h. lowerable c k a v i h) w
 
   initial_lowerable : (c : Context) → Agrees b c → (v : Option Converted) (t : Ty) → is_built_value v ≡ true → IsInitial c v t → IsLowerableInitial b v
   initial_lowerable c k None t i w = tt
@@ -219,11 +291,17 @@ module _ (b : Numbering) where
   caught_lowerable c k (Some n) true (next, known) = let l : n < length c.variables = slice_get_within c.variables n Int known in omega (arith, l, k.variables)
   caught_lowerable c k (Some n) false w = absurd w
 
+  side_lowerable : (c : Context) → Agrees b c → (x : Side) (t : Ty) → is_built_side x ≡ true → IsSide c x t → IsLowerableSide b x
+  side_lowerable c k (VariableSide l u) t i (r, place, eq) = placed c k l u r place
+  side_lowerable c k (CellSide d) t i (r, cell) = cell_lowerable c k d t r i cell
+
   mutual
     statement_lowerable : (c : Context) → Agrees b c → (s : Statement) → is_built_statement s ≡ true → WellTypedStatement c s → IsLowerableStatement b c.in_loop s
     statement_lowerable c k (Block r js) i (next, w) = items_lowerable (in_block c) (entered c k) js i w
     statement_lowerable c k Empty i w = tt
     statement_lowerable c k (Evaluate a) i (t, w) = lowerable c k a t i w
+    statement_lowerable c k (Swap x y) i (t, left, right, flat) =
+        let (first, second) = and_parts (is_built_side x) (is_built_side y) i in (side_lowerable c k x t first left, side_lowerable c k y t second right)
     statement_lowerable c k (If a s t) i (w, x, y) =
         let (first, more) = and_parts (is_built_expression a) (is_built_statement s && is_built_statement t) i in
         let (second, third) = and_parts (is_built_statement s) (is_built_statement t) more in
@@ -237,7 +315,6 @@ module _ (b : Numbering) where
         let (tag, thrown) = and_parts (is_built_tag n) (is_built_thrown v) i in (word_tag n tag, thrown_lowerable c k v has thrown w)
     statement_lowerable c k (Try s cs) i (w, ws) =
         let (first, rest) = and_parts (is_built_statement s) (are_built_clauses cs) i in (statement_lowerable c k s first w, clauses_lowerable (behind c s) (passed_by c k s) cs rest ws)
-    statement_lowerable c k s i w = absurd (cc)
 
     items_lowerable : (c : Context) → Agrees b c → (js : Items) → are_built_items js ≡ true → WellTypedItems c js → AreLowerableItems b c.in_loop js
     items_lowerable c k NoItems i w = tt

@@ -1,6 +1,6 @@
 -- The steps behind a place that a pointer leads to: its cell is read, its address is taken, or waits for what is stored there.
-use Rattle.std.proofs.Common.{◌≡◌, ℕ, zero, suc, ◌+◌, ◌*◌, ◌^◌, ◌<◌, Bool, true, false, List, ◌∷◌, Option, None, Some, refl, sym, ap, subst, ◌∙◌, arith, add-zero, inl}
-use Rattle.std.specs.Prelude.{if◌then◌else◌}
+use Rattle.std.proofs.Common.{◌≡◌, ℕ, zero, suc, ◌+◌, ◌*◌, ◌^◌, ◌<◌, Bool, true, false, List, [], ◌∷◌, Option, None, Some, refl, sym, ap, subst, ◌∙◌, arith, add-zero, inl}
+use Rattle.std.specs.Prelude.{◌==◌, if◌then◌else◌}
 use Rattle.std.proofs.lemmas.Bool.{eqb-true}
 use Rattle.cyc_words.specs.Word.{add_of}
 use Rattle.cyc_types.specs.declared.typed.Kind.{Kind}
@@ -14,7 +14,7 @@ use Rattle.cyc_plain.specs.declared.instruction.Instruction.{Instruction}
 use Rattle.cyc_plain.specs.declared.instruction.Instruction.TheVariants as instructions
 use Rattle.cyc_plain.specs.State as plain
 use Rattle.cyc_plain.specs.State.{put, Configuration}
-use Rattle.cyc_plain.specs.Step.{Choice, operand_word, with_slots, advanced, loads, performed}
+use Rattle.cyc_plain.specs.Step.{Choice, operand_word, with_slots, at, advanced, loads, performed}
 use Rattle.cyc_plain.specs.Straight.{At}
 use Rattle.cyc_plain.proofs.SlotLaws.{put-same}
 use Rattle.cyc_meaning.specs.Values.{Value, Thin, Operand as Kinded, is_kind, words_of_kind}
@@ -25,16 +25,18 @@ use Rattle.cyc_objects.specs.Words.{words_from, Points, Is, IsContent}
 use Rattle.cyc_objects.specs.Related as objects
 use Rattle.cyc_objects.proofs.Cells.{found-alive, cell-live, cell-read}
 use Rattle.cyc_lower.specs.Lowering.{is_in, move_of, source_of, source_slot, lower_program, right_slot}
-use Rattle.cyc_lower.proofs.Widths.{kind_positive, same_kind}
+use Rattle.cyc_lower.proofs.Widths.{kind_positive, same_kind, wide_kind, Outside}
 use Rattle.cyc_lower.proofs.Moves.{put_elsewhere}
 use Rattle.cyc_lower.proofs.Relation.{types_on, starts_on, Matches, held, callers, types_at, starts_at, Holds, DataIn, SharedAt, LandsStack, HandsOnStack, Related, code_of, bounds_at, base_of, top, floor}
 use Rattle.cyc_lower.proofs.Data.{Is-same, height-least, Holds-same, data_above, data_written}
-use Rattle.cyc_lower.proofs.Stands.{CopyBy, AddressAt, OperandBy, ExpressionAt, ConvertedOperandAt}
-use Rattle.cyc_lower.proofs.CellReads.{word_read}
+use Rattle.cyc_lower.proofs.Stands.{CopyBy, AddressAt, OperandBy, ExpressionAt, ConvertedOperandAt, LoadedBy, SavedAt}
+use Rattle.cyc_lower.proofs.CellReads.{word_read, wide_read}
 use Rattle.cyc_lower.proofs.AddressSteps.{Brought, in_slot, by_word, brought}
 use Rattle.cyc_lower.proofs.SwapSteps.{left_found, right_found}
+use Rattle.cyc_lower.proofs.WideCells.{all_in, load_links, load_path, load_last, loaded_is, loaded_elsewhere}
 use Rattle.cyc_lower.proofs.Accesses.{IsWell}
 use Rattle.cyc_lower.proofs.Matched.{IsMatched, silently, by_one}
+use Rattle.cyc_lower.proofs.Paths.{is_quiet, by_path}
 use Rattle.cyc_lower.proofs.Evaluations.{IsStep, sources, landed}
 use Rattle.cyc_lower.proofs.Values.{of_kind, landed_there}
 
@@ -85,9 +87,9 @@ module _ (source : Program) (pages calls : ℕ) where
   -- the right side, with the address in the temporary before its own
   abbrev StoresBehind : (from to : Kind) → Expression → List Entry → Environment → Configuration → (s : ℕ) → Type 0
   StoresBehind from to a k e c s =
-      (x : Operand) × (u : ℕ) × ConvertedOperandAt (code_of source c.active.function) (bounds_at source c.active.function) (types_on source c.active.function k) (Convert from to a) (top source c.active.function k + 1) x s u
-      × At (code_of source c.active.function) u (instructions.Store (operands.Slot (top source c.active.function k)) 0 x) × (words_of_kind to ≡ 1)
-      × HandsOnStack source c.active.function e.locals to x (u + 1) c.frames k
+      (x : Operand) × (u : ℕ) × (q : ℕ) × ConvertedOperandAt (code_of source c.active.function) (bounds_at source c.active.function) (types_on source c.active.function k) (Convert from to a) (top source c.active.function k + 1) x s u
+      × SavedAt (code_of source c.active.function) (bounds_at source c.active.function) (types_on source c.active.function k) (words_of_kind to) (top source c.active.function k) x u q
+      × HandsOnStack source c.active.function e.locals to x q c.frames k
 
   abbrev right_side : (from to : Kind) → Expression → Option ℕ → (place : Value) → List Entry → List Entry
   right_side from to a peek place k = Needs (ConvertTo from to (target_by a)) ∷ Needs (StoreCell peek place) ∷ k
@@ -96,7 +98,7 @@ module _ (source : Program) (pages calls : ℕ) where
       → (shared : SharedAt source pages calls k e w c) → DataIn source shared.tables c.active.slots k e w c → Holds shared.tables c.active.slots (floor source c.active.function k) (held k)
       → Points shared.tables object offset (c.active.slots (top source c.active.function k)) → c.active.next ≡ s → StoresBehind from to a k e c s
       → Related source pages calls (Evaluating a) (right_side from to a peek (Thin object offset) k) e w c
-  right_begins from to a peek object offset k e w c s shared facts holds points start (x, u, (m, at_a, at_to), store, single, hands) =
+  right_begins from to a peek object offset k e w c s shared facts holds points start (x, u, q, (m, at_a, at_to), store, hands) =
       let g = c.active.function in
       let entries = right_side from to a peek (Thin object offset) k in (
         shared,
@@ -107,7 +109,7 @@ module _ (source : Program) (pages calls : ℕ) where
             (ExpressionAt (code_of source g) (bounds_at source g) (types_on source g k) a (source_slot (starts_on source g k) (Convert from to a) (top source g entries)) (top source g entries) p m)
             (source_slot (starts_on source g k) (Convert from to a) (top source g entries)) x p m)
             (sym start) at_a)
-            (points, holds) (u, at_to, (store, single, hands)),
+            (points, holds) (u, at_to, (q, store, hands)),
       )
 
   stores_to : (from to : Kind) (a : Expression) (peek : Option ℕ) (object offset : ℕ) (k : List Entry) (e : Environment) (w : World) (c : Configuration) (s : ℕ)
@@ -130,29 +132,99 @@ module _ (source : Program) (pages calls : ℕ) where
       (Holds-same shared.tables c.active.slots after base (held k) (λ m below. put_elsewhere c.active.slots free word 1 m (omega arith) (inl below)) holds)
       (subst (Points shared.tables object offset) (sym (put-same c.active.slots free word)) points) end behind))
 
-  -- a place is found
-  pub given_place : (place : Value) (k : List Entry) (e : Environment) (w : World) (c : Configuration) → IsStep source pages calls (GivenPlace place) k e w c
-  given_place (Thin object offset) (NeedsPlace (LoadFrom kind) ∷ k) e w c well (shared, facts, (o, more, small, points, holds, (d, load, single, lands))) =
+  -- ---- a cell is loaded
+
+  -- by its three words, behind which its address has come to the slot of the first
+  loads_wide : (object offset d r q : ℕ) (kind : Kind) (k : List Entry) (e : Environment) (w : World) (c : Configuration) → kind ≡ kinds.Fat → IsWell (loaded kind (cell_at w object offset) k e w)
+      → (shared : SharedAt source pages calls (NeedsPlace (LoadFrom kind) ∷ k) e w c) → DataIn source shared.tables c.active.slots k e w c → Holds shared.tables c.active.slots (floor source c.active.function k) (held k)
+      → Brought source shared.tables object offset d r c
+      → At (code_of source c.active.function) r (instructions.Load (d + 2) (operands.Slot d) 8) → At (code_of source c.active.function) (r + 1) (instructions.Load (d + 1) (operands.Slot d) 4)
+      → At (code_of source c.active.function) (r + 1 + 1) (instructions.Load d (operands.Slot d) 0) → r + 1 + 1 + 1 ≡ q
+      → LandsStack source c.active.function e.locals kind d q c.frames k
+      → IsMatched source pages calls (Running (GivenPlace (Thin object offset)) (NeedsPlace (LoadFrom kind) ∷ k) e w) (plain.Running c)
+  loads_wide object offset d r q kind k e w c fat well shared facts holds (in_slot same points) at_first at_second at_third end lands =
+      let g = c.active.function in
+      let found = is_read kind (cell_at w object offset) k e w well in
+      let v : Kinded = record { kind = kind; value = found.value } in
+      let wide = found.same ∙ fat in
+      let content = wide_read shared.related object offset (c.active.slots d) found.at found.value found.there points wide found.has in
+      let after = all_in source shared.tables w c shared.related object offset d found.at found.value found.there points wide content in
+      by_path source pages calls (GivenPlace (Thin object offset)) (NeedsPlace (LoadFrom kind) ∷ k) e w c (Running (Given v) k e w) (load_links source shared.tables w c shared.related object offset d found.at found.value found.there points wide content) (instructions.Load d (operands.Slot d) 0)
+      found.gives shared
+      (load_path source shared.tables w c shared.related object offset d found.at found.value found.there points wide content
+      (subst (λ n. At (code_of source g) n (instructions.Load (d + 2) (operands.Slot d) 8)) (sym same) at_first)
+      (subst (λ n. At (code_of source g) (n + 1) (instructions.Load (d + 1) (operands.Slot d) 4)) (sym same) at_second))
+      (subst (λ n. At (code_of source g) (n + 1 + 1) (instructions.Load d (operands.Slot d) 0)) (sym same) at_third)
+      (λ choice. subst (Matches source pages calls (Running (Given v) k e w))
+      (sym (load_last source shared.tables w c shared.related object offset d found.at found.value found.there points wide content choice))
+      (landed source pages calls v after d k e w (at c (c.active.next + 1 + 1)) q shared
+      (subst (λ i. Is shared.tables i found.value after d) (sym fat) (loaded_is source shared.tables w c shared.related object offset d found.at found.value found.there points wide content))
+      (λ m out. loaded_elsewhere source shared.tables w c shared.related object offset d found.at found.value found.there points wide content m (subst (λ i. Outside d (words_of_kind i) m) fat out))
+      facts holds (ap (λ n. n + 1 + 1 + 1) same ∙ end) lands))
+  loads_wide object offset d r q kind k e w c fat well shared facts holds (by_word i word here goes same points) at_first at_second at_third end lands =
+      let g = c.active.function in
+      let b : Configuration = advanced (with_slots c (put c.active.slots d word)) in
+      let found = is_read kind (cell_at w object offset) k e w well in
+      let v : Kinded = record { kind = kind; value = found.value } in
+      let wide = found.same ∙ fat in
+      let points_there = subst (Points shared.tables object offset) (sym (put-same c.active.slots d word)) points in
+      let content = wide_read shared.related object offset (b.active.slots d) found.at found.value found.there points_there wide found.has in
+      let after = all_in source shared.tables w b shared.related object offset d found.at found.value found.there points_there wide content in
+      by_path source pages calls (GivenPlace (Thin object offset)) (NeedsPlace (LoadFrom kind) ∷ k) e w c (Running (Given v) k e w)
+      (record { instruction = i; behind = b } ∷ load_links source shared.tables w b shared.related object offset d found.at found.value found.there points_there wide content) (instructions.Load d (operands.Slot d) 0)
+      found.gives shared (
+        here,
+        goes,
+        omega arith,
+        is_quiet c b.active,
+        load_path source shared.tables w b shared.related object offset d found.at found.value found.there points_there wide content
+            (subst (λ n. At (code_of source g) n (instructions.Load (d + 2) (operands.Slot d) 8)) (sym same) at_first)
+            (subst (λ n. At (code_of source g) (n + 1) (instructions.Load (d + 1) (operands.Slot d) 4)) (sym same) at_second),
+      )
+      (subst (λ n. At (code_of source g) (n + 1 + 1) (instructions.Load d (operands.Slot d) 0)) (sym same) at_third)
+      (λ choice. subst (Matches source pages calls (Running (Given v) k e w))
+      (sym (load_last source shared.tables w b shared.related object offset d found.at found.value found.there points_there wide content choice))
+      (landed source pages calls v after d k e w (at c (c.active.next + 1 + 1 + 1)) q shared
+      (subst (λ i. Is shared.tables i found.value after d) (sym fat) (loaded_is source shared.tables w b shared.related object offset d found.at found.value found.there points_there wide content))
+      (λ m out.
+      let beside = subst (λ i. Outside d (words_of_kind i) m) fat out in
+      loaded_elsewhere source shared.tables w b shared.related object offset d found.at found.value found.there points_there wide content m beside ∙ put_elsewhere c.active.slots d word 3 m (omega arith) beside)
+      facts holds (ap (λ n. n + 1 + 1 + 1) same ∙ end) lands))
+
+  loads_cell : (narrow : Bool) (object offset more : ℕ) (o : Operand) (d q : ℕ) (kind : Kind) (k : List Entry) (e : Environment) (w : World) (c : Configuration) → (words_of_kind kind == 1) ≡ narrow
+      → IsWell (loaded kind (cell_at w object offset) k e w)
+      → (shared : SharedAt source pages calls (NeedsPlace (LoadFrom kind) ∷ k) e w c) → DataIn source shared.tables c.active.slots k e w c → Holds shared.tables c.active.slots (floor source c.active.function k) (held k)
+      → operand_word c.active.slots o < 2 ^ 32 → Points shared.tables object offset (add_of (operand_word c.active.slots o) more)
+      → LoadedBy (code_of source c.active.function) narrow o more d c.active.next q → LandsStack source c.active.function e.locals kind d q c.frames k
+      → IsMatched source pages calls (Running (GivenPlace (Thin object offset)) (NeedsPlace (LoadFrom kind) ∷ k) e w) (plain.Running c)
+  loads_cell true object offset more o d q kind k e w c narrow well shared facts holds small points (load, end) lands =
       let found = is_read kind (cell_at w object offset) k e w well in
       let v : Kinded = record { kind = kind; value = found.value } in
       let word = add_of (operand_word c.active.slots o) more in
-      let (there, stands) = word_read shared.related object offset word found.at found.value found.there points (ap words_of_kind found.same ∙ single) found.has in
+      let (there, stands) = word_read shared.related object offset word found.at found.value found.there points (ap words_of_kind found.same ∙ eqb-true (words_of_kind kind) 1 narrow) found.has in
       let after = put c.active.slots d (c.store.memory word) in
       by_one source pages calls found.gives shared load
       (λ choice. subst (λ x. Matches source pages calls (Running (Given v) k e w) (loads c d x)) (sym there)
-      (landed source pages calls v after d k e w c (c.active.next + 1) shared
+      (landed source pages calls v after d k e w c q shared
       (subst (λ i. Is shared.tables i found.value after d) found.same (stands after d (put-same c.active.slots d (c.store.memory word))))
-      (λ m out. put_elsewhere c.active.slots d (c.store.memory word) (words_of_kind kind) m (kind_positive kind) out) facts holds refl lands))
+      (λ m out. put_elsewhere c.active.slots d (c.store.memory word) (words_of_kind kind) m (kind_positive kind) out) facts holds end lands))
+  loads_cell false object offset more o d q kind k e w c wide well shared facts holds small points (r, address, first, second, third, end) lands =
+      loads_wide object offset d r q kind k e w c (wide_kind kind wide) well shared facts holds (brought source shared.tables object offset more o d r c small points address) first second third end lands
+
+  -- a place is found
+  pub given_place : (place : Value) (k : List Entry) (e : Environment) (w : World) (c : Configuration) → IsStep source pages calls (GivenPlace place) k e w c
+  given_place (Thin object offset) (NeedsPlace (LoadFrom kind) ∷ k) e w c well (shared, facts, (o, more, small, points, holds, (d, q, load, lands))) =
+      loads_cell (words_of_kind kind == 1) object offset more o d q kind k e w c refl well shared facts holds small points load lands
   given_place (Thin object offset) (NeedsPlace TakeAddress ∷ k) e w c well (shared, facts, (o, more, small, points, holds, (d, q, address, lands))) =
       takes_address object offset more o d q k e w c shared facts holds (brought source shared.tables object offset more o d q c small points address) lands
-  given_place (Thin object offset) (NeedsPlace (StoreTo peek (Convert from to a)) ∷ k) e w c well (shared, facts, (o, more, small, points, holds, (x, s, u, address, at_a, store, single, hands))) =
+  given_place (Thin object offset) (NeedsPlace (StoreTo peek (Convert from to a)) ∷ k) e w c well (shared, facts, (o, more, small, points, holds, (x, s, u, q, address, at_a, store, hands))) =
       stores_to from to a peek object offset k e w c s shared facts holds (brought source shared.tables object offset more o (top source c.active.function k) s c small points address)
-      (x, u, at_a, store, single, hands)
-  given_place (Thin object offset) (NeedsPlace (SwapLeft kind peek right) ∷ k) e w c well (shared, facts, (o, more, small, points, holds, (exits, x, m, r, q, single, has, waits, address, at_right, exchange, stack))) =
+      (x, u, q, at_a, store, hands)
+  given_place (Thin object offset) (NeedsPlace (SwapLeft kind peek right) ∷ k) e w c well (shared, facts, (o, more, small, points, holds, (exits, x, m, r, q, has, address, at_right, exchange, stack))) =
       left_found source pages calls object offset kind peek right k e w c well shared facts (brought source shared.tables object offset more o (floor source c.active.function k) m c small points address)
-      (exits, x, r, q, single, has, waits, at_right, exchange, stack)
-  given_place (Thin object offset) (NeedsPlace (SwapRight kind peek left) ∷ k) e w c well (shared, facts, (o, more, small, points, holds, (exits, a, y, m, q, single, has, is_left, address, exchange, stack))) =
-      right_found source pages calls object offset kind peek left a k e w c shared facts holds (brought source shared.tables object offset more o (right_slot a (floor source c.active.function k)) m c small points address)
-      is_left (exits, y, q, single, has, exchange, stack)
+      (exits, x, r, q, has, at_right, exchange, stack)
+  given_place (Thin object offset) (NeedsPlace (SwapRight kind peek is_cell left) ∷ k) e w c well (shared, facts, (o, more, small, points, holds, (exits, a, y, m, q, has, is_left, address, exchange, stack))) =
+      right_found source pages calls object offset kind peek is_cell left a k e w c shared facts holds (brought source shared.tables object offset more o (right_slot a (floor source c.active.function k)) m c small points address)
+      is_left (exits, y, q, has, exchange, stack)
   given_place (Thin object offset) k e w c well (shared, facts, (o, more, small, points, holds, place)) = absurd place
   given_place place k e w c well (shared, facts, at) = absurd at

@@ -230,12 +230,12 @@ module _ (k : List Entry) (e : Environment) (w : World) where
 -- ---- arithmetic
 
 -- only a fat pointer has an index
-abbrev IsFatPointer : Value → Type 0
+abbrev pub IsFatPointer : Value → Type 0
 IsFatPointer Null = Unit {0}
 IsFatPointer (Fat object start many index) = Unit {0}
 IsFatPointer v = ⊥
 
-as_fat : (t : Tables) (kind : Kind) (v : Value) (words : Words) (p : ℕ) → Is t kind v words p → IsFatPointer v → Is t kinds.Fat v words p
+pub as_fat : (t : Tables) (kind : Kind) (v : Value) (words : Words) (p : ℕ) → Is t kind v words p → IsFatPointer v → Is t kinds.Fat v words p
 as_fat t kinds.Nullable Null words p is fat = is
 as_fat t kinds.Fat Null words p is fat = is
 as_fat t kinds.Fat (Fat object start many index) words p is fat = is
@@ -245,7 +245,7 @@ as_fat t kind (Handle region) words p is fat = absurd fat
 as_fat t kind (Key region) words p is fat = absurd fat
 as_fat t kind v words p is fat = absurd is
 
-int_word : (t : Tables) (kind : Kind) (a : ℕ) (words : Words) (p : ℕ) → Is t kind (Int a) words p → words p ≡ a
+pub int_word : (t : Tables) (kind : Kind) (a : ℕ) (words : Words) (p : ℕ) → Is t kind (Int a) words p → words p ≡ a
 int_word t kinds.Int a words p is = is
 int_word t kind a words p is = absurd is
 
@@ -255,13 +255,13 @@ pub record IsMoved (change : ℕ → ℕ) (v : Value) : Type 0 where
   pub gives : moved change v ≡ Gives value
   pub fat : IsFatPointer v
 
-is_moved : (change : ℕ → ℕ) (v : Value) (k : List Entry) (e : Environment) (w : World) → IsWell (computed kinds.Fat (moved change v) k e w) → IsMoved change v
+pub is_moved : (change : ℕ → ℕ) (v : Value) (k : List Entry) (e : Environment) (w : World) → IsWell (computed kinds.Fat (moved change v) k e w) → IsMoved change v
 is_moved change Null k e w well = record { value = Null; gives = refl; fat = tt }
 is_moved change (Fat object start many index) k e w well = record { value = Fat object start many (change index); gives = refl; fat = tt }
 is_moved change v k e w well = absurd (well refl)
 
 -- where an index was put, and where it was not
-outside_index : (slots : Words) (d x m : ℕ) → Outside d 3 m → put slots (d + 2) x m ≡ slots m
+pub outside_index : (slots : Words) (d x m : ℕ) → Outside d 3 m → put slots (d + 2) x m ≡ slots m
 outside_index slots d x m (inl below) = put-other slots (d + 2) m x (λ same. absurd (omega (arith, same, below)))
 outside_index slots d x m (inr above) = put-other slots (d + 2) m x (λ same. absurd (omega (arith, same, above)))
 

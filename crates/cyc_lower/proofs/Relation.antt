@@ -1,7 +1,7 @@
 -- What a state of the source and one of the plain program have in common while the one is matched by the other.
-use Rattle.std.proofs.Common.{max, ◌≡◌, ℕ, suc, ◌+◌, ◌*◌, ◌≤◌, ◌<◌, true, List, [], ◌∷◌, ◌++◌, length, Option, None, Some, slice_get, ◌^◌, false, Bool}
+use Rattle.std.proofs.Common.{max, ◌≡◌, ◌⊎◌, ℕ, suc, ◌+◌, ◌*◌, ◌≤◌, ◌<◌, true, List, [], ◌∷◌, ◌++◌, length, Option, None, Some, slice_get, ◌^◌, false, Bool}
 use Rattle.cyc_words.specs.Word.{add_of, IsWord as IsNumber}
-use Rattle.std.specs.Prelude.{if◌then◌else◌}
+use Rattle.std.specs.Prelude.{◌==◌, if◌then◌else◌, option_map}
 use Rattle.cyc_types.specs.declared.typed.Kind.{Kind}
 use Rattle.cyc_types.specs.declared.typed.Kind.TheVariants as kinds
 use Rattle.cyc_types.specs.declared.typed.Callee.{Callee}
@@ -12,10 +12,11 @@ use Rattle.cyc_types.specs.Types.{Ty}
 use Rattle.cyc_types.specs.TypedTrees.{Lvalue, Local, Global, Expression, NoArguments, NoOperations, Statement, Function, Program, Convert, Dereference, Side, VariableSide, CellSide, Clauses}
 use Rattle.cyc_types.specs.Numbered.{Numbering, argument_count, numbering_of, signatures_of}
 use Rattle.cyc_store.specs.State.{StoreState, demand}
-use Rattle.cyc_store.specs.declared.range.TheConstants.{HEAP, UNIQUE}
+use Rattle.cyc_store.specs.declared.range.TheConstants.{HEAP, UNIQUE, MOST_BLOCK_WORDS}
 use Rattle.cyc_objects.specs.Tables.{Variable, Placed, Tables}
 use Rattle.cyc_objects.specs.Words.{words_of_kinds, InRange, Is, Points, before}
 use Rattle.cyc_objects.specs.Related as objects
+use Rattle.cyc_plain.specs.declared.instruction.BinaryOperator.TheVariants as plain_binary
 use Rattle.cyc_plain.specs.declared.instruction.Comparison.{Comparison}
 use Rattle.cyc_plain.specs.declared.instruction.Comparison.TheVariants as comparisons
 use Rattle.cyc_plain.specs.Operators.{compares}
@@ -32,17 +33,16 @@ use Rattle.cyc_plain.specs.State as plain
 use Rattle.cyc_plain.specs.Straight.{At}
 use Rattle.cyc_meaning.specs.Values.{Fat, Value, Null, Thin, Operand as Kinded, Cell, kinds_of, words_of_kind, is_thin}
 use Rattle.cyc_meaning.specs.Allocation.{writes_from, blanks_of}
-use Rattle.cyc_meaning.specs.State.{Owner, InRegion, Unique, Object, World, heap_number, globals_number, Environment, ConvertTo, Operate, Chain, Apply, ApplyPointer, Follow, LoadFrom, Decide, Store, Pass, MakePlain, MakeFields, MakeArray, FillElement, Initialise, Choose, Test, Return, Entry, Needs, NeedsPlace, Discard, Rest, Join, Loop, CloseRegion, CloseLexical, EndLoan, Handler, Caller, Main, calls_in, Focus, Evaluating, Locating, Given, Executing, Proceeding, Calling, Entering, Binding, Writing, Beginning, Repeating, Breaking, Continuing, Returning, Throwing, State, Running, Ended, GivenPlace, FollowMember, TakeAddress, StoreTo, StoreCell, FreeObject, SwapLeft, SwapRight, Write, Swapping, ThrowWith, Naming, Catching}
+use Rattle.cyc_meaning.specs.State.{Owner, InRegion, Unique, Object, World, heap_number, globals_number, Environment, ConvertTo, Operate, Chain, Apply, ApplyPointer, Follow, LoadFrom, Decide, Store, Pass, MakePlain, MakeFields, MakeArray, FillElement, Initialise, Choose, Test, Return, Entry, Needs, NeedsPlace, Discard, Rest, Join, Loop, CloseRegion, CloseLexical, EndLoan, Handler, Caller, Main, calls_in, Focus, Evaluating, Locating, Given, Executing, Proceeding, Calling, Entering, Binding, Writing, Beginning, Repeating, Breaking, Continuing, Returning, Throwing, State, Running, Ended, GivenPlace, FollowMember, TakeAddress, StoreTo, StoreCell, FreeObject, SwapLeft, SwapRight, Write, Swapping, ThrowWith, Naming, Catching, CountElements, Index, Advance}
 use Rattle.cyc_meaning.specs.Step.{object_of}
 use Rattle.cyc_meaning.specs.Operators.{null_exception, is_zero}
 use Rattle.cyc_meaning.specs.FrameCount.{words_of_all}
 use Rattle.cyc_lower.specs.declared.statements.Exits.{Exits}
 use Rattle.cyc_meaning.specs.Pointers.{result_kind as operator_kind}
-use Rattle.cyc_lower.specs.Slots.{Types, Starts, starts_of, slot_of}
-use Rattle.cyc_lower.specs.Lowering.{most_elements, unary_operator, failing_comparison, operand_of, move_of, low_byte, converts_there, all_passed, compared_of, break_target, continue_target, results_of, lower_program, outside_loops, slot_types, raises_of, right_slot, tag_operand}
-use Rattle.cyc_lower.proofs.Widths.{kind_of_result, given, called_kind, HasRoom, Outside, chain_kind}
-use Rattle.cyc_lower.proofs.Stands.{BegunAt, ElementsAt, CheckAt, ConversionAt, PlaceAt, OperatorAt, TruthAt, CopyAt, ExpressionAt, ArgumentsAt, OperationsAt, ValueAt, ConditionAt, FailingAt, ComparesAt, DiscardedAt, StatementAt, ItemsAt, PointerAt, StoresAt, ObjectAt, AddressAt, ConvertedOperandAt, FreedAt, HasSide, SideAt, ReadAt, WriteAt, ExchangeAt, LeaveAt, ClausesAt}
-use Rattle.cyc_lower.specs.Lowerable.{waits_for}
+use Rattle.cyc_lower.specs.Slots.{Types, Starts, starts_of, slot_of, global_of, global_types}
+use Rattle.cyc_lower.specs.Lowering.{most_elements, unary_operator, failing_comparison, operand_of, move_of, low_byte, converts_there, all_passed, compared_of, break_target, continue_target, results_of, lower_program, outside_loops, slot_types, raises_of, right_slot, tag_operand, followed_operand, reached_operand, globals_of}
+use Rattle.cyc_lower.proofs.Widths.{kind_of_result, given, called_kind, HasRoom, Outside, chain_kind, HasGlobal}
+use Rattle.cyc_lower.proofs.Stands.{BegunAt, ElementsAt, CheckAt, ConversionAt, PlaceAt, OperatorAt, TruthAt, CopyAt, ExpressionAt, ArgumentsAt, OperationsAt, ValueAt, ConditionAt, FailingAt, ComparesAt, DiscardedAt, StatementAt, ItemsAt, PointerAt, StoresAt, ObjectAt, AddressAt, ConvertedOperandAt, FreedAt, HasSide, SideAt, ReadAt, WriteAt, ExchangeAt, LeaveAt, ClausesAt, CountAt, SavedAt, LoadedAt, FollowedAt, ReachedAt, GlobalAt}
 
 -- ---- values in slots
 
@@ -56,6 +56,15 @@ IsWord t kind v word = Is t kind v (λ (i : ℕ). word) 0
 abbrev pub IsIn : Tables → Kinded → Words → Operand → Type 0
 IsIn t v slots (operands.Slot n) = Is t v.kind v.value slots n
 IsIn t v slots (operands.Word w) = IsWord t v.kind v.value w
+
+-- an operand that is a word, or stands before or at this slot
+abbrev pub IsLow : Operand → (t : ℕ) → Type 0
+IsLow (operands.Slot n) t = n ≤ t
+IsLow (operands.Word w) t = Unit {0}
+
+-- the words of a fat pointer whose index is apart from the others
+abbrev pub IsParts : Tables → Value → Words → (n m : ℕ) → Type 0
+IsParts t v slots n m = Is t kinds.Fat v (λ j. if j == 0 then slots n else if j == 1 then slots (n + 1) else slots m) 0
 
 abbrev pub words_held : List Kinded → ℕ
 words_held [] = 0
@@ -84,6 +93,7 @@ held (Needs (Chain rest) ∷ k) = held k
 held (Needs (Apply operator left) ∷ k) = left ∷ held k
 held (Needs (ApplyPointer peek operator left) ∷ k) = left ∷ held k
 held (Needs Decide ∷ k) = held k
+held (Needs CountElements ∷ k) = held k
 held (Needs (Store place) ∷ k) = held k
 -- the address of the cell waits for what is stored in it
 held (Needs (StoreCell peek place) ∷ k) = record { kind = kinds.NonNull; value = place } ∷ held k
@@ -98,10 +108,12 @@ held (Needs (Test condition body) ∷ k) = []
 held (Needs Return ∷ k) = []
 held (Needs (Follow pointer target) ∷ k) = held k
 held (Needs FreeObject ∷ k) = held k
+held (Needs (Index peek target index) ∷ k) = held k
+held (Needs (Advance peek target base) ∷ k) = base ∷ held k
 held (Needs (FollowMember pointer fields field) ∷ k) = held k
 held (NeedsPlace (SwapLeft kind peek right) ∷ k) = []
-held (NeedsPlace (SwapRight kind None left) ∷ k) = []
-held (NeedsPlace (SwapRight kind (Some n) left) ∷ k) = record { kind = kinds.NonNull; value = left } ∷ []
+held (NeedsPlace (SwapRight kind peek false left) ∷ k) = []
+held (NeedsPlace (SwapRight kind peek true left) ∷ k) = record { kind = kinds.NonNull; value = left } ∷ []
 held (NeedsPlace a ∷ k) = held k
 held (entry ∷ k) = []
 
@@ -114,6 +126,7 @@ counters_of base (Needs (Chain rest) ∷ k) = counters_of base k
 counters_of base (Needs (Apply operator left) ∷ k) = counters_of base k
 counters_of base (Needs (ApplyPointer peek operator left) ∷ k) = counters_of base k
 counters_of base (Needs Decide ∷ k) = counters_of base k
+counters_of base (Needs CountElements ∷ k) = counters_of base k
 counters_of base (Needs (Store place) ∷ k) = counters_of base k
 counters_of base (Needs (StoreCell peek place) ∷ k) = counters_of base k
 counters_of base (Needs (Pass callee before rest) ∷ k) = counters_of base k
@@ -124,6 +137,8 @@ counters_of base (Needs (FillElement object count index level kind element) ∷ 
 counters_of base (Needs (Follow pointer target) ∷ k) = counters_of base k
 counters_of base (Needs (FollowMember pointer fields field) ∷ k) = counters_of base k
 counters_of base (Needs FreeObject ∷ k) = counters_of base k
+counters_of base (Needs (Index peek target index) ∷ k) = counters_of base k
+counters_of base (Needs (Advance peek target pointer) ∷ k) = counters_of base k
 counters_of base (NeedsPlace (LoadFrom cell) ∷ k) = counters_of base k
 counters_of base (NeedsPlace TakeAddress ∷ k) = counters_of base k
 counters_of base (NeedsPlace (StoreTo peek c) ∷ k) = counters_of base k
@@ -151,11 +166,6 @@ abbrev pub IsHandleOf : Owner → (handle : ℕ) → Type 0
 IsHandleOf (InRegion region) handle = (region ≡ heap_number) × (handle ≡ HEAP)
 IsHandleOf (Unique true) handle = handle ≡ UNIQUE
 IsHandleOf (Unique false) handle = ⊥
-
--- the same for an array, which is made in the heap alone yet
-abbrev pub IsInHeap : Owner → (handle : ℕ) → Type 0
-IsInHeap (InRegion region) handle = (region ≡ heap_number) × (handle ≡ HEAP)
-IsInHeap (Unique live) handle = ⊥
 
 -- a new object has cells of these kinds, which stand from this address on
 pub record IsObject (t : Tables) (object address : ℕ) (kinds : List Kind) : Type 0 where
@@ -190,10 +200,12 @@ pub record LocalsHold (t : Tables) (types : Types) (objects : List Object) (loca
   pub holds : (number object : ℕ) (v : Kinded) → locals number ≡ Some object → contents objects object ≡ Some v
       → Is t v.kind v.value slots (slot_of (starts_of types) number) × HasRoom types number v.kind
 
--- a global has one word yet
-abbrev pub GlobalsHold : Tables → (globals : ℕ) → List Object → Words → Type 0
-GlobalsHold t globals objects words =
-    (number : ℕ) → number < globals → (slice_get t.rows number ≡ Some Variable) × ((v : Kinded) → contents objects number ≡ Some v → IsWord t v.kind v.value (words number))
+-- the words of each global, which has one of these types, have what it holds, and there is room for it
+abbrev pub GlobalsHold : Tables → Types → List Object → Words → Type 0
+GlobalsHold t types objects words =
+    (number : ℕ) → number < length types.globals
+    → (slice_get t.rows number ≡ Some Variable)
+    × ((v : Kinded) → contents objects number ≡ Some v → Is t v.kind v.value words (global_of (starts_of types) number) × HasGlobal types number v.kind)
 
 -- The first temporary of the running call, whose locals end at a slot: the records of the handlers that it has open stand between.
 abbrev pub behind_records : List Entry → (slot : ℕ) → ℕ
@@ -294,10 +306,10 @@ module _ (source : Program) where
 
   abbrev pub raises_in : Option Function → ℕ
   raises_in None = 0
-  raises_in (Some h) = raises_of source.structs h
+  raises_in (Some h) = raises_of source.structs (globals_of source) h
 
   abbrev pub types_in : Option Function → Types
-  types_in h = record { locals = local_types h; structs = source.structs; raises = raises_in h; counters = [] }
+  types_in h = record { locals = local_types h; structs = source.structs; raises = raises_in h; counters = []; globals = global_types source.globals }
 
   abbrev pub types_at : ℕ → Types
   types_at g = types_in (slice_get source.functions g)
@@ -307,7 +319,7 @@ module _ (source : Program) where
 
   -- the same where these entries wait, of which some are arrays that are being filled
   abbrev pub types_on : ℕ → List Entry → Types
-  types_on g k = record { locals = local_types (slice_get source.functions g); structs = source.structs; raises = raises_in (slice_get source.functions g); counters = counters_of (behind_records k (words_of_all (local_types (slice_get source.functions g)))) k }
+  types_on g k = record { locals = local_types (slice_get source.functions g); structs = source.structs; raises = raises_in (slice_get source.functions g); counters = counters_of (behind_records k (words_of_all (local_types (slice_get source.functions g)))) k; globals = global_types source.globals }
 
   abbrev pub starts_on : ℕ → List Entry → Starts
   starts_on g k = starts_of (types_on g k)
@@ -345,7 +357,7 @@ module _ (source : Program) where
 
   -- the calls that wait, whose objects lie apart by order: those of an older call have smaller numbers
   abbrev pub FramesHold : Tables → List Object → (high : ℕ) → List Frame → List Waiting → Type 0
-  FramesHold t objects high [] [] = length source.globals ≤ high
+  FramesHold t objects high [] [] = length (global_types source.globals) ≤ high
   FramesHold t objects high (f ∷ frames) (x ∷ outer) =
       (low : ℕ) × (low ≤ high) × (LocalsHold t (types_at f.caller.function) objects x.locals low high f.caller.slots × Holds t f.caller.slots (x.temporaries (base_of f.caller.function)) x.values)
       × FramesHold t objects low frames outer
@@ -356,7 +368,7 @@ module _ (source : Program) where
   DataAt t g objects locals outer slots globals frames = (low : ℕ) × (low ≤ length objects)
       × LocalsHold t (types_at g) objects locals low (length objects) slots
       × FramesHold t objects low frames outer
-      × GlobalsHold t (length source.globals) objects globals
+      × GlobalsHold t (types_at g) objects globals
 
   -- ---- the control stack and the code
 
@@ -431,7 +443,7 @@ module _ (source : Program) where
       At (code_of g) p (move_of (words_of_kind kind) (slot_of (starts_at g) n) from) × (p + 1 ≡ q) × (to ≡ operands.Slot (slot_of (starts_at g) n))
       × HasRoom (types_at g) n kind
   StoreAt g kind (Global n) from to p q =
-      At (code_of g) p (instructions.StoreGlobal n from) × (p + 1 ≡ q) × (to ≡ from) × (n < (bounds_at g).globals) × (words_of_kind kind ≡ 1)
+      GlobalAt (code_of g) (words_of_kind kind) (global_of (starts_at g) n) from p q × (to ≡ from) × HasGlobal (types_at g) n kind
 
   -- ---- swaps
 
@@ -441,21 +453,21 @@ module _ (source : Program) where
       (offset ≡ 0) × (object_of (record { locals = locals; home = 0; counters = λ level. None }) l ≡ Some object)
   IsSideAt t locals slots (CellSide x) s object offset = Points t object offset (slots s)
 
-  -- the left side, while the right one is sought: a variable, or a cell that is reached by a peek
-  abbrev pub IsLeft : (ℕ → Option ℕ) → (peek : Option ℕ) → Side → (place : Value) → Type 0
-  IsLeft locals None (VariableSide l ty) (Thin object offset) =
+  -- the left side, while the right one is sought: a variable or a cell
+  abbrev pub IsLeft : (ℕ → Option ℕ) → (is_cell : Bool) → Side → (place : Value) → Type 0
+  IsLeft locals false (VariableSide l ty) (Thin object offset) =
       (offset ≡ 0) × (object_of (record { locals = locals; home = 0; counters = λ level. None }) l ≡ Some object)
-  IsLeft locals (Some n) (CellSide x) (Thin object offset) = Unit {0}
-  IsLeft locals peek a place = ⊥
+  IsLeft locals true (CellSide x) (Thin object offset) = Unit {0}
+  IsLeft locals is_cell a place = ⊥
 
   -- words that stand in slots come to sides, and then the code goes on at q
   abbrev pub WritesAt : Tables → (ℕ → Option ℕ) → (g : ℕ) → Words → List Write → (p q : ℕ) → Type 0
   WritesAt t locals g slots [] p q = p ≡ q
   WritesAt t locals g slots (x ∷ writes) p q =
-      (a : Side) × (object : ℕ) × (offset : ℕ) × (s : ℕ) × (v : ℕ) × WriteAt (code_of g) (bounds_at g) (types_at g) a s v p
-      × HasSide (code_of g) (bounds_at g) (types_at g) a x.operand.kind × (words_of_kind x.operand.kind ≡ 1) × (base_of g ≤ s) × (base_of g ≤ v)
-      × (x.place ≡ Thin object offset) × IsSideAt t locals slots a s object offset × IsWord t x.operand.kind x.operand.value (slots v)
-      × WritesAt t locals g slots writes (p + 1) q
+      (a : Side) × (object : ℕ) × (offset : ℕ) × (s : ℕ) × (v : ℕ) × (r : ℕ) × WriteAt (code_of g) (bounds_at g) (types_at g) a (words_of_kind x.operand.kind) s v p r
+      × HasSide (code_of g) (bounds_at g) (types_at g) a x.operand.kind × (base_of g ≤ s) × (base_of g ≤ v)
+      × (x.place ≡ Thin object offset) × IsSideAt t locals slots a s object offset × Is t x.operand.kind x.operand.value slots v
+      × WritesAt t locals g slots writes r q
 
   -- what this function returns is of this kind
   abbrev pub IsReturned : (g : ℕ) → Kind → Type 0
@@ -473,7 +485,7 @@ module _ (source : Program) where
     pub ValueStack : (g : ℕ) → (ℕ → Option ℕ) → Kind → Operand → (p : ℕ) → List Frame → List Entry → Type 0
     ValueStack g locals kind o p frames [] = ⊥
     ValueStack g locals kind o p frames (Needs (ConvertTo from to target) ∷ k) =
-        (q : ℕ) × ConversionAt (code_of g) (bounds_at g) (types_on g k) from to o p q × ValueStack g locals to o q frames k
+        (q : ℕ) × ConversionAt (code_of g) (bounds_at g) (types_on g k) from to (option_map words_of_kind target) o (top g k) p q × ValueStack g locals to o q frames k
     ValueStack g locals kind o p frames (Needs (Operate operator) ∷ k) =
         Yields ((d : ℕ) × At (code_of g) p (instructions.Unary (unary_operator operator) d o)
         × Lands (base_of g) (top g k) d 1 (ValueStack g locals kinds.Int (operands.Slot d) (p + 1) frames k) (AheadStack g locals kinds.Int d (p + 1) frames k))
@@ -491,6 +503,9 @@ module _ (source : Program) where
         (d : ℕ) × (q : ℕ) × PointerAt (code_of g) (bounds_at g) (types_on g k) operator o (top g k) d p q
         × Lands (base_of g) (top g k) d (words_of_kind (operator_kind operator)) (ValueStack g locals (operator_kind operator) (operands.Slot d) q frames k)
         (AheadStack g locals (operator_kind operator) d q frames k)
+    ValueStack g locals kind o p frames (Needs CountElements ∷ k) =
+        (d : ℕ) × (q : ℕ) × CountAt (code_of g) (bounds_at g) (types_on g k) o d p q
+        × Lands (base_of g) (top g k) d 1 (ValueStack g locals kinds.Int (operands.Slot d) q frames k) (AheadStack g locals kinds.Int d q frames k)
     ValueStack g locals kind o p frames (Needs Decide ∷ k) =
         (d : ℕ) × (q : ℕ) × (o ≡ operands.Slot (top g k)) × TruthAt (code_of g) (bounds_at g) (types_on g k) (top g k) d p q
         × Lands (base_of g) (top g k) d 1 (ValueStack g locals kinds.Int (operands.Slot d) q frames k) (AheadStack g locals kinds.Int d q frames k)
@@ -499,8 +514,8 @@ module _ (source : Program) where
         × HandsOn (code_of g) (words_of_kind kind) to q (DroppedStack g q frames k) (ValueStack g locals kind to q frames k)
         (λ d r. Lands (base_of g) (top g k) d (words_of_kind kind) (ValueStack g locals kind (operands.Slot d) r frames k) (AheadStack g locals kind d r frames k))
     ValueStack g locals kind o p frames (Needs (StoreCell peek place) ∷ k) =
-        At (code_of g) p (instructions.Store (operands.Slot (top g k)) 0 o) × (words_of_kind kind ≡ 1)
-        × HandsOn (code_of g) (words_of_kind kind) o (p + 1) (DroppedStack g (p + 1) frames k) (ValueStack g locals kind o (p + 1) frames k)
+        (q : ℕ) × SavedAt (code_of g) (bounds_at g) (types_on g k) (words_of_kind kind) (top g k) o p q
+        × HandsOn (code_of g) (words_of_kind kind) o q (DroppedStack g q frames k) (ValueStack g locals kind o q frames k)
         (λ d r. Lands (base_of g) (top g k) d (words_of_kind kind) (ValueStack g locals kind (operands.Slot d) r frames k) (AheadStack g locals kind d r frames k))
     ValueStack g locals kind o p frames (Needs (Pass callees.Putchar before arguments) ∷ k) =
         (before ≡ []) × (arguments ≡ NoArguments) × At (code_of g) p (instructions.WriteByte o)
@@ -521,13 +536,13 @@ module _ (source : Program) where
         × (words_held before + (words_of_kind kind + all_passed fields) ≡ all)
         × Lands (base_of g) (top g k) d 1 (ValueStack g locals kinds.NonNull (operands.Slot d) q frames k) (AheadStack g locals kinds.NonNull d q frames k)
     ValueStack g locals kind o p frames (Needs (MakeArray owner level wanted element) ∷ k) =
-        (handle : ℕ) × (d : ℕ) × (h : ℕ) × (r : ℕ) × (s : ℕ) × (q : ℕ) × IsInHeap owner handle × (o ≡ operands.Slot (top g k))
-        × BegunAt (code_of g) (bounds_at g) (types_on g k) handle (top g k) p h
-        × (level ≡ length (counters_of (floor g k) k)) × (words_of_kind wanted ≡ 1) × ElementsAt (code_of g) (bounds_at g) (types_on g k) element (top g k) d h r s q
+        (handle : ℕ) × (d : ℕ) × (h : ℕ) × (r : ℕ) × (s : ℕ) × (q : ℕ) × IsHandleOf owner handle × (o ≡ operands.Slot (top g k))
+        × BegunAt (code_of g) (bounds_at g) (types_on g k) handle (words_of_kind wanted) (top g k) p h
+        × (level ≡ length (counters_of (floor g k) k)) × ElementsAt (code_of g) (bounds_at g) (types_on g k) element (words_of_kind wanted) (top g k) d h r s q
         × Lands (base_of g) (top g k) d 3 (ValueStack g locals kinds.Fat (operands.Slot d) q frames k) (AheadStack g locals kinds.Fat d q frames k)
     ValueStack g locals kind o p frames (Needs (FillElement object count index level wanted element) ∷ k) =
-        (d : ℕ) × (h : ℕ) × (s : ℕ) × (q : ℕ) × (o ≡ operands.Slot (top g k + 3)) × (index < count) × (count ≤ most_elements)
-        × (level ≡ length (counters_of (floor g k) k)) × (words_of_kind wanted ≡ 1) × ElementsAt (code_of g) (bounds_at g) (types_on g k) element (top g k) d h p s q
+        (d : ℕ) × (h : ℕ) × (s : ℕ) × (q : ℕ) × (o ≡ operands.Slot (top g k + 3)) × (index < count) × (count * words_of_kind wanted ≤ MOST_BLOCK_WORDS)
+        × (level ≡ length (counters_of (floor g k) k)) × ElementsAt (code_of g) (bounds_at g) (types_on g k) element (words_of_kind wanted) (top g k) d h p s q
         × Lands (base_of g) (top g k) d 3 (ValueStack g locals kinds.Fat (operands.Slot d) q frames k) (AheadStack g locals kinds.Fat d q frames k)
     ValueStack g locals kind o p frames (Needs (Initialise number wanted items) ∷ k) =
         (exits : Exits) × (q : ℕ) × At (code_of g) p (move_of (words_of_kind kind) (slot_of (starts_at g) number) o) × HasRoom (types_at g) number kind
@@ -546,35 +561,49 @@ module _ (source : Program) where
     ValueStack g locals kind o p frames (Needs (ThrowWith tag) ∷ k) =
         (exits : Exits) × (q : ℕ) × IsNumber tag × At (code_of g) p (instructions.Throw (tag_operand tag) o) × StatementStack g exits q frames k
     ValueStack g locals kind o p frames (Needs (Follow pointer target) ∷ k) =
-        (q : ℕ) × (is_thin pointer ≡ true) × CheckAt (code_of g) (bounds_at g) (types_on g k) null_exception o p q × PlaceStack g locals o 0 q frames k
+        (q : ℕ) × IsLow o (top g k) × FollowedAt (code_of g) (bounds_at g) (types_on g k) (is_thin pointer) (option_map words_of_kind target) o (top g k) p q
+        × PlaceStack g locals (followed_operand (is_thin pointer) (option_map words_of_kind target) o (top g k)) 0 q frames k
     ValueStack g locals kind o p frames (Needs (FollowMember pointer fields field) ∷ k) =
         (c : ℕ) × (q : ℕ) × (is_thin pointer ≡ true) × CheckAt (code_of g) (bounds_at g) (types_on g k) null_exception o p q × (field < length fields)
         × (4 * before field fields < 2 ^ 32 → c ≡ 4 * before field fields) × PlaceStack g locals o c q frames k
+    ValueStack g locals kind o p frames (Needs (Index peek target index) ∷ k) =
+        ((x : Operand) × (m : ℕ) × (q : ℕ) × (o ≡ operands.Slot (top g k)) × ValueAt (code_of g) (bounds_at g) (types_on g k) index (top g k + 3) x p m
+        × At (code_of g) m (instructions.Binary plain_binary.Add (top g k + 2) (operands.Slot (top g k + 2)) x)
+        × ReachedAt (code_of g) (bounds_at g) (types_on g k) (option_map words_of_kind target) (top g k) (top g k + 2) (top g k) (m + 1) q
+        × PlaceStack g locals (reached_operand (option_map words_of_kind target) (top g k) (top g k)) 0 q frames k)
+        ⊎ ((n : ℕ) × (x : Operand) × (q : ℕ) × (o ≡ operands.Slot n) × (n ≤ top g k) × (operand_of (starts_on g k) index ≡ Some x)
+        × At (code_of g) p (instructions.Binary plain_binary.Add (top g k + 2) (operands.Slot (n + 2)) x)
+        × ReachedAt (code_of g) (bounds_at g) (types_on g k) (option_map words_of_kind target) n (top g k + 2) (top g k) (p + 1) q
+        × PlaceStack g locals (reached_operand (option_map words_of_kind target) n (top g k)) 0 q frames k)
+    ValueStack g locals kind o p frames (Needs (Advance peek target base) ∷ k) =
+        (q : ℕ) × At (code_of g) p (instructions.Binary plain_binary.Add (top g k + 2) (operands.Slot (top g k + 2)) o)
+        × ReachedAt (code_of g) (bounds_at g) (types_on g k) (option_map words_of_kind target) (top g k) (top g k + 2) (top g k) (p + 1) q
+        × PlaceStack g locals (reached_operand (option_map words_of_kind target) (top g k) (top g k)) 0 q frames k
     ValueStack g locals kind o p frames (Discard ∷ k) = (exits : Exits) × StatementStack g exits p frames k
     ValueStack g locals kind o p frames (entry ∷ k) = ⊥
 
     -- the same for a place, whose address is the word of an operand and so many bytes more
     pub PlaceStack : (g : ℕ) → (ℕ → Option ℕ) → Operand → (c p : ℕ) → List Frame → List Entry → Type 0
     PlaceStack g locals o c p frames (NeedsPlace (LoadFrom cell) ∷ k) =
-        (d : ℕ) × At (code_of g) p (instructions.Load d o c) × (words_of_kind cell ≡ 1)
-        × Lands (base_of g) (top g k) d (words_of_kind cell) (ValueStack g locals cell (operands.Slot d) (p + 1) frames k) (AheadStack g locals cell d (p + 1) frames k)
+        (d : ℕ) × (q : ℕ) × LoadedAt (code_of g) (words_of_kind cell) o c d p q
+        × Lands (base_of g) (top g k) d (words_of_kind cell) (ValueStack g locals cell (operands.Slot d) q frames k) (AheadStack g locals cell d q frames k)
     PlaceStack g locals o c p frames (NeedsPlace TakeAddress ∷ k) =
         (d : ℕ) × (q : ℕ) × AddressAt (code_of g) o c d p q
         × Lands (base_of g) (top g k) d 1 (ValueStack g locals kinds.NonNull (operands.Slot d) q frames k) (AheadStack g locals kinds.NonNull d q frames k)
     PlaceStack g locals o c p frames (NeedsPlace (StoreTo peek (Convert from to a)) ∷ k) =
-        (x : Operand) × (s : ℕ) × (u : ℕ) × AddressAt (code_of g) o c (top g k) p s
+        (x : Operand) × (s : ℕ) × (u : ℕ) × (q : ℕ) × AddressAt (code_of g) o c (top g k) p s
         × ConvertedOperandAt (code_of g) (bounds_at g) (types_on g k) (Convert from to a) (top g k + 1) x s u
-        × At (code_of g) u (instructions.Store (operands.Slot (top g k)) 0 x) × (words_of_kind to ≡ 1)
-        × HandsOn (code_of g) (words_of_kind to) x (u + 1) (DroppedStack g (u + 1) frames k) (ValueStack g locals to x (u + 1) frames k)
+        × SavedAt (code_of g) (bounds_at g) (types_on g k) (words_of_kind to) (top g k) x u q
+        × HandsOn (code_of g) (words_of_kind to) x q (DroppedStack g q frames k) (ValueStack g locals to x q frames k)
         (λ d r. Lands (base_of g) (top g k) d (words_of_kind to) (ValueStack g locals to (operands.Slot d) r frames k) (AheadStack g locals to d r frames k))
     PlaceStack g locals o c p frames (NeedsPlace (SwapLeft kind peek right) ∷ k) =
-        (exits : Exits) × (x : Dereference) × (m : ℕ) × (r : ℕ) × (q : ℕ) × (words_of_kind kind ≡ 1) × HasSide (code_of g) (bounds_at g) (types_at g) right kind
-        × (waits_for peek right ≡ true) × AddressAt (code_of g) o c (floor g k) p m × SideAt (code_of g) (bounds_at g) (types_at g) right (floor g k + 1) m r
-        × ExchangeAt (code_of g) (bounds_at g) (types_at g) (CellSide x) right (floor g k) r q × StatementStack g exits q frames k
-    PlaceStack g locals o c p frames (NeedsPlace (SwapRight kind peek left) ∷ k) =
-        (exits : Exits) × (a : Side) × (y : Dereference) × (m : ℕ) × (q : ℕ) × (words_of_kind kind ≡ 1) × HasSide (code_of g) (bounds_at g) (types_at g) a kind
-        × IsLeft locals peek a left × AddressAt (code_of g) o c (right_slot a (floor g k)) p m
-        × ExchangeAt (code_of g) (bounds_at g) (types_at g) a (CellSide y) (floor g k) m q × StatementStack g exits q frames k
+        (exits : Exits) × (x : Dereference) × (m : ℕ) × (r : ℕ) × (q : ℕ) × HasSide (code_of g) (bounds_at g) (types_at g) right kind
+        × AddressAt (code_of g) o c (floor g k) p m × SideAt (code_of g) (bounds_at g) (types_at g) right (floor g k + 1) m r
+        × ExchangeAt (code_of g) (bounds_at g) (types_at g) (words_of_kind kind) (CellSide x) right (floor g k) r q × StatementStack g exits q frames k
+    PlaceStack g locals o c p frames (NeedsPlace (SwapRight kind peek is_cell left) ∷ k) =
+        (exits : Exits) × (a : Side) × (y : Dereference) × (m : ℕ) × (q : ℕ) × HasSide (code_of g) (bounds_at g) (types_at g) a kind
+        × IsLeft locals is_cell a left × AddressAt (code_of g) o c (right_slot a (floor g k)) p m
+        × ExchangeAt (code_of g) (bounds_at g) (types_at g) (words_of_kind kind) a (CellSide y) (floor g k) m q × StatementStack g exits q frames k
     PlaceStack g locals o c p frames k = ⊥
 
     -- the same for a condition, which fails where this comparison holds
@@ -641,6 +670,12 @@ module _ (source : Program) where
       Yields ((d : ℕ) × (q : ℕ) × OperatorAt (code_of g) (bounds_at g) (types_on g k) operator d l r p q × LandsStack g locals kinds.Int d q frames k)
       ((failing : Comparison) × (failing_comparison operator ≡ Some failing) × ConditionStack g failing l r p frames k)
 
+  -- a fat pointer in slot n moves by an index, and an access by it is made
+  abbrev pub AdvancesAt : (g : ℕ) → (ℕ → Option ℕ) → (span : Option ℕ) → (n : ℕ) → Operand → (p q : ℕ) → List Frame → List Entry → Type 0
+  AdvancesAt g locals span n x p q frames k =
+      At (code_of g) p (instructions.Binary plain_binary.Add (top g k + 2) (operands.Slot (n + 2)) x)
+      × ReachedAt (code_of g) (bounds_at g) (types_on g k) span n (top g k + 2) (top g k) (p + 1) q × PlaceStack g locals (reached_operand span n (top g k)) 0 q frames k
+
   -- ---- the focus
 
   -- A right operand without code: the left one may be without code too, and both are read at once.
@@ -648,6 +683,9 @@ module _ (source : Program) where
   RightAt t a locals g p slots frames (Needs (Apply operator left) ∷ k) =
       (l : Operand) × (r : Operand) × (operand_of (starts_on g k) a ≡ Some r) × IsIn t left slots l × Holds t slots (floor g k) (held k)
       × AppliedStack g locals operator l r p frames k
+  RightAt t a locals g p slots frames (Needs (Advance peek target base) ∷ k) =
+      (n : ℕ) × (x : Operand) × (q : ℕ) × (operand_of (starts_on g k) a ≡ Some x) × Is t base.kind base.value slots n × (n ≤ top g k) × Holds t slots (floor g k) (held k)
+      × AdvancesAt g locals (option_map words_of_kind target) n x p q frames k
   RightAt t a locals g p slots frames k = ⊥
 
   -- both operands are there
@@ -655,6 +693,13 @@ module _ (source : Program) where
   ReadyAt t v locals g p slots frames (Needs (Apply operator left) ∷ k) =
       (l : Operand) × (r : Operand) × IsIn t left slots l × IsIn t v slots r × Holds t slots (floor g k) (held k)
       × AppliedStack g locals operator l r p frames k
+  ReadyAt t v locals g p slots frames (Needs (Advance peek target base) ∷ k) =
+      (n : ℕ) × (x : Operand) × (q : ℕ) × IsIn t v slots x × Is t base.kind base.value slots n × (n ≤ top g k) × Holds t slots (floor g k) (held k)
+      × AdvancesAt g locals (option_map words_of_kind target) n x p q frames k
+  ReadyAt t v locals g p slots frames (Needs (Follow pointer target) ∷ k) =
+      (n : ℕ) × (m : ℕ) × (q : ℕ) × (pointer ≡ kinds.Fat) × IsParts t v.value slots n m × (n ≤ top g k) × Holds t slots (floor g k) (held k)
+      × ReachedAt (code_of g) (bounds_at g) (types_on g k) (option_map words_of_kind target) n m (top g k) p q
+      × PlaceStack g locals (reached_operand (option_map words_of_kind target) n (top g k)) 0 q frames k
   ReadyAt t v locals g p slots frames k = ⊥
 
   -- the code of an expression, by where its value is to be
@@ -693,34 +738,33 @@ module _ (source : Program) where
   FocusAt t (Writing writes (Some pointer)) k locals g p slots frames =
       (object : ℕ) × (done : List Kind) × (values : List Kinded) × (address : ℕ) × (slot : ℕ) × (d : ℕ) × (m : ℕ) × (q : ℕ)
       × (writes ≡ writes_from object (length done) values) × (pointer ≡ record { kind = kinds.NonNull; value = Thin object 0 })
-      × IsObject t object (slots address) (done ++ kinds_of (blanks_of values)) × (words_held values ≡ length values)
+      × IsObject t object (slots address) (done ++ kinds_of (blanks_of values)) × (length values ≤ words_held values)
       × HoldsFrom t slots slot values × StoresAt (code_of g) (bounds_at g) (types_on g k) (words_held values) address (4 * words_of_kinds done) slot p m
       × At (code_of g) m (instructions.Move d (operands.Slot address)) × (m + 1 ≡ q)
       × Holds t slots (floor g k) (held k) × LandsStack g locals kinds.NonNull d q frames k
   FocusAt t (Beginning owner count level wanted element) k locals g p slots frames =
-      (handle : ℕ) × (d : ℕ) × (h : ℕ) × (r : ℕ) × (s : ℕ) × (q : ℕ) × IsInHeap owner handle
+      (handle : ℕ) × (d : ℕ) × (h : ℕ) × (r : ℕ) × (s : ℕ) × (q : ℕ) × IsHandleOf owner handle
       × At (code_of g) p (instructions.Ask (requests.Allocate (top g k) (operands.Word handle) (operands.Slot (top g k + 3)))) × (p + 1 ≡ h)
-      × (count ≤ most_elements) × (slots (top g k + 1) ≡ count) × (slots (top g k + 2) ≡ 0) × (slots (top g k + 3) ≡ max 1 count)
-      × (level ≡ length (counters_of (floor g k) k)) × (words_of_kind wanted ≡ 1) × ElementsAt (code_of g) (bounds_at g) (types_on g k) element (top g k) d h r s q
+      × (count * words_of_kind wanted ≤ MOST_BLOCK_WORDS) × (slots (top g k + 1) ≡ count) × (slots (top g k + 2) ≡ 0) × (slots (top g k + 3) ≡ max 1 (count * words_of_kind wanted))
+      × (level ≡ length (counters_of (floor g k) k)) × ElementsAt (code_of g) (bounds_at g) (types_on g k) element (words_of_kind wanted) (top g k) d h r s q
       × Holds t slots (floor g k) (held k) × LandsStack g locals kinds.Fat d q frames k
   FocusAt t (Repeating object count index level wanted element) k locals g p slots frames =
-      (d : ℕ) × (r : ℕ) × (s : ℕ) × (q : ℕ) × Is t kinds.Fat (Fat object 0 count index) slots (top g k) × (index ≤ count) × (count ≤ most_elements)
-      × (level ≡ length (counters_of (floor g k) k)) × (words_of_kind wanted ≡ 1) × ElementsAt (code_of g) (bounds_at g) (types_on g k) element (top g k) d p r s q
+      (d : ℕ) × (r : ℕ) × (s : ℕ) × (q : ℕ) × Is t kinds.Fat (Fat object 0 count index) slots (top g k) × (index ≤ count) × (count * words_of_kind wanted ≤ MOST_BLOCK_WORDS)
+      × (level ≡ length (counters_of (floor g k) k)) × ElementsAt (code_of g) (bounds_at g) (types_on g k) element (words_of_kind wanted) (top g k) d p r s q
       × Holds t slots (floor g k) (held k) × LandsStack g locals kinds.Fat d q frames k
   FocusAt t (Writing writes None) k locals g p slots frames =
       (exits : Exits) × (q : ℕ) × WritesAt t locals g slots writes p q × StatementStack g exits q frames k
   FocusAt t (Swapping kind (Thin object offset) (Thin other beside) None) k locals g p slots frames =
-      (exits : Exits) × (q : ℕ) × (a : Side) × (b : Side) × (words_of_kind kind ≡ 1) × HasSide (code_of g) (bounds_at g) (types_at g) a kind × HasSide (code_of g) (bounds_at g) (types_at g) b kind
+      (exits : Exits) × (q : ℕ) × (a : Side) × (b : Side) × HasSide (code_of g) (bounds_at g) (types_at g) a kind × HasSide (code_of g) (bounds_at g) (types_at g) b kind
       × IsSideAt t locals slots a (floor g k) object offset × IsSideAt t locals slots b (right_slot a (floor g k)) other beside
-      × ExchangeAt (code_of g) (bounds_at g) (types_at g) a b (floor g k) p q × StatementStack g exits q frames k
+      × ExchangeAt (code_of g) (bounds_at g) (types_at g) (words_of_kind kind) a b (floor g k) p q × StatementStack g exits q frames k
   FocusAt t (Swapping kind (Thin object offset) (Thin other beside) (Some before)) k locals g p slots frames =
-      (exits : Exits) × (q : ℕ) × (a : Side) × (b : Side) × (words_of_kind kind ≡ 1) × HasSide (code_of g) (bounds_at g) (types_at g) a kind × HasSide (code_of g) (bounds_at g) (types_at g) b kind
+      (exits : Exits) × (q : ℕ) × (a : Side) × (b : Side) × HasSide (code_of g) (bounds_at g) (types_at g) a kind × HasSide (code_of g) (bounds_at g) (types_at g) b kind
       × IsSideAt t locals slots a (floor g k) object offset × IsSideAt t locals slots b (right_slot a (floor g k)) other beside
-      × (before.kind ≡ kind) × IsWord t before.kind before.value (slots (floor g k + 2))
-      × ReadAt (code_of g) (bounds_at g) (types_at g) b (right_slot a (floor g k)) (floor g k + 3) p
-      × WriteAt (code_of g) (bounds_at g) (types_at g) a (floor g k) (floor g k + 3) (p + 1)
-      × WriteAt (code_of g) (bounds_at g) (types_at g) b (right_slot a (floor g k)) (floor g k + 2) (p + 1 + 1)
-      × (p + 1 + 1 + 1 ≡ q) × StatementStack g exits q frames k
+      × (before.kind ≡ kind) × Is t before.kind before.value slots (floor g k + 2)
+      × ((m : ℕ) × (r : ℕ) × ReadAt (code_of g) (bounds_at g) (types_at g) b (words_of_kind kind) (right_slot a (floor g k)) (floor g k + 2 + words_of_kind kind) p m
+      × WriteAt (code_of g) (bounds_at g) (types_at g) a (words_of_kind kind) (floor g k) (floor g k + 2 + words_of_kind kind) m r
+      × WriteAt (code_of g) (bounds_at g) (types_at g) b (words_of_kind kind) (right_slot a (floor g k)) (floor g k + 2) r q) × StatementStack g exits q frames k
   FocusAt t (Naming number v items) k locals g p slots frames =
       (exits : Exits) × (q : ℕ) × (o : Operand) × At (code_of g) p (move_of (words_of_kind v.kind) (slot_of (starts_at g) number) o) × IsIn t v slots o
       × (number < length (types_at g).locals) × HasRoom (types_at g) number v.kind

@@ -11,7 +11,7 @@ use Rattle.cyc_meaning.specs.FrameCount.{kept_by_items, frame_count, words_of_al
 use Rattle.cyc_plain.specs.declared.instruction.Instruction.{Instruction}
 use Rattle.cyc_plain.specs.declared.instruction.Instruction.TheVariants.{Finish}
 use Rattle.cyc_lower.specs.Slots.{starts_from}
-use Rattle.cyc_lower.specs.Lowering.{types_of, first_temporary, outside_loops, items_code, function_code, slot_types, types_with, raises_of, body_code, blocks}
+use Rattle.cyc_lower.specs.Lowering.{first_temporary, outside_loops, items_code, function_code, slot_types, raises_of, body_code, blocks, starts_with}
 use Rattle.cyc_lower.specs.declared.limits.TheConstants.{MOST_FUNCTIONS}
 use Rattle.cyc_lower.specs.Lowered.{HasTooMany}
 use Rattle.cyc_lower.specs.Emission.{most_frame_count, most_locals}
@@ -33,18 +33,18 @@ pub few_locals : (f : FunctionCode) → frame_count (view_function f) ≤ most_f
 few_locals f small = (omega (arith, small), omega (arith, small, slots-few (view_function f)))
 
 -- the code of a function's body, made again for the length that it had, with a return and the blocks behind it
-pub function_made : (structs : List StructType) (h : Function) (locals : List ℕ) (free raises : ℕ) (first body ended code : List Instruction) → locals ≡ starts_from 0 (slot_types h) → free ≡ first_temporary h
-    → first ≡ items_code (record { locals = locals; structs = structs; raises = 0; counters = [] }) h.body 0 (outside_loops free) free → raises ≡ length first
-    → body ≡ items_code (record { locals = locals; structs = structs; raises = raises; counters = [] }) h.body 0 (outside_loops free) free
-    → ended ≡ body ++ Finish free ∷ [] → code ≡ ended ++ blocks → code ≡ function_code structs h
-function_made structs h locals free raises first body ended code locals_is free_is first_is raises_is body_is ended_is code_is =
-    let made : first ≡ body_code (types_with 0 structs h) h =
-    first_is ∙ (λ i. items_code (record { locals = locals_is i; structs = structs; raises = 0; counters = [] }) h.body 0 (outside_loops (free_is i)) (free_is i)) in
-    let known : raises ≡ raises_of structs h = raises_is ∙ ap (λ (l : List Instruction). length l) made in
+pub function_made : (structs : List StructType) (globals : List ℕ) (h : Function) (locals : List ℕ) (free raises : ℕ) (first body ended code : List Instruction) → locals ≡ starts_from 0 (slot_types h) → free ≡ first_temporary h
+    → first ≡ items_code (record { locals = locals; structs = structs; raises = 0; counters = []; globals = globals }) h.body 0 (outside_loops free) free → raises ≡ length first
+    → body ≡ items_code (record { locals = locals; structs = structs; raises = raises; counters = []; globals = globals }) h.body 0 (outside_loops free) free
+    → ended ≡ body ++ Finish free ∷ [] → code ≡ ended ++ blocks → code ≡ function_code structs globals h
+function_made structs globals h locals free raises first body ended code locals_is free_is first_is raises_is body_is ended_is code_is =
+    let made : first ≡ body_code (starts_with 0 structs globals h) h =
+    first_is ∙ (λ i. items_code (record { locals = locals_is i; structs = structs; raises = 0; counters = []; globals = globals }) h.body 0 (outside_loops (free_is i)) (free_is i)) in
+    let known : raises ≡ raises_of structs globals h = raises_is ∙ ap (λ (l : List Instruction). length l) made in
     code_is
     ∙ ap (λ (l : List Instruction). l ++ blocks) (ended_is ∙ ap (λ (l : List Instruction). l ++ Finish free ∷ []) body_is)
-    ∙ (λ i. (items_code (record { locals = locals_is i; structs = structs; raises = known i; counters = [] }) h.body 0 (outside_loops (free_is i)) (free_is i) ++ Finish (free_is i) ∷ []) ++ blocks)
-    ∙ append_assoc (body_code (types_of structs h) h) (Finish (first_temporary h) ∷ []) blocks
+    ∙ (λ i. (items_code (record { locals = locals_is i; structs = structs; raises = known i; counters = []; globals = globals }) h.body 0 (outside_loops (free_is i)) (free_is i) ++ Finish (free_is i) ∷ []) ++ blocks)
+    ∙ append_assoc (body_code (starts_with (raises_of structs globals h) structs globals h) h) (Finish (first_temporary h) ∷ []) blocks
 
 -- ---- lists that are lowered element by element
 

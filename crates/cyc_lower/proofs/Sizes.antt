@@ -1,4 +1,6 @@
--- The size of a function's code is at most three for each token that its spelling needs.
+-- The size of a function's code is bounded by the tokens that its spelling needs. A value through a fat pointer to fat pointers is one token,
+-- and takes some eighty words.
+use Rattle.cyc_types.specs.typing.Expressions.{type_of_side}
 use Rattle.std.proofs.Common.{◌≡◌, ℕ, zero, suc, ◌+◌, ◌*◌, ◌≤◌, Bool, true, false, List, [], ◌∷◌, ◌++◌, length, Option, None, Some, max, refl, arith}
 use Rattle.std.specs.Prelude.{◌==◌, sum_by, if◌then◌else◌}
 use Rattle.std.proofs.lemmas.List.Sums.{sum_by-append, sum_by-cons}
@@ -12,13 +14,14 @@ use Rattle.cyc_types.specs.declared.typed.PointerOperator.{PointerOperator}
 use Rattle.cyc_types.specs.declared.typed.PointerOperator.TheVariants as pointers
 use Rattle.cyc_types.specs.declared.typed.LogicalOperator.{LogicalOperator}
 use Rattle.cyc_types.specs.declared.typed.LogicalOperator.TheVariants as logical
-use Rattle.cyc_types.specs.TypedTrees.{Load, New, OnHeap, AsUnique, ByHandle, Initial, Plain, Fields, Array, Dereference, Target, Member, Element, Lvalue, Local, Global, Expression, Number, Copy, Call, Unary, Binary, Assign, Converted, Convert, Arguments, NoArguments, MoreArguments, Operations, NoOperations, ThenCompute, ThenTest, ThenPointer, ThenPointerPeek, Statement, Block, Empty, Evaluate, If, While, Return, Break, Continue, Items, NoItems, MoreItems, Execute, Declare, StructType, Function, Move, Peek, AddressOfCell, Store, FreeUnique, Side, VariableSide, CellSide, Swap, Throw, Try, Clauses, NoClauses, Default, Case}
+use Rattle.cyc_types.specs.TypedTrees.{Load, New, OnHeap, AsUnique, ByHandle, Initial, Plain, Fields, Array, Dereference, Target, Member, Element, Lvalue, Local, Global, Expression, Number, Copy, Call, Unary, Binary, Assign, Converted, Convert, Arguments, NoArguments, MoreArguments, Operations, NoOperations, ThenCompute, ThenTest, ThenPointer, ThenPointerPeek, Statement, Block, Empty, Evaluate, If, While, Return, Break, Continue, Items, NoItems, MoreItems, Execute, Declare, StructType, Function, Move, Peek, AddressOfCell, Store, FreeUnique, Side, VariableSide, CellSide, Swap, Throw, Try, Clauses, NoClauses, Default, Case, NumberOfElements, type_of_place}
 use Rattle.cyc_types.specs.Types.{Ty, words_of}
 use Rattle.cyc_types.specs.Numbered.{argument_count}
 use Rattle.cyc_types.proofs.WeightLemmas.{some_token}
 use Rattle.cyc_types.specs.Weight.{expression_weight, dereference_weight, initial_weight, converted_weight, arguments_weight, more_arguments_weight, operations_weight, else_weight, statement_weight, items_weight, function_weight, side_weight, clauses_weight}
 use Rattle.cyc_plain.specs.declared.instruction.Comparison.{Comparison}
 use Rattle.cyc_plain.specs.declared.instruction.Comparison.TheVariants as comparisons
+use Rattle.cyc_plain.specs.declared.instruction.BinaryOperator.TheVariants as plain_binary
 use Rattle.cyc_plain.specs.declared.instruction.Operand.{Operand}
 use Rattle.cyc_plain.specs.declared.instruction.Operand.TheVariants as operands
 use Rattle.cyc_plain.specs.declared.instruction.Request.TheVariants as requests
@@ -27,11 +30,12 @@ use Rattle.cyc_plain.specs.declared.instruction.Instruction.TheVariants as instr
 use Rattle.cyc_plain.specs.Program.{instruction_size, size}
 use Rattle.cyc_plain.specs.declared.limits.TheConstants.{RECORD_WORDS}
 use Rattle.cyc_lower.specs.declared.statements.Exits.{Exits}
-use Rattle.cyc_lower.specs.Slots.{with_counter, starts_of, slot_of, Starts}
+use Rattle.cyc_lower.specs.Slots.{with_counter, starts_of, slot_of, Starts, global_of}
 use Rattle.cyc_store.specs.declared.range.TheConstants.{HEAP, UNIQUE}
-use Rattle.cyc_meaning.specs.Values.{kind_of, words_of_kind}
+use Rattle.cyc_meaning.specs.Values.{kind_of, words_of_kind, is_thin}
 use Rattle.cyc_lower.proofs.Widths.{kind_few, type_words}
-use Rattle.cyc_lower.specs.Lowering.{begun_code, filled_code, ended_code, elements_code, types_of, converts_there, passed_words, all_passed, source_of, source_slot, converted_by, moved_by, move_of, unary_operator, binary_operator, operand_of, operand_or, code_unless, slot_or, code_unless_slot, left_of, value_slot, next_slot, left_slot, value_operand, converted_operand, printed_operand, conversion_code, divisor_code, checked_code, operator_code, truth_code, load_code, low_byte, test_code, is_in, copy_code, expression_code, arguments_code, converted_code, converted_operand_code, printed_code, initial_code, assignment_code, operations_code, discarded_code, failing_comparison, compared_or, left_with, slot_with, first_code, second_code, pair_code, condition_code, condition_of, failing_jump, break_target, continue_target, return_code, declaration_code, statement_code, items_code, first_temporary, jump_if_zero, jump_if_nonzero, lower_function, behind_left, pointer_code, outside_loops, inside_loop, pointer_operator, index_of, first_two, pointer_instructions, stores_code, object_code, made_code, place_operand, place_offset, place_code, address_code, store_address_code, blocks, free_code, right_slot, side_code, read_side, write_side, exchange_code, swap_code, leave_code, tag_operand, other_jump, clause_code, caught_code, clauses_code}
+use Rattle.cyc_lower.specs.Lowering.{begun_code, filled_code, ended_code, elements_code, types_of, converts_there, passed_words, all_passed, source_of, source_slot, converted_by, moved_by, move_of, unary_operator, binary_operator, operand_of, operand_or, code_unless, slot_or, code_unless_slot, left_of, value_slot, next_slot, left_slot, value_operand, converted_operand, printed_operand, conversion_code, divisor_code, checked_code, operator_code, truth_code, load_code, low_byte, test_code, is_in, copy_code, expression_code, arguments_code, converted_code, converted_operand_code, printed_code, initial_code, assignment_code, operations_code, discarded_code, failing_comparison, compared_or, left_with, slot_with, first_code, second_code, pair_code, condition_code, condition_of, failing_jump, break_target, continue_target, return_code, declaration_code, statement_code, items_code, first_temporary, jump_if_zero, jump_if_nonzero, lower_function, behind_left, pointer_code, outside_loops, inside_loop, pointer_operator, index_of, first_two, pointer_instructions, stores_code, object_code, made_code, place_operand, place_offset, place_code, address_code, store_address_code, blocks, free_code, right_slot, side_code, read_side, write_side, exchange_code, swap_code, leave_code, tag_operand, other_jump, clause_code, caught_code, clauses_code, element_by, count_code, span_of, tested_code, widened_code, conversion_by, tested_by, check_code, are_as_wide, saved_code, loaded_code, bounds_code, stepped_code, bounded_code, past_bounded, thinned_code, reached_code, followed_code, followed_operand, followed_by, span_in, pointer_of, pointer_slot, reached_operand, word_by_word, load_word, store_word, global_code, starts_with, raises_of, load_at}
+use Rattle.cyc_meaning.specs.Operators.{null_exception}
 use Rattle.cyc_lower.specs.Lowered.{size_per_weight}
 
 abbrev code_size : List Instruction → ℕ
@@ -54,9 +58,42 @@ unless_slot_size (Some (operands.Slot n)) x = omega arith
 unless_slot_size (Some (operands.Word n)) x = omega arith
 unless_slot_size None x = omega arith
 
-conversion_size : (starts : Starts) (to : Kind) (o : Operand) (p : ℕ) → code_size (conversion_code starts to o p) ≤ 18
-conversion_size starts kinds.NonNull o p = omega arith
-conversion_size starts to o p = omega arith
+tested_size : (starts : Starts) (to : Kind) (o : Operand) → code_size (tested_code starts to o) ≤ 18
+tested_size starts kinds.NonNull o = omega arith
+tested_size starts to o = omega arith
+
+widened_size : (o : Operand) → code_size (widened_code o) ≤ 18
+widened_size (operands.Slot n) = omega arith
+widened_size (operands.Word w) = omega arith
+
+stepped_size : (span : Option ℕ) (n m t : ℕ) → code_size (stepped_code span n m t) ≤ 22
+stepped_size None n m t = omega arith
+stepped_size (Some words) n m t = by (words == 1)
+  where
+    by : (narrow : Bool)
+        → code_size ((if narrow then instructions.Binary plain_binary.ShiftLeft (t + 2) (operands.Slot m) (operands.Word 2) else instructions.Binary plain_binary.Multiply (t + 2) (operands.Slot m) (operands.Word 12)) ∷ instructions.Binary plain_binary.Add t (operands.Slot n) (operands.Slot (t + 2)) ∷ []) ≤ 22
+    by true = omega arith
+    by false = omega arith
+
+bounded_size : (starts : Starts) (span : Option ℕ) (n m t : ℕ) → code_size (bounded_code starts span n m t) ≤ 33
+bounded_size starts span n m t = omega (arith, both (bounds_code starts (operands.Slot m) (operands.Slot (n + 1))) (stepped_code span n m t), stepped_size span n m t)
+
+reached_size : (starts : Starts) (span : Option ℕ) (n m t : ℕ) → code_size (reached_code starts span n m t) ≤ 44
+reached_size starts span n m t = omega (arith, both (check_code starts null_exception (operands.Slot n)) (bounded_code starts span n m t), bounded_size starts span n m t)
+
+thinned_size : (starts : Starts) (to : Kind) (span : Option ℕ) (o : Operand) (p : ℕ) → code_size (thinned_code starts to span o p) ≤ 44
+thinned_size starts kinds.NonNull span (operands.Slot n) p = reached_size starts span n (n + 2) n
+thinned_size starts kinds.Nullable span (operands.Slot n) p =
+    omega (arith, cons (jump_if_zero (operands.Slot n) (p + past_bounded span)) (bounded_code starts span n (n + 2) n), bounded_size starts span n (n + 2) n)
+thinned_size starts to span o p = omega arith
+
+conversion_by_size : (starts : Starts) (wide : Bool) (to : Kind) (span : Option ℕ) (o : Operand) (p : ℕ) → code_size (conversion_by starts wide to span o p) ≤ 44
+conversion_by_size starts true to span o p = omega (arith, tested_size starts to o)
+conversion_by_size starts false kinds.Fat span o p = omega (arith, widened_size o)
+conversion_by_size starts false to span o p = thinned_size starts to span o p
+
+conversion_size : (starts : Starts) (from to : Kind) (span : Option ℕ) (o : Operand) (p : ℕ) → code_size (conversion_code starts from to span o p) ≤ 44
+conversion_size starts from to span o p = conversion_by_size starts (are_as_wide from to) to span o p
 
 divisor_size : (starts : Starts) (o : Operand) → code_size (divisor_code starts o) ≤ 18
 divisor_size starts (operands.Word (suc n)) = omega arith
@@ -115,16 +152,33 @@ address_size : (o : Operand) (bytes d : ℕ) → code_size (address_code o bytes
 address_size o zero d = omega (arith, copied_address_size o d)
 address_size o (suc bytes) d = omega arith
 
-converted_by_size : (starts : Starts) (known : Option Operand) (inner : List Instruction) (to : Kind) (o : Operand) (p bound : ℕ) → code_size inner ≤ bound → code_size (converted_by starts known inner to o p) ≤ bound + 18
-converted_by_size starts known inner to o p bound few =
+converted_by_size : (starts : Starts) (known : Option Operand) (inner : List Instruction) (from to : Kind) (span : Option ℕ) (o : Operand) (p bound : ℕ) → code_size inner ≤ bound → code_size (converted_by starts known inner from to span o p) ≤ bound + 44
+converted_by_size starts known inner from to span o p bound few =
     let front = code_unless known inner in
-    omega (arith, both front (conversion_code starts to o (p + length front)), unless_size known inner, few, conversion_size starts to o (p + length front))
+    omega (arith, both front (conversion_code starts from to span o (p + length front)), unless_size known inner, few, conversion_size starts from to span o (p + length front))
 
-initial_by_size : (starts : Starts) (there : Bool) (known : Option Operand) (at_once inner : List Instruction) (to : Kind) (o : Operand) (p d bound : ℕ) → code_size at_once ≤ bound → code_size inner ≤ bound
-    → code_size (if there then at_once else moved_by starts known inner to o p d) ≤ bound + 38
-initial_by_size starts true known at_once inner to o p d bound few other = omega (arith, few)
-initial_by_size starts false known at_once inner to o p d bound few other =
-    omega (arith, both (converted_by starts known inner to o p) (move_of (words_of_kind to) d o ∷ []), converted_by_size starts known inner to o p bound other, move_size (words_of_kind to) d o (kind_few to))
+followed_size : (starts : Starts) (thin : Bool) (span : Option ℕ) (o : Operand) (t : ℕ) → code_size (followed_code starts thin span o t) ≤ 44
+followed_size starts true span o t = omega arith
+followed_size starts false span (operands.Slot n) t = reached_size starts span n (n + 2) t
+followed_size starts false span (operands.Word w) t = omega arith
+
+followed_by_size : (starts : Starts) (known : Option Operand) (inner : List Instruction) (thin : Bool) (span : Option ℕ) (o : Operand) (t bound : ℕ) → code_size inner ≤ bound → code_size (followed_by starts known inner thin span o t) ≤ bound + 44
+followed_by_size starts known inner thin span o t bound few =
+    omega (arith, both (code_unless known inner) (followed_code starts thin span o t), unless_size known inner, few, followed_size starts thin span o t)
+
+tested_by_size : (starts : Starts) (known : Option Operand) (inner : List Instruction) (o : Operand) (bound : ℕ) → code_size inner ≤ bound → code_size (tested_by starts known inner o) ≤ bound + 18
+tested_by_size starts known inner o bound few = omega (arith, both (code_unless known inner) (check_code starts null_exception o), unless_size known inner, few)
+
+initial_by_size : (starts : Starts) (there : Bool) (known : Option Operand) (at_once inner : List Instruction) (from to : Kind) (span : Option ℕ) (o : Operand) (p d bound : ℕ) → code_size at_once ≤ bound → code_size inner ≤ bound
+    → code_size (if there then at_once else moved_by starts known inner from to span o p d) ≤ bound + 64
+initial_by_size starts true known at_once inner from to span o p d bound few other = omega (arith, few)
+initial_by_size starts false known at_once inner from to span o p d bound few other =
+    omega (
+      arith,
+      both (converted_by starts known inner from to span o p) (move_of (words_of_kind to) d o ∷ []),
+      converted_by_size starts known inner from to span o p bound other,
+      move_size (words_of_kind to) d o (kind_few to),
+    )
 
 first_two_size : (l : Operand) (d : ℕ) → code_size (first_two l d) ≤ 14
 first_two_size (operands.Word n) d = omega arith
@@ -146,6 +200,30 @@ pointer_size pointers.NullIsNot l r d = omega arith
 pointer_size pointers.EqualThin l r d = omega arith
 pointer_size pointers.NotEqualThin l r d = omega arith
 
+count_size : (o : Operand) (p d : ℕ) → code_size (count_code o p d) ≤ 41
+count_size (operands.Word n) p d = omega arith
+count_size (operands.Slot n) p d = omega arith
+
+element_by_size : (starts : Starts) (there : Option Operand) (front : List Instruction) (known : Option Operand) (inner : List Instruction) (span : Option ℕ) (s : ℕ) (o : Operand) (t n m : ℕ)
+    → code_size front ≤ n
+    → code_size inner ≤ m
+    → code_size (element_by starts (code_unless_slot there front) (code_unless known inner) span s o t) ≤ n + m + 58
+element_by_size starts there front known inner span s o t n m first second =
+    let operand = code_unless known inner in
+    let sum = instructions.Binary plain_binary.Add (t + 2) (operands.Slot (s + 2)) o in
+    let reached = reached_code starts span s (t + 2) t in
+    omega (
+      arith,
+      both (code_unless_slot there front) (operand ++ sum ∷ reached),
+      both operand (sum ∷ reached),
+      cons sum reached,
+      unless_slot_size there front,
+      unless_size known inner,
+      first,
+      second,
+      reached_size starts span s (t + 2) t,
+    )
+
 test_size : (o : LogicalOperator) (operand : List Instruction) (p d t : ℕ) → code_size (test_code o operand p d t) ≤ 25 + code_size operand
 test_size logical.AndThen operand p d t = omega (arith, both operand (truth_code t d), cons (jump_if_zero (operands.Slot t) (p + 1 + length operand)) (operand ++ truth_code t d))
 test_size logical.OrElse operand p d t = omega (arith, both operand (truth_code t d), cons (jump_if_nonzero (operands.Slot t) (p + 1 + length operand)) (operand ++ truth_code t d))
@@ -154,6 +232,16 @@ stores_size : (many address offset slot : ℕ) → code_size (stores_code many a
 stores_size zero address offset slot = refl
 stores_size (suc many) address offset slot =
     omega (arith, cons (instructions.Store (operands.Slot address) offset (operands.Slot slot)) (stores_code many address (offset + 4) (suc slot)), stores_size many address (offset + 4) (suc slot))
+
+saved_size : (words address : ℕ) (o : Operand) → words ≤ 3 → code_size (saved_code words address o) ≤ 30
+saved_size words address (operands.Slot n) few = omega (arith, stores_size words address 0 n, few)
+saved_size words address (operands.Word n) few = omega arith
+
+loaded_size : (narrow : Bool) (o : Operand) (bytes d : ℕ)
+    → code_size (if narrow then instructions.Load d o bytes ∷ [] else address_code o bytes d ++ (instructions.Load (d + 2) (operands.Slot d) 8 ∷ instructions.Load (d + 1) (operands.Slot d) 4 ∷ instructions.Load d (operands.Slot d) 0 ∷ [])) ≤ 41
+loaded_size true o bytes d = omega arith
+loaded_size false o bytes d =
+    omega (arith, both (address_code o bytes d) (instructions.Load (d + 2) (operands.Slot d) 8 ∷ instructions.Load (d + 1) (operands.Slot d) 4 ∷ instructions.Load d (operands.Slot d) 0 ∷ []), address_size o bytes d)
 
 object_size : (handle words d t : ℕ) → code_size (object_code handle words d t) ≡ 17 + 10 * words
 object_size handle words d t =
@@ -164,6 +252,15 @@ object_size handle words d t =
       both (stores_code words (t + words) 0 t) move,
       stores_size words (t + words) 0 t,
     )
+
+-- an element of an array comes to its cell
+filled_size : (kind : Kind) (head t : ℕ) → code_size (filled_code (words_of_kind kind) head t) ≤ 80
+filled_size kinds.Int head t = omega arith
+filled_size kinds.Nullable head t = omega arith
+filled_size kinds.NonNull head t = omega arith
+filled_size kinds.Fat head t = omega arith
+filled_size kinds.Handle head t = omega arith
+filled_size kinds.Key head t = omega arith
 
 -- handlers are closed by one instruction, where there are some
 leave_size : (first t : ℕ) → code_size (leave_code first t) ≤ 5
@@ -181,9 +278,21 @@ more_weight (MoreArguments c cs) = omega arith
 -- ---- locals that have these first slots
 
 module _ (starts : Starts) where
+  loads_size : (words first d : ℕ) → code_size (word_by_word load_word words first d) ≤ 5 * words
+  loads_size zero first d = omega arith
+  loads_size (suc words) first d = omega (arith, cons (load_word first d) (word_by_word load_word words (suc first) (suc d)), loads_size words (suc first) (suc d))
+
+  saves_size : (words first n : ℕ) → code_size (word_by_word store_word words first n) ≤ 5 * words
+  saves_size zero first n = omega arith
+  saves_size (suc words) first n = omega (arith, cons (store_word first n) (word_by_word store_word words (suc first) (suc n)), saves_size words (suc first) (suc n))
+
+  global_size : (c : Converted) (first : ℕ) (o : Operand) → code_size (global_code (passed_words c) first o) ≤ 15
+  global_size (Convert from to a) first (operands.Slot n) = omega (arith, saves_size (words_of_kind to) first n, kind_few to)
+  global_size (Convert from to a) first (operands.Word n) = omega arith
+
   load_size : (l : Lvalue) (t : Ty) (d : ℕ) → code_size (load_code starts (words_of t) l d) ≤ 20
   load_size (Local w n) t d = move_size (words_of t) d (operands.Slot (slot_of starts n)) (omega (arith, type_words t, kind_few (kind_of t)))
-  load_size (Global n) t d = omega arith
+  load_size (Global n) t d = omega (arith, loads_size (words_of t) (global_of starts n) d, type_words t, kind_few (kind_of t))
 
   -- an operator on pointers with its right operand, and what stands behind
   right_size : (o : PointerOperator) (a : Expression) (p : ℕ) (l : Operand) (d t : ℕ) (back : List Instruction)
@@ -209,6 +318,11 @@ mutual
       omega (arith, both (arguments_code starts cs p t) (instructions.ReadByte d ∷ []), arguments_size starts cs p t)
   expression_size starts (Call (callees.Function n) cs ty) p d t =
       omega (arith, both (arguments_code starts cs p t) (instructions.Call n t (all_passed cs) d ∷ []), arguments_size starts cs p t)
+  expression_size starts (NumberOfElements a) p d t =
+      let inner = expression_code starts a p (value_slot starts a t) t in
+      let front = code_unless (operand_of starts a) inner in
+      let count = count_code (value_operand starts a t) (p + length front) d in
+      omega (arith, both front count, unless_size (operand_of starts a) inner, expression_size starts a p (value_slot starts a t) t, count_size (value_operand starts a t) (p + length front) d)
   expression_size starts (Unary o a) p d t =
       let inner = expression_code starts a p (value_slot starts a t) t in
       omega (arith, both (code_unless (operand_of starts a) inner) (instructions.Unary (unary_operator o) d (value_operand starts a t) ∷ []), unless_size (operand_of starts a) inner, expression_size starts a p (value_slot starts a t) t)
@@ -223,10 +337,12 @@ mutual
   expression_size starts (Assign (Global n) c ty) p d t =
       let o = converted_operand starts c t in
       let front = converted_operand_code starts c p t in
-      let store = instructions.StoreGlobal n o ∷ [] in
-      omega (arith, both (front ++ store) (copy_code (passed_words c) o d), both front store, converted_operand_size starts c p t, copy_size c o d)
+      let store = global_code (passed_words c) (global_of starts n) o in
+      omega (arith, both (front ++ store) (copy_code (passed_words c) o d), both front store, converted_operand_size starts c p t, global_size starts c (global_of starts n) o, copy_size c o d)
   expression_size starts (Load x) p d t =
-      omega (arith, both (place_code starts x p t) (instructions.Load d (place_operand starts x t) (place_offset starts x) ∷ []), place_size starts x p t)
+      let o = place_operand starts x t in
+      let words = words_of (type_of_place x) in
+      omega (arith, both (place_code starts x p t) (loaded_code words o (place_offset starts x) d), place_size starts x p t, loaded_size (words == 1) o (place_offset starts x) d)
   expression_size starts (AddressOfCell x ty) p d t =
       let address = address_code (place_operand starts x t) (place_offset starts x) d in
       omega (arith, both (place_code starts x p t) address, place_size starts x p t, address_size (place_operand starts x t) (place_offset starts x) d)
@@ -234,12 +350,13 @@ mutual
       let address = store_address_code starts x p t in
       let value = converted_operand_code starts c (p + length address) (t + 1) in
       let o = converted_operand starts c (t + 1) in
-      let write = instructions.Store (operands.Slot t) 0 o ∷ [] in
+      let write = saved_code (passed_words c) t o in
       omega (
         arith,
         both (address ++ (value ++ write)) (copy_code (passed_words c) o d),
         both address (value ++ write),
         both value write,
+        saved_size (passed_words c) t o (passed_few c),
         store_address_size starts x p t,
         converted_operand_size starts c (p + length address) (t + 1),
         copy_size c o d,
@@ -255,49 +372,62 @@ mutual
 
   made_size : (starts : Starts) → (i : Initial) (handle p d t : ℕ) → code_size (made_code starts i handle p d t) ≤ size_per_weight * (1 + initial_weight i)
   made_size starts (Plain kind a) handle p d t =
-      omega (arith, both (expression_code starts a p t t) (object_code handle 1 d t), expression_size starts a p t t, object_size handle 1 d t)
+      omega (arith, both (expression_code starts a p t t) (object_code handle (words_of_kind kind) d t), expression_size starts a p t t, object_size handle (words_of_kind kind) d t, kind_few kind)
   made_size starts (Fields cs) handle p d t =
-      omega (arith, both (arguments_code starts cs p t) (object_code handle (argument_count cs) d t), fields_size starts cs p t, more_weight cs, object_size handle (argument_count cs) d t)
+      omega (arith, both (arguments_code starts cs p t) (object_code handle (all_passed cs) d t), fields_size starts cs p t, more_weight cs, object_size handle (all_passed cs) d t)
   made_size starts (Array w level n kind a) handle p d t =
       let first = expression_code starts n p t t in
       let m = p + length first in
-      let inner = expression_code (with_counter starts (t + 2)) a (m + 6 + 1) (t + 3) (t + 3) in
-      let filled = filled_code (m + 6) t in
-      let elements = elements_code inner (m + 6) d t in
-      let jump = instructions.Branch comparisons.Equal (operands.Slot (t + 2)) (operands.Slot (t + 1)) (m + 6 + 1 + length (inner ++ filled)) in
+      let words = words_of_kind kind in
+      let inner = expression_code (with_counter starts (t + 2)) a (m + 7 + 1) (t + 3) (t + 3) in
+      let filled = filled_code words (m + 7) t in
+      let elements = elements_code words inner (m + 7) d t in
+      let jump = instructions.Branch comparisons.Equal (operands.Slot (t + 2)) (operands.Slot (t + 1)) (m + 7 + 1 + length (inner ++ filled)) in
       omega (
         arith,
-        both first (begun_code starts handle t ++ elements),
-        both (begun_code starts handle t) elements,
+        both first (begun_code starts handle words t ++ elements),
+        both (begun_code starts handle words t) elements,
+        filled_size kind (m + 7) t,
         cons jump ((inner ++ filled) ++ ended_code d t),
         both (inner ++ filled) (ended_code d t),
         both inner filled,
         cons (instructions.Move (t + 2) (operands.Word 0)) (copy_code 3 (operands.Slot t) d),
         copied_pointer_size t d,
         expression_size starts n p t t,
-        expression_size (with_counter starts (t + 2)) a (m + 6 + 1) (t + 3) (t + 3),
+        expression_size (with_counter starts (t + 2)) a (m + 7 + 1) (t + 3) (t + 3),
       )
 
-  place_size : (starts : Starts) → (x : Dereference) (p t : ℕ) → code_size (place_code starts x p t) + 18 ≤ size_per_weight * dereference_weight x
+  place_size : (starts : Starts) → (x : Dereference) (p t : ℕ) → code_size (place_code starts x p t) + 41 ≤ size_per_weight * dereference_weight x
   place_size starts (Target k a ty) p t =
       let slot = value_slot starts a t in
-      omega (arith, converted_by_size starts (operand_of starts a) (expression_code starts a p slot t) kinds.NonNull (value_operand starts a t) p (size_per_weight * expression_weight a) (expression_size starts a p slot t))
+      omega (
+        arith,
+        followed_by_size starts (operand_of starts a) (expression_code starts a p slot t) (is_thin k) (span_in ty) (value_operand starts a t) t (size_per_weight * expression_weight a) (expression_size starts a p slot t),
+      )
   place_size starts (Member k a n f ty) p t =
       let slot = value_slot starts a t in
-      omega (arith, converted_by_size starts (operand_of starts a) (expression_code starts a p slot t) kinds.NonNull (value_operand starts a t) p (size_per_weight * expression_weight a) (expression_size starts a p slot t))
-  place_size starts (Element a i ty) p t = omega (arith, some_token a)
+      omega (arith, tested_by_size starts (operand_of starts a) (expression_code starts a p slot t) (value_operand starts a t) (size_per_weight * expression_weight a) (expression_size starts a p slot t))
+  place_size starts (Element a i ty) p t =
+      let front = expression_code starts a p t t in
+      let slot = value_slot starts i (t + 3) in
+      let q = p + length (code_unless_slot (pointer_of starts a i) front) in
+      omega (
+        arith,
+        element_by_size starts (pointer_of starts a i) front (operand_of starts i) (expression_code starts i q slot (t + 3)) (span_in ty) (pointer_slot starts a i t) (value_operand starts i (t + 3)) t (size_per_weight * expression_weight a) (size_per_weight * expression_weight i) (expression_size starts a p t t) (expression_size starts i q slot (t + 3)),
+      )
 
   -- with the address in a slot
   store_address_size : (starts : Starts) → (x : Dereference) (p t : ℕ) → code_size (store_address_code starts x p t) + 12 ≤ size_per_weight * dereference_weight x
   store_address_size starts (Target k a ty) p t =
       let slot = value_slot starts a t in
       let o = value_operand starts a t in
+      let x = followed_operand (is_thin k) (span_in ty) o t in
       let front = place_code starts (Target k a ty) p t in
       omega (
         arith,
-        both front (copy_code 1 o t),
-        converted_by_size starts (operand_of starts a) (expression_code starts a p slot t) kinds.NonNull o p (size_per_weight * expression_weight a) (expression_size starts a p slot t),
-        copied_address_size o t,
+        both front (copy_code 1 x t),
+        followed_by_size starts (operand_of starts a) (expression_code starts a p slot t) (is_thin k) (span_in ty) o t (size_per_weight * expression_weight a) (expression_size starts a p slot t),
+        copied_address_size x t,
       )
   store_address_size starts (Member k a n f ty) p t =
       let slot = value_slot starts a t in
@@ -307,30 +437,39 @@ mutual
       omega (
         arith,
         both front (address_code o (place_offset starts x) t),
-        converted_by_size starts (operand_of starts a) (expression_code starts a p slot t) kinds.NonNull o p (size_per_weight * expression_weight a) (expression_size starts a p slot t),
+        tested_by_size starts (operand_of starts a) (expression_code starts a p slot t) o (size_per_weight * expression_weight a) (expression_size starts a p slot t),
         address_size o (place_offset starts x) t,
       )
   store_address_size starts (Element a i ty) p t =
-      omega (arith, both (instructions.Move t (operands.Word 0) ∷ []) (copy_code 1 (operands.Slot t) t), copied_address_size (operands.Slot t) t, some_token a)
+      let front = expression_code starts a p t t in
+      let slot = value_slot starts i (t + 3) in
+      let q = p + length (code_unless_slot (pointer_of starts a i) front) in
+      let x = reached_operand (span_in ty) (pointer_slot starts a i t) t in
+      omega (
+        arith,
+        both (place_code starts (Element a i ty) p t) (copy_code 1 x t),
+        copied_address_size x t,
+        element_by_size starts (pointer_of starts a i) front (operand_of starts i) (expression_code starts i q slot (t + 3)) (span_in ty) (pointer_slot starts a i t) (value_operand starts i (t + 3)) t (size_per_weight * expression_weight a) (size_per_weight * expression_weight i) (expression_size starts a p t t) (expression_size starts i q slot (t + 3)),
+      )
 
-  initial_size : (starts : Starts) → (c : Converted) (p d t : ℕ) → code_size (initial_code starts c p d t) ≤ size_per_weight * converted_weight c + 38
+  initial_size : (starts : Starts) → (c : Converted) (p d t : ℕ) → code_size (initial_code starts c p d t) ≤ size_per_weight * converted_weight c + 64
   initial_size starts (Convert from to a) p d t =
       let slot = source_slot starts (Convert from to a) t in
-      initial_by_size starts (converts_there from to) (source_of starts (Convert from to a)) (expression_code starts a p d t) (expression_code starts a p slot t) to (converted_operand starts (Convert from to a) t) p d
+      initial_by_size starts (converts_there from to) (source_of starts (Convert from to a)) (expression_code starts a p d t) (expression_code starts a p slot t) from to (span_of a) (converted_operand starts (Convert from to a) t) p d
       (size_per_weight * expression_weight a) (expression_size starts a p d t) (expression_size starts a p slot t)
 
-  converted_size : (starts : Starts) → (c : Converted) (p t : ℕ) → code_size (converted_code starts c p t) ≤ size_per_weight * converted_weight c + 18
+  converted_size : (starts : Starts) → (c : Converted) (p t : ℕ) → code_size (converted_code starts c p t) ≤ size_per_weight * converted_weight c + 44
   converted_size starts (Convert from to a) p t =
       let front = expression_code starts a p t t in
-      omega (arith, both front (conversion_code starts to (operands.Slot t) (p + length front)), expression_size starts a p t t, conversion_size starts to (operands.Slot t) (p + length front))
+      omega (arith, both front (conversion_code starts from to (span_of a) (operands.Slot t) (p + length front)), expression_size starts a p t t, conversion_size starts from to (span_of a) (operands.Slot t) (p + length front))
 
-  converted_operand_size : (starts : Starts) → (c : Converted) (p t : ℕ) → code_size (converted_operand_code starts c p t) ≤ size_per_weight * converted_weight c + 18
+  converted_operand_size : (starts : Starts) → (c : Converted) (p t : ℕ) → code_size (converted_operand_code starts c p t) ≤ size_per_weight * converted_weight c + 44
   converted_operand_size starts (Convert from to a) p t =
       let slot = source_slot starts (Convert from to a) t in
-      converted_by_size starts (source_of starts (Convert from to a)) (expression_code starts a p slot t) to (converted_operand starts (Convert from to a) t) p
+      converted_by_size starts (source_of starts (Convert from to a)) (expression_code starts a p slot t) from to (span_of a) (converted_operand starts (Convert from to a) t) p
       (size_per_weight * expression_weight a) (expression_size starts a p slot t)
 
-  printed_size : (starts : Starts) → (cs : Arguments) (p t : ℕ) → code_size (printed_code starts cs p t) ≤ size_per_weight * arguments_weight cs + 18
+  printed_size : (starts : Starts) → (cs : Arguments) (p t : ℕ) → code_size (printed_code starts cs p t) ≤ size_per_weight * arguments_weight cs + 44
   printed_size starts NoArguments p t = omega arith
   printed_size starts (MoreArguments c cs) p t =
       let front = converted_operand_code starts c p t in
@@ -342,15 +481,15 @@ mutual
       let front = converted_operand_code starts c p t in
       omega (arith, both front (printed_code starts cs (p + length front) t), converted_operand_size starts c p t, more_printed_size starts cs (p + length front) t)
 
-  -- with a store for each field
-  fields_size : (starts : Starts) → (cs : Arguments) (p t : ℕ) → code_size (arguments_code starts cs p t) + 18 * argument_count cs ≤ size_per_weight * more_arguments_weight cs
+  -- with a store for each word
+  fields_size : (starts : Starts) → (cs : Arguments) (p t : ℕ) → code_size (arguments_code starts cs p t) + 10 * all_passed cs ≤ size_per_weight * more_arguments_weight cs
   fields_size starts NoArguments p t = omega arith
   fields_size starts (MoreArguments c cs) p t =
       let q = p + length (converted_code starts c p t) in
-      omega (arith, both (converted_code starts c p t) (arguments_code starts cs q (t + passed_words c)), converted_size starts c p t, fields_size starts cs q (t + passed_words c))
+      omega (arith, both (converted_code starts c p t) (arguments_code starts cs q (t + passed_words c)), converted_size starts c p t, passed_few c, fields_size starts cs q (t + passed_words c))
 
   -- with the words that are passed
-  arguments_size : (starts : Starts) → (cs : Arguments) (p t : ℕ) → code_size (arguments_code starts cs p t) + 4 * all_passed cs ≤ size_per_weight * arguments_weight cs + 30
+  arguments_size : (starts : Starts) → (cs : Arguments) (p t : ℕ) → code_size (arguments_code starts cs p t) + 4 * all_passed cs ≤ size_per_weight * arguments_weight cs + 56
   arguments_size starts NoArguments p t = omega arith
   arguments_size starts (MoreArguments c cs) p t =
       let q = p + length (converted_code starts c p t) in
@@ -397,11 +536,11 @@ mutual
       omega (arith, right_size starts o a p l next t (operations_code starts os q (operands.Slot next) d t) (expression_size starts a p slot (behind_left o t)), operations_size starts os q (operands.Slot next) d t)
 
 module _ (starts : Starts) where
-  assignment_size : (l : Lvalue) (c : Converted) (p t : ℕ) → code_size (assignment_code starts l c p t) ≤ size_per_weight * converted_weight c + 38
+  assignment_size : (l : Lvalue) (c : Converted) (p t : ℕ) → code_size (assignment_code starts l c p t) ≤ size_per_weight * converted_weight c + 64
   assignment_size (Local w n) c p t = initial_size starts c p (slot_of starts n) t
   assignment_size (Global n) c p t =
       let front = converted_operand_code starts c p t in
-      omega (arith, both front (instructions.StoreGlobal n (converted_operand starts c t) ∷ []), converted_operand_size starts c p t)
+      omega (arith, both front (global_code (passed_words c) (global_of starts n) (converted_operand starts c t)), converted_operand_size starts c p t, global_size starts c (global_of starts n) (converted_operand starts c t))
 
   discarded_size : (a : Expression) (p t : ℕ) → code_size (discarded_code starts a p t) ≤ size_per_weight * expression_weight a
   discarded_size (Call callees.Putchar cs ty) p t =
@@ -410,8 +549,8 @@ module _ (starts : Starts) where
   discarded_size (Store x c ty) p t =
       let address = store_address_code starts x p t in
       let value = converted_operand_code starts c (p + length address) (t + 1) in
-      let write = instructions.Store (operands.Slot t) 0 (converted_operand starts c (t + 1)) ∷ [] in
-      omega (arith, both address (value ++ write), both value write, store_address_size starts x p t, converted_operand_size starts c (p + length address) (t + 1))
+      let write = saved_code (passed_words c) t (converted_operand starts c (t + 1)) in
+      omega (arith, both address (value ++ write), both value write, saved_size (passed_words c) t (converted_operand starts c (t + 1)) (passed_few c), store_address_size starts x p t, converted_operand_size starts c (p + length address) (t + 1))
   discarded_size a p t = omega (arith, unless_size (operand_of starts a) (expression_code starts a p t t), expression_size starts a p t t)
 
   -- ---- statements
@@ -447,7 +586,7 @@ module _ (starts : Starts) where
       let inner = expression_code starts a p t t in
       let front = code_unless_slot known inner in
       let s = slot_or known t in
-      let conversion = conversion_code starts to (operands.Slot s) (p + length front) in
+      let conversion = conversion_code starts from to (span_of a) (operands.Slot s) (p + length front) in
       omega (
         arith,
         both ((front ++ conversion) ++ leave_code exits.first_record t) (instructions.Finish s ∷ []),
@@ -455,7 +594,7 @@ module _ (starts : Starts) where
         both front conversion,
         unless_slot_size known inner,
         expression_size starts a p t t,
-        conversion_size starts to (operands.Slot s) (p + length front),
+        conversion_size starts from to (span_of a) (operands.Slot s) (p + length front),
         leave_size exits.first_record t,
       )
 
@@ -483,31 +622,45 @@ module _ (starts : Starts) where
   side_size (VariableSide l ty) p t = omega arith
   side_size (CellSide x) p t = omega (arith, store_address_size starts x p t)
 
-  read_size : (a : Side) (s d : ℕ) → instruction_size (read_side starts a s d) ≤ 18
-  read_size (VariableSide (Local w n) ty) s d = omega arith
-  read_size (VariableSide (Global n) ty) s d = omega arith
-  read_size (CellSide x) s d = omega arith
+  words_size : (many address index slot : ℕ) → code_size (word_by_word (load_at address) many index slot) ≡ 10 * many
+  words_size zero address index slot = refl
+  words_size (suc many) address index slot =
+      omega (arith, cons (instructions.Load slot (operands.Slot address) (4 * index)) (word_by_word (load_at address) many (suc index) (suc slot)), words_size many address (suc index) (suc slot))
 
-  write_size : (a : Side) (s v : ℕ) → instruction_size (write_side starts a s v) ≤ 18
-  write_size (VariableSide (Local w n) ty) s v = omega arith
-  write_size (VariableSide (Global n) ty) s v = omega arith
-  write_size (CellSide x) s v = omega arith
+  read_size : (a : Side) (words s d : ℕ) → words ≤ 3 → code_size (read_side starts a words s d) ≤ 30
+  read_size (VariableSide (Local w n) ty) words s d few = omega (arith, move_size words d (operands.Slot (slot_of starts n)) few)
+  read_size (VariableSide (Global n) ty) words s d few = omega (arith, loads_size starts words (global_of starts n) d, few)
+  read_size (CellSide x) words s d few = omega (arith, words_size words s 0 d, few)
+
+  write_size : (a : Side) (words s v : ℕ) → words ≤ 3 → code_size (write_side starts a words s v) ≤ 30
+  write_size (VariableSide (Local w n) ty) words s v few = omega (arith, move_size words (slot_of starts n) (operands.Slot v) few)
+  write_size (VariableSide (Global n) ty) words s v few = omega (arith, saves_size starts words (global_of starts n) v, few)
+  write_size (CellSide x) words s v few = omega (arith, stores_size words s 0 v, few)
 
   swap_size : (x y : Side) (p t : ℕ) → code_size (swap_code starts x y p t) ≤ size_per_weight * (2 + side_weight x + side_weight y)
   swap_size x y p t =
+      let words = words_of (type_of_side x) in
+      let few : words ≤ 3 = omega (arith, type_words (type_of_side x), kind_few (kind_of (type_of_side x))) in
       let front = side_code starts x p t in
       let middle = side_code starts y (p + length front) (right_slot x t) in
-      let back = exchange_code starts x y t in
+      let back = exchange_code starts words x y t in
+      let first = read_side starts x words t (t + 2) in
+      let second = read_side starts y words (right_slot x t) (t + 2 + words) in
+      let third = write_side starts x words t (t + 2 + words) in
+      let fourth = write_side starts y words (right_slot x t) (t + 2) in
       omega (
         arith,
         both front (middle ++ back),
         both middle back,
+        both first (second ++ (third ++ fourth)),
+        both second (third ++ fourth),
+        both third fourth,
         side_size x p t,
         side_size y (p + length front) (right_slot x t),
-        read_size x t (t + 2),
-        read_size y (right_slot x t) (t + 3),
-        write_size x t (t + 3),
-        write_size y (right_slot x t) (t + 2),
+        read_size x words t (t + 2) few,
+        read_size y words (right_slot x t) (t + 2 + words) few,
+        write_size x words t (t + 2 + words) few,
+        write_size y words (right_slot x t) (t + 2) few,
       )
 
   mutual
@@ -605,8 +758,8 @@ module _ (starts : Starts) where
           clauses_size cs next out exits t,
         )
 
-pub function_size : (structs : List StructType) (h : Function) → size (lower_function structs h) ≤ size_per_weight * function_weight h
-function_size structs h =
+pub function_size : (structs : List StructType) (globals : List ℕ) (h : Function) → size (lower_function structs globals h) ≤ size_per_weight * function_weight h
+function_size structs globals h =
     let d = first_temporary h in
-    let starts = starts_of (types_of structs h) in
+    let starts = starts_with (raises_of structs globals h) structs globals h in
     omega (arith, both (items_code starts h.body 0 (outside_loops d) d) (instructions.Finish d ∷ blocks), items_size starts h.body 0 (outside_loops d) d)

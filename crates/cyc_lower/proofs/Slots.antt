@@ -11,9 +11,9 @@ use Rattle.cyc_types.specs.Types.{Ty, words_of, words_of_mark}
 use Rattle.cyc_types.specs.Types as types
 use Rattle.cyc_types.specs.TypedTrees.{StructType, Function}
 use Rattle.cyc_meaning.specs.FrameCount.{words_of_all}
-use Rattle.cyc_lower.specs.Slots.{slot_in, starts_from, Types, starts_of, slot_of}
+use Rattle.cyc_lower.specs.Slots.{slot_in, starts_from, Types, starts_of, slot_of, global_of}
 use Rattle.cyc_lower.specs.Lowering.{slot_types, first_temporary}
-use Rattle.cyc_lower.proofs.Widths.{kind_positive, words_in, HasRoom}
+use Rattle.cyc_lower.proofs.Widths.{kind_positive, words_in, HasRoom, HasGlobal}
 
 -- ---- words
 
@@ -78,6 +78,15 @@ type-there (t ∷ ts) zero inside = (t, refl)
 type-there (t ∷ ts) (suc n) inside = type-there ts n (omega (arith, inside))
 
 -- the slot of a local is one of the locals'
+-- a local that is there or not begins before the first temporary, or at it
+low-from : (ts : List Ty) (slot n : ℕ) → unwrap_or (slice_get (starts_from slot ts) n) 0 ≤ slot + words_of_all ts
+low-from [] slot n = omega arith
+low-from (t ∷ ts) slot zero = omega arith
+low-from (t ∷ ts) slot (suc n) = omega (arith, low-from ts (slot + words_of t) n)
+
+pub slot-low : (ts : Types) (n : ℕ) → slot_of (starts_of ts) n ≤ words_of_all ts.locals
+slot-low ts n = omega (arith, low-from ts.locals 0 n)
+
 pub slot-inside : (ts : Types) (n : ℕ) → n < length ts.locals → slot_of (starts_of ts) n < words_of_all ts.locals
 slot-inside ts n inside =
     let (t, at) = type-there ts.locals n inside in
@@ -135,17 +144,38 @@ has-words (t ∷ ts) (suc n) some = omega (arith, has-words ts n some)
 pub room-inside : (ts : Types) (n : ℕ) (kind : Kind) → HasRoom ts n kind → n < length ts.locals
 room-inside ts n kind room = has-words ts.locals n (omega (arith, room, kind_positive kind))
 
+-- ---- globals
+
+-- their words follow one another as the slots of locals do
+abbrev as_locals : Types → Types
+as_locals ts = record { locals = ts.globals; structs = ts.structs; raises = ts.raises; counters = []; globals = [] }
+
+pub global-room : (ts : Types) (n : ℕ) → n < length ts.globals → global_of (starts_of ts) n + words_in ts.globals n ≤ words_of_all ts.globals
+global-room ts n inside = slot-room (as_locals ts) n inside
+
+pub globals-are : (ts : Types) (n : ℕ) → n < length ts.globals → global_of (starts_of ts) n ≡ slot_in ts.globals n
+globals-are ts n inside = starts-are (as_locals ts) n inside
+
+pub global-apart : (ts : Types) (n m : ℕ) → n < length ts.globals → m < length ts.globals → n ≢ m
+    → (global_of (starts_of ts) n + words_in ts.globals n ≤ global_of (starts_of ts) m) ⊎ (global_of (starts_of ts) m + words_in ts.globals m ≤ global_of (starts_of ts) n)
+global-apart ts n m inside there other = slot-apart (as_locals ts) n m inside there other
+
+pub global-inside : (ts : Types) (n : ℕ) (kind : Kind) → HasGlobal ts n kind → n < length ts.globals
+global-inside ts n kind room = room-inside (as_locals ts) n kind room
+
+-- ---- parameters
+
 -- the slot of a parameter is behind the words of those before it
-pub slot-parameter : (structs : List StructType) (raises : ℕ) (first rest : List Ty) (t : Ty) (more : List Ty)
-    → slot_of (starts_of (record { locals = (first ++ t ∷ rest) ++ more; structs = structs; raises = raises; counters = [] })) (length first) ≡ words_of_all first
-slot-parameter structs raises first rest t more =
+pub slot-parameter : (structs : List StructType) (raises : ℕ) (globals : List Ty) (first rest : List Ty) (t : Ty) (more : List Ty)
+    → slot_of (starts_of (record { locals = (first ++ t ∷ rest) ++ more; structs = structs; raises = raises; counters = []; globals = globals })) (length first) ≡ words_of_all first
+slot-parameter structs raises globals first rest t more =
     let ts = (first ++ t ∷ rest) ++ more in
     let long : length ts ≡ length (first ++ t ∷ rest) + length more = length-append (first ++ t ∷ rest) more in
     let shorter : length (first ++ t ∷ rest) ≡ length first + length (t ∷ rest) = length-append first (t ∷ rest) in
     let next : length first + 0 ≡ length first = omega arith in
     let at : slot_in ts (length first) ≡ words_of_all first + 0
     = ap (λ (us : List Ty). slot_in us (length first)) (append_assoc first (t ∷ rest) more) ∙ ap (slot_in (first ++ (t ∷ rest ++ more))) (sym next) ∙ slot-append first (t ∷ rest ++ more) 0 in
-    omega (arith, starts-are (record { locals = ts; structs = structs; raises = raises; counters = [] }) (length first) (omega (arith, long, shorter)), at)
+    omega (arith, starts-are (record { locals = ts; structs = structs; raises = raises; counters = []; globals = globals }) (length first) (omega (arith, long, shorter)), at)
 
 pub words-parameter : (first rest : List Ty) (t : Ty) (more : List Ty) → words_in ((first ++ t ∷ rest) ++ more) (length first) ≡ words_of t
 words-parameter [] rest t more = refl

@@ -1,6 +1,6 @@
 -- Where in a function's code the code of a construct stands, with all places between its parts left open.
 use Rattle.std.proofs.Common.{◌≡◌, ℕ, suc, ◌+◌, ◌<◌, Bool, true, false, List, length, Option, None, Some, zero, ◌≤◌, max, slice_get}
-use Rattle.std.specs.Prelude.{◌==◌}
+use Rattle.std.specs.Prelude.{◌==◌, if◌then◌else◌}
 use Rattle.cyc_words.specs.Word.{IsWord}
 use Rattle.cyc_types.specs.declared.typed.Kind.{Kind}
 use Rattle.cyc_types.specs.declared.typed.Kind.TheVariants as kinds
@@ -9,7 +9,7 @@ use Rattle.cyc_types.specs.declared.typed.Operator.{Operator}
 use Rattle.cyc_types.specs.declared.typed.Operator.TheVariants as operators
 use Rattle.cyc_types.specs.declared.typed.PointerOperator.{PointerOperator}
 use Rattle.cyc_types.specs.declared.typed.PointerOperator.TheVariants as pointers
-use Rattle.cyc_types.specs.TypedTrees.{Array, Counter, type_of_place, Load, Dereference, Target, Lvalue, Local, Global, Expression, Number, NullPointer, Copy, Call, Unary, Binary, Assign, Converted, Convert, Arguments, NoArguments, MoreArguments, Operations, NoOperations, ThenCompute, ThenTest, ThenPointer, Statement, Block, Empty, Evaluate, If, While, Return, Break, Continue, Items, NoItems, MoreItems, Execute, Declare, Move, Peek, ThenPointerPeek, New, OnHeap, Initial, Plain, Fields, AddressOfCell, Store, Member, AsUnique, FreeUnique, Side, VariableSide, CellSide, Swap, Throw, Try, Clauses, NoClauses, Default, Case}
+use Rattle.cyc_types.specs.TypedTrees.{Array, Counter, type_of_place, Load, Dereference, Target, Lvalue, Local, Global, Expression, Number, NullPointer, Copy, Call, Unary, Binary, Assign, Converted, Convert, Arguments, NoArguments, MoreArguments, Operations, NoOperations, ThenCompute, ThenTest, ThenPointer, Statement, Block, Empty, Evaluate, If, While, Return, Break, Continue, Items, NoItems, MoreItems, Execute, Declare, Move, Peek, ThenPointerPeek, New, OnHeap, Initial, Plain, Fields, AddressOfCell, Store, Member, AsUnique, FreeUnique, Side, VariableSide, CellSide, Swap, Throw, Try, Clauses, NoClauses, Default, Case, NumberOfElements, Element}
 use Rattle.cyc_types.specs.Types.{words_of}
 use Rattle.cyc_types.specs.typing.Expressions.{type_of_side}
 use Rattle.cyc_types.specs.Numbered.{Numbering, argument_count}
@@ -26,15 +26,24 @@ use Rattle.cyc_plain.specs.declared.instruction.Instruction.{Instruction}
 use Rattle.cyc_plain.specs.declared.instruction.Instruction.TheVariants as instructions
 use Rattle.cyc_plain.specs.Straight.{At}
 use Rattle.cyc_store.specs.declared.range.TheConstants.{MOST_BLOCK_WORDS, HEAP, UNIQUE}
-use Rattle.cyc_meaning.specs.Operators.{array_size, null_exception, division_by_zero}
+use Rattle.cyc_meaning.specs.Operators.{array_size, null_exception, division_by_zero, array_bounds}
 use Rattle.cyc_meaning.specs.Values.{is_thin, words_of_kind, kind_of}
 use Rattle.cyc_lower.specs.declared.statements.Exits.{Exits}
-use Rattle.cyc_lower.specs.Slots.{counted, Types, starts_of, slot_of, field_of}
-use Rattle.cyc_lower.specs.Lowering.{most_elements, unary_operator, binary_operator, operand_of, source_of, source_slot, failing_comparison, left_with, left_of, value_slot, next_slot, slot_with, left_slot, is_in, jump_if_nonzero, move_of, test_jump, are_as_wide, converts_there, passed_words, all_passed, compared_of, low_byte, break_target, continue_target, results_of, behind_left, inside_loop, pointer_operator, raising, jump_if_zero, right_slot, tag_operand, other_jump, goes_on}
-use Rattle.cyc_lower.specs.Lowerable.{may_wait}
-use Rattle.cyc_lower.proofs.Widths.{kind_of_result, given, passed_kind, HasRoom, HasField}
+use Rattle.cyc_lower.specs.Slots.{counted, Types, starts_of, slot_of, field_of, global_of}
+use Rattle.cyc_lower.specs.Lowering.{most_elements, unary_operator, binary_operator, operand_of, source_of, source_slot, failing_comparison, left_with, left_of, value_slot, next_slot, slot_with, left_slot, is_in, jump_if_nonzero, move_of, test_jump, are_as_wide, converts_there, passed_words, all_passed, compared_of, low_byte, break_target, continue_target, results_of, behind_left, inside_loop, pointer_operator, raising, jump_if_zero, right_slot, tag_operand, other_jump, goes_on, span_of, span_in, followed_operand, scale_of, pointer_of, reached_operand, load_word, store_word, load_at}
+use Rattle.cyc_lower.proofs.Widths.{kind_of_result, given, passed_kind, HasRoom, HasField, HasGlobal}
 
 -- ---- expressions
+
+-- an instruction for each of so many words stands here, by its number in the globals and its slot
+abbrev pub EachAt : (code : List Instruction) → (each : (global slot : ℕ) → Instruction) → (words first slot p q : ℕ) → Type 0
+EachAt code each zero first slot p q = p ≡ q
+EachAt code each (suc words) first slot p q = At code p (each first slot) × EachAt code each words (suc first) (suc slot) (p + 1) q
+
+-- a value of so many words comes to a global
+abbrev pub GlobalAt : (code : List Instruction) → (words first : ℕ) → Operand → (p q : ℕ) → Type 0
+GlobalAt code words first (operands.Slot n) p q = EachAt code store_word words first n p q
+GlobalAt code words first (operands.Word n) p q = At code p (instructions.StoreGlobal first (operands.Word n)) × (p + 1 ≡ q)
 
 -- a value comes to a slot, where it is not there yet
 module _ (code : List Instruction) where
@@ -50,6 +59,17 @@ module _ (code : List Instruction) where
   AddressAt o zero d p q = CopyAt 1 o d p q
   AddressAt o (suc bytes) d p q = At code p (instructions.Binary plain_binary.Add d o (operands.Word (suc bytes))) × (p + 1 ≡ q)
 
+-- a cell comes to a slot and those behind it, whose address stands in an operand but for so many bytes
+module _ (code : List Instruction) where
+  abbrev pub LoadedBy : (narrow : Bool) → Operand → (bytes d p q : ℕ) → Type 0
+  LoadedBy true o bytes d p q = At code p (instructions.Load d o bytes) × (p + 1 ≡ q)
+  LoadedBy false o bytes d p q =
+      (r : ℕ) × AddressAt code o bytes d p r × At code r (instructions.Load (d + 2) (operands.Slot d) 8) × At code (r + 1) (instructions.Load (d + 1) (operands.Slot d) 4)
+      × At code (r + 1 + 1) (instructions.Load d (operands.Slot d) 0) × (r + 1 + 1 + 1 ≡ q)
+
+  abbrev pub LoadedAt : (words : ℕ) → Operand → (bytes d p q : ℕ) → Type 0
+  LoadedAt words o bytes d p q = LoadedBy (words == 1) o bytes d p q
+
 -- In a code of a function with these bounds, whose locals have these types, from p to q stands the code of this, with temporaries from
 -- slot t on.
 module _ (code : List Instruction) (bounds : Numbering) (types : Types) where
@@ -63,6 +83,11 @@ module _ (code : List Instruction) (bounds : Numbering) (types : Types) where
   OperandBy (Some known) computed slot o p q = (o ≡ known) × (p ≡ q)
   OperandBy None computed slot o p q = (o ≡ operands.Slot slot) × computed
 
+  -- a value that is only wanted in slots stands in those of a local, or comes to some
+  abbrev pub ReturnedAt : Option Operand → (computed : Type 0) → (slot s : ℕ) → (p q : ℕ) → Type 0
+  ReturnedAt (Some (operands.Slot n)) computed slot s p q = (s ≡ n) × (p ≡ q)
+  ReturnedAt o computed slot s p q = (s ≡ slot) × computed
+
   -- where a comparison holds, a jump leads to what raises an exception
   abbrev pub GuardAt : (tag : ℕ) → Comparison → (l r : Operand) → (p q : ℕ) → Type 0
   GuardAt tag failing l r p q = (s : ℕ) × At code p (instructions.Branch failing l r s) × At code s (raising tag) × (p + 1 ≡ q)
@@ -70,13 +95,56 @@ module _ (code : List Instruction) (bounds : Numbering) (types : Types) where
   abbrev pub CheckAt : (tag : ℕ) → Operand → (p q : ℕ) → Type 0
   CheckAt tag o p q = GuardAt tag comparisons.Equal o (operands.Word 0) p q
 
-  abbrev pub ConversionBy : (to : Kind) → Operand → (p q : ℕ) → Type 0
-  ConversionBy kinds.NonNull o p q = CheckAt null_exception o p q
-  ConversionBy to o p q = p ≡ q
+  -- an index is compared with a length
+  abbrev pub BoundsAt : (index length : Operand) → (p q : ℕ) → Type 0
+  BoundsAt index length p q = GuardAt array_bounds comparisons.GreaterOrEqualUnsigned index length p q
 
-  -- a value is converted where it is, and keeps its number of words
-  abbrev pub ConversionAt : (from to : Kind) → Operand → (p q : ℕ) → Type 0
-  ConversionAt from to o p q = (are_as_wide from to ≡ true) × ConversionBy to o p q
+  abbrev pub SteppedAt : (span : Option ℕ) → (n m t p q : ℕ) → Type 0
+  SteppedAt None n m t p q = p ≡ q
+  SteppedAt (Some words) n m t p q =
+      At code p (scale_of words (t + 2) m)
+      × At code (p + 1) (instructions.Binary plain_binary.Add t (operands.Slot n) (operands.Slot (t + 2))) × (p + 1 + 1 ≡ q)
+
+  -- the same where null leads to a place of which this is said
+  abbrev pub ReachedBy : (null : ℕ → Type 0) → (span : Option ℕ) → (n m t p q : ℕ) → Type 0
+  ReachedBy null span n m t p q =
+      (r : ℕ) × (s : ℕ) × ((x : ℕ) × At code p (instructions.Branch comparisons.Equal (operands.Slot n) (operands.Word 0) x) × null x × (p + 1 ≡ r))
+      × BoundsAt (operands.Slot m) (operands.Slot (n + 1)) r s × SteppedAt span n m t s q
+
+  -- an access by a fat pointer whose first words are in slot n and the next, and whose index is in slot m
+  abbrev pub ReachedAt : (span : Option ℕ) → (n m t p q : ℕ) → Type 0
+  ReachedAt span n m t p q = ReachedBy (λ x. At code x (raising null_exception)) span n m t p q
+
+  -- an access by a pointer in an operand
+  abbrev pub FollowedAt : (thin : Bool) → (span : Option ℕ) → Operand → (t p q : ℕ) → Type 0
+  FollowedAt true span o t p q = CheckAt null_exception o p q
+  FollowedAt false span (operands.Slot n) t p q = ReachedAt span n (n + 2) t p q
+  FollowedAt false span (operands.Word w) t p q = ⊥
+
+  abbrev pub TestedAt : (to : Kind) → Operand → (p q : ℕ) → Type 0
+  TestedAt kinds.NonNull o p q = CheckAt null_exception o p q
+  TestedAt to o p q = p ≡ q
+
+  -- a value that gets more words is in slot t, or is null
+  abbrev pub WidenedAt : Operand → (t p q : ℕ) → Type 0
+  WidenedAt (operands.Slot n) t p q =
+      (n ≡ t) × At code p (instructions.Move (n + 1) (operands.Word 1)) × At code (p + 1) (instructions.Move (n + 2) (operands.Word 0)) × (p + 2 ≡ q)
+  WidenedAt (operands.Word w) t p q = (w ≡ 0) × (p ≡ q)
+
+  -- a fat pointer becomes a thin one
+  abbrev pub ThinnedAt : (to : Kind) → (span : Option ℕ) → Operand → (t p q : ℕ) → Type 0
+  ThinnedAt kinds.NonNull span (operands.Slot n) t p q = (n ≡ t) × ReachedAt span n (n + 2) n p q
+  ThinnedAt kinds.Nullable span (operands.Slot n) t p q = (n ≡ t) × ReachedBy (λ x. x ≡ q) span n (n + 2) n p q
+  ThinnedAt to span o t p q = ⊥
+
+  abbrev pub ConversionBy : (as_wide : Bool) → (to : Kind) → (span : Option ℕ) → Operand → (t p q : ℕ) → Type 0
+  ConversionBy true to span o t p q = TestedAt to o p q
+  ConversionBy false kinds.Fat span o t p q = WidenedAt o t p q
+  ConversionBy false to span o t p q = ThinnedAt to span o t p q
+
+  -- a value is converted where it is, which is slot t where it changes its number of words
+  abbrev pub ConversionAt : (from to : Kind) → (span : Option ℕ) → Operand → (t p q : ℕ) → Type 0
+  ConversionAt from to span o t p q = ConversionBy (are_as_wide from to) to span o t p q
 
   abbrev pub DivisorAt : Operand → (p q : ℕ) → Type 0
   DivisorAt (operands.Word (suc n)) p q = p ≡ q
@@ -104,6 +172,15 @@ module _ (code : List Instruction) (bounds : Numbering) (types : Types) where
   PointerAt pointers.SubtractFat r t d p q = IndexAt pointers.SubtractFat r t d p q
   PointerAt o r t d p q = At code p (instructions.Binary (pointer_operator o) d (operands.Slot t) r) × (p + 1 ≡ q)
 
+  -- the number of elements of a fat pointer comes to slot d
+  abbrev pub CountAt : Operand → (d p q : ℕ) → Type 0
+  CountAt (operands.Slot n) d p q =
+      At code p (jump_if_zero (operands.Slot n) (p + 4))
+      × At code (p + 1) (instructions.Branch comparisons.LessUnsigned (operands.Slot (n + 1)) (operands.Slot (n + 2)) (p + 4))
+      × At code (p + 2) (instructions.Binary plain_binary.Subtract d (operands.Slot (n + 1)) (operands.Slot (n + 2)))
+      × At code (p + 3) (instructions.Jump q) × At code (p + 4) (instructions.Move d (operands.Word 0)) × (p + 5 ≡ q)
+  CountAt (operands.Word n) d p q = At code p (instructions.Move d (operands.Word 0)) × (p + 1 ≡ q)
+
   abbrev pub TruthAt : (t d p q : ℕ) → Type 0
   TruthAt t d p q =
       At code p (instructions.Unary plain_unary.Not t (operands.Slot t)) × At code (p + 1) (instructions.Unary plain_unary.Not d (operands.Slot t))
@@ -111,7 +188,7 @@ module _ (code : List Instruction) (bounds : Numbering) (types : Types) where
 
   abbrev pub LoadAt : (words : ℕ) → Lvalue → (d p q : ℕ) → Type 0
   LoadAt words (Local w n) d p q = At code p (move_of words d (operands.Slot (slot_of (starts_of types) n))) × (p + 1 ≡ q)
-  LoadAt words (Global n) d p q = (n < bounds.globals) × At code p (instructions.LoadGlobal d n) × (p + 1 ≡ q)
+  LoadAt words (Global n) d p q = (n < length types.globals) × EachAt code load_word words (global_of (starts_of types) n) d p q
 
   -- so many words, which stand in slots, come to memory behind an address
   abbrev pub StoresAt : (many address offset slot p q : ℕ) → Type 0
@@ -120,33 +197,39 @@ module _ (code : List Instruction) (bounds : Numbering) (types : Types) where
       At code p (instructions.Store (operands.Slot address) offset (operands.Slot slot)) × StoresAt many address (offset + 4) (suc slot) (p + 1) q
 
   -- a new array, whose length is in slot t, begins
-  abbrev pub BegunAt : (handle t p q : ℕ) → Type 0
-  BegunAt handle t p q =
-      (m : ℕ) × GuardAt array_size comparisons.GreaterOrEqualUnsigned (operands.Slot t) (operands.Word (most_elements + 1)) p m
+  abbrev pub BegunAt : (handle words t p q : ℕ) → Type 0
+  BegunAt handle words t p q =
+      (m : ℕ) × GuardAt array_size comparisons.GreaterOrEqualUnsigned (operands.Slot t) (operands.Word (most_elements words + 1)) p m
       × At code m (instructions.Move (t + 1) (operands.Slot t)) × At code (m + 1) (instructions.Move (t + 2) (operands.Word 0))
-      × At code (m + 1 + 1) (instructions.Unary plain_unary.Not (t + 3) (operands.Slot t))
-      × At code (m + 1 + 1 + 1) (instructions.Binary plain_binary.Add (t + 3) (operands.Slot (t + 3)) (operands.Slot t))
-      × At code (m + 1 + 1 + 1 + 1) (instructions.Ask (requests.Allocate t (operands.Word handle) (operands.Slot (t + 3)))) × (m + 5 ≡ q)
+      × At code (m + 1 + 1) (instructions.Binary plain_binary.Multiply t (operands.Slot t) (operands.Word words))
+      × At code (m + 1 + 1 + 1) (instructions.Unary plain_unary.Not (t + 3) (operands.Slot t))
+      × At code (m + 1 + 1 + 1 + 1) (instructions.Binary plain_binary.Add (t + 3) (operands.Slot (t + 3)) (operands.Slot t))
+      × At code (m + 1 + 1 + 1 + 1 + 1) (instructions.Ask (requests.Allocate t (operands.Word handle) (operands.Slot (t + 3)))) × (m + 6 ≡ q)
 
   -- an element is written, and the next one is evaluated
-  abbrev pub FilledAt : (t head p q : ℕ) → Type 0
-  FilledAt t head p q =
-      At code p (instructions.Binary plain_binary.ShiftLeft (t + 4) (operands.Slot (t + 2)) (operands.Word 2))
-      × At code (p + 1) (instructions.Binary plain_binary.Add (t + 4) (operands.Slot t) (operands.Slot (t + 4)))
-      × At code (p + 1 + 1) (instructions.Store (operands.Slot (t + 4)) 0 (operands.Slot (t + 3)))
-      × At code (p + 1 + 1 + 1) (instructions.Binary plain_binary.Add (t + 2) (operands.Slot (t + 2)) (operands.Word 1))
-      × At code (p + 1 + 1 + 1 + 1) (instructions.Jump head) × (p + 5 ≡ q)
+  abbrev pub FilledAt : (words t head p q : ℕ) → Type 0
+  FilledAt words t head p q =
+      (m : ℕ) × At code p (scale_of words (t + 3 + words) (t + 2))
+      × At code (p + 1) (instructions.Binary plain_binary.Add (t + 3 + words) (operands.Slot t) (operands.Slot (t + 3 + words)))
+      × StoresAt words (t + 3 + words) 0 (t + 3) (p + 1 + 1) m
+      × At code m (instructions.Binary plain_binary.Add (t + 2) (operands.Slot (t + 2)) (operands.Word 1))
+      × At code (m + 1) (instructions.Jump head) × (m + 2 ≡ q)
 
   -- the elements of an array: from the head h on, to r, where one is evaluated, and to s, where all are written
-  abbrev pub ElementsBy : (evaluated : Type 0) → (t d h r s q : ℕ) → Type 0
-  ElementsBy evaluated t d h r s q =
-      At code h (instructions.Branch comparisons.Equal (operands.Slot (t + 2)) (operands.Slot (t + 1)) s) × (h < s) × evaluated × FilledAt t h r s
+  abbrev pub ElementsBy : (evaluated : Type 0) → (words t d h r s q : ℕ) → Type 0
+  ElementsBy evaluated words t d h r s q =
+      At code h (instructions.Branch comparisons.Equal (operands.Slot (t + 2)) (operands.Slot (t + 1)) s) × (h < s) × evaluated × FilledAt words t h r s
       × At code s (instructions.Move (t + 2) (operands.Word 0)) × CopyAt code 3 (operands.Slot t) d (s + 1) q
 
-  -- An object of so many cells is made, each of one word, of the words that stand in the slots from t on. Its address comes to slot d.
+  -- a value of so many words comes to the cell whose address is in a slot
+  abbrev pub SavedAt : (words address : ℕ) → Operand → (p q : ℕ) → Type 0
+  SavedAt words address (operands.Slot n) p q = StoresAt words address 0 n p q
+  SavedAt words address (operands.Word n) p q = At code p (instructions.Store (operands.Slot address) 0 (operands.Word n)) × (p + 1 ≡ q)
+
+  -- An object of so many cells is made, of the words that stand in the slots from t on. Its address comes to slot d.
   abbrev pub ObjectAt : (handle cells words t d p q : ℕ) → Type 0
   ObjectAt handle cells words t d p q =
-      (m : ℕ) × (cells ≡ words) × (1 ≤ words) × (words ≤ MOST_BLOCK_WORDS)
+      (m : ℕ) × (cells ≤ words) × (1 ≤ words) × (words ≤ MOST_BLOCK_WORDS)
       × At code p (instructions.Ask (requests.Allocate (t + words) (operands.Word handle) (operands.Word (max 1 words))))
       × StoresAt words (t + words) 0 t (p + 1) m × At code m (instructions.Move d (operands.Slot (t + words))) × (m + 1 ≡ q)
 
@@ -170,6 +253,9 @@ module _ (code : List Instruction) (bounds : Numbering) where
     ExpressionAt types (Call callees.Getchar cs ty) d t p q = (m : ℕ) × ArgumentsAt types cs t p m × At code m (instructions.ReadByte d) × (m + 1 ≡ q)
     ExpressionAt types (Call (callees.Function n) cs ty) d t p q =
         (m : ℕ) × ArgumentsAt types cs t p m × At code m (instructions.Call n t (all_passed cs) d) × (m + 1 ≡ q)
+    ExpressionAt types (NumberOfElements a) d t p q =
+        (r : Operand) × (m : ℕ) × OperandBy code bounds types (operand_of (starts_of types) a) (ExpressionAt types a (value_slot (starts_of types) a t) t p m) (value_slot (starts_of types) a t) r p m
+        × CountAt code bounds types r d m q
     ExpressionAt types (Unary o a) d t p q =
         (r : Operand) × (m : ℕ) × OperandBy code bounds types (operand_of (starts_of types) a) (ExpressionAt types a (value_slot (starts_of types) a t) t p m) (value_slot (starts_of types) a t) r p m
         × At code m (instructions.Unary (unary_operator o) d r) × (m + 1 ≡ q)
@@ -181,23 +267,19 @@ module _ (code : List Instruction) (bounds : Numbering) where
         × CopyAt code (passed_words c) o d m q
     ExpressionAt types (Assign (Global n) c ty) d t p q =
         (o : Operand) × (m : ℕ)
-        × ((r : ℕ) × ConvertedOperandAt types c t o p r × (n < bounds.globals) × (words_of_kind (passed_kind c) ≡ 1) × At code r (instructions.StoreGlobal n o) × (r + 1 ≡ m))
+        × ((r : ℕ) × ConvertedOperandAt types c t o p r × HasGlobal types n (passed_kind c) × GlobalAt code (passed_words c) (global_of (starts_of types) n) o r m)
         × CopyAt code (passed_words c) o d m q
     ExpressionAt types (Load x) d t p q =
-        (o : Operand) × (c : ℕ) × (r : ℕ) × PlaceAt types x o c t p r × (words_of (type_of_place x) ≡ 1) × At code r (instructions.Load d o c) × (r + 1 ≡ q)
+        (o : Operand) × (c : ℕ) × (r : ℕ) × PlaceAt types x o c t p r × LoadedAt code (words_of (type_of_place x)) o c d r q
     ExpressionAt types (FreeUnique a) d t p q =
         (o : Operand) × (m : ℕ) × OperandBy code bounds types (operand_of (starts_of types) a) (ExpressionAt types a (value_slot (starts_of types) a t) t p m) (value_slot (starts_of types) a t) o p m × FreedAt code bounds types o m q
-    ExpressionAt types (New OnHeap (Array w level n kind a) ty) d t p q =
-        (m : ℕ) × (h : ℕ) × (r : ℕ) × (s : ℕ) × ExpressionAt types n t t p m × BegunAt code bounds types HEAP t m h
-        × (level ≡ length types.counters) × (words_of_kind kind ≡ 1)
-        × ElementsBy code bounds types (ExpressionAt (counted types (t + 2)) a (t + 3) (t + 3) (h + 1) r) t d h r s q
     ExpressionAt types (New OnHeap i ty) d t p q = MadeAt types i HEAP d t p q
     ExpressionAt types (New AsUnique i ty) d t p q = MadeAt types i UNIQUE d t p q
     ExpressionAt types (AddressOfCell x ty) d t p q = (o : Operand) × (c : ℕ) × (r : ℕ) × PlaceAt types x o c t p r × AddressAt code o c d r q
     ExpressionAt types (Store x v ty) d t p q =
         (o : Operand) × (m : ℕ)
         × ((a : Operand) × (c : ℕ) × (r : ℕ) × (s : ℕ) × (u : ℕ) × PlaceAt types x a c t p r × AddressAt code a c t r s × ConvertedOperandAt types v (t + 1) o s u
-        × (words_of_kind (passed_kind v) ≡ 1) × At code u (instructions.Store (operands.Slot t) 0 o) × (u + 1 ≡ m))
+        × SavedAt code bounds types (passed_words v) t o u m)
         × CopyAt code (passed_words v) o d m q
     ExpressionAt types a d t p q = ⊥
 
@@ -206,17 +288,24 @@ module _ (code : List Instruction) (bounds : Numbering) where
     MadeAt types (Plain kind a) handle d t p q =
         (m : ℕ) × ExpressionAt types a t t p m × (words_of_kind (given bounds.functions a) ≡ words_of_kind kind) × ObjectAt code bounds types handle 1 (words_of_kind kind) t d m q
     MadeAt types (Fields cs) handle d t p q = (m : ℕ) × ArgumentsAt types cs t p m × ObjectAt code bounds types handle (argument_count cs) (all_passed cs) t d m q
-    MadeAt types i handle d t p q = ⊥
+    MadeAt types (Array w level n kind a) handle d t p q =
+        (m : ℕ) × (h : ℕ) × (r : ℕ) × (s : ℕ) × ExpressionAt types n t t p m × BegunAt code bounds types handle (words_of_kind kind) t m h
+        × (level ≡ length types.counters)
+        × ElementsBy code bounds types (ExpressionAt (counted types (t + 2)) a (t + 3) (t + 3) (h + 1) r) (words_of_kind kind) t d h r s q
 
     -- The address of a place comes to an operand, but for so many bytes that are to be added to it.
     pub PlaceAt : (types : Types) → Dereference → Operand → (c t p q : ℕ) → Type 0
     PlaceAt types (Target k a ty) o c t p q =
-        (m : ℕ) × OperandBy code bounds types (operand_of (starts_of types) a) (ExpressionAt types a (value_slot (starts_of types) a t) t p m) (value_slot (starts_of types) a t) o p m
-        × (is_thin k ≡ true) × CheckAt code bounds types null_exception o m q × (c ≡ 0)
+        (x : Operand) × (m : ℕ) × OperandBy code bounds types (operand_of (starts_of types) a) (ExpressionAt types a (value_slot (starts_of types) a t) t p m) (value_slot (starts_of types) a t) x p m
+        × FollowedAt code bounds types (is_thin k) (span_in ty) x t m q × (o ≡ followed_operand (is_thin k) (span_in ty) x t) × (c ≡ 0)
     PlaceAt types (Member k a s f ty) o c t p q =
         (m : ℕ) × OperandBy code bounds types (operand_of (starts_of types) a) (ExpressionAt types a (value_slot (starts_of types) a t) t p m) (value_slot (starts_of types) a t) o p m
         × (is_thin k ≡ true) × CheckAt code bounds types null_exception o m q × HasField types s f × (c ≡ field_of (starts_of types) s f)
-    PlaceAt types x o c t p q = ⊥
+    PlaceAt types (Element a i ty) o c t p q =
+        (n : ℕ) × (x : Operand) × (m : ℕ) × (r : ℕ) × ReturnedAt code bounds types (pointer_of (starts_of types) a i) (ExpressionAt types a t t p m) t n p m
+        × OperandBy code bounds types (operand_of (starts_of types) i) (ExpressionAt types i (value_slot (starts_of types) i (t + 3)) (t + 3) m r) (value_slot (starts_of types) i (t + 3)) x m r
+        × At code r (instructions.Binary plain_binary.Add (t + 2) (operands.Slot (n + 2)) x) × ReachedAt code bounds types (span_in ty) n (t + 2) t (r + 1) q
+        × (o ≡ reached_operand (span_in ty) n t) × (c ≡ 0)
 
     -- the value comes to slot d, converted
     pub InitialAt : (types : Types) → Converted → (d t p q : ℕ) → Type 0
@@ -224,17 +313,17 @@ module _ (code : List Instruction) (bounds : Numbering) where
         EitherBy code bounds types (converts_there from to) ((words_of_kind (given bounds.functions a) ≡ words_of_kind to) × ExpressionAt types a d t p q)
         ((o : Operand) × (m : ℕ) × (r : ℕ)
         × OperandBy code bounds types (source_of (starts_of types) (Convert from to a)) (ExpressionAt types a (source_slot (starts_of types) (Convert from to a) t) t p m) (source_slot (starts_of types) (Convert from to a) t) o p m
-        × ConversionAt code bounds types from to o m r × At code r (move_of (words_of_kind to) d o) × (r + 1 ≡ q))
+        × ConversionAt code bounds types from to (span_of a) o t m r × At code r (move_of (words_of_kind to) d o) × (r + 1 ≡ q))
 
     -- the value comes to slot t and is converted there
     pub ConvertedAt : (types : Types) → Converted → (t p q : ℕ) → Type 0
-    ConvertedAt types (Convert from to a) t p q = (m : ℕ) × ExpressionAt types a t t p m × ConversionAt code bounds types from to (operands.Slot t) m q
+    ConvertedAt types (Convert from to a) t p q = (m : ℕ) × ExpressionAt types a t t p m × ConversionAt code bounds types from to (span_of a) (operands.Slot t) t m q
 
     -- the value is converted where it is
     pub ConvertedOperandAt : (types : Types) → Converted → (t : ℕ) → Operand → (p q : ℕ) → Type 0
     ConvertedOperandAt types (Convert from to a) t o p q =
         (m : ℕ) × OperandBy code bounds types (source_of (starts_of types) (Convert from to a)) (ExpressionAt types a (source_slot (starts_of types) (Convert from to a) t) t p m) (source_slot (starts_of types) (Convert from to a) t) o p m
-        × ConversionAt code bounds types from to o m q
+        × ConversionAt code bounds types from to (span_of a) o t m q
 
     -- the only argument of `putchar`
     pub PrintedAt : (types : Types) → Arguments → (t : ℕ) → Operand → (p q : ℕ) → Type 0
@@ -266,8 +355,8 @@ module _ (code : List Instruction) (bounds : Numbering) where
 
 module _ (code : List Instruction) (bounds : Numbering) (types : Types) where
   -- the elements of an array, which are this expression
-  abbrev pub ElementsAt : Expression → (t d h r s q : ℕ) → Type 0
-  ElementsAt a t d h r s q = ElementsBy code bounds types (ExpressionAt code bounds (counted types (t + 2)) a (t + 3) (t + 3) (h + 1) r) t d h r s q
+  abbrev pub ElementsAt : Expression → (words t d h r s q : ℕ) → Type 0
+  ElementsAt a words t d h r s q = ElementsBy code bounds types (ExpressionAt code bounds (counted types (t + 2)) a (t + 3) (t + 3) (h + 1) r) words t d h r s q
 
   -- a value that comes to slot d, where it is told whether it does so before it is converted
   abbrev pub InitialBy : Bool → (from to : Kind) → Expression → (d t p q : ℕ) → Type 0
@@ -275,7 +364,7 @@ module _ (code : List Instruction) (bounds : Numbering) (types : Types) where
       EitherBy code bounds types there ((words_of_kind (given bounds.functions a) ≡ words_of_kind to) × ExpressionAt code bounds types a d t p q)
       ((o : Operand) × (m : ℕ) × (r : ℕ)
       × OperandBy code bounds types (source_of (starts_of types) (Convert from to a)) (ExpressionAt code bounds types a (source_slot (starts_of types) (Convert from to a) t) t p m) (source_slot (starts_of types) (Convert from to a) t) o p m
-      × ConversionAt code bounds types from to o m r × At code r (move_of (words_of_kind to) d o) × (r + 1 ≡ q))
+      × ConversionAt code bounds types from to (span_of a) o t m r × At code r (move_of (words_of_kind to) d o) × (r + 1 ≡ q))
 
   -- where the value of an expression stands that is an operand
   abbrev pub ValueAt : Expression → (t : ℕ) → Operand → (p q : ℕ) → Type 0
@@ -306,20 +395,20 @@ module _ (code : List Instruction) (bounds : Numbering) (types : Types) where
   abbrev pub AssignmentAt : Lvalue → Converted → Operand → (t p q : ℕ) → Type 0
   AssignmentAt (Local w n) c o t p q = (o ≡ operands.Slot (slot_of (starts_of types) n)) × HasRoom types n (passed_kind c) × InitialAt code bounds types c (slot_of (starts_of types) n) t p q
   AssignmentAt (Global n) c o t p q =
-      (r : ℕ) × ConvertedOperandAt code bounds types c t o p r × (n < bounds.globals) × (words_of_kind (passed_kind c) ≡ 1) × At code r (instructions.StoreGlobal n o) × (r + 1 ≡ q)
+      (r : ℕ) × ConvertedOperandAt code bounds types c t o p r × HasGlobal types n (passed_kind c) × GlobalAt code (passed_words c) (global_of (starts_of types) n) o r q
 
   -- a value is stored in a cell, whose address waits in slot t, and then stands in an operand
   abbrev pub StoredAt : Dereference → Converted → (t : ℕ) → Operand → (p q : ℕ) → Type 0
   StoredAt x v t o p q =
       (a : Operand) × (c : ℕ) × (r : ℕ) × (s : ℕ) × (u : ℕ) × PlaceAt code bounds types x a c t p r × AddressAt code a c t r s × ConvertedOperandAt code bounds types v (t + 1) o s u
-      × (words_of_kind (passed_kind v) ≡ 1) × At code u (instructions.Store (operands.Slot t) 0 o) × (u + 1 ≡ q)
+      × SavedAt code bounds types (passed_words v) t o u q
 
   -- ---- swaps
 
   -- a side of a swap has room for a value of a kind
   abbrev pub HasSide : Side → Kind → Type 0
   HasSide (VariableSide (Local w n) ty) kind = HasRoom types n kind
-  HasSide (VariableSide (Global n) ty) kind = n < bounds.globals
+  HasSide (VariableSide (Global n) ty) kind = HasGlobal types n kind
   HasSide (CellSide x) kind = Unit {0}
 
   -- the address of a side that is a cell comes to slot t
@@ -327,28 +416,27 @@ module _ (code : List Instruction) (bounds : Numbering) (types : Types) where
   SideAt (VariableSide l ty) t p q = p ≡ q
   SideAt (CellSide x) t p q = (o : Operand) × (c : ℕ) × (m : ℕ) × PlaceAt code bounds types x o c t p m × AddressAt code o c t m q
 
-  -- a word that a side holds comes to slot d
-  abbrev pub ReadAt : Side → (s d p : ℕ) → Type 0
-  ReadAt (VariableSide (Local w n) ty) s d p = At code p (instructions.Move d (operands.Slot (slot_of (starts_of types) n)))
-  ReadAt (VariableSide (Global n) ty) s d p = At code p (instructions.LoadGlobal d n)
-  ReadAt (CellSide x) s d p = At code p (instructions.Load d (operands.Slot s) 0)
+  -- the words that a side holds come to slots from d on
+  abbrev pub ReadAt : Side → (words s d p q : ℕ) → Type 0
+  ReadAt (VariableSide l ty) words s d p q = LoadAt code bounds types words l d p q
+  ReadAt (CellSide x) words s d p q = EachAt code (load_at s) words 0 d p q
 
-  -- the word in slot v comes to a side
-  abbrev pub WriteAt : Side → (s v p : ℕ) → Type 0
-  WriteAt (VariableSide (Local w n) ty) s v p = At code p (instructions.Move (slot_of (starts_of types) n) (operands.Slot v))
-  WriteAt (VariableSide (Global n) ty) s v p = At code p (instructions.StoreGlobal n (operands.Slot v))
-  WriteAt (CellSide x) s v p = At code p (instructions.Store (operands.Slot s) 0 (operands.Slot v))
+  -- the words in slots from v on come to a side
+  abbrev pub WriteAt : Side → (words s v p q : ℕ) → Type 0
+  WriteAt (VariableSide (Local w n) ty) words s v p q = At code p (move_of words (slot_of (starts_of types) n) (operands.Slot v)) × (p + 1 ≡ q)
+  WriteAt (VariableSide (Global n) ty) words s v p q = GlobalAt code words (global_of (starts_of types) n) (operands.Slot v) p q
+  WriteAt (CellSide x) words s v p q = StoresAt code bounds types words s 0 v p q
 
   -- both sides are read, the left one first, and then written
-  abbrev pub ExchangeAt : (left right : Side) → (t p q : ℕ) → Type 0
-  ExchangeAt a b t p q =
-      ReadAt a t (t + 2) p × ReadAt b (right_slot a t) (t + 3) (p + 1) × WriteAt a t (t + 3) (p + 1 + 1) × WriteAt b (right_slot a t) (t + 2) (p + 1 + 1 + 1)
-      × (p + 1 + 1 + 1 + 1 ≡ q)
+  abbrev pub ExchangeAt : (words : ℕ) → (left right : Side) → (t p q : ℕ) → Type 0
+  ExchangeAt words a b t p q =
+      (m : ℕ) × (r : ℕ) × (s : ℕ) × ReadAt a words t (t + 2) p m × ReadAt b words (right_slot a t) (t + 2 + words) m r
+      × WriteAt a words t (t + 2 + words) r s × WriteAt b words (right_slot a t) (t + 2) s q
 
   abbrev pub SwapAt : (left right : Side) → (t p q : ℕ) → Type 0
   SwapAt a b t p q =
-      (m : ℕ) × (r : ℕ) × (words_of (type_of_side a) ≡ 1) × HasSide a (kind_of (type_of_side a)) × HasSide b (kind_of (type_of_side a)) × (may_wait a b ≡ true)
-      × SideAt a t p m × SideAt b (right_slot a t) m r × ExchangeAt a b t r q
+      (m : ℕ) × (r : ℕ) × HasSide a (kind_of (type_of_side a)) × HasSide b (kind_of (type_of_side a))
+      × SideAt a t p m × SideAt b (right_slot a t) m r × ExchangeAt (words_of_kind (kind_of (type_of_side a))) a b t r q
 
   -- the value of an expression is dropped
   abbrev pub DiscardedAt : Expression → (t p q : ℕ) → Type 0
@@ -358,11 +446,6 @@ module _ (code : List Instruction) (bounds : Numbering) (types : Types) where
   DiscardedAt a t p q = (o : Operand) × OperandBy code bounds types (operand_of (starts_of types) a) (ExpressionAt code bounds types a t t p q) t o p q
 
   -- ---- statements
-
-  -- a value that is returned stands in the slot of a local, or comes to one
-  abbrev pub ReturnedAt : Option Operand → (computed : Type 0) → (slot s : ℕ) → (p q : ℕ) → Type 0
-  ReturnedAt (Some (operands.Slot n)) computed slot s p q = (s ≡ n) × (p ≡ q)
-  ReturnedAt o computed slot s p q = (s ≡ slot) × computed
 
   -- handlers are closed whose records stand from a slot on, where there are some
   abbrev pub LeaveBy : (none : Bool) → (first p q : ℕ) → Type 0
@@ -375,7 +458,7 @@ module _ (code : List Instruction) (bounds : Numbering) (types : Types) where
   abbrev pub ReturnAt : Option Converted → Exits → (t p : ℕ) → Type 0
   ReturnAt None exits t p = (s : ℕ) × (m : ℕ) × LeaveAt exits.first_record t p m × At code m (instructions.Finish s)
   ReturnAt (Some (Convert from to a)) exits t p =
-      (s : ℕ) × (m : ℕ) × (r : ℕ) × (u : ℕ) × ReturnedAt (source_of (starts_of types) (Convert from to a)) (ExpressionAt code bounds types a t t p m) t s p m × ConversionAt code bounds types from to (operands.Slot s) m r
+      (s : ℕ) × (m : ℕ) × (r : ℕ) × (u : ℕ) × ReturnedAt code bounds types (source_of (starts_of types) (Convert from to a)) (ExpressionAt code bounds types a t t p m) t s p m × ConversionAt code bounds types from to (span_of a) (operands.Slot s) t m r
       × LeaveAt exits.first_record t r u × At code u (instructions.Finish s) × (results_of bounds.result ≡ words_of_kind to) × (to ≡ kind_of_result bounds.result)
 
   abbrev pub DeclarationAt : ℕ → Option Converted → (t p q : ℕ) → Type 0

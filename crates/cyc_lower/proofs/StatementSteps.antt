@@ -6,7 +6,7 @@ use Rattle.cyc_words.specs.Word.{signed}
 use Rattle.cyc_words.specs.Ending.{Returned, Uncaught}
 use Rattle.cyc_types.specs.declared.typed.Kind.{Kind}
 use Rattle.cyc_types.specs.Types.{Ty}
-use Rattle.cyc_types.specs.TypedTrees.{Counter, Local, Expression, Copy, Move, Peek, Converted, Convert, Statement, Block, Empty, Evaluate, If, While, Break, Continue, Items, NoItems, MoreItems, Execute, Declare, Function, Program, Swap}
+use Rattle.cyc_types.specs.TypedTrees.{Counter, Local, Expression, Copy, Move, Peek, Converted, Convert, Statement, Block, Empty, Evaluate, If, While, Break, Continue, Items, NoItems, MoreItems, Execute, Declare, Function, Program, Swap, NullPointer}
 use Rattle.cyc_types.specs.TypedTrees as typed
 use Rattle.cyc_plain.specs.declared.instruction.Operand.{Operand}
 use Rattle.cyc_plain.specs.declared.instruction.Operand.TheVariants as operands
@@ -28,7 +28,7 @@ use Rattle.cyc_lower.specs.Slots.{slot_of}
 use Rattle.cyc_lower.proofs.Slots.{slot-room, room-inside, slot_types-many}
 use Rattle.cyc_lower.proofs.Widths.{HasRoom, Outside}
 use Rattle.cyc_lower.proofs.Moves.{copied_is, copied_elsewhere}
-use Rattle.cyc_lower.specs.Lowering.{counter_operand, operand_of, are_as_wide, converts_there, break_target, inside_loop, results_of, lower_function, lower_program}
+use Rattle.cyc_lower.specs.Lowering.{counter_operand, operand_of, are_as_wide, converts_there, break_target, inside_loop, results_of, lower_function, lower_program, globals_of, null_of}
 use Rattle.cyc_lower.proofs.Stands.{OperandBy, ExpressionAt, InitialAt, InitialBy, ReturnedAt, ItemsAt}
 use Rattle.cyc_objects.specs.Tables.{Variable, Tables, with_row, with_handle}
 use Rattle.cyc_objects.specs.Words.{Is}
@@ -67,9 +67,11 @@ module _ (source : Program) (pages calls : ℕ) where
 
   -- a value that is returned comes to a slot, or is in that of a local
   returned : (tables : Tables) (a : Expression) (same : Bool) (locals : ℕ → Option ℕ) (g p : ℕ) (slots : Words) (frames : List Frame) (k : List Entry) (s m : ℕ)
-      → ReturnedAt (code_of source g) (bounds_at source g) (types_on source g k) (if same then operand_of (starts_on source g k) a else None)
+      → ReturnedAt (code_of source g) (bounds_at source g) (types_on source g k) (if same then operand_of (starts_on source g k) a else null_of a)
       (ExpressionAt (code_of source g) (bounds_at source g) (types_on source g k) a (top source g k) (top source g k) p m) (top source g k) s p m
       → Holds tables slots (floor source g k) (held k) → ValueStack source g locals (given_at source g a) (operands.Slot s) m frames k → EvaluatingAt source tables a locals g p slots frames k
+  returned tables NullPointer false locals g p slots frames k s m (is, at) holds stack =
+      into_slot (top source g k) m at holds (in_temporary (omega arith) (subst (λ x. ValueStack source g locals (given_at source g NullPointer) (operands.Slot x) m frames k) is stack))
   returned tables a false locals g p slots frames k s m (is, at) holds stack =
       into_slot (top source g k) m at holds (in_temporary (omega arith) (subst (λ x. ValueStack source g locals (given_at source g a) (operands.Slot x) m frames k) is stack))
   returned tables (Copy (Local w n) t) true locals g p slots frames k s m (is, end) holds stack = as_operand (operands.Slot s) m (ap operands.Slot is, end) holds stack
@@ -233,7 +235,7 @@ module _ (source : Program) (pages calls : ℕ) where
   -- ---- what goes on when something is done
 
   -- what the instructions of a function return is what its bounds say
-  results_in : (hs : List Function) (g : ℕ) → (slice_index_or (map (lower_function source.structs) hs) g no_routine).results ≡ results_of (bounds_in source (slice_get hs g)).result
+  results_in : (hs : List Function) (g : ℕ) → (slice_index_or (map (lower_function source.structs (globals_of source)) hs) g no_routine).results ≡ results_of (bounds_in source (slice_get hs g)).result
   results_in [] g = refl
   results_in (h ∷ hs) zero = refl
   results_in (h ∷ hs) (suc g) = results_in hs g

@@ -1,7 +1,9 @@
 -- The steps of a swap: its places are found, both are read, and then both are written. Each of them is a local, a global or a cell.
-use Rattle.std.proofs.Common.{◌≡◌, ℕ, suc, ◌+◌, ◌≤◌, ◌<◌, Bool, true, false, List, [], ◌∷◌, Option, None, Some, slice_get, refl, sym, ap, subst, ◌∙◌, arith, inl, inr}
-use Rattle.std.specs.Prelude.{if◌then◌else◌}
+use Rattle.std.proofs.Common.{◌≡◌, ℕ, zero, suc, ◌+◌, ◌*◌, ◌≤◌, ◌<◌, Bool, true, false, List, [], ◌∷◌, length, Option, None, Some, slice_get, refl, sym, ap, subst, ◌∙◌, arith, inl, inr}
+use Rattle.std.specs.Prelude.{◌==◌, if◌then◌else◌}
+use Rattle.std.proofs.lemmas.Bool.{eqb-true}
 use Rattle.std.proofs.lemmas.Option.{same_Some}
+use Rattle.cyc_store.specs.State.{word_at}
 use Rattle.cyc_words.specs.Word.{add_of}
 use Rattle.cyc_types.specs.declared.typed.Kind.{Kind}
 use Rattle.cyc_types.specs.declared.typed.Kind.TheVariants as kinds
@@ -21,26 +23,29 @@ use Rattle.cyc_meaning.specs.State.{World, Access, Found, Closed, Missing, Locat
 use Rattle.cyc_meaning.specs.Step.{wrong, stored_at, object_of, step}
 use Rattle.cyc_meaning.specs.Swaps.{finds_right, finds_right_object, finds_left_object, swap_read, swap_content, swap_loaded}
 use Rattle.cyc_objects.specs.Tables.{Tables}
-use Rattle.cyc_objects.specs.Words.{Points, Is}
+use Rattle.cyc_objects.specs.Words.{words_from, Points, Is}
 use Rattle.cyc_lower.specs.declared.statements.Exits.{Exits}
-use Rattle.cyc_lower.specs.Lowering.{right_slot, lower_program}
-use Rattle.cyc_lower.specs.Lowerable.{waits_for}
-use Rattle.cyc_lower.specs.Slots.{slot_of}
-use Rattle.cyc_lower.proofs.Widths.{same_kind, type_words, HasRoom, Outside}
-use Rattle.cyc_lower.proofs.Slots.{slot-room}
-use Rattle.cyc_lower.proofs.Moves.{put_elsewhere}
+use Rattle.cyc_lower.specs.Lowering.{right_slot, move_of, load_word, load_at, lower_program}
+use Rattle.cyc_lower.specs.Slots.{slot_of, global_of}
+use Rattle.cyc_lower.proofs.Widths.{same_kind, kind_positive, wide_kind, HasRoom, Outside}
+use Rattle.cyc_lower.proofs.Slots.{slot-room, global-inside}
+use Rattle.cyc_lower.proofs.Moves.{put_elsewhere, moved_slots, moves, moved_elsewhere, moved_is}
 use Rattle.cyc_lower.proofs.Weights.{focus_weight, stack_weight}
-use Rattle.cyc_lower.proofs.Stands.{HasSide, SideAt, ReadAt, WriteAt, ExchangeAt, SwapAt, PlaceAt}
+use Rattle.cyc_lower.proofs.Stands.{EachAt, StoresAt, HasSide, SideAt, ReadAt, WriteAt, ExchangeAt, SwapAt, PlaceAt}
 use Rattle.cyc_lower.proofs.Relation.{base_of, floor, IsWord, Holds, held, contents, content_of, content_of_cell, with_kind, callers, behind_statement, IsSideAt, IsLeft, WritesAt, StatementStack, DataIn, SharedAt, Related, Matches, code_of, bounds_at, types_at, starts_at, base_of}
 use Rattle.cyc_lower.proofs.Data.{Is-same, one_word, IsWord-is, data_written, data_assigned, data_assigned_global, handlers_beside, behind-least}
 use Rattle.cyc_lower.proofs.Sharing.{shared_written}
 use Rattle.cyc_lower.proofs.Accesses.{IsWell, is_fitting, is_stored, written_here, written_elsewhere, written_length}
 use Rattle.cyc_lower.proofs.CellWrites.{cell_is_there, saves_there, shared_saved, data_saved}
-use Rattle.cyc_lower.proofs.PlaceWords.{stays}
+use Rattle.cyc_lower.proofs.PlaceWords.{stays, cell_kind, word_is, word_there}
+use Rattle.cyc_lower.proofs.Paths.{Link, is_quiet, end_of, IsPath}
+use Rattle.cyc_lower.proofs.GlobalSteps.{each_put, each-outside, each_is, load_links, load_end, load_path, stored_globals, stored_elsewhere, stored_is, global_links, is_stored_by, by_links}
+use Rattle.cyc_lower.proofs.CellLoads.{word_links, word_end, word_path}
+use Rattle.cyc_lower.proofs.WideCells.{all_links, all_path, shared_stored, data_stored}
 use Rattle.cyc_lower.proofs.AddressSteps.{Brought, in_slot, by_word}
 use Rattle.cyc_lower.proofs.Matched.{IsMatched, silently, by_one}
-use Rattle.cyc_lower.proofs.Evaluations.{IsStep, object_of_same, global_there}
-use Rattle.cyc_lower.proofs.CellReads.{word_read}
+use Rattle.cyc_lower.proofs.Evaluations.{IsStep, object_of_same}
+use Rattle.cyc_lower.proofs.CellReads.{cell_words}
 
 -- ---- what is read
 
@@ -84,76 +89,104 @@ module _ (source : Program) (pages calls : ℕ) where
   writes_same : (t : Tables) (locals : ℕ → Option ℕ) (g : ℕ) (slots other : Words) (writes : List Write) (p q : ℕ) → ((m : ℕ) → base_of source g ≤ m → other m ≡ slots m)
       → WritesAt source t locals g slots writes p q → WritesAt source t locals g other writes p q
   writes_same t locals g slots other [] p q same at = at
-  writes_same t locals g slots other (x ∷ writes) p q same (a, object, offset, s, v, here, has, single, high, above, place, is, word, rest) = (
+  writes_same t locals g slots other (x ∷ writes) p q same (a, object, offset, s, v, r, here, has, high, above, place, is, value, rest) = (
     a,
     object,
     offset,
     s,
     v,
+    r,
     here,
     has,
-    single,
     high,
     above,
     place,
     side_same t locals slots other a s object offset (same s high) is,
-    subst (IsWord t x.operand.kind x.operand.value) (sym (same v above)) word,
-    writes_same t locals g slots other writes (p + 1) q same rest,
+    Is-same t x.operand.kind x.operand.value slots other v v (λ i below. same (v + i) (omega (arith, above))) value,
+    writes_same t locals g slots other writes r q same rest,
   )
 
   -- ---- a side is read
 
-  -- one instruction brings a word that is what the side holds to slot d
-  pub record IsSideRead (t : Tables) (kind : Kind) (v : Value) (d : ℕ) (c : Configuration) : Type 0 where
-    pub instruction : Instruction
-    pub word : ℕ
-    pub here : At (code_of source c.active.function) c.active.next instruction
-    pub goes : (choice : Choice) → performed (lower_program source) choice c instruction ≡ plain.Running (advanced (with_slots c (put c.active.slots d word)))
-    pub is : IsWord t kind v word
+  -- instructions bring the words of what the side holds to slots from d on
+  pub record IsSideRead (t : Tables) (kind : Kind) (v : Value) (d q : ℕ) (c : Configuration) : Type 0 where
+    pub links : List Link
+    pub some : 0 < length links
+    pub path : IsPath source c links
+    pub slots : Words
+    pub leads : end_of c links ≡ at (with_slots c slots) q
+    pub is : Is t kind v slots d
+    pub elsewhere : (m : ℕ) → Outside d (words_of_kind kind) m → slots m ≡ c.active.slots m
 
-  reads_side : (a : Side) (s d object offset : ℕ) (kind : Kind) (v : Value) (k : List Entry) (e : Environment) (w : World) (c : Configuration) (shared : SharedAt source pages calls k e w c)
-      → DataIn source shared.tables c.active.slots k e w c → (found : Located) → cell_at w object offset ≡ Found found → found.cell.kind ≡ kind → found.cell.content ≡ Some v → words_of_kind kind ≡ 1
+  -- those of a global
+  reads_global : (t : Tables) (kind : Kind) (v : Value) (first d q words : ℕ) (c : Configuration) → 1 ≤ words → words_of_kind kind ≡ words → Is t kind v c.globals first
+      → EachAt (code_of source c.active.function) load_word words first d c.active.next q → IsSideRead t kind v d q c
+  reads_global t kind v first d q zero c some wide is here = absurd (omega (arith, some))
+  reads_global t kind v first d q (suc words) c some wide is here =
+      let (path, end) = load_path source c (suc words) first d q here in
+      let slots = each_put c.globals c.active.slots (suc words) first d in
+      let last : c.active.next + words + 1 ≡ q = omega (arith, end) in
+      record {
+        links = load_links c (suc words) first d;
+        some = omega arith;
+        path = path;
+        slots = slots;
+        leads = load_end c words first d ∙ ap (λ (n : ℕ). at (with_slots c slots) n) last;
+        is = each_is t (record { kind = kind; value = v }) c.globals c.active.slots (suc words) first d wide is;
+        elsewhere = λ m out. each-outside c.globals c.active.slots (suc words) first d m (subst (λ n. Outside d n m) wide out);
+      }
+
+  -- those of a cell, whose address is in slot s
+  reads_cell : (t : Tables) (kind : Kind) (v : Value) (address s d q words : ℕ) (c : Configuration) → 1 ≤ words → words_of_kind kind ≡ words → c.active.slots s ≡ address → s < d
+      → ((j : ℕ) → j < words → word_at c.store (add_of address (4 * j)) ≡ Some (words_from c.store.memory address j)) → Is t kind v (words_from c.store.memory address) 0
+      → EachAt (code_of source c.active.function) (load_at s) words 0 d c.active.next q → IsSideRead t kind v d q c
+  reads_cell t kind v address s d q zero c some wide same before there is here = absurd (omega (arith, some))
+  reads_cell t kind v address s d q (suc words) c some wide same before there is here =
+      let (path, end) = word_path source c address (suc words) 0 s d q same before (λ j below. there j (omega (arith, below))) here in
+      let from = words_from c.store.memory address in
+      let slots = each_put from c.active.slots (suc words) 0 d in
+      let last : c.active.next + words + 1 ≡ q = omega (arith, end) in
+      record {
+        links = word_links c address (suc words) 0 s d;
+        some = omega arith;
+        path = path;
+        slots = slots;
+        leads = word_end c address words 0 s d ∙ ap (λ (n : ℕ). at (with_slots c slots) n) last;
+        is = each_is t (record { kind = kind; value = v }) from c.active.slots (suc words) 0 d wide is;
+        elsewhere = λ m out. each-outside from c.active.slots (suc words) 0 d m (subst (λ n. Outside d n m) wide out);
+      }
+
+  reads_side : (a : Side) (s d q object offset : ℕ) (kind : Kind) (v : Value) (k : List Entry) (e : Environment) (w : World) (c : Configuration) (shared : SharedAt source pages calls k e w c)
+      → DataIn source shared.tables c.active.slots k e w c → (found : Located) → cell_at w object offset ≡ Found found → found.cell.kind ≡ kind → found.cell.content ≡ Some v → s < d
       → IsSideAt source shared.tables e.locals c.active.slots a s object offset → HasSide (code_of source c.active.function) (bounds_at source c.active.function) (types_at source c.active.function) a kind
-      → ReadAt (code_of source c.active.function) (bounds_at source c.active.function) (types_at source c.active.function) a s d c.active.next → IsSideRead shared.tables kind v d c
-  reads_side (VariableSide (Local p n) ty) s d object offset kind v k e w c shared facts found there same has single (first, is_there) room here =
+      → ReadAt (code_of source c.active.function) (bounds_at source c.active.function) (types_at source c.active.function) a (words_of_kind kind) s d c.active.next q → IsSideRead shared.tables kind v d q c
+  reads_side (VariableSide (Local p n) ty) s d q object offset kind v k e w c shared facts found there same has before (first, is_there) room (here, end) =
       let g = c.active.function in
       let slot = slot_of (starts_at source g) n in
+      let x : Kinded = record { kind = kind; value = v } in
       let holds = held_there w object found kind v (subst (λ i. cell_at w object i ≡ Found found) first there) same has in
+      let slots = moved_slots c.active.slots (words_of_kind kind) d (operands.Slot slot) in
       record {
-        instruction = instructions.Move d (operands.Slot slot);
-        word = c.active.slots slot;
-        here = here;
-        goes = λ choice. refl;
-        is = one_word shared.tables kind v c.active.slots slot single (facts.0.2.holds n object (record { kind = kind; value = v }) is_there holds).0;
+        links = record { instruction = move_of (words_of_kind kind) d (operands.Slot slot); behind = advanced (with_slots c slots) } ∷ [];
+        some = omega arith;
+        path = (here, (λ choice. moves (lower_program source) choice c (words_of_kind kind) d (operands.Slot slot)), omega arith, is_quiet c (advanced (with_slots c slots)).active, tt);
+        slots = slots;
+        leads = ap (λ (n : ℕ). at (with_slots c slots) n) end;
+        is = moved_is shared.tables x c.active.slots d (operands.Slot slot) (facts.0.2.holds n object x is_there holds).0;
+        elsewhere = λ m out. moved_elsewhere c.active.slots (words_of_kind kind) d (operands.Slot slot) m (kind_positive kind) out;
       }
-  reads_side (VariableSide (Global n) ty) s d object offset kind v k e w c shared facts found there same has single (first, is_there) few here =
+  reads_side (VariableSide (Global n) ty) s d q object offset kind v k e w c shared facts found there same has before (first, is_there) room (inside, here) =
+      let x : Kinded = record { kind = kind; value = v } in
       let holds = held_there w object found kind v (subst (λ i. cell_at w object i ≡ Found found) first there) same has in
       let is_n : n ≡ object = same_Some n object is_there in
-      record {
-        instruction = instructions.LoadGlobal d n;
-        word = c.globals n;
-        here = here;
-        goes = λ choice. refl;
-        is = (facts.0.4 n (global_there source pages calls c.active.function n few)).1 (record { kind = kind; value = v }) (ap (contents w.objects) is_n ∙ holds);
-      }
-  reads_side (CellSide x) s d object offset kind v k e w c shared facts found there same has single points tt here =
-      let address = add_of (c.active.slots s) 0 in
-      let (loaded, stands) = word_read shared.related object offset address found v there (stays points) (ap words_of_kind same ∙ single) has in
-      let after = put c.active.slots d (c.store.memory address) in
-      let is = subst (λ i. Is shared.tables i v after d) same (stands after d (put-same c.active.slots d (c.store.memory address))) in
-      record {
-        instruction = instructions.Load d (operands.Slot s) 0;
-        word = c.store.memory address;
-        here = here;
-        goes = λ choice. ap (loads c d) loaded;
-        is = subst (IsWord shared.tables kind v) (put-same c.active.slots d (c.store.memory address)) (one_word shared.tables kind v after d single is);
-      }
-
-  -- the data of all calls stay where a temporary is written
-  data_put : (t : Tables) (d word : ℕ) (k : List Entry) (e : Environment) (w : World) (c : Configuration) → floor source c.active.function k ≤ d → DataIn source t c.active.slots k e w c
-      → DataIn source t (put c.active.slots d word) k e w c
-  data_put t d word k e w c above facts =
-      data_written source t c.active.function w.objects e.locals k c.active.slots (put c.active.slots d word) c.active.handlers c.globals c.frames d 1 above (λ m out. put_elsewhere c.active.slots d word 1 m (omega arith) out) facts
+      reads_global shared.tables kind v (global_of (starts_at source c.active.function) n) d q (words_of_kind kind) c (kind_positive kind) refl
+      ((facts.0.4 n inside).1 x (ap (contents w.objects) is_n ∙ holds)).0 here
+  reads_side (CellSide x) s d q object offset kind v k e w c shared facts found there same has before points tt here =
+      let g = c.active.function in
+      let address = c.active.slots s in
+      reads_cell shared.tables kind v address s d q (words_of_kind kind) c (kind_positive kind) refl refl before
+      (λ j below. word_there shared.related found points j there (omega (arith, below, ap words_of_kind same)))
+      (subst (λ i. Is shared.tables i v (words_from c.store.memory address) 0) same (cell_words shared.related object offset address found v there points has)) here
 
   -- ---- both sides are read
 
@@ -166,51 +199,47 @@ module _ (source : Program) (pages calls : ℕ) where
   right_below base (CellSide x) = omega arith
 
   pub swapping : (kind : Kind) (left right : Value) (before : Option Kinded) (k : List Entry) (e : Environment) (w : World) (c : Configuration) → IsStep source pages calls (Swapping kind left right before) k e w c
-  swapping kind (Thin object offset) (Thin other beside) None k e w c well (shared, facts, (exits, q, a, b, single, has_a, has_b, is_a, is_b, (read, next, first, second, end), stack)) =
+  swapping kind (Thin object offset) (Thin other beside) None k e w c well (shared, facts, (exits, q, a, b, has_a, has_b, is_a, is_b, (m, r, u, read, next, first, second), stack)) =
       let g = c.active.function in
       let base = floor source g k in
       let d = base + 2 in
+      let words = words_of_kind kind in
       let found = is_swapped kind (cell_at w object offset) (Thin object offset) (Thin other beside) None k e w well in
-      let reads = reads_side a base d object offset kind found.value k e w c shared facts found.at found.there found.same found.has single is_a has_a read in
-      let slots = put c.active.slots d reads.word in
-      by_one source pages calls found.gives shared reads.here
-      (λ choice. subst (Matches source pages calls (Running (Swapping kind (Thin object offset) (Thin other beside) (Some (record { kind = kind; value = found.value }))) k e w)) (sym (reads.goes choice)) (
+      let reads = reads_side a base d m object offset kind found.value k e w c shared facts found.at found.there found.same found.has (omega arith) is_a has_a read in
+      let behind : State = Running (Swapping kind (Thin object offset) (Thin other beside) (Some (record { kind = kind; value = found.value }))) k e w in
+      by_links source pages calls (Swapping kind (Thin object offset) (Thin other beside) None) k e w c behind reads.links reads.some found.gives shared reads.path
+      (subst (λ (x : Configuration). Matches source pages calls behind (plain.Running x)) (sym reads.leads) (
         shared,
-        data_put shared.tables d reads.word k e w c (omega arith) facts,
+        data_written source shared.tables g w.objects e.locals k c.active.slots reads.slots c.active.handlers c.globals c.frames d words (omega arith) reads.elsewhere facts,
         (
           exits,
           q,
           a,
           b,
-          single,
           has_a,
           has_b,
-          side_same shared.tables e.locals c.active.slots slots a base object offset (put-other c.active.slots d base reads.word (λ same. omega (arith, same))) is_a,
-          side_same shared.tables e.locals c.active.slots slots b (right_slot a base) other beside (put-other c.active.slots d (right_slot a base) reads.word (λ same. omega (arith, same, right_below base a))) is_b,
+          side_same shared.tables e.locals c.active.slots reads.slots a base object offset (reads.elsewhere base (inl (omega arith))) is_a,
+          side_same shared.tables e.locals c.active.slots reads.slots b (right_slot a base) other beside (reads.elsewhere (right_slot a base) (inl (omega (arith, right_below base a)))) is_b,
           refl,
-          subst (IsWord shared.tables kind found.value) (sym (put-same c.active.slots d reads.word)) reads.is,
-          next,
-          first,
-          second,
-          end,
+          reads.is,
+          (r, u, next, first, second),
           stack,
         ),
       ))
-  swapping kind (Thin object offset) (Thin other beside) (Some before) k e w c well (shared, facts, (exits, q, a, b, single, has_a, has_b, is_a, is_b, same_before, is_before, read, first, second, end, stack)) =
+  swapping kind (Thin object offset) (Thin other beside) (Some before) k e w c well (shared, facts, (exits, q, a, b, has_a, has_b, is_a, is_b, same_before, is_before, (m, r, read, first, second), stack)) =
       let g = c.active.function in
       let base = floor source g k in
-      let d = base + 3 in
+      let words = words_of_kind kind in
+      let d = base + 2 + words in
       let above = behind-least k (base_of source g) in
       let found = is_swapped kind (cell_at w other beside) (Thin object offset) (Thin other beside) (Some before) k e w well in
-      let reads = reads_side b (right_slot a base) d other beside kind found.value k e w c shared facts found.at found.there found.same found.has single is_b has_b read in
-      let slots = put c.active.slots d reads.word in
+      let reads = reads_side b (right_slot a base) d m other beside kind found.value k e w c shared facts found.at found.there found.same found.has (omega (arith, right_below base a)) is_b has_b read in
       let writes : List Write = record { place = Thin object offset; operand = record { kind = kind; value = found.value } } ∷ record { place = Thin other beside; operand = before } ∷ [] in
-      let single_before : words_of_kind before.kind ≡ 1 = ap words_of_kind same_before ∙ single in
       let has_before : HasSide (code_of source g) (bounds_at source g) (types_at source g) b before.kind = subst (HasSide (code_of source g) (bounds_at source g) (types_at source g) b) (sym same_before) has_b in
-      by_one source pages calls found.gives shared reads.here
-      (λ choice. subst (Matches source pages calls (Running (Writing writes None) k e w)) (sym (reads.goes choice)) (
+      by_links source pages calls (Swapping kind (Thin object offset) (Thin other beside) (Some before)) k e w c (Running (Writing writes None) k e w) reads.links reads.some found.gives shared reads.path
+      (subst (λ (x : Configuration). Matches source pages calls (Running (Writing writes None) k e w) (plain.Running x)) (sym reads.leads) (
         shared,
-        data_put shared.tables d reads.word k e w c (omega arith) facts,
+        data_written source shared.tables g w.objects e.locals k c.active.slots reads.slots c.active.handlers c.globals c.frames d words (omega arith) reads.elsewhere facts,
         (
           exits,
           q,
@@ -220,35 +249,86 @@ module _ (source : Program) (pages calls : ℕ) where
             offset,
             base,
             d,
+            r,
             first,
             has_a,
-            single,
             above,
             omega (arith, above),
             refl,
-            side_same shared.tables e.locals c.active.slots slots a base object offset (put-other c.active.slots d base reads.word (λ same. omega (arith, same))) is_a,
-            subst (IsWord shared.tables kind found.value) (sym (put-same c.active.slots d reads.word)) reads.is,
+            side_same shared.tables e.locals c.active.slots reads.slots a base object offset (reads.elsewhere base (inl (omega arith))) is_a,
+            reads.is,
             (
               b,
               other,
               beside,
               right_slot a base,
               base + 2,
-              second,
+              q,
+              subst (λ i. WriteAt (code_of source g) (bounds_at source g) (types_at source g) b (words_of_kind i) (right_slot a base) (base + 2) r q) (sym same_before) second,
               has_before,
-              single_before,
               omega (arith, above, below_base base a),
               omega (arith, above),
               refl,
-              side_same shared.tables e.locals c.active.slots slots b (right_slot a base) other beside (put-other c.active.slots d (right_slot a base) reads.word (λ same. omega (arith, same, right_below base a))) is_b,
-              subst (IsWord shared.tables before.kind before.value) (sym (put-other c.active.slots d (base + 2) reads.word (λ same. omega (arith, same)))) is_before,
-              end,
+              side_same shared.tables e.locals c.active.slots reads.slots b (right_slot a base) other beside (reads.elsewhere (right_slot a base) (inl (omega (arith, right_below base a)))) is_b,
+              Is-same shared.tables before.kind before.value c.active.slots reads.slots (base + 2) (base + 2)
+                  (λ i below. reads.elsewhere (base + 2 + i) (inl (omega (arith, below, ap words_of_kind same_before)))) is_before,
+              refl,
             ),
           ),
           stack,
         ),
       ))
   swapping kind left right before k e w c well (shared, facts, at) = absurd at
+
+  -- ---- a cell is written
+
+  module _ (x : Write) (writes : List Write) (object offset s v r q : ℕ) (exits : Exits) (k : List Entry) (e : Environment) (w : World) (c : Configuration) (words : plain.HoldsWords (plain.Running c))
+      (shared : SharedAt source pages calls k e w c) (facts : DataIn source shared.tables c.active.slots k e w c)
+      (does : stored_at x.place x.operand (Writing writes None) k e w ≡ stored_at (Thin object offset) x.operand (Writing writes None) k e w)
+      (well : IsWell (stored_at (Thin object offset) x.operand (Writing writes None) k e w)) (points : Points shared.tables object offset (c.active.slots s))
+      (value : Is shared.tables x.operand.kind x.operand.value c.active.slots v)
+      (here : StoresAt (code_of source c.active.function) (bounds_at source c.active.function) (types_at source c.active.function) (words_of_kind x.operand.kind) s 0 v c.active.next r)
+      (rest : WritesAt source shared.tables e.locals c.active.function c.active.slots writes r q) (stack : StatementStack source c.active.function exits q c.frames k) where
+    writes_word : words_of_kind x.operand.kind ≡ 1 → IsMatched source pages calls (Running (Writing (x ∷ writes) None) k e w) (plain.Running c)
+    writes_word one =
+        let g = c.active.function in
+        let (store, end) = subst (λ n. StoresAt (code_of source g) (bounds_at source g) (types_at source g) n s 0 v c.active.next r) one here in
+        let address = add_of (c.active.slots s) 0 in
+        let (cell, found, same, gives) = cell_is_there (cell_at w object offset) object offset x.operand (Writing writes None) k e w well in
+        let is_word = subst (λ i. IsWord shared.tables i x.operand.value (c.active.slots v)) (sym same) (one_word shared.tables x.operand.kind x.operand.value c.active.slots v one value) in
+        by_one source pages calls (does ∙ gives) shared store
+        (λ choice. subst (Matches source pages calls (Running (Writing writes None) k e (written w object offset cell x.operand.value)))
+        (sym (saves_there source pages calls k e w c shared object offset address (c.active.slots v) cell x.operand.value found (stays points) is_word (words.0 v))) (
+          shared_saved source pages calls k e w c shared object offset address (c.active.slots v) cell x.operand.value found (stays points) is_word (words.0 v),
+          data_saved source pages calls k e w c shared object offset address (c.active.slots v) cell x.operand.value found (stays points) is_word (words.0 v) facts,
+          (exits, q, subst (λ m. WritesAt source shared.tables e.locals g c.active.slots writes m q) (sym end) rest, stack),
+        ))
+
+    writes_words : x.operand.kind ≡ kinds.Fat → IsMatched source pages calls (Running (Writing (x ∷ writes) None) k e w) (plain.Running c)
+    writes_words fat =
+        let g = c.active.function in
+        let (at_first, (at_second, (at_third, end))) = subst (λ n. StoresAt (code_of source g) (bounds_at source g) (types_at source g) n s 0 v c.active.next r) (ap words_of_kind fat) here in
+        let address = c.active.slots s in
+        let (cell, found, same, gives) = cell_is_there (cell_at w object offset) object offset x.operand (Writing writes None) k e w well in
+        let wide = same ∙ fat in
+        let fat_is = subst (λ i. Is shared.tables i x.operand.value c.active.slots v) fat value in
+        let there = cell_kind shared.related cell points found in
+        let behind : (j : ℕ) → j < 3 → add_of address (4 * j) ≡ address + 4 * j = λ j below. word_is points cell.cell.kind j there (omega (arith, below, ap words_of_kind wide)) in
+        let first = behind 0 (omega arith) in
+        let second = behind 1 (omega arith) in
+        let third = behind 2 (omega arith) in
+        let next = Running (Writing writes None) k e (written w object offset cell x.operand.value) in
+        by_links source pages calls (Writing (x ∷ writes) None) k e w c next
+        (all_links source pages calls k e w c shared object offset address s 0 v cell x.operand.value found points wide fat_is words first second third) (omega arith) (does ∙ gives) shared
+        (all_path source pages calls k e w c shared object offset address s 0 v cell x.operand.value found points wide fat_is words first second third at_first at_second at_third) (
+          shared_stored source pages calls k e w c shared object offset address s 0 v cell x.operand.value found points wide fat_is words first second third,
+          data_stored source pages calls k e w c shared object offset address s 0 v cell x.operand.value found points wide fat_is words first second third facts,
+          (exits, q, subst (λ m. WritesAt source shared.tables e.locals g c.active.slots writes m q) (sym end) rest, stack),
+        )
+
+    writes_cell : (narrow : Bool) → (words_of_kind x.operand.kind == 1) ≡ narrow → IsMatched source pages calls (Running (Writing (x ∷ writes) None) k e w) (plain.Running c)
+    writes_cell true narrow = writes_word (eqb-true (words_of_kind x.operand.kind) 1 narrow)
+    writes_cell false wide = writes_words (wide_kind x.operand.kind wide)
 
   -- ---- a side is written
 
@@ -258,61 +338,64 @@ module _ (source : Program) (pages calls : ℕ) where
       silently source pages calls (Running (Writing [] None) k e w) (Running Proceeding k e w) (plain.Running c) refl
       (shared, behind_statement exits facts (subst (λ p. StatementStack source c.active.function exits p c.frames k) (sym end) stack))
       (omega arith)
-  writing_sides (x ∷ writes) k e w c words well (shared, facts, (exits, q, (VariableSide (Local p n) ty, object, offset, s, v, here, room, single, high, above, place, (first, found), word, rest), stack)) =
+  writing_sides (x ∷ writes) k e w c words well (shared, facts, (exits, q, (VariableSide (Local p n) ty, object, offset, s, v, r, (here, end), room, high, above, place, (first, found), value, rest), stack)) =
       let g = c.active.function in
       let slot = slot_of (starts_at source g) n in
+      let own = words_of_kind x.operand.kind in
       let does : stored_at x.place x.operand (Writing writes None) k e w ≡ stored_at (Thin object 0) x.operand (Writing writes None) k e w = ap (λ p. stored_at p x.operand (Writing writes None) k e w) (place ∙ ap (Thin object) first) in
       let stored = is_stored object x.operand (Writing writes None) k e w (subst IsWell does well) in
       let inside = slot-room (types_at source g) n (facts.0.2.within n object found).0 in
-      let slots = put c.active.slots slot (c.active.slots v) in
-      let elsewhere : (m : ℕ) → Outside slot (words_of_kind x.operand.kind) m → slots m ≡ c.active.slots m = λ m out. put_elsewhere c.active.slots slot (c.active.slots v) (words_of_kind x.operand.kind) m (omega (arith, single)) out in
+      let slots = moved_slots c.active.slots own slot (operands.Slot v) in
+      let elsewhere : (m : ℕ) → Outside slot own m → slots m ≡ c.active.slots m = λ m out. moved_elsewhere c.active.slots own slot (operands.Slot v) m (kind_positive x.operand.kind) out in
       let after : Configuration = advanced (with_slots c slots) in
       let next = written w object 0 stored.at x.operand.value in
       by_one source pages calls (does ∙ stored.gives) shared here
-      (λ choice. (
+      (λ choice. subst (Matches source pages calls (Running (Writing writes None) k e next)) (sym (moves (lower_program source) choice c own slot (operands.Slot v))) (
         shared_written source pages calls k e w after shared object stored.at x.operand.value stored.object_there stored.cell_there (facts.0.2.rows n object found),
         (
           data_assigned shared.tables source g w.objects next.objects e.locals (callers k) c.active.slots slots c.globals c.frames n object x.operand found
               (written_here w object stored.at x.operand.value stored.object_there stored.cell_there x.operand.kind stored.same) (written_elsewhere w object stored.at x.operand.value stored.object_there stored.cell_there)
               (written_length w object stored.at x.operand.value stored.object_there stored.cell_there) room
-              (IsWord-is shared.tables x.operand.kind x.operand.value (c.active.slots v) slots slot (put-same c.active.slots slot (c.active.slots v)) word) elsewhere facts.0,
-          handlers_beside source g c.active.slots slots c.active.handlers c.frames k slot (words_of_kind x.operand.kind) (omega (arith, inside, room)) elsewhere facts.1,
+              (moved_is shared.tables x.operand c.active.slots slot (operands.Slot v) value) elsewhere facts.0,
+          handlers_beside source g c.active.slots slots c.active.handlers c.frames k slot own (omega (arith, inside, room)) elsewhere facts.1,
         ),
-        (exits, q, writes_same shared.tables e.locals g c.active.slots slots writes (c.active.next + 1) q (λ m least. elsewhere m (inr (omega (arith, inside, room, least)))) rest, stack),
+        (
+          exits,
+          q,
+          writes_same shared.tables e.locals g c.active.slots slots writes (c.active.next + 1) q (λ m least. elsewhere m (inr (omega (arith, inside, room, least))))
+              (subst (λ m. WritesAt source shared.tables e.locals g c.active.slots writes m q) (sym end) rest),
+          stack,
+        ),
       ))
-  writing_sides (x ∷ writes) k e w c words well (shared, facts, (exits, q, (VariableSide (Global n) ty, object, offset, s, v, here, few, single, high, above, place, (first, found), word, rest), stack)) =
+  writing_sides (x ∷ writes) k e w c words well (shared, facts, (exits, q, (VariableSide (Global n) ty, object, offset, s, v, r, here, room, high, above, place, (first, found), value, rest), stack)) =
       let g = c.active.function in
+      let own = words_of_kind x.operand.kind in
       let does : stored_at x.place x.operand (Writing writes None) k e w ≡ stored_at (Thin object 0) x.operand (Writing writes None) k e w = ap (λ p. stored_at p x.operand (Writing writes None) k e w) (place ∙ ap (Thin object) first) in
       let stored = is_stored object x.operand (Writing writes None) k e w (subst IsWell does well) in
       let same : n ≡ object = same_Some n object found in
-      let after : Configuration = advanced (record c { globals = put c.globals n (c.active.slots v) }) in
+      let few = global-inside (types_at source g) n x.operand.kind room in
+      let place_of = global_of (starts_at source g) n in
+      let by = is_stored_by source c own place_of (operands.Slot v) r (kind_positive x.operand.kind) here in
+      let globals = stored_globals c.active.slots c.globals own place_of (operands.Slot v) in
+      let after : Configuration = advanced (record (at c by.last) { globals = globals }) in
       let next = written w object 0 stored.at x.operand.value in
-      by_one source pages calls (does ∙ stored.gives) shared here
-      (λ choice. (
-        shared_written source pages calls k e w after shared object stored.at x.operand.value stored.object_there stored.cell_there (ap (slice_get shared.tables.rows) (sym same) ∙ (facts.0.4 n (global_there source pages calls g n few)).0),
+      by_links source pages calls (Writing (x ∷ writes) None) k e w c (Running (Writing writes None) k e next) (global_links c own place_of (operands.Slot v)) by.some (does ∙ stored.gives) shared by.path
+      (subst (λ (y : Configuration). Matches source pages calls (Running (Writing writes None) k e next) (plain.Running y)) (sym by.leads) (
+        shared_written source pages calls k e w after shared object stored.at x.operand.value stored.object_there stored.cell_there (ap (slice_get shared.tables.rows) (sym same) ∙ (facts.0.4 n few).0),
         (
-          data_assigned_global shared.tables source g w.objects next.objects e.locals (callers k) c.active.slots c.globals c.frames n x.operand (c.active.slots v)
-              (global_there source pages calls g n few)
+          data_assigned_global shared.tables source g w.objects next.objects e.locals (callers k) c.active.slots c.globals globals c.frames n x.operand room
               (ap (contents next.objects) same ∙ written_here w object stored.at x.operand.value stored.object_there stored.cell_there x.operand.kind stored.same)
               (λ i other. written_elsewhere w object stored.at x.operand.value stored.object_there stored.cell_there i (λ equal. other (equal ∙ sym same)))
-              (written_length w object stored.at x.operand.value stored.object_there stored.cell_there) word facts.0,
+              (written_length w object stored.at x.operand.value stored.object_there stored.cell_there) (stored_is shared.tables x.operand c.active.slots c.globals place_of (operands.Slot v) value)
+              (λ m out. stored_elsewhere c.active.slots c.globals own place_of (operands.Slot v) m (kind_positive x.operand.kind) out) facts.0,
           facts.1,
         ),
-        (exits, q, rest, stack),
+        (exits, q, subst (λ m. WritesAt source shared.tables e.locals g c.active.slots writes m q) (sym by.end) rest, stack),
       ))
-  writing_sides (x ∷ writes) k e w c words well (shared, facts, (exits, q, (CellSide y, object, offset, s, v, here, has, single, high, above, place, points, word, rest), stack)) =
-      let does : stored_at x.place x.operand (Writing writes None) k e w ≡ stored_at (Thin object offset) x.operand (Writing writes None) k e w = ap (λ p. stored_at p x.operand (Writing writes None) k e w) place in
-      let address = add_of (c.active.slots s) 0 in
-      let (cell, found, same, gives) = cell_is_there (cell_at w object offset) object offset x.operand (Writing writes None) k e w (subst IsWell does well) in
-      let one : words_of_kind cell.cell.kind ≡ 1 = ap words_of_kind same ∙ single in
-      let is_word = subst (λ i. IsWord shared.tables i x.operand.value (c.active.slots v)) (sym same) word in
-      by_one source pages calls (does ∙ gives) shared here
-      (λ choice. subst (Matches source pages calls (Running (Writing writes None) k e (written w object offset cell x.operand.value)))
-      (sym (saves_there source pages calls k e w c shared object offset address (c.active.slots v) cell x.operand.value found (stays points) one is_word (words.0 v))) (
-        shared_saved source pages calls k e w c shared object offset address (c.active.slots v) cell x.operand.value found (stays points) one is_word (words.0 v),
-        data_saved source pages calls k e w c shared object offset address (c.active.slots v) cell x.operand.value found (stays points) one is_word (words.0 v) facts,
-        (exits, q, rest, stack),
-      ))
+  writing_sides (x ∷ writes) k e w c words well (shared, facts, (exits, q, (CellSide y, object, offset, s, v, r, here, has, high, above, place, points, value, rest), stack)) =
+      writes_cell x writes object offset s v r q exits k e w c words shared facts
+      (ap (λ p. stored_at p x.operand (Writing writes None) k e w) place) (subst IsWell (ap (λ p. stored_at p x.operand (Writing writes None) k e w) place) well)
+      points value here rest stack (words_of_kind x.operand.kind == 1) refl
 
   -- ---- the places are found
 
@@ -347,11 +430,11 @@ module _ (source : Program) (pages calls : ℕ) where
   pub left_found : (object offset : ℕ) (kind : Kind) (peek : Option ℕ) (right : Side) (k : List Entry) (e : Environment) (w : World) (c : Configuration) {m : ℕ}
       → IsWell (step source (Running (GivenPlace (Thin object offset)) (NeedsPlace (SwapLeft kind peek right) ∷ k) e w)) → (shared : SharedAt source pages calls k e w c) → DataIn source shared.tables c.active.slots k e w c
       → Brought source shared.tables object offset (floor source c.active.function k) m c
-      → (let g = c.active.function in (exits : Exits) × (x : Dereference) × (r : ℕ) × (q : ℕ) × (words_of_kind kind ≡ 1) × HasSide (code_of source g) (bounds_at source g) (types_at source g) right kind
-      × (waits_for peek right ≡ true) × SideAt (code_of source g) (bounds_at source g) (types_at source g) right (floor source g k + 1) m r
-      × ExchangeAt (code_of source g) (bounds_at source g) (types_at source g) (CellSide x) right (floor source g k) r q × StatementStack source g exits q c.frames k)
+      → (let g = c.active.function in (exits : Exits) × (x : Dereference) × (r : ℕ) × (q : ℕ) × HasSide (code_of source g) (bounds_at source g) (types_at source g) right kind
+      × SideAt (code_of source g) (bounds_at source g) (types_at source g) right (floor source g k + 1) m r
+      × ExchangeAt (code_of source g) (bounds_at source g) (types_at source g) (words_of_kind kind) (CellSide x) right (floor source g k) r q × StatementStack source g exits q c.frames k)
       → IsMatched source pages calls (Running (GivenPlace (Thin object offset)) (NeedsPlace (SwapLeft kind peek right) ∷ k) e w) (plain.Running c)
-  left_found object offset kind peek (VariableSide l ty) k e w c {m} well shared facts brought (exits, x, r, q, single, has, waits, end, exchange, stack) =
+  left_found object offset kind peek (VariableSide l ty) k e w c {m} well shared facts brought (exits, x, r, q, has, end, exchange, stack) =
       let g = c.active.function in
       let base = floor source g k in
       let (other, found) = right_there kind (Thin object offset) (object_of e l) k e w well in
@@ -365,59 +448,57 @@ module _ (source : Program) (pages calls : ℕ) where
           q,
           CellSide x,
           VariableSide l ty,
-          single,
           tt,
           has,
           points,
           (refl, object_of_same l e ∙ found),
-          subst (λ p. ExchangeAt (code_of source g) (bounds_at source g) (types_at source g) (CellSide x) (VariableSide l ty) base p q) (sym end) exchange,
+          subst (λ p. ExchangeAt (code_of source g) (bounds_at source g) (types_at source g) (words_of_kind kind) (CellSide x) (VariableSide l ty) base p q) (sym end) exchange,
           stack,
         ),
       ))
-  left_found object offset kind (Some n) (CellSide y) k e w c {m} well shared facts brought (exits, x, r, q, single, has, waits, (o, more, s, at_y, address), exchange, stack) =
+  left_found object offset kind peek (CellSide y) k e w c {m} well shared facts brought (exits, x, r, q, has, (o, more, s, at_y, address), exchange, stack) =
       let g = c.active.function in
       let base = floor source g k in
-      comes_to (GivenPlace (Thin object offset)) (Locating y) (NeedsPlace (SwapLeft kind (Some n) (CellSide y)) ∷ k) (NeedsPlace (SwapRight kind (Some n) (Thin object offset)) ∷ k) e w c object offset base m shared
+      comes_to (GivenPlace (Thin object offset)) (Locating y) (NeedsPlace (SwapLeft kind peek (CellSide y)) ∷ k) (NeedsPlace (SwapRight kind peek true (Thin object offset)) ∷ k) e w c object offset base m shared
       refl (omega arith) brought
       (λ slots same points. (
         shared,
         slots_above shared.tables base m slots k e w c (omega arith) same facts,
-        (o, more, s, at_y, (points, tt), (exits, CellSide x, y, r, q, single, tt, tt, address, exchange, stack)),
+        (o, more, s, at_y, (points, tt), (exits, CellSide x, y, r, q, tt, tt, address, exchange, stack)),
       ))
-  left_found object offset kind None (CellSide y) k e w c well shared facts brought (exits, x, r, q, single, has, waits, at, exchange, stack) = absurd (let f : false ≡ true = waits in cc)
 
   -- both are found
-  pub right_found : (object offset : ℕ) (kind : Kind) (peek : Option ℕ) (left : Value) (a : Side) (k : List Entry) (e : Environment) (w : World) (c : Configuration) {m : ℕ}
-      (shared : SharedAt source pages calls k e w c) → DataIn source shared.tables c.active.slots k e w c → Holds shared.tables c.active.slots (floor source c.active.function k) (held (NeedsPlace (SwapRight kind peek left) ∷ k))
-      → Brought source shared.tables object offset (right_slot a (floor source c.active.function k)) m c → IsLeft source e.locals peek a left
-      → (let g = c.active.function in (exits : Exits) × (y : Dereference) × (q : ℕ) × (words_of_kind kind ≡ 1) × HasSide (code_of source g) (bounds_at source g) (types_at source g) a kind
-      × ExchangeAt (code_of source g) (bounds_at source g) (types_at source g) a (CellSide y) (floor source g k) m q × StatementStack source g exits q c.frames k)
-      → IsMatched source pages calls (Running (GivenPlace (Thin object offset)) (NeedsPlace (SwapRight kind peek left) ∷ k) e w) (plain.Running c)
-  right_found object offset kind None (Thin first start) (VariableSide l ty) k e w c {m} shared facts holds brought is_left (exits, y, q, single, has, exchange, stack) =
+  pub right_found : (object offset : ℕ) (kind : Kind) (peek : Option ℕ) (is_cell : Bool) (left : Value) (a : Side) (k : List Entry) (e : Environment) (w : World) (c : Configuration) {m : ℕ}
+      (shared : SharedAt source pages calls k e w c) → DataIn source shared.tables c.active.slots k e w c → Holds shared.tables c.active.slots (floor source c.active.function k) (held (NeedsPlace (SwapRight kind peek is_cell left) ∷ k))
+      → Brought source shared.tables object offset (right_slot a (floor source c.active.function k)) m c → IsLeft source e.locals is_cell a left
+      → (let g = c.active.function in (exits : Exits) × (y : Dereference) × (q : ℕ) × HasSide (code_of source g) (bounds_at source g) (types_at source g) a kind
+      × ExchangeAt (code_of source g) (bounds_at source g) (types_at source g) (words_of_kind kind) a (CellSide y) (floor source g k) m q × StatementStack source g exits q c.frames k)
+      → IsMatched source pages calls (Running (GivenPlace (Thin object offset)) (NeedsPlace (SwapRight kind peek is_cell left) ∷ k) e w) (plain.Running c)
+  right_found object offset kind peek false (Thin first start) (VariableSide l ty) k e w c {m} shared facts holds brought is_left (exits, y, q, has, exchange, stack) =
       let base = floor source c.active.function k in
-      comes_to (GivenPlace (Thin object offset)) (Swapping kind (Thin first start) (Thin object offset) None) (NeedsPlace (SwapRight kind None (Thin first start)) ∷ k) k e w c object offset base m shared refl (omega arith) brought
+      comes_to (GivenPlace (Thin object offset)) (Swapping kind (Thin first start) (Thin object offset) None) (NeedsPlace (SwapRight kind peek false (Thin first start)) ∷ k) k e w c object offset base m shared refl (omega arith) brought
       (λ slots same points. (
         shared,
         slots_above shared.tables base m slots k e w c (omega arith) same facts,
-        (exits, q, VariableSide l ty, CellSide y, single, has, tt, is_left, points, exchange, stack),
+        (exits, q, VariableSide l ty, CellSide y, has, tt, is_left, points, exchange, stack),
       ))
-  right_found object offset kind (Some n) (Thin first start) (CellSide x) k e w c {m} shared facts (is_first, none) brought is_left (exits, y, q, single, has, exchange, stack) =
+  right_found object offset kind peek true (Thin first start) (CellSide x) k e w c {m} shared facts (is_first, none) brought is_left (exits, y, q, has, exchange, stack) =
       let base = floor source c.active.function k in
-      comes_to (GivenPlace (Thin object offset)) (Swapping kind (Thin first start) (Thin object offset) None) (NeedsPlace (SwapRight kind (Some n) (Thin first start)) ∷ k) k e w c object offset (base + 1) m shared refl (omega arith) brought
+      comes_to (GivenPlace (Thin object offset)) (Swapping kind (Thin first start) (Thin object offset) None) (NeedsPlace (SwapRight kind peek true (Thin first start)) ∷ k) k e w c object offset (base + 1) m shared refl (omega arith) brought
       (λ slots same points. (
         shared,
         slots_above shared.tables (base + 1) m slots k e w c (omega arith) same facts,
-        (exits, q, CellSide x, CellSide y, single, tt, tt, subst (Points shared.tables first start) (sym (same base (inl (omega arith)))) is_first, points, exchange, stack),
+        (exits, q, CellSide x, CellSide y, tt, tt, subst (Points shared.tables first start) (sym (same base (inl (omega arith)))) is_first, points, exchange, stack),
       ))
-  right_found object offset kind None left (VariableSide l ty) k e w c shared facts holds brought is_left behind = absurd is_left
-  right_found object offset kind None left (CellSide x) k e w c shared facts holds brought is_left behind = absurd is_left
-  right_found object offset kind (Some n) left (VariableSide l ty) k e w c shared facts holds brought is_left behind = absurd is_left
-  right_found object offset kind (Some n) left (CellSide x) k e w c shared facts holds brought is_left behind = absurd is_left
+  right_found object offset kind peek false left (VariableSide l ty) k e w c shared facts holds brought is_left behind = absurd is_left
+  right_found object offset kind peek false left (CellSide x) k e w c shared facts holds brought is_left behind = absurd is_left
+  right_found object offset kind peek true left (VariableSide l ty) k e w c shared facts holds brought is_left behind = absurd is_left
+  right_found object offset kind peek true left (CellSide x) k e w c shared facts holds brought is_left behind = absurd is_left
 
   -- ---- a swap begins
 
   pub begins_swap : (a b : Side) (k : List Entry) (e : Environment) (w : World) (c : Configuration) → IsStep source pages calls (Executing (Swap a b)) k e w c
-  begins_swap (VariableSide l ty) (VariableSide l' ty') k e w c well (shared, facts, (exits, q, (m, r, single, has_a, has_b, waits, start, end, exchange), stack)) =
+  begins_swap (VariableSide l ty) (VariableSide l' ty') k e w c well (shared, facts, (exits, q, (m, r, has_a, has_b, start, end, exchange), stack)) =
       let g = c.active.function in
       let kind = kind_of ty in
       let (object, found) = left_there kind (object_of e l) (VariableSide l' ty') k e w well in
@@ -432,21 +513,20 @@ module _ (source : Program) (pages calls : ℕ) where
           q,
           VariableSide l ty,
           VariableSide l' ty',
-          type_words ty ∙ single,
           has_a,
           has_b,
           (refl, object_of_same l e ∙ found),
           (refl, object_of_same l' e ∙ found_right),
-          subst (λ p. ExchangeAt (code_of source g) (bounds_at source g) (types_at source g) (VariableSide l ty) (VariableSide l' ty') (floor source g k) p q) (sym (start ∙ end)) exchange,
+          subst (λ p. ExchangeAt (code_of source g) (bounds_at source g) (types_at source g) (words_of_kind kind) (VariableSide l ty) (VariableSide l' ty') (floor source g k) p q) (sym (start ∙ end)) exchange,
           stack,
         ),
       )
       (omega arith)
-  begins_swap (VariableSide l ty) (CellSide y) k e w c well (shared, facts, (exits, q, (m, r, single, has_a, has_b, waits, start, (o, more, s, at_y, address), exchange), stack)) =
+  begins_swap (VariableSide l ty) (CellSide y) k e w c well (shared, facts, (exits, q, (m, r, has_a, has_b, start, (o, more, s, at_y, address), exchange), stack)) =
       let g = c.active.function in
       let kind = kind_of ty in
       let (object, found) = left_there kind (object_of e l) (CellSide y) k e w well in
-      silently source pages calls (Running (Executing (Swap (VariableSide l ty) (CellSide y))) k e w) (Running (Locating y) (NeedsPlace (SwapRight kind None (Thin object 0)) ∷ k) e w) (plain.Running c)
+      silently source pages calls (Running (Executing (Swap (VariableSide l ty) (CellSide y))) k e w) (Running (Locating y) (NeedsPlace (SwapRight kind None false (Thin object 0)) ∷ k) e w) (plain.Running c)
       (ap (λ x. finds_left_object kind x (CellSide y) k e w) found) (
         shared,
         facts,
@@ -456,12 +536,12 @@ module _ (source : Program) (pages calls : ℕ) where
           s,
           subst (λ p. PlaceAt (code_of source g) (bounds_at source g) (types_at source g) y o more (floor source g k) p s) (sym start) at_y,
           tt,
-          (exits, VariableSide l ty, y, r, q, type_words ty ∙ single, has_a, (refl, object_of_same l e ∙ found), address, exchange, stack),
+          (exits, VariableSide l ty, y, r, q, has_a, (refl, object_of_same l e ∙ found), address, exchange, stack),
         ),
       )
       (omega arith)
-  begins_swap (CellSide x) b k e w c well (shared, facts, (exits, q, (m, r, single, has_a, has_b, waits, (o, more, s, at_x, address), at_b, exchange), stack)) =
+  begins_swap (CellSide x) b k e w c well (shared, facts, (exits, q, (m, r, has_a, has_b, (o, more, s, at_x, address), at_b, exchange), stack)) =
       let kind = kind_of (type_of_place x) in
       silently source pages calls (Running (Executing (Swap (CellSide x) b)) k e w) (Running (Locating x) (NeedsPlace (SwapLeft kind (peeked x) b) ∷ k) e w) (plain.Running c) refl
-      (shared, facts, (o, more, s, at_x, tt, (exits, x, m, r, q, type_words (type_of_place x) ∙ single, has_b, waits, address, at_b, exchange, stack)))
+      (shared, facts, (o, more, s, at_x, tt, (exits, x, m, r, q, has_b, address, at_b, exchange, stack)))
       (omega arith)

@@ -4,8 +4,8 @@ use Rattle.cyc_words.specs.Word.{IsWord}
 use Rattle.cyc_syntax.specs.declared.tokens.Keyword.TheVariants as words
 use Rattle.cyc_syntax.specs.Symbols.{Terminal, Symbol}
 use Rattle.cyc_syntax.specs.Symbols as terminals
-use Rattle.cyc_syntax.specs.Trees.{Expression, Number, Character, Call, Bracketed, Chained, Prefixed, New, RegionNew, Binary, Assign, Initial, Plain, Fields, Array, Expressions, NoExpressions, MoreExpressions, Postfixes, NoPostfixes, ThenIndex, ThenField, Operations, NoOperations, ThenOperation, Statement, Block, Labelled, Evaluate, If, IfElse, While, Return, Body, Braces, Items, NoItems, MoreItems, Item, Execute, Local, Region, Alias, DynamicRegion, GlobalValue, Positive, Negative, Byte, NullPointer, Declaration, StructType, Exceptions, Global, Function, Throw, Try, Clauses, NoClauses, Default, Case}
-use Rattle.cyc_syntax.specs.Yields.{Leaf, Yield, item_number}
+use Rattle.cyc_syntax.specs.Trees.{Expression, Number, Character, Call, Bracketed, NumberOfElements, FreeUnique, Chained, Prefixed, New, RegionNew, Binary, Assign, Initial, Plain, Fields, Array, Expressions, NoExpressions, MoreExpressions, Postfixes, NoPostfixes, ThenIndex, ThenField, Operations, NoOperations, ThenOperation, Statement, Block, Labelled, Evaluate, Swap, If, IfElse, While, Return, Body, Braces, Items, NoItems, MoreItems, Item, Execute, Local, Region, Alias, DynamicRegion, GlobalValue, Positive, Negative, Byte, NullPointer, Declaration, StructType, Exceptions, Global, Function, Throw, Try, Clauses, NoClauses, Default, Case}
+use Rattle.cyc_syntax.specs.Yields.{Yield, item_number}
 use Rattle.cyc_syntax.specs.Yields as yields
 use Rattle.cyc_syntax.specs.Grammar.{IsSpelled, HasTree}
 
@@ -17,6 +17,8 @@ abbrev mutual
   IsOfWordsWritten (Character p c) = IsWord c
   IsOfWordsWritten (Call f es) = AreOfWordsWritten es
   IsOfWordsWritten (Bracketed p e) = IsOfWordsWritten e
+  IsOfWordsWritten (NumberOfElements p e) = IsOfWordsWritten e
+  IsOfWordsWritten (FreeUnique p e) = IsOfWordsWritten e
   IsOfWordsWritten (Prefixed p o e) = IsOfWordsWritten e
   IsOfWordsWritten (Binary e os) = IsOfWordsWritten e × AreOfWordsChain os
   IsOfWordsWritten (Chained e ps) = IsOfWordsWritten e × AreOfWordsPostfixes ps
@@ -28,7 +30,7 @@ abbrev mutual
   pub IsOfWordsMadeOf : Initial → Type 0
   IsOfWordsMadeOf (Plain e) = IsOfWordsWritten e
   IsOfWordsMadeOf (Fields s rs es) = AreOfWordsWritten es
-  IsOfWordsMadeOf (Array p x n e) = Unit {0}
+  IsOfWordsMadeOf (Array p x n e) = IsOfWordsWritten n × IsOfWordsWritten e
 
   pub AreOfWordsWritten : Expressions → Type 0
   AreOfWordsWritten NoExpressions = Unit {0}
@@ -52,6 +54,7 @@ abbrev mutual
   IsOfWordsWrittenStatement (Block b) = IsOfWordsBody b
   IsOfWordsWrittenStatement (Labelled l b) = IsOfWordsBody b
   IsOfWordsWrittenStatement (Evaluate e) = IsOfWordsWritten e
+  IsOfWordsWrittenStatement (Swap a b) = IsOfWordsWritten a × IsOfWordsWritten b
   IsOfWordsWrittenStatement (If p c s) = IsOfWordsWritten c × IsOfWordsWrittenStatement s
   IsOfWordsWrittenStatement (IfElse p c s t) = IsOfWordsWritten c × IsOfWordsWrittenStatement s × IsOfWordsWrittenStatement t
   IsOfWordsWrittenStatement (While p c s) = IsOfWordsWritten c × IsOfWordsWrittenStatement s
@@ -140,6 +143,8 @@ mutual
   expression_constants d (Character p c) (h, hs) = h
   expression_constants d (Call f es) h = arguments_constants (suc d) es (front_part (yields.arguments (suc d) es) _ h.1.1)
   expression_constants d (Bracketed p e) (l, h) = expression_constants (suc d) e (front_part (yields.expression (suc d) e) _ h)
+  expression_constants d (NumberOfElements p e) (w, (l, h)) = expression_constants (suc d) e (front_part (yields.expression (suc d) e) _ h)
+  expression_constants d (FreeUnique p e) (w, (l, h)) = expression_constants (suc d) e (front_part (yields.expression (suc d) e) _ h)
   expression_constants d (Prefixed p o e) (l, h) = expression_constants (suc d) e h
   expression_constants d (Binary e os) h = (expression_constants d e (front_part (yields.expression d e) _ h), chain_constants d 1 os (rest_part (yields.expression d e) _ h))
   expression_constants d (Chained e ps) h = (expression_constants d e (front_part (yields.expression d e) _ h), postfixes_constants d 1 ps (rest_part (yields.expression d e) _ h))
@@ -151,7 +156,10 @@ mutual
   initial_constants : (d : ℕ) (i : Initial) → AreOfWordsLeaves (yields.initial d i) → IsOfWordsMadeOf i
   initial_constants d (Plain e) h = expression_constants d e h
   initial_constants d (Fields s rs es) (l, h) = values_constants (suc d) es (front_part (yields.values (suc d) es) _ ((rest_part (yields.region_list d rs) _ h).1))
-  initial_constants d (Array p x n e) h = tt
+  initial_constants d (Array p x n e) (l, (w, (i, (s, h)))) = (
+    expression_constants (suc d) n (front_part (yields.expression (suc d) n) _ h),
+    expression_constants (suc d) e (front_part (yields.expression (suc d) e) _ (rest_part (yields.expression (suc d) n) _ h).1),
+  )
 
   values_constants : (d : ℕ) (es : Expressions) → AreOfWordsLeaves (yields.values d es) → AreOfWordsWritten es
   values_constants d NoExpressions h = tt
@@ -203,6 +211,8 @@ mutual
   statement_constants d (Block b) h = body_constants d b h
   statement_constants d (Labelled l b) (x, (c, h)) = body_constants d b h
   statement_constants d (Evaluate e) h = expression_constants d e (front_part (yields.expression d e) _ h)
+  statement_constants d (Swap a b) h =
+      (expression_constants d a (front_part (yields.expression d a) _ h), expression_constants d b (front_part (yields.expression d b) _ (rest_part (yields.expression d a) _ h).1))
   statement_constants d (If p c s) h =
       (expression_constants (suc d) c (front_part (yields.expression (suc d) c) _ h.1.1), statement_constants (suc d) s (rest_part (yields.expression (suc d) c) _ h.1.1).1)
   statement_constants d (IfElse p c s t) h =

@@ -1,6 +1,6 @@
 -- The constants of a typed tree are words, where those of the tree that it is of are; and so a tree that is built has all its numbers
 -- in words.
-use Rattle.std.proofs.Common.{◌≡◌, ℕ, Bool, true, false, cond, ◌&&◌, List, [], ◌∷◌, Option, Some, None, sym, ap, subst, ◌∙◌, arith}
+use Rattle.std.proofs.Common.{◌≡◌, ℕ, ◌≤◌, Bool, true, false, cond, ◌&&◌, List, [], ◌∷◌, Option, Some, None, sym, ap, subst, ◌∙◌, arith}
 use Rattle.std.specs.Prelude.{nat_le}
 use Rattle.std.specs.List.{list_all}
 use Rattle.std.proofs.lemmas.Bool.{and_parts, leb-true}
@@ -14,12 +14,12 @@ use Rattle.cyc_types.specs.declared.typed.LogicalOperator.{LogicalOperator}
 use Rattle.cyc_types.specs.declared.typed.PointerOperator.{PointerOperator}
 use Rattle.cyc_types.specs.Types.{Ty, Int, Pointer, ValueType, Value}
 use Rattle.cyc_types.specs.Types as types
-use Rattle.cyc_types.specs.TypedTrees.{Lvalue, Side, VariableSide, CellSide, Converted, Signature, type_of}
+use Rattle.cyc_types.specs.TypedTrees.{Lvalue, Side, VariableSide, CellSide, Converted, type_of}
 use Rattle.cyc_types.specs.TypedTrees as typed
 use Rattle.cyc_types.specs.Rules.{Rule, Derives}
 use Rattle.cyc_types.specs.Numbered.{argument_count}
-use Rattle.cyc_types.specs.Built.{is_built_type, is_built_result, is_built_value_type, is_built_kind, is_built_operator, is_built_size, is_built_expression, is_built_place, is_built_initial, is_built_converted, are_built_arguments, are_built_operations, is_built_value, is_built_statement, are_built_items, is_built_struct, is_built_global, is_built_function, is_built, is_built_tag, is_built_thrown, are_built_clauses}
-use Rattle.cyc_types.specs.typing.Scopes.{Meaning, Unknown, Fixed, Counter, Routine, Scope, meaning_of, behind, in_block, in_labelled, in_body, counted}
+use Rattle.cyc_types.specs.Built.{is_built_type, is_built_result, is_built_value_type, is_built_kind, is_built_operator, is_built_size, is_built_expression, is_built_place, is_built_initial, is_built_converted, are_built_arguments, are_built_operations, is_built_value, is_built_side, is_built_statement, are_built_items, is_built_struct, is_built_global, is_built_function, is_built, is_built_tag, is_built_thrown, are_built_clauses}
+use Rattle.cyc_types.specs.typing.Scopes.{Meaning, Unknown, Fixed, Counter, Routine, Scope, meaning_of, behind, in_block, in_labelled, in_body, counted, with_counter}
 use Rattle.cyc_types.specs.typing.Scopes as scopes
 use Rattle.cyc_types.specs.typing.Tests.{is_unique, is_moved, is_pointer}
 use Rattle.cyc_types.specs.typing.Expressions.{passed, variable_read, variable_looked, read, looked, rule_looked, Found, place_meant, Reached, pointed, indexed, selected, loaded, pointer_to, address_of, assignment, is_looking, is_looking_first, operand, Joined, peeked_local, then_pointer, then_added, ints_joined, tests_joined, sums_joined, then_compared, equality_joined, joined, instance_of, instantiated, called, key_freed, Made, field_types, arguments_written, fields_known, rule, rule_all, rule_chain, rule_place, rule_postfixed, rule_further, rule_made}
@@ -29,7 +29,7 @@ use Rattle.cyc_types.specs.typing.Programs.{Program, program_known, body_scope, 
 use Rattle.cyc_types.specs.typing.Heads as heads
 use Rattle.cyc_types.proofs.typing.CountLemmas.{thrown_shape, opened_shape, aliased_shape}
 use Rattle.cyc_words.specs.Word.{IsWord}
-use Rattle.cyc_lower.specs.Words.{IsOfWords, IsOfWordsCell, IsOfWordsObject, IsOfWordsConverted, AreOfWordsArguments, AreOfWordsOperations, IsOfWordsInitial, IsOfWordsStatement, AreOfWordsItems, IsOfWordsConstant, AreOfWordsGlobals, AreOfWordsFunctions, IsOfWordsProgram, IsOfWordsThrown, AreOfWordsClauses}
+use Rattle.cyc_lower.specs.Words.{IsOfWords, IsOfWordsCell, IsOfWordsObject, IsOfWordsConverted, AreOfWordsArguments, AreOfWordsOperations, IsOfWordsSide, IsOfWordsInitial, IsOfWordsStatement, AreOfWordsItems, IsOfWordsConstant, AreOfWordsGlobals, AreOfWordsFunctions, IsOfWordsProgram, IsOfWordsThrown, AreOfWordsClauses}
 use Rattle.cyc_lower.proofs.TreeConstants.{IsOfWordsWritten, IsOfWordsMadeOf, AreOfWordsWritten, AreOfWordsPostfixes, AreOfWordsChain, IsOfWordsValue, IsOfWordsWrittenStatement, IsOfWordsBody, AreOfWordsWrittenItems, IsOfWordsGlobalValue, IsOfWordsTree, AreOfWordsWrittenClauses}
 
 -- ---- the constants of a typed tree, but those in forms that are not built
@@ -39,6 +39,8 @@ abbrev mutual
   HasWords (typed.Number n) = IsWord n
   HasWords (typed.Load d) = CellHasWords d
   HasWords (typed.AddressOfCell d t) = CellHasWords d
+  HasWords (typed.NumberOfElements a) = HasWords a
+  HasWords (typed.FreeUnique a) = HasWords a
   HasWords (typed.Call f cs t) = ArgumentsHaveWords cs
   HasWords (typed.Unary o a) = HasWords a
   HasWords (typed.Binary a os t) = HasWords a × OperationsHaveWords os
@@ -55,7 +57,7 @@ abbrev mutual
   InitialHasWords : typed.Initial → Type 0
   InitialHasWords (typed.Plain k a) = HasWords a
   InitialHasWords (typed.Fields cs) = ArgumentsHaveWords cs
-  InitialHasWords (typed.Array p l n k a) = Unit {0}
+  InitialHasWords (typed.Array p l n k a) = HasWords n × HasWords a
 
   ConvertedHasWords : Converted → Type 0
   ConvertedHasWords (typed.Convert from to a) = HasWords a
@@ -71,6 +73,10 @@ abbrev mutual
   OperationsHaveWords (typed.ThenPointer o a os) = HasWords a × OperationsHaveWords os
   OperationsHaveWords (typed.ThenPointerPeek n o a os) = HasWords a × OperationsHaveWords os
 
+abbrev SideHasWords : Side → Type 0
+SideHasWords (VariableSide l t) = Unit {0}
+SideHasWords (CellSide d) = CellHasWords d
+
 abbrev ValueHasWords : Option Converted → Type 0
 ValueHasWords None = Unit {0}
 ValueHasWords (Some c) = ConvertedHasWords c
@@ -83,6 +89,7 @@ abbrev mutual
   StatementHasWords : typed.Statement → Type 0
   StatementHasWords (typed.Block r js) = ItemsHaveWords js
   StatementHasWords (typed.Evaluate a) = HasWords a
+  StatementHasWords (typed.Swap x y) = SideHasWords x × SideHasWords y
   StatementHasWords (typed.If a s t) = HasWords a × StatementHasWords s × StatementHasWords t
   StatementHasWords (typed.While p a s) = HasWords a × StatementHasWords s
   StatementHasWords (typed.Return v) = ValueHasWords v
@@ -113,10 +120,6 @@ GivesWords r = (a : typed.Expression) → Derives r a → HasWords a
 
 abbrev GivesCells : Rule Reached → Type 0
 GivesCells r = (w : Reached) → Derives r w → CellHasWords w.cell
-
-abbrev SideHasWords : Side → Type 0
-SideHasWords (VariableSide l t) = Unit {0}
-SideHasWords (CellSide d) = CellHasWords d
 
 either_words : (b : Bool) (a c : typed.Expression) → HasWords a → HasWords c → HasWords (cond b a c)
 either_words true a c h k = h
@@ -261,8 +264,8 @@ mutual
   expression_constants g (Variable x) w a d = read_constants (meaning_of g x) x.place a d
   expression_constants g (Call x es) w a (bs, hs, d) = called_constants g (meaning_of g x) x.place es bs (expressions_constants g es w bs hs) a d
   expression_constants g (Bracketed p e) w a d = expression_constants g e w a d
-  expression_constants g (NumberOfElements p e) w a (b, kb, (k, eq)) = subst HasWords (sym eq) tt
-  expression_constants g (FreeUnique p e) w a (b, kb, (k, eq)) = subst HasWords (sym eq) tt
+  expression_constants g (NumberOfElements p e) w a (b, kb, (k, eq)) = subst HasWords (sym eq) (seen_constants g e (rule g e) (λ c h. expression_constants g e w c h) b kb)
+  expression_constants g (FreeUnique p e) w a (b, kb, (k, eq)) = subst HasWords (sym eq) (expression_constants g e w b kb)
   expression_constants g (FreeKey p x) w a d = key_constants (meaning_of g x) x.place a d
   expression_constants g (Chained e ps) (w, ws) a (v, kv, d) =
       loaded_constants (place_of e) v (postfixed_constants g (place_of e) e ps (seen_constants g e (rule g e) (λ c h. expression_constants g e w c h)) ws v kv) a d
@@ -321,7 +324,8 @@ mutual
   made_constants g (Plain e) w m (a, ka, (k, eq)) = subst (λ (z : Made). InitialHasWords z.initial) (sym eq) (expression_constants g e w a ka)
   made_constants g (Fields s rs es) w m (as', ks, (k, eq)) =
       subst (λ (z : Made). InitialHasWords z.initial) (sym eq) (passed_words as' (field_types (arguments_written g s rs) (fields_known g s)) (expressions_constants g es w as' ks))
-  made_constants g (Array p x n e) w m (a, ka, (b, kb, (k, eq))) = subst (λ (z : Made). InitialHasWords z.initial) (sym eq) tt
+  made_constants g (Array p x n e) (w, ws) m (a, ka, (b, kb, (k, eq))) =
+      subst (λ (z : Made). InitialHasWords z.initial) (sym eq) (expression_constants g n w a ka, expression_constants (with_counter x g) e ws b kb)
 
 -- ---- from the rules: statements
 
@@ -350,7 +354,7 @@ mutual
   statement_constants g (Labelled l c) w t (u, hu, (js, h, (v, eq))) = subst StatementHasWords (sym eq) (body_constants (in_labelled l g) c w js h)
   statement_constants g (Empty p) w t (u, eq) = subst StatementHasWords (sym eq) tt
   statement_constants g (Evaluate e) w t (a, h, (u, eq)) = subst StatementHasWords (sym eq) (expression_constants g e w a h)
-  statement_constants g (Swap a b) w t (x, kx, (y, ky, (k, eq))) = subst StatementHasWords (sym eq) tt
+  statement_constants g (Swap a b) (w, ws) t (x, kx, (y, ky, (k, eq))) = subst StatementHasWords (sym eq) (found_constants g (place_of a) a w x kx, found_constants g (place_of b) b ws y ky)
   statement_constants g (If p e u) (w, ws) t (a, h, (c, k, (v, eq))) = subst StatementHasWords (sym eq) (condition_constants g e w a h, statement_constants g u ws c k, tt)
   statement_constants g (IfElse p e u v) (w, x, y) t (a, h, (c, k, (d, m, (z, eq)))) =
       subst StatementHasWords (sym eq) (condition_constants g e w a h, statement_constants g u x c k, statement_constants (behind g u) v y d m)
@@ -418,32 +422,43 @@ mutual
   built_words : (a : typed.Expression) → is_built_expression a ≡ true → HasWords a → IsOfWords a
   built_words (typed.Number n) i w = w
   built_words typed.NullPointer i w = tt
+  built_words (typed.Counter l) i w = tt
   built_words (typed.Copy l t) i w = tt
+  built_words (typed.Move p n t) i w = tt
+  built_words (typed.Peek p n t) i w = tt
   built_words (typed.Load d) i w = built_cell d i w
   built_words (typed.AddressOfCell d t) i w = built_cell d (and_parts (is_built_place d) (is_built_type t) i).0 w
+  built_words (typed.NumberOfElements a) i w = built_words a i w
+  built_words (typed.FreeUnique a) i w = built_words a i w
   built_words (typed.Call f cs t) i w = built_arguments cs (and_parts (are_built_arguments cs) (is_built_value_type t) i).0 w
   built_words (typed.Unary o a) i w = built_words a i w
   built_words (typed.Binary a os t) i (w, ws) =
-      let (first, more) = and_parts (is_built_expression a) (are_built_operations os && is_built_type t) i in
-      (built_words a first w, built_operations os (and_parts (are_built_operations os) (is_built_type t) more).0 ws)
+      let (first, more) = and_parts (is_built_expression a) (are_built_operations t os && is_built_type t) i in
+      (built_words a first w, built_operations t os (and_parts (are_built_operations t os) (is_built_type t) more).0 ws)
   built_words (typed.Assign l c t) i w = built_converted c (and_parts (is_built_converted c) (is_built_value_type t) i).0 w
   built_words (typed.Store d c t) i (w, ws) =
       let (place, more) = and_parts (is_built_place d) (is_built_converted c && is_built_value_type t) i in
       (built_cell d place w, built_converted c (and_parts (is_built_converted c) (is_built_value_type t) more).0 ws)
   built_words (typed.New typed.OnHeap m t) i w = built_initial m (and_parts (is_built_initial m) (is_built_type t) i).0 w
+  built_words (typed.New typed.AsUnique m t) i w = built_initial m (and_parts (is_built_initial m) (is_built_type t) i).0 w
   built_words a i w = absurd (cc)
 
   built_cell : (d : typed.Dereference) → is_built_place d ≡ true → CellHasWords d → IsOfWordsCell d
   built_cell (typed.Target k a t) i w = built_words a (and_parts (is_built_expression a) (is_built_kind k && is_built_type t) i).0 w
   built_cell (typed.Member k a s f t) i w = built_words a (and_parts (is_built_expression a) (is_built_kind k && is_built_type t) i).0 w
-  built_cell d i w = absurd (cc)
+  built_cell (typed.Element a j t) i (w, ws) =
+      let (first, more) = and_parts (is_built_expression a) (is_built_expression j && is_built_type t) i in
+      (built_words a first w, built_words j (and_parts (is_built_expression j) (is_built_type t) more).0 ws)
 
   built_initial : (m : typed.Initial) → is_built_initial m ≡ true → InitialHasWords m → IsOfWordsObject m
   built_initial (typed.Plain k a) i w = built_words a (and_parts (is_built_expression a) (is_built_kind k) i).0 w
   built_initial (typed.Fields cs) i w =
       let (size, values) = and_parts (is_built_size (argument_count cs)) (are_built_arguments cs) i in
-      (leb-true (argument_count cs) 1000 (and_parts (nat_le 1 (argument_count cs)) (nat_le (argument_count cs) 1000) size).1, built_arguments cs values w)
-  built_initial m i w = absurd (cc)
+      let few : argument_count cs ≤ 64 = leb-true (argument_count cs) 64 (and_parts (nat_le 1 (argument_count cs)) (nat_le (argument_count cs) 64) size).1 in
+      (omega (arith, few), built_arguments cs values w)
+  built_initial (typed.Array p l n k a) i (w, ws) =
+      let (first, more) = and_parts (is_built_expression n) (is_built_expression a && is_built_kind k) i in
+      (built_words n first w, built_words a (and_parts (is_built_expression a) (is_built_kind k) more).0 ws)
 
   built_converted : (c : Converted) → is_built_converted c ≡ true → ConvertedHasWords c → IsOfWordsConverted c
   built_converted (typed.Convert from to a) i w = built_words a (and_parts (is_built_expression a) (is_built_kind from && is_built_kind to) i).0 w
@@ -453,16 +468,22 @@ mutual
   built_arguments (typed.MoreArguments c cs) i (w, ws) =
       let (first, rest) = and_parts (is_built_converted c) (are_built_arguments cs) i in (built_converted c first w, built_arguments cs rest ws)
 
-  built_operations : (os : typed.Operations) → are_built_operations os ≡ true → OperationsHaveWords os → AreOfWordsOperations os
-  built_operations typed.NoOperations i w = tt
-  built_operations (typed.ThenCompute o a os) i (w, ws) =
-      let (first, rest) = and_parts (is_built_expression a) (are_built_operations os) i in (built_words a first w, built_operations os rest ws)
-  built_operations (typed.ThenTest o a os) i (w, ws) =
-      let (first, rest) = and_parts (is_built_expression a) (are_built_operations os) i in (built_words a first w, built_operations os rest ws)
-  built_operations (typed.ThenPointer o a os) i (w, ws) =
-      let (operator, more) = and_parts (is_built_operator o) (is_built_expression a && are_built_operations os) i in
-      let (first, rest) = and_parts (is_built_expression a) (are_built_operations os) more in (built_words a first w, built_operations os rest ws)
-  built_operations os i w = absurd (cc)
+  built_operations : (t : Ty) (os : typed.Operations) → are_built_operations t os ≡ true → OperationsHaveWords os → AreOfWordsOperations os
+  built_operations t typed.NoOperations i w = tt
+  built_operations t (typed.ThenCompute o a os) i (w, ws) =
+      let (first, rest) = and_parts (is_built_expression a) (are_built_operations t os) i in (built_words a first w, built_operations t os rest ws)
+  built_operations t (typed.ThenTest o a os) i (w, ws) =
+      let (first, rest) = and_parts (is_built_expression a) (are_built_operations t os) i in (built_words a first w, built_operations t os rest ws)
+  built_operations t (typed.ThenPointer o a os) i (w, ws) =
+      let (operator, more) = and_parts (is_built_operator t o) (is_built_expression a && are_built_operations t os) i in
+      let (first, rest) = and_parts (is_built_expression a) (are_built_operations t os) more in (built_words a first w, built_operations t os rest ws)
+  built_operations t (typed.ThenPointerPeek n o a os) i (w, ws) =
+      let (operator, more) = and_parts (is_built_operator t o) (is_built_expression a && are_built_operations t os) i in
+      let (first, rest) = and_parts (is_built_expression a) (are_built_operations t os) more in (built_words a first w, built_operations t os rest ws)
+
+built_side : (x : Side) → is_built_side x ≡ true → SideHasWords x → IsOfWordsSide x
+built_side (VariableSide l t) i w = tt
+built_side (CellSide d) i w = built_cell d i w
 
 built_value : (v : Option Converted) → is_built_value v ≡ true → ValueHasWords v → IsOfWordsInitial v
 built_value None i w = tt
@@ -477,6 +498,7 @@ mutual
   built_statement (typed.Block r js) i w = built_items js i w
   built_statement typed.Empty i w = tt
   built_statement (typed.Evaluate a) i w = built_words a i w
+  built_statement (typed.Swap x y) i (w, ws) = let (left, right) = and_parts (is_built_side x) (is_built_side y) i in (built_side x left w, built_side y right ws)
   built_statement (typed.If a s t) i (w, x, y) =
       let (first, more) = and_parts (is_built_expression a) (is_built_statement s && is_built_statement t) i in
       let (second, third) = and_parts (is_built_statement s) (is_built_statement t) more in (built_words a first w, built_statement s second x, built_statement t third y)
@@ -488,7 +510,6 @@ mutual
   built_statement (typed.Throw n v) i w = built_thrown v (and_parts (is_built_tag n) (is_built_thrown v) i).1 w
   built_statement (typed.Try s cs) i (w, ws) =
       let (first, rest) = and_parts (is_built_statement s) (are_built_clauses cs) i in (built_statement s first w, built_clauses cs rest ws)
-  built_statement s i w = absurd (cc)
 
   built_items : (js : typed.Items) → are_built_items js ≡ true → ItemsHaveWords js → AreOfWordsItems js
   built_items typed.NoItems i w = tt

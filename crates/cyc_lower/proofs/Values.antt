@@ -1,8 +1,8 @@
 -- The steps that hand a value on.
-use Rattle.std.proofs.Common.{◌≡◌, ◌≢◌, ℕ, zero, suc, ◌+◌, ◌<◌, Bool, true, false, not, List, [], ◌∷◌, Option, None, Some, slice_get, refl, sym, ap, subst, ◌∙◌, arith, inl, inr, length, ◌≤◌}
-use Rattle.std.specs.Prelude.{ℤ, nat_lt, ◌==◌, ◌&&◌, ◌<ℤ◌, ◌≤ℤ◌, int_le, int_lt, if◌then◌else◌, ◌%◌, ◌^◌}
+use Rattle.std.proofs.Common.{◌≡◌, ◌≢◌, ℕ, zero, suc, ◌+◌, ◌<◌, Bool, true, false, not, List, [], ◌∷◌, Option, None, Some, slice_get, refl, sym, ap, subst, ◌∙◌, arith, inl, inr, length, ◌≤◌, ◌*◌, ◌++◌}
+use Rattle.std.specs.Prelude.{ℤ, nat_lt, ◌==◌, ◌&&◌, ◌<ℤ◌, ◌≤ℤ◌, int_le, int_lt, if◌then◌else◌, ◌%◌, ◌^◌, option_map}
 use Rattle.std.proofs.lemmas.Int.{ints}
-use Rattle.std.proofs.lemmas.Bool.{eqb-true, false_from_ne_true}
+use Rattle.std.proofs.lemmas.Bool.{eqb-true, false_from_ne_true, eqb-false, and_parts}
 use Rattle.std.proofs.lemmas.Option.{same_Some, none-some}
 use Rattle.cyc_words.specs.Word.{signed, slt_of, add_of}
 use Rattle.cyc_words.specs.Word.{IsWord as IsMachineWord}
@@ -42,27 +42,27 @@ use Rattle.cyc_meaning.specs.Operators.{Result, Gives, Raises, Misfits, has_no_r
 use Rattle.cyc_meaning.specs.Pointers.{takes_kind, followed, result_kind as operator_kind}
 use Rattle.cyc_meaning.specs.Places.{arrives, member_of}
 use Rattle.cyc_meaning.specs.Conversion.{conversion}
-use Rattle.cyc_meaning.specs.State.{Region, World, Environment, with_local, made, variable, written, region_at, Awaiting, ConvertTo, Operate, Chain, Apply, ApplyPointer, Follow, Decide, Store, Pass, MakePlain, MakeFields, MakeArray, FillElement, Initialise, Choose, Test, Return, Entry, Needs, Discard, Rest, Join, Loop, Focus, Evaluating, Given, GivenPlace, Executing, Proceeding, Calling, Returning, Throwing, State, Running, cell_at, FollowMember, StoreCell, calls_in, FreeObject, ThrowWith}
+use Rattle.cyc_meaning.specs.State.{Region, World, Environment, with_local, made, variable, written, region_at, Awaiting, ConvertTo, Operate, Chain, Apply, ApplyPointer, Follow, Decide, Store, Pass, MakePlain, MakeFields, MakeArray, FillElement, Initialise, Choose, Test, Return, Entry, Needs, Discard, Rest, Join, Loop, Focus, Evaluating, Given, GivenPlace, Executing, Proceeding, Calling, Returning, Throwing, State, Running, cell_at, FollowMember, StoreCell, calls_in, FreeObject, ThrowWith, CountElements, Index, Advance}
 use Rattle.cyc_meaning.specs.Step.{leads_to, wrong, object_of, computed, stored_at, declared, passes, tested, awaits_right, chosen, looped, step}
 use Rattle.cyc_meaning.specs.State.{status_of}
 use Rattle.cyc_meaning.specs.SourceMachine.{status_in}
 use Rattle.cyc_lower.specs.declared.statements.Exits.{Exits}
-use Rattle.cyc_lower.specs.Slots.{slot_of, Types}
-use Rattle.cyc_lower.proofs.Slots.{slot-room, room-inside}
-use Rattle.cyc_lower.proofs.Widths.{kind_positive, same_kind, HasRoom, Outside, chain_kind}
+use Rattle.cyc_lower.specs.Slots.{slot_of, Types, global_of}
+use Rattle.cyc_lower.proofs.Slots.{slot-room, room-inside, global-inside}
+use Rattle.cyc_lower.proofs.Widths.{kind_positive, same_kind, HasRoom, Outside, chain_kind, wide_kind}
 use Rattle.cyc_lower.proofs.Moves.{moved_slots, moves, put_elsewhere, moved_elsewhere, moved_is}
-use Rattle.cyc_lower.specs.Lowering.{unary_operator, binary_operator, failing_comparison, operand_of, value_slot, next_slot, is_in, jump_if_zero, jump_if_nonzero, move_of, converts_there, break_target, lower_program, tag_operand}
-use Rattle.cyc_lower.proofs.Stands.{OperandBy, CopyBy, CopyAt, CheckAt, CheckedAt, OperatorAt, TruthAt, ExpressionAt, OperationsAt, GuardAt}
+use Rattle.cyc_lower.specs.Lowering.{unary_operator, binary_operator, failing_comparison, operand_of, value_slot, next_slot, is_in, jump_if_zero, jump_if_nonzero, move_of, converts_there, break_target, lower_program, tag_operand, are_as_wide, followed_operand}
+use Rattle.cyc_lower.proofs.Stands.{OperandBy, CopyBy, CopyAt, CheckAt, CheckedAt, OperatorAt, TruthAt, ExpressionAt, OperationsAt, GuardAt, TestedAt, ConversionBy, StoresAt, FollowedAt}
 use Rattle.cyc_objects.specs.Tables.{Tables}
 use Rattle.cyc_objects.specs.Words.{Points, Is}
 use Rattle.cyc_objects.proofs.Pointers.{not-null, part-not-null, pointer-word}
 use Rattle.cyc_objects.specs.Tables.{Variable, with_row}
 use Rattle.cyc_objects.proofs.Values.{Grows-row, Is-grows}
 use Rattle.cyc_lower.proofs.Sharing.{shared_declared, row_declared, shared_written}
-use Rattle.cyc_lower.proofs.Relation.{types_on, starts_on, IsWord, IsIn, with_kind, types_at, starts_at, Holds, held, contents, callers, in_place, by_jump, in_temporary, in_local, drops, leaves, copies, DataIn, SharedAt, StoreAt, to_slot, to_jump, ValueStack, ConditionStack, DroppedStack, AheadStack, LandsStack, HandsOnStack, AppliedStack, ReadyAt, as_operand, into_slot, as_right, in_operand, nowhere, ahead, compared, with_left, behind_statement, Related, Matches, code_of, bounds_at, base_of, top, floor}
+use Rattle.cyc_lower.proofs.Relation.{types_on, starts_on, IsWord, IsIn, with_kind, types_at, starts_at, Holds, held, contents, callers, in_place, by_jump, in_temporary, in_local, drops, leaves, copies, DataIn, SharedAt, StoreAt, to_slot, to_jump, ValueStack, ConditionStack, DroppedStack, AheadStack, LandsStack, HandsOnStack, AppliedStack, ReadyAt, as_operand, into_slot, as_right, in_operand, nowhere, ahead, compared, with_left, behind_statement, Related, Matches, code_of, bounds_at, base_of, top, floor, PlaceStack}
 use Rattle.cyc_lower.proofs.Data.{in_words, IsWord-is, one_word, height-least, Holds-same, Holds-above, data_above, data_assigned, data_assigned_global, data_declared, data_grows, null_is, points_in, null_at, points_at, behind-least, handlers_beside, data_written}
 use Rattle.cyc_lower.proofs.Accesses.{IsWell, is_fitting, is_stored, written_here, written_elsewhere, written_length, is_declared, home_there, is_member}
-use Rattle.cyc_lower.proofs.PlaceWords.{stays, member_there}
+use Rattle.cyc_lower.proofs.PlaceWords.{stays, member_there, cell_kind, word_is}
 use Rattle.cyc_lower.proofs.CellWrites.{cell_is_there, saves_there, shared_saved, data_saved}
 use Rattle.cyc_lower.proofs.Weights.{weight}
 use Rattle.cyc_lower.proofs.Relation.{types_on, starts_on, StatementStack}
@@ -70,9 +70,16 @@ use Rattle.cyc_lower.proofs.Matched.{IsMatched, silently, by_one, by_two, by_thr
 use Rattle.cyc_lower.proofs.Handling.{leaving, record_left, raised}
 use Rattle.cyc_lower.proofs.PointerSteps.{applies_pointers, right_follows}
 use Rattle.cyc_lower.proofs.UniqueBlocks.{frees_value}
+use Rattle.cyc_lower.proofs.FatSteps.{counts, widens}
+use Rattle.cyc_lower.proofs.ThinSteps.{narrows}
+use Rattle.cyc_lower.proofs.Elements.{follows_parts, follows_fat, indexes_pointer, advances_pointer}
+use Rattle.cyc_lower.proofs.Paths.{Link, IsPath, end_of, by_path}
+use Rattle.cyc_lower.proofs.WideCells.{stage_quiet, two_put, store_links, stored, store_path, store_last, shared_stored, data_stored}
 use Rattle.cyc_lower.proofs.Allocations.{plain_made, fields_made}
 use Rattle.cyc_lower.proofs.Arrays.{array_sized, array_filled}
-use Rattle.cyc_lower.proofs.Evaluations.{IsStep, landed_word, landed_moved, lands_at, passes_related, passes_weight, object_of_same, global_there}
+use Rattle.cyc_lower.proofs.Evaluations.{IsStep, landed_word, landed_moved, lands_at, passes_related, passes_weight, object_of_same}
+use Rattle.cyc_lower.proofs.Paths.{Link, IsPath, end_of, by_path}
+use Rattle.cyc_lower.proofs.GlobalSteps.{stored_globals, stored_elsewhere, stored_is, global_links, is_stored_by, by_links}
 
 -- an operand of a kind, and an int
 abbrev pub of_kind : Kind → Value → Kinded
@@ -318,23 +325,23 @@ module _ (source : Program) (pages calls : ℕ) where
 
   converted : (from to : Kind) (target : Option Kind) (i : Kind) (v : Value) (o : Operand) (k : List Entry) (e : Environment) (w : World) (c : Configuration) → IsWell (computed to (conversion to v) k e w)
       → step source (Running (Given (of_kind i v)) (Needs (ConvertTo from to target) ∷ k) e w) ≡ computed to (conversion to v) k e w → words_of_kind i ≡ words_of_kind to → Stands (of_kind i v) o k e w c
-      → ValueStack source c.active.function e.locals i o c.active.next c.frames (Needs (ConvertTo from to target) ∷ k) → GoesBehind (of_kind i v) (Needs (ConvertTo from to target) ∷ k) e w c
-  converted from kinds.Int target i (Int a) o k e w c well does wide stands (q, (same, end), stack) = kept_value from kinds.Int target i (Int a) o k e w c q refl does stands end stack
-  converted from kinds.Nullable target i Null o k e w c well does wide stands (q, (same, end), stack) = kept_value from kinds.Nullable target i Null o k e w c q refl does stands end stack
-  converted from kinds.Fat target i Null o k e w c well does wide stands (q, (same, end), stack) = kept_value from kinds.Fat target i Null o k e w c q refl does stands end stack
-  converted from kinds.NonNull target i Null o k e w c well does wide (shared, facts, is, holds) (q, (same, check), stack) =
+      → (q : ℕ) × TestedAt (code_of source c.active.function) (bounds_at source c.active.function) (types_on source c.active.function k) to o c.active.next q × ValueStack source c.active.function e.locals to o q c.frames k → GoesBehind (of_kind i v) (Needs (ConvertTo from to target) ∷ k) e w c
+  converted from kinds.Int target i (Int a) o k e w c well does wide stands (q, end, stack) = kept_value from kinds.Int target i (Int a) o k e w c q refl does stands end stack
+  converted from kinds.Nullable target i Null o k e w c well does wide stands (q, end, stack) = kept_value from kinds.Nullable target i Null o k e w c q refl does stands end stack
+  converted from kinds.Fat target i Null o k e w c well does wide stands (q, end, stack) = kept_value from kinds.Fat target i Null o k e w c q refl does stands end stack
+  converted from kinds.NonNull target i Null o k e w c well does wide (shared, facts, is, holds) (q, check, stack) =
       guard_fails null_exception comparisons.Equal o (operands.Word 0) k e w c q does shared shared
       (omega arith) facts check
       (ap (λ x. x == 0) (null_is shared.tables i c.active.slots o is))
-  converted from kinds.Nullable target i (Thin object offset) o k e w c well does wide stands (q, (same, end), stack) = kept_value from kinds.Nullable target i (Thin object offset) o k e w c q refl does stands end stack
-  converted from kinds.NonNull target i (Thin object offset) o k e w c well does wide (shared, facts, is, holds) (q, (same, check), stack) =
+  converted from kinds.Nullable target i (Thin object offset) o k e w c well does wide stands (q, end, stack) = kept_value from kinds.Nullable target i (Thin object offset) o k e w c q refl does stands end stack
+  converted from kinds.NonNull target i (Thin object offset) o k e w c well does wide (shared, facts, is, holds) (q, check, stack) =
       guard_passes (Running (Given (of_kind kinds.NonNull (Thin object offset))) k e w) null_exception comparisons.Equal o (operands.Word 0) e w c q does shared check
       (not_zero shared.tables i object offset c.active.slots o is)
       (shared, in_operand o facts (kept_in shared.tables i kinds.NonNull (Thin object offset) c.active.slots o refl is) holds stack)
   converted from kinds.Fat target i (Thin object offset) o k e w c well does wide (shared, facts, is, holds) stack =
       let (words, p, same, is_it) = in_words shared.tables (of_kind i (Thin object offset)) c.active.slots o is in
       absurd (not_widened shared.tables i object offset words p is_it wide)
-  converted from kinds.Fat target i (Fat object start many index) o k e w c well does wide stands (q, (same, end), stack) =
+  converted from kinds.Fat target i (Fat object start many index) o k e w c well does wide stands (q, end, stack) =
       kept_value from kinds.Fat target i (Fat object start many index) o k e w c q refl does stands end stack
   converted from kinds.Nullable target i (Fat object start many index) o k e w c well does wide (shared, facts, is, holds) stack =
       let (words, p, same, is_it) = in_words shared.tables (of_kind i (Fat object start many index)) c.active.slots o is in
@@ -342,18 +349,36 @@ module _ (source : Program) (pages calls : ℕ) where
   converted from kinds.NonNull target i (Fat object start many index) o k e w c well does wide (shared, facts, is, holds) stack =
       let (words, p, same, is_it) = in_words shared.tables (of_kind i (Fat object start many index)) c.active.slots o is in
       absurd (not_narrowed shared.tables i object start many index words p is_it wide)
-  converted from kinds.Handle target i (Handle region) o k e w c well does wide stands (q, (same, end), stack) = kept_value from kinds.Handle target i (Handle region) o k e w c q refl does stands end stack
-  converted from kinds.Key target i (Key region) o k e w c well does wide stands (q, (same, end), stack) = kept_value from kinds.Key target i (Key region) o k e w c q refl does stands end stack
+  converted from kinds.Handle target i (Handle region) o k e w c well does wide stands (q, end, stack) = kept_value from kinds.Handle target i (Handle region) o k e w c q refl does stands end stack
+  converted from kinds.Key target i (Key region) o k e w c well does wide stands (q, end, stack) = kept_value from kinds.Key target i (Key region) o k e w c q refl does stands end stack
   converted from to target i v o k e w c well does wide stands stack = absurd (well refl)
+
+  converted_leads : (from to : Kind) (target : Option Kind) (v : Kinded) (k : List Entry) (e : Environment) (w : World) → IsWell (step source (Running (Given v) (Needs (ConvertTo from to target) ∷ k) e w)) → leads_to w target (followed v.value) ≡ true
+  converted_leads from to target v k e w well =
+      (and_parts (is_kind v.kind from) (leads_to w target (followed v.value)) (is_fitting (is_kind v.kind from && leads_to w target (followed v.value)) (computed to (conversion to v.value) k e w) w well)).1
+
+  -- where it keeps its number of words, or gets more, or fewer
+  converts_by : (wide : Bool) (from to : Kind) (target : Option Kind) (v : Kinded) (o : Operand) (q : ℕ) (k : List Entry) (e : Environment) (w : World) (c : Configuration) → are_as_wide from to ≡ wide
+      → step source (Running (Given v) (Needs (ConvertTo from to target) ∷ k) e w) ≡ computed to (conversion to v.value) k e w → leads_to w target (followed v.value) ≡ true → v.kind ≡ from → IsWell (computed to (conversion to v.value) k e w)
+      → Stands v o k e w c
+      → ConversionBy (code_of source c.active.function) (bounds_at source c.active.function) (types_on source c.active.function k) wide to (option_map words_of_kind target) o (top source c.active.function k) c.active.next q
+      → ValueStack source c.active.function e.locals to o q c.frames k → GoesBehind v (Needs (ConvertTo from to target) ∷ k) e w c
+  converts_by true from to target v o q k e w c wide does leads kind well stands at stack =
+      converted from to target v.kind v.value o k e w c well does (ap words_of_kind kind ∙ eqb-true (words_of_kind from) (words_of_kind to) wide) stands (q, at, stack)
+  converts_by false from kinds.Fat target v o q k e w c narrow does leads kind well (shared, facts, is, holds) at stack =
+      widens source pages calls from target v o q k e w c does well (λ three. eqb-false (words_of_kind from) 3 narrow (ap words_of_kind (sym kind) ∙ three)) shared facts is holds at stack
+  converts_by false from kinds.NonNull target v o q k e w c narrow does leads kind well (shared, facts, is, holds) at stack =
+      narrows source pages calls from kinds.NonNull target v o q k e w c does leads (kind ∙ wide_kind from narrow) shared facts is holds at stack
+  converts_by false from kinds.Nullable target v o q k e w c narrow does leads kind well (shared, facts, is, holds) at stack =
+      narrows source pages calls from kinds.Nullable target v o q k e w c does leads (kind ∙ wide_kind from narrow) shared facts is holds at stack
+  converts_by false from to target v o q k e w c narrow does leads kind well stands at stack = absurd at
 
   converts : (from to : Kind) (target : Option Kind) (v : Kinded) (o : Operand) (k : List Entry) (e : Environment) (w : World) (c : Configuration)
       → IsWell (step source (Running (Given v) (Needs (ConvertTo from to target) ∷ k) e w)) → Stands v o k e w c
       → ValueStack source c.active.function e.locals v.kind o c.active.next c.frames (Needs (ConvertTo from to target) ∷ k) → GoesBehind v (Needs (ConvertTo from to target) ∷ k) e w c
-  converts from to target v o k e w c well stands (q, (wide, at), stack) =
-      let does = converts_kind from to target v k e w well in
-      converted from to target v.kind v.value o k e w c (subst IsWell does well) does
-      (ap words_of_kind (converted_from from to target v k e w well) ∙ eqb-true (words_of_kind from) (words_of_kind to) wide)
-      stands (q, (wide, at), stack)
+  converts from to target v o k e w c well stands (q, at, stack) =
+      converts_by (are_as_wide from to) from to target v o q k e w c refl (converts_kind from to target v k e w well) (converted_leads from to target v k e w well) (converted_from from to target v k e w well)
+      (subst IsWell (converts_kind from to target v k e w well) well) stands at stack
 
   -- a conversion that raises nothing, of a value in the slots of a local that is about to get it
   converted_ahead : (t : Tables) (from to i : Kind) (v : Value) (words : Words) (n : ℕ) (k : List Entry) (e : Environment) (w : World)
@@ -761,6 +786,33 @@ module _ (source : Program) (pages calls : ℕ) where
   hands_behind {focus} {before} {w0} {i} v k e w c d does shared shared_d here first other (by_copy j at goes) =
       by_two source pages calls d does shared shared_d here first at other goes
 
+  -- the same behind several
+  hands_through : {focus : Focus} {before : List Entry} {w0 : World} (v : Kinded) (k : List Entry) (e : Environment) (w : World) (c d : Configuration) (links : List Link) → 0 < length links
+      → step source (Running focus before e w0) ≡ Running (Given v) k e w → SharedAt source pages calls before e w0 c → IsPath source c links → end_of c links ≡ d
+      → Handed v k e w d → IsMatched source pages calls (Running focus before e w0) (plain.Running c)
+  hands_through {focus} {before} {w0} v k e w c d links some does shared path end (at_once related) =
+      by_links source pages calls focus before e w0 c (Running (Given v) k e w) links some does shared path (subst (λ x. Matches source pages calls (Running (Given v) k e w) (plain.Running x)) (sym end) related)
+  hands_through {focus} {before} {w0} v k e w c d links some does shared path end (by_copy j here goes) =
+      by_path source pages calls focus before e w0 c (Running (Given v) k e w) links j does shared path (subst (λ x. At (code_of source x.active.function) x.active.next j) (sym end) here)
+      (λ choice. subst (λ x. Matches source pages calls (Running (Given v) k e w) (performed (lower_program source) choice x j)) (sym end) (goes choice))
+
+  -- a value whose word stands in an operand now
+  abbrev IsWordNow : Configuration → Kinded → Operand → Type 0
+  IsWordNow c v o = (t : Tables) → IsIn t v c.active.slots o → IsWord t v.kind v.value (operand_word c.active.slots o)
+
+  -- the same behind several instructions
+  hands_stored : {i : Instruction} (v : Kinded) (before : List Entry) (k : List Entry) (e : Environment) (w0 w : World) (c d : Configuration) (links : List Link)
+      → step source (Running (Given v) before e w0) ≡ Running (Given v) k e w → SharedAt source pages calls before e w0 c → IsPath source c links
+      → At (code_of source (end_of c links).active.function) (end_of c links).active.next i → ((choice : Choice) → performed (lower_program source) choice (end_of c links) i ≡ plain.Running d)
+      → (IsPath source c links → IsPath source c (links ++ record { instruction = i; behind = d } ∷ [])) → end_of c (links ++ record { instruction = i; behind = d } ∷ []) ≡ d
+      → Handed v k e w d → IsMatched source pages calls (Running (Given v) before e w0) (plain.Running c)
+  hands_stored {i} v before k e w0 w c d links does shared path here last longer ends (at_once related) =
+      by_path source pages calls (Given v) before e w0 c (Running (Given v) k e w) links i does shared path here (λ choice. subst (Matches source pages calls (Running (Given v) k e w)) (sym (last choice)) related)
+  hands_stored {i} v before k e w0 w c d links does shared path here last longer ends (by_copy j at goes) =
+      by_path source pages calls (Given v) before e w0 c (Running (Given v) k e w) (links ++ record { instruction = i; behind = d } ∷ []) j does shared (longer path)
+      (subst (λ (x : Configuration). At (code_of source x.active.function) x.active.next j) (sym ends) at)
+      (λ choice. subst (λ (x : Configuration). Matches source pages calls (Running (Given v) k e w) (performed (lower_program source) choice x j)) (sym ends) (goes choice))
+
   -- the same where memory is another then
   hands_saved : {i : Instruction} (v : Kinded) (before : List Entry) (k : List Entry) (e : Environment) (w0 w : World) (c d : Configuration)
       → step source (Running (Given v) before e w0) ≡ Running (Given v) k e w → SharedAt source pages calls before e w0 c → plain_step.is_within pages calls (plain.Running d) ≡ true → d.output ≡ w0.output
@@ -804,22 +856,26 @@ module _ (source : Program) (pages calls : ℕ) where
         subst (IsIn shared.tables v slots) (sym there) moved,
         Holds-above shared.tables c.active.slots slots (floor source g k) (held k) (λ m above. elsewhere m (inr (omega (arith, inside, room, above, behind-least k (base_of source g))))) holds,
       ) hands)
-  stores object v (Global n) o to k e w c q found well (shared, facts, is, holds) (here, end, there, few, single) hands =
+  stores object v (Global n) o to k e w c q found well (shared, facts, is, holds) (at_c, there, room) hands =
       let g = c.active.function in
-      let x = operand_word c.active.slots o in
+      let words = words_of_kind v.kind in
       let stored = is_stored object v (Given v) k e w well in
       let same : n ≡ object = same_Some n object found in
-      let after : Configuration = advanced (record c { globals = put c.globals n x }) in
+      let few = global-inside (types_at source g) n v.kind room in
+      let first = global_of (starts_at source g) n in
+      let by = is_stored_by source c words first o q (kind_positive v.kind) at_c in
+      let globals = stored_globals c.active.slots c.globals words first o in
+      let after : Configuration = advanced (record (at c by.last) { globals = globals }) in
       let next = written w object 0 stored.at v.value in
-      hands_behind v k e next c after stored.gives shared shared here (λ choice. refl) (λ equal. omega (arith, equal))
-      (handed v to k e next after q end (
-        shared_written source pages calls k e w after shared object stored.at v.value stored.object_there stored.cell_there (ap (slice_get shared.tables.rows) (sym same) ∙ (facts.0.4 n (global_there source pages calls g n few)).0),
+      hands_through v k e next c after (global_links c words first o) by.some stored.gives shared by.path by.leads
+      (handed v to k e next after q by.end (
+        shared_written source pages calls k e w after shared object stored.at v.value stored.object_there stored.cell_there (ap (slice_get shared.tables.rows) (sym same) ∙ (facts.0.4 n few).0),
         (
-          data_assigned_global shared.tables source g w.objects next.objects e.locals (callers k) c.active.slots c.globals c.frames n v x
-              (global_there source pages calls g n few)
+          data_assigned_global shared.tables source g w.objects next.objects e.locals (callers k) c.active.slots c.globals globals c.frames n v room
               (ap (contents next.objects) same ∙ written_here w object stored.at v.value stored.object_there stored.cell_there v.kind stored.same)
               (λ i other. written_elsewhere w object stored.at v.value stored.object_there stored.cell_there i (λ equal. other (equal ∙ sym same)))
-              (written_length w object stored.at v.value stored.object_there stored.cell_there) (first_word shared.tables v c.active.slots o single is) facts.0,
+              (written_length w object stored.at v.value stored.object_there stored.cell_there) (stored_is shared.tables v c.active.slots c.globals first o is)
+              (λ m out. stored_elsewhere c.active.slots c.globals words first o m (kind_positive v.kind) out) facts.0,
           facts.1,
         ),
         subst (IsIn shared.tables v c.active.slots) (sym there) is,
@@ -843,27 +899,93 @@ module _ (source : Program) (pages calls : ℕ) where
       (holds_at HasWord (code_of source g) p (instructions.Store address bytes (operands.Word n))
       (of_words.functions g no_routine (function_known (lower_program source) place (instructions.Store address bytes (operands.Word n)) here)) here).2
 
-  -- a value is stored in a cell, whose address waits in a temporary, and then it is handed on
-  stores_cell : (peek : Option ℕ) (place : Value) (v : Kinded) (o : Operand) (k : List Entry) (e : Environment) (w : World) (c : Configuration) → HasWords (lower_program source) → plain.HoldsWords (plain.Running c)
-      → IsWell (step source (Running (Given v) (Needs (StoreCell peek place) ∷ k) e w)) → Stands v o (Needs (StoreCell peek place) ∷ k) e w c
-      → ValueStack source c.active.function e.locals v.kind o c.active.next c.frames (Needs (StoreCell peek place) ∷ k) → GoesBehind v (Needs (StoreCell peek place) ∷ k) e w c
-  stores_cell peek (Thin object offset) v o k e w c of_words words well (shared, facts, is, (is_place, holds)) (here, single, hands) =
+  -- a value is stored in a cell by the word that tells it, where its address waits in a temporary, and then it is handed on
+  stores_word : (peek : Option ℕ) (object offset : ℕ) (v : Kinded) (o : Operand) (q : ℕ) (k : List Entry) (e : Environment) (w : World) (c : Configuration) → HasWords (lower_program source) → plain.HoldsWords (plain.Running c)
+      → IsWell (step source (Running (Given v) (Needs (StoreCell peek (Thin object offset)) ∷ k) e w)) → Stands v o (Needs (StoreCell peek (Thin object offset)) ∷ k) e w c
+      → IsWordNow c v o → At (code_of source c.active.function) c.active.next (instructions.Store (operands.Slot (top source c.active.function k)) 0 o) → c.active.next + 1 ≡ q
+      → HandsOnStack source c.active.function e.locals v.kind o q c.frames k → GoesBehind v (Needs (StoreCell peek (Thin object offset)) ∷ k) e w c
+  stores_word peek object offset v o q k e w c of_words words well (shared, facts, is, (is_place, holds)) tells here end hands =
       let g = c.active.function in
       let free = top source g k in
       let address = add_of (c.active.slots free) 0 in
       let word = operand_word c.active.slots o in
       let points : Points shared.tables object offset address = stays is_place in
       let (at, found, same, gives) = cell_is_there (cell_at w object offset) object offset v (Given v) k e w well in
-      let one : words_of_kind at.cell.kind ≡ 1 = ap words_of_kind same ∙ single in
-      let is_word = subst (λ i. IsWord shared.tables i v.value word) (sym same) (first_word shared.tables v c.active.slots o single is) in
+      let is_word = subst (λ i. IsWord shared.tables i v.value word) (sym same) (tells shared.tables is) in
       let fits = stored_word c of_words words c.active.next (operands.Slot free) 0 o here in
       let after : Configuration = advanced (with_memory c address word) in
       let next = written w object offset at v.value in
-      let saved = saves_there source pages calls k e w c shared object offset address word at v.value found points one is_word fits in
-      let kept : SharedAt source pages calls k e next after = shared_saved source pages calls k e w c shared object offset address word at v.value found points one is_word fits in
-      let facts_kept : DataIn source shared.tables c.active.slots k e next after = data_saved source pages calls k e w c shared object offset address word at v.value found points one is_word fits facts in
+      let saved = saves_there source pages calls k e w c shared object offset address word at v.value found points is_word fits in
+      let kept : SharedAt source pages calls k e next after = shared_saved source pages calls k e w c shared object offset address word at v.value found points is_word fits in
+      let facts_kept : DataIn source shared.tables c.active.slots k e next after = data_saved source pages calls k e w c shared object offset address word at v.value found points is_word fits facts in
       hands_saved v (Needs (StoreCell peek (Thin object offset)) ∷ k) k e w next c after gives shared (shared_within source pages calls k e next after kept) shared.same_output here (λ choice. saved)
-      (λ equal. omega (arith, equal)) (handed v o k e next after (c.active.next + 1) refl (kept, facts_kept, is, holds) hands)
+      (λ equal. omega (arith, equal)) (handed v o k e next after q end (kept, facts_kept, is, holds) hands)
+
+  -- the same by three words
+  stores_words : (peek : Option ℕ) (object offset : ℕ) (v : Kinded) (n q : ℕ) (k : List Entry) (e : Environment) (w : World) (c : Configuration) → plain.HoldsWords (plain.Running c)
+      → IsWell (step source (Running (Given v) (Needs (StoreCell peek (Thin object offset)) ∷ k) e w)) → Stands v (operands.Slot n) (Needs (StoreCell peek (Thin object offset)) ∷ k) e w c
+      → v.kind ≡ kinds.Fat → StoresAt (code_of source c.active.function) (bounds_at source c.active.function) (types_on source c.active.function k) 3 (top source c.active.function k) 0 n c.active.next q
+      → HandsOnStack source c.active.function e.locals v.kind (operands.Slot n) q c.frames k → GoesBehind v (Needs (StoreCell peek (Thin object offset)) ∷ k) e w c
+  stores_words peek object offset v n q k e w c words well (shared, facts, is, (is_place, holds)) fat (at_first, (at_second, (at_third, end))) hands =
+      let g = c.active.function in
+      let free = top source g k in
+      let place = c.active.slots free in
+      let (cell, found, same, gives) = cell_is_there (cell_at w object offset) object offset v (Given v) k e w well in
+      let wide = same ∙ fat in
+      let fat_is = subst (λ i. Is shared.tables i v.value c.active.slots n) fat is in
+      let there = cell_kind shared.related cell is_place found in
+      let behind : (j : ℕ) → j < 3 → add_of place (4 * j) ≡ place + 4 * j = λ j below. word_is is_place cell.cell.kind j there (omega (arith, below, ap words_of_kind wide)) in
+      let first = behind 0 (omega arith) in
+      let second = behind 1 (omega arith) in
+      let third = behind 2 (omega arith) in
+      let after = stored source pages calls k e w c shared object offset place free 0 n cell v.value found is_place wide fat_is words first second third in
+      let next = written w object offset cell v.value in
+      let kept : SharedAt source pages calls k e next after = shared_stored source pages calls k e w c shared object offset place free 0 n cell v.value found is_place wide fat_is words first second third in
+      let facts_kept : DataIn source shared.tables c.active.slots k e next after = data_stored source pages calls k e w c shared object offset place free 0 n cell v.value found is_place wide fat_is words first second third facts in
+      hands_stored v (Needs (StoreCell peek (Thin object offset)) ∷ k) k e w next c after
+      (store_links source pages calls k e w c shared object offset place free 0 n cell v.value found is_place wide fat_is words first second third)
+      gives shared
+      (store_path source pages calls k e w c shared object offset place free 0 n cell v.value found is_place wide fat_is words first second third at_first at_second)
+      at_third (store_last source pages calls k e w c shared object offset place free 0 n cell v.value found is_place wide fat_is words first second third)
+      (λ path. (
+        path.0,
+        path.1,
+        path.2,
+        path.3,
+        (
+          path.4.0,
+          path.4.1,
+          path.4.2,
+          path.4.3,
+          (
+            at_third,
+            store_last source pages calls k e w c shared object offset place free 0 n cell v.value found is_place wide fat_is words first second third,
+            omega arith,
+            stage_quiet c (two_put source pages calls k e w c shared object offset place free 0 n cell v.value found is_place wide fat_is words first second third) after.store.memory (c.active.next + 1 + 1) (c.active.next + 1 + 1 + 1),
+            tt,
+          ),
+        ),
+      )) refl
+      (handed v (operands.Slot n) k e next after q end (kept, facts_kept, is, holds) hands)
+
+  stores_cell : (peek : Option ℕ) (place : Value) (v : Kinded) (o : Operand) (k : List Entry) (e : Environment) (w : World) (c : Configuration) → HasWords (lower_program source) → plain.HoldsWords (plain.Running c)
+      → IsWell (step source (Running (Given v) (Needs (StoreCell peek place) ∷ k) e w)) → Stands v o (Needs (StoreCell peek place) ∷ k) e w c
+      → ValueStack source c.active.function e.locals v.kind o c.active.next c.frames (Needs (StoreCell peek place) ∷ k) → GoesBehind v (Needs (StoreCell peek place) ∷ k) e w c
+  stores_cell peek (Thin object offset) v (operands.Word x) k e w c of_words words well stands (q, (here, end), hands) =
+      stores_word peek object offset v (operands.Word x) q k e w c of_words words well stands (λ t is. is) here end hands
+  stores_cell peek (Thin object offset) v (operands.Slot n) k e w c of_words words well stands (q, here, hands) = by (words_of_kind v.kind == 1) refl
+    where
+      by : (narrow : Bool) → (words_of_kind v.kind == 1) ≡ narrow → GoesBehind v (Needs (StoreCell peek (Thin object offset)) ∷ k) e w c
+      by true narrow =
+          let g = c.active.function in
+          let one = eqb-true (words_of_kind v.kind) 1 narrow in
+          let (store, end) = subst (λ m. StoresAt (code_of source g) (bounds_at source g) (types_on source g k) m (top source g k) 0 n c.active.next q) one here in
+          stores_word peek object offset v (operands.Slot n) q k e w c of_words words well stands (λ t is. one_word t v.kind v.value c.active.slots n one is) store end hands
+      by false wide =
+          let g = c.active.function in
+          let fat = wide_kind v.kind wide in
+          stores_words peek object offset v n q k e w c words well stands fat
+          (subst (λ i. StoresAt (code_of source g) (bounds_at source g) (types_on source g k) (words_of_kind i) (top source g k) 0 n c.active.next q) fat here) hands
   stores_cell peek place v o k e w c of_words words well stands stack = absurd (well refl)
 
   -- the local has the value already
@@ -1034,29 +1156,45 @@ module _ (source : Program) (pages calls : ℕ) where
   -- ---- all that waits for a value
 
   -- an access through null raises an exception, and through another thin pointer its place is found
-  follows : (pointer : Kind) (target : Option Kind) (i : Kind) (v : Value) (o : Operand) (k : List Entry) (e : Environment) (w : World) (c : Configuration)
+  follows_thin : (pointer : Kind) (target : Option Kind) (i : Kind) (v : Value) (o : Operand) (k : List Entry) (e : Environment) (w : World) (c : Configuration)
       → IsWell (step source (Running (Given (of_kind i v)) (Needs (Follow pointer target) ∷ k) e w)) → Stands (of_kind i v) o k e w c
-      → ValueStack source c.active.function e.locals i o c.active.next c.frames (Needs (Follow pointer target) ∷ k) → GoesBehind (of_kind i v) (Needs (Follow pointer target) ∷ k) e w c
-  follows pointer target i Null o k e w c well (shared, facts, is, holds) (q, thin, check, place) =
+      → (q : ℕ) × (is_thin pointer ≡ true) × CheckAt (code_of source c.active.function) (bounds_at source c.active.function) (types_on source c.active.function k) null_exception o c.active.next q × PlaceStack source c.active.function e.locals o 0 q c.frames k → GoesBehind (of_kind i v) (Needs (Follow pointer target) ∷ k) e w c
+  follows_thin pointer target i Null o k e w c well (shared, facts, is, holds) (q, thin, check, place) =
       let does : step source (Running (Given (of_kind i Null)) (Needs (Follow pointer target) ∷ k) e w) ≡ Running (Throwing 1 0) k e w
       = ap (λ (b : Bool). if b then Running (Throwing 1 0) k e w else wrong w) (is_fitting (is_kind i pointer && leads_to w target (followed Null)) (Running (Throwing 1 0) k e w) w well) in
       guard_fails null_exception comparisons.Equal o (operands.Word 0) k e w c q does shared shared
       (omega arith) facts check (ap (λ x. x == 0) (null_is shared.tables i c.active.slots o is))
-  follows pointer target i (Thin object offset) o k e w c well (shared, facts, is, holds) (q, thin, check, place) =
+  follows_thin pointer target i (Thin object offset) o k e w c well (shared, facts, is, holds) (q, thin, check, place) =
       let there = Running (GivenPlace (Thin object offset)) k e w in
       let does : step source (Running (Given (of_kind i (Thin object offset))) (Needs (Follow pointer target) ∷ k) e w) ≡ there
       = ap (λ (b : Bool). if b then there else wrong w) (is_fitting (is_kind i pointer && leads_to w target (followed (Thin object offset))) there w well) in
       guard_passes there null_exception comparisons.Equal o (operands.Word 0) e w c q does shared check (not_zero shared.tables i object offset c.active.slots o is)
       (shared, facts, (o, 0, pointer-word (points_in shared.tables i object offset c.active.slots o is), stays (points_in shared.tables i object offset c.active.slots o is), holds, place))
-  follows pointer target i (Fat object start many index) o k e w c well (shared, facts, is, holds) (q, thin, check, place) =
+  follows_thin pointer target i (Fat object start many index) o k e w c well (shared, facts, is, holds) (q, thin, check, place) =
       let reach = followed (Fat object start many index) in
       let fits = is_fitting (is_kind i pointer && leads_to w target reach) (arrives reach k e w) w well in
       let kind : i ≡ pointer = same_kind i pointer (first_holds (is_kind i pointer) (leads_to w target reach) fits) in
       let (words, p, same, is_it) = in_words shared.tables (of_kind i (Fat object start many index)) c.active.slots o is in
       absurd (not_fat shared.tables i object start many index words p (ap is_thin kind ∙ thin) is_it)
-  follows pointer target i (Int a) o k e w c well stands stack = absurd (goes_wrong (is_kind i pointer && leads_to w target (followed (Int a))) w well)
-  follows pointer target i (Handle region) o k e w c well stands stack = absurd (goes_wrong (is_kind i pointer && leads_to w target (followed (Handle region))) w well)
-  follows pointer target i (Key region) o k e w c well stands stack = absurd (goes_wrong (is_kind i pointer && leads_to w target (followed (Key region))) w well)
+  follows_thin pointer target i (Int a) o k e w c well stands stack = absurd (goes_wrong (is_kind i pointer && leads_to w target (followed (Int a))) w well)
+  follows_thin pointer target i (Handle region) o k e w c well stands stack = absurd (goes_wrong (is_kind i pointer && leads_to w target (followed (Handle region))) w well)
+  follows_thin pointer target i (Key region) o k e w c well stands stack = absurd (goes_wrong (is_kind i pointer && leads_to w target (followed (Key region))) w well)
+
+  -- by a thin pointer, or by a fat one
+  follows : (pointer : Kind) (target : Option Kind) (v : Kinded) (o : Operand) (k : List Entry) (e : Environment) (w : World) (c : Configuration)
+      → IsWell (step source (Running (Given v) (Needs (Follow pointer target) ∷ k) e w)) → Stands v o k e w c
+      → ValueStack source c.active.function e.locals v.kind o c.active.next c.frames (Needs (Follow pointer target) ∷ k) → GoesBehind v (Needs (Follow pointer target) ∷ k) e w c
+  follows pointer target v o k e w c well (shared, facts, is, holds) (q, low, access, place) = by (is_thin pointer) refl access place
+    where
+      kind : v.kind ≡ pointer
+      kind = same_kind v.kind pointer (first_holds (is_kind v.kind pointer) (leads_to w target (followed v.value)) (is_fitting (is_kind v.kind pointer && leads_to w target (followed v.value)) (arrives (followed v.value) k e w) w well))
+
+      by : (thin : Bool) → is_thin pointer ≡ thin
+          → FollowedAt (code_of source c.active.function) (bounds_at source c.active.function) (types_on source c.active.function k) thin (option_map words_of_kind target) o (top source c.active.function k) c.active.next q
+          → PlaceStack source c.active.function e.locals (followed_operand thin (option_map words_of_kind target) o (top source c.active.function k)) 0 q c.frames k
+          → GoesBehind v (Needs (Follow pointer target) ∷ k) e w c
+      by true thin check place = follows_thin pointer target v.kind v.value o k e w c well (shared, facts, is, holds) (q, thin, check, place)
+      by false thin access place = follows_fat source pages calls pointer target v o q k e w c thin kind well shared facts is holds low access place
 
   -- the same for a field, whose place is some bytes behind that of its struct
   follows_member : (pointer : Kind) (fields : List Kind) (field : ℕ) (i : Kind) (v : Value) (o : Operand) (k : List Entry) (e : Environment) (w : World) (c : Configuration)
@@ -1098,6 +1236,7 @@ module _ (source : Program) (pages calls : ℕ) where
       applies u left v k e w c well shared facts (operands.Slot (top source c.active.function k), o, is_left, is, holds, applied)
   stands_given v o (Needs (ApplyPointer peek u left) ∷ k) e w c of_words words well (shared, facts, is, (is_left, holds)) (d, q, here, lands) =
       applies_pointers source pages calls u peek left v o d q k e w c well shared facts is is_left holds here lands
+  stands_given v o (Needs CountElements ∷ k) e w c of_words words well (shared, facts, is, holds) (d, q, here, lands) = counts source pages calls v o d q k e w c words well shared facts is holds here lands
   stands_given v o (Needs Decide ∷ k) e w c of_words words well stands stack = decides_truth v o k e w c well stands stack
   stands_given v o (Needs (Store place) ∷ k) e w c of_words words well stands stack = stores_at place v o k e w c well stands stack
   stands_given v o (Needs (StoreCell peek place) ∷ k) e w c of_words words well stands stack = stores_cell peek place v o k e w c of_words words well stands stack
@@ -1116,7 +1255,10 @@ module _ (source : Program) (pages calls : ℕ) where
       (λ handlers stand. (shared, (facts.0, stand), (exits, q, s, here, subst (IsIn shared.tables v c.active.slots) there is, single, stack)))
   stands_given v o (Needs (ThrowWith tag) ∷ k) e w c of_words words well stands stack = throws_with tag v.kind v.value o k e w c well stands stack
   stands_given v o (Needs FreeObject ∷ k) e w c of_words words well (shared, facts, is, holds) stack = frees_value source pages calls v.kind v.value o k e w c well shared facts is stack
-  stands_given v o (Needs (Follow pointer target) ∷ k) e w c of_words words well stands stack = follows pointer target v.kind v.value o k e w c well stands stack
+  stands_given v o (Needs (Follow pointer target) ∷ k) e w c of_words words well stands stack = follows pointer target v o k e w c well stands stack
+  stands_given v o (Needs (Index peek target i) ∷ k) e w c of_words words well (shared, facts, is, holds) stack = indexes_pointer source pages calls peek target i v o k e w c well shared facts is holds stack
+  stands_given v o (Needs (Advance peek target base) ∷ k) e w c of_words words well (shared, facts, is, (is_base, holds)) (q, sum, reached, place) =
+      advances_pointer source pages calls peek target base v.kind v.value k e w c well shared facts (top source c.active.function k, o, q, is, is_base, omega arith, holds, (sum, reached, place))
   stands_given v o (Needs (FollowMember pointer fields field) ∷ k) e w c of_words words well stands stack = follows_member pointer fields field v.kind v.value o k e w c well stands stack
   stands_given v o (Discard ∷ k) e w c of_words words well (shared, facts, is, holds) (exits, stack) =
       silently source pages calls (Running (Given v) (Discard ∷ k) e w) (Running Proceeding k e w) (plain.Running c) refl
@@ -1172,6 +1314,10 @@ module _ (source : Program) (pages calls : ℕ) where
   left_given : (v : Kinded) (k : List Entry) (e : Environment) (w : World) (c : Configuration) → IsWell (step source (Running (Given v) k e w)) → (shared : SharedAt source pages calls k e w c) → DataIn source shared.tables c.active.slots k e w c
       → ReadyAt source shared.tables v e.locals c.active.function c.active.next c.active.slots c.frames k → GoesBehind v k e w c
   left_given v (Needs (Apply u left) ∷ k) e w c well shared facts ready = applies u left v k e w c well shared facts ready
+  left_given v (Needs (Advance peek target base) ∷ k) e w c well shared facts ready = advances_pointer source pages calls peek target base v.kind v.value k e w c well shared facts ready
+  left_given v (Needs (Follow pointer target) ∷ k) e w c well shared facts (n, m, q, fat, is, low, holds, here, place) =
+      subst (λ (j : Kind). IsWell (step source (Running (Given v) (Needs (Follow j target) ∷ k) e w)) → GoesBehind v (Needs (Follow j target) ∷ k) e w c) (sym fat)
+      (λ wells. follows_parts source pages calls v.kind target n m q k e w c v.value wells shared facts is holds low here place) well
   left_given v k e w c well shared facts ready = absurd ready
 
   pub given : (v : Kinded) (k : List Entry) (e : Environment) (w : World) (c : Configuration) → HasWords (lower_program source) → plain.HoldsWords (plain.Running c) → IsStep source pages calls (Given v) k e w c

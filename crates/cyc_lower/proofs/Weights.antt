@@ -1,8 +1,8 @@
 -- The weight of a source state, which falls with each step that the plain program makes no step for.
 use Rattle.std.proofs.Common.{ℕ, suc, ◌+◌, List, [], ◌∷◌, Option, None, Some, length}
-use Rattle.cyc_types.specs.TypedTrees.{Array, Load, New, Initial, Plain, Fields, Dereference, Target, Expression, Number, NullPointer, Copy, Call, Unary, Binary, Assign, Converted, Convert, Arguments, NoArguments, MoreArguments, Operations, NoOperations, ThenCompute, ThenTest, ThenPointer, Statement, Block, Empty, Evaluate, If, While, Break, Continue, Items, NoItems, MoreItems, Execute, Declare, Move, Peek, ThenPointerPeek, AddressOfCell, Member, FreeUnique, Side, VariableSide, CellSide, Swap, Clauses, NoClauses, Default, Case}
+use Rattle.cyc_types.specs.TypedTrees.{Array, Load, New, Initial, Plain, Fields, Dereference, Target, Expression, Number, NullPointer, Copy, Call, Unary, Binary, Assign, Converted, Convert, Arguments, NoArguments, MoreArguments, Operations, NoOperations, ThenCompute, ThenTest, ThenPointer, Statement, Block, Empty, Evaluate, If, While, Break, Continue, Items, NoItems, MoreItems, Execute, Declare, Move, Peek, ThenPointerPeek, AddressOfCell, Member, FreeUnique, Side, VariableSide, CellSide, Swap, Clauses, NoClauses, Default, Case, NumberOfElements, Element}
 use Rattle.cyc_types.specs.TypedTrees as typed
-use Rattle.cyc_meaning.specs.State.{Awaiting, Chain, Pass, MakeFields, Initialise, Entry, Needs, Rest, Focus, Evaluating, Locating, Executing, Entering, Binding, State, Running, AwaitingPlace, StoreTo, NeedsPlace, SwapLeft, Writing, Catching}
+use Rattle.cyc_meaning.specs.State.{Awaiting, Chain, Pass, MakeFields, Initialise, Entry, Needs, Rest, Focus, Evaluating, Locating, Executing, Entering, Binding, State, Running, AwaitingPlace, StoreTo, NeedsPlace, SwapLeft, Writing, Catching, Index}
 
 -- An expression that is an operand may have no code. One that begins with another weighs more than that and what waits for it.
 abbrev mutual
@@ -14,6 +14,7 @@ abbrev mutual
   expression_weight (Move p n t) = 1
   expression_weight (Peek p n t) = 1
   expression_weight (Call f cs t) = suc (arguments_weight cs)
+  expression_weight (NumberOfElements a) = suc (suc (expression_weight a))
   expression_weight (Unary o a) = suc (suc (expression_weight a))
   expression_weight (Binary a os t) = suc (suc (expression_weight a + operations_weight os))
   expression_weight (Assign l c t) = suc (suc (converted_weight c))
@@ -27,7 +28,7 @@ abbrev mutual
   pub dereference_weight : Dereference → ℕ
   dereference_weight (Target k a t) = suc (suc (expression_weight a))
   dereference_weight (Member k a s f t) = suc (suc (expression_weight a))
-  dereference_weight x = 0
+  dereference_weight (Element a i t) = suc (suc (suc (expression_weight a + expression_weight i)))
 
   -- what a new object holds
   pub object_weight : Initial → ℕ
@@ -92,6 +93,7 @@ clauses_weight (Case tag x r js cs) = 0
 -- each entry weighs something, so that a stack is lighter without it
 abbrev pub awaiting_weight : Awaiting → ℕ
 awaiting_weight (Chain os) = operations_weight os
+awaiting_weight (Index peek target i) = suc (expression_weight i)
 awaiting_weight (Pass f before cs) = arguments_weight cs
 awaiting_weight (MakeFields owner before cs) = arguments_weight cs
 awaiting_weight (Initialise number kind js) = suc (items_weight js)

@@ -13,12 +13,13 @@ use Rattle.cyc_types.specs.declared.typed.PointerOperator.TheVariants as pointer
 use Rattle.cyc_types.specs.declared.typed.LogicalOperator.{LogicalOperator}
 use Rattle.cyc_types.specs.declared.typed.LogicalOperator.TheVariants as logical
 use Rattle.cyc_types.specs.Types.{Ty, words_of, ValueType, Void, Null, Value}
-use Rattle.cyc_types.specs.TypedTrees.{Counter, Load, New, OnHeap, AsUnique, ByHandle, Initial, Plain, Fields, Array, Dereference, Target, type_of_place, Lvalue, Local, Global, Expression, Number, NullPointer, Copy, Call, Unary, Binary, Assign, Converted, Convert, Arguments, NoArguments, MoreArguments, Operations, NoOperations, ThenCompute, ThenTest, ThenPointer, type_of, Statement, Block, Empty, Evaluate, If, While, Return, Break, Continue, Items, NoItems, MoreItems, Execute, Declare, GlobalVariable, Signature, StructType, Function, Program, Move, Peek, ThenPointerPeek, AddressOfCell, Store, Member, FreeUnique, Side, VariableSide, CellSide, Swap, Throw, Try, Clauses, NoClauses, Default, Case}
+use Rattle.cyc_types.specs.TypedTrees.{Counter, Load, New, OnHeap, AsUnique, ByHandle, Initial, Plain, Fields, Array, Dereference, Target, type_of_place, Lvalue, Local, Global, Expression, Number, NullPointer, Copy, Call, Unary, Binary, Assign, Converted, Convert, Arguments, NoArguments, MoreArguments, Operations, NoOperations, ThenCompute, ThenTest, ThenPointer, type_of, Statement, Block, Empty, Evaluate, If, While, Return, Break, Continue, Items, NoItems, MoreItems, Execute, Declare, GlobalVariable, Signature, StructType, Function, Program, Move, Peek, ThenPointerPeek, AddressOfCell, Store, Member, FreeUnique, Side, VariableSide, CellSide, Swap, Throw, Try, Clauses, NoClauses, Default, Case, NumberOfElements, Element}
 use Rattle.cyc_types.specs.typing.WellTyped.{signature_of}
 use Rattle.cyc_types.specs.Numbered.{Numbering, argument_count, signatures_of, numbering_of}
 use Rattle.cyc_plain.specs.declared.instruction.Comparison.{Comparison}
 use Rattle.cyc_plain.specs.declared.instruction.Comparison.TheVariants as comparisons
 use Rattle.cyc_plain.specs.declared.instruction.BinaryOperator.{BinaryOperator as PlainBinary}
+use Rattle.cyc_plain.specs.declared.instruction.BinaryOperator.TheVariants as plain_binary
 use Rattle.cyc_plain.specs.declared.instruction.Operand.{Operand}
 use Rattle.cyc_plain.specs.declared.instruction.Operand.TheVariants as operands
 use Rattle.cyc_plain.specs.declared.instruction.Instruction.{Instruction}
@@ -28,24 +29,26 @@ use Rattle.cyc_plain.specs.declared.limits.TheConstants.{MOST_GLOBALS, RECORD_WO
 use Rattle.cyc_plain.specs.WellFormed.{IsOperand, IsInRange, IsRoutine, IsWellFormed, leaves, is_return}
 use Rattle.std.specs.Prelude.{unwrap_or, ◌==◌, max, if◌then◌else◌}
 use Rattle.std.proofs.lemmas.Bool.{eqb-true, eq-eqb}
-use Rattle.cyc_meaning.specs.Operators.{null_exception, division_by_zero}
+use Rattle.cyc_meaning.specs.Operators.{null_exception, division_by_zero, array_bounds}
 use Rattle.cyc_store.specs.declared.range.TheConstants.{HEAP, UNIQUE}
-use Rattle.cyc_meaning.specs.Values.{kind_of, words_of_kind}
+use Rattle.cyc_meaning.specs.Values.{kind_of, words_of_kind, is_thin, is_kind}
 use Rattle.cyc_meaning.specs.FrameCount.{result_words, operand_words, converted_words, argument_words, expression_need, dereference_need, converted_need, arguments_need, operations_need, initial_need, statement_need, items_need, words_of_all, initial_value_need, place_words, side_need, kept_by, kept_by_items, clauses_need, kept_by_clauses, thrown_need}
 use Rattle.cyc_lower.specs.declared.statements.Exits.{Exits}
 use Rattle.cyc_meaning.specs.Pointers.{result_kind as operator_kind}
 use Rattle.cyc_objects.proofs.NumberLemmas.{slice_get-there}
 use Rattle.cyc_lower.proofs.Counters.{found_last}
-use Rattle.cyc_lower.specs.Slots.{counted, starts_of, slot_of, Types}
-use Rattle.cyc_lower.specs.Lowering.{begun_code, filled_code, ended_code, elements_code, counter_operand, types_of, spare_slots, are_as_wide, converts_there, passed_words, all_passed, source_of, source_slot, moved_by, move_of, unary_operator, binary_operator, operand_of, operand_or, code_unless, slot_or, code_unless_slot, left_with, left_of, value_slot, next_slot, slot_with, left_slot, value_operand, converted_operand, printed_operand, check_code, conversion_code, divisor_code, checked_code, operator_code, truth_code, load_code, low_byte, test_code, is_in, copy_code, expression_code, arguments_code, converted_code, converted_operand_code, printed_code, initial_code, assignment_code, operations_code, discarded_code, failing_comparison, compared_or, first_operand, first_code, second_code, pair_code, condition_code, condition_of, failing_jump, break_target, continue_target, return_code, declaration_code, statement_code, items_code, first_temporary, results_of, lower_function, lower_global, lower_program, pointer_operator, left_kind, behind_left, pointer_code, outside_loops, inside_loop, index_code, pointer_instructions, stores_code, object_code, made_code, place_operand, place_offset, place_code, address_code, addressed_by, store_address_code, store_code, guard_code, blocks, free_code, right_slot, side_code, read_side, write_side, exchange_code, swap_code, leave_code, tag_operand, other_jump, goes_on, clause_code, thrown_code, thrown_operand, caught_code, clauses_code}
-use Rattle.cyc_lower.proofs.Widths.{kind_positive, kind_few, type_words, kind_of_result, result_kind, given, passed_kind, words_in, chain_kind, made_kind}
-use Rattle.cyc_lower.proofs.Fitting.{FitsPlace, FitsStored, FitsCell, Fits, FitsConverted, FitArguments, FitOperations, FitsReturn, FitsInitial, FitsStatement, FitItems, AreFitting, IsFitting, FitsObject, FitsSide, FitsThrown, FitsCaught, FitClauses}
+use Rattle.cyc_lower.specs.Slots.{counted, starts_of, slot_of, Types, global_of, global_types}
+use Rattle.cyc_lower.specs.Lowering.{begun_code, filled_code, ended_code, elements_code, counter_operand, types_of, spare_slots, are_as_wide, converts_there, passed_words, all_passed, source_of, source_slot, moved_by, move_of, unary_operator, binary_operator, operand_of, operand_or, code_unless, slot_or, code_unless_slot, left_with, left_of, value_slot, next_slot, slot_with, left_slot, value_operand, converted_operand, printed_operand, check_code, conversion_code, divisor_code, checked_code, operator_code, truth_code, load_code, low_byte, test_code, is_in, copy_code, expression_code, arguments_code, converted_code, converted_operand_code, printed_code, initial_code, assignment_code, operations_code, discarded_code, failing_comparison, compared_or, first_operand, first_code, second_code, pair_code, condition_code, condition_of, failing_jump, break_target, continue_target, return_code, declaration_code, statement_code, items_code, first_temporary, results_of, lower_function, lower_global, lower_program, pointer_operator, left_kind, behind_left, pointer_code, outside_loops, inside_loop, index_code, pointer_instructions, stores_code, object_code, made_code, place_operand, place_offset, place_code, address_code, addressed_by, store_address_code, store_code, guard_code, blocks, free_code, right_slot, side_code, read_side, write_side, exchange_code, swap_code, leave_code, tag_operand, other_jump, goes_on, clause_code, thrown_code, thrown_operand, caught_code, clauses_code, count_code, span_of, null_of, tested_code, widened_code, conversion_by, tested_by, saved_code, loaded_code, bounds_code, stepped_code, bounded_code, past_bounded, thinned_code, reached_code, followed_code, followed_operand, span_in, pointer_of, pointer_slot, reached_operand, word_by_word, load_word, store_word, global_code, globals_of, lower_globals, load_at}
+use Rattle.cyc_lower.proofs.Widths.{kind_positive, kind_few, type_words, kind_of_result, result_kind, given, passed_kind, words_in, chain_kind, made_kind, wide_kind, same_kind, more_words, HasGlobal}
+use Rattle.cyc_lower.proofs.Fitting.{FitsPlace, FitsCell, Fits, FitsConverted, FitArguments, FitOperations, FitsReturn, FitsInitial, FitsStatement, FitItems, AreFitting, IsFitting, FitsObject, FitsSide, FitsThrown, FitsCaught, FitClauses}
 use Rattle.cyc_lower.specs.Words.{AreOfWordsItems, AreOfWordsFunctions, IsOfWordsProgram}
 use Rattle.cyc_lower.proofs.WordLemmas.{all_append, all_of, no_return}
-use Rattle.cyc_lower.proofs.Lengths.{body_long}
+use Rattle.cyc_lower.specs.Lowerable.{is_converted, is_pointer}
+use Rattle.cyc_lower.proofs.Lengths.{body_long, past_long}
 use Rattle.cyc_types.specs.typing.Expressions.{type_of_side}
 use Rattle.cyc_lower.proofs.Values.{as_wide}
-use Rattle.cyc_lower.proofs.Slots.{words_positive, slot-room, slot_types-many, slots-few}
+use Rattle.cyc_lower.proofs.Slots.{words_positive, slot-room, slot_types-many, slots-few, global-room, global-inside}
+use Rattle.std.proofs.lemmas.List.{length-replicate}
 
 -- ---- lists
 
@@ -105,7 +108,7 @@ record IsKnown (program : PlainProgram) (n : ℕ) (s : Signature) : Type 0 where
   pub parameters : (routine_at program n).parameters ≡ words_of_all s.parameters
   pub results : (routine_at program n).results ≡ results_of s.result
 
-module _ (program : PlainProgram) (r : Routine) (b : Numbering) (types : Types) (locals : (n : ℕ) → n < b.locals → slot_of (starts_of types) n + words_in types.locals n ≤ r.slots) (levels : (l slot : ℕ) → slice_get types.counters l ≡ Some slot → slot < r.slots) (globals : b.globals ≡ length program.globals) (called : (n : ℕ) (s : Signature) → slice_get b.functions n ≡ Some s → IsKnown program n s) (results : r.results ≡ results_of b.result) (behind : types.raises + 4 < length r.code) where
+module _ (program : PlainProgram) (r : Routine) (b : Numbering) (types : Types) (locals : (n : ℕ) → n < b.locals → slot_of (starts_of types) n + words_in types.locals n ≤ r.slots) (levels : (l slot : ℕ) → slice_get types.counters l ≡ Some slot → slot < r.slots) (globals : words_of_all types.globals ≡ length program.globals) (called : (n : ℕ) (s : Signature) → slice_get b.functions n ≡ Some s → IsKnown program n s) (results : r.results ≡ results_of b.result) (behind : types.raises + 4 < length r.code) where
   abbrev AreIn : List Instruction → Type 0
   AreIn code = AllByRecursion (IsInRange program r) code
 
@@ -173,19 +176,20 @@ module _ (program : PlainProgram) (r : Routine) (b : Numbering) (types : Types) 
   given_needs (Call callees.Getchar cs t) numbered = omega arith
   given_needs (Call (callees.Function n) cs t) (s, signature, many, passed, result, numbered) =
       omega (arith, ap (λ (o : Option Signature). words_of_kind (result_kind o)) signature, (result_least s.result).1, result)
+  given_needs (NumberOfElements a) numbered = omega arith
   given_needs (Unary o a) numbered = omega arith
   given_needs (Binary a os t) (numbered, rest) = omega (arith, given_needs a numbered, chain_needs os (kind_at a) t (operand_words (type_of a)) rest)
   given_needs (Assign l (Convert from to a) t) numbered = omega arith
   given_needs (Load (Target k a t)) numbered = omega (arith, type_words t)
+  given_needs (Load (Element a i t)) numbered = omega (arith, type_words t)
   given_needs (Load (Member k a s f t)) numbered = omega (arith, type_words t)
-  given_needs (Load x) numbered = absurd numbered
   given_needs (FreeUnique a) numbered = omega (arith, operand_positive (type_of a))
   given_needs (New OnHeap (Plain kind a) t) numbered = omega arith
   given_needs (New OnHeap (Fields cs) t) numbered = omega arith
   given_needs (New OnHeap (Array p level n kind a) t) numbered = omega arith
   given_needs (New AsUnique (Plain kind a) t) numbered = omega arith
   given_needs (New AsUnique (Fields cs) t) numbered = omega arith
-  given_needs (New AsUnique (Array p level n kind a) t) numbered = absurd numbered
+  given_needs (New AsUnique (Array p level n kind a) t) numbered = omega arith
   given_needs (New (ByHandle h) i t) numbered = absurd numbered
   given_needs (AddressOfCell x t) numbered = omega arith
   given_needs (Store x (Convert from to a) t) numbered = omega arith
@@ -221,15 +225,28 @@ module _ (program : PlainProgram) (r : Routine) (b : Numbering) (types : Types) 
       by true = slot_fits a t numbered (omega (arith, few, ap words_of_kind kind))
       by false = omega (arith, few, ap words_of_kind kind)
 
-  converted_room : (c : Converted) (t : ℕ) → FitsConverted b types c → t + converted_words c ≤ r.slots → HasOperand (converted_operand (starts_of types) c t) (words_of_kind (passed_kind c))
-  converted_room (Convert from to a) t (kind, wide, numbered) few = by (are_as_wide from to) refl
+  null_room : (a : Expression) (t words : ℕ) → t + words ≤ r.slots → HasOperand (operand_or (null_of a) t) words
+  null_room NullPointer t words few = tt
+  null_room a t words few = few
+
+  less_operand : (o : Operand) (words fewer : ℕ) → fewer ≤ words → HasOperand o words → HasOperand o fewer
+  less_operand (operands.Slot n) words fewer less inside = omega (arith, less, inside)
+  less_operand (operands.Word w) words fewer less inside = tt
+
+  brought_room : (c : Converted) (t : ℕ) → FitsConverted b types c → t + converted_words c ≤ r.slots → HasOperand (converted_operand (starts_of types) c t) (converted_words c)
+  brought_room (Convert from to a) t (kind, wide, numbered) few = by (are_as_wide from to) refl
     where
       by : (same : Bool) → are_as_wide from to ≡ same
-          → HasOperand (operand_or (if same then operand_of (starts_of types) a else None) (if same then value_slot (starts_of types) a t else t)) (words_of_kind to)
+          → HasOperand (operand_or (if same then operand_of (starts_of types) a else null_of a) (if same then value_slot (starts_of types) a t else t)) (converted_words (Convert from to a))
       by true wide =
-          subst (HasOperand (value_operand (starts_of types) a t)) (ap words_of_kind (sym kind) ∙ eqb-true (words_of_kind from) (words_of_kind to) wide)
+          subst (HasOperand (value_operand (starts_of types) a t))
+          (let same : words_of_kind (kind_at a) ≡ converted_words (Convert from to a) = omega (arith, ap words_of_kind kind, eqb-true (words_of_kind from) (words_of_kind to) wide) in same)
           (value_room a t numbered (omega (arith, few, ap words_of_kind kind)))
-      by false wide = omega (arith, few)
+      by false wide = null_room a t (converted_words (Convert from to a)) few
+
+  converted_room : (c : Converted) (t : ℕ) → FitsConverted b types c → t + converted_words c ≤ r.slots → HasOperand (converted_operand (starts_of types) c t) (words_of_kind (passed_kind c))
+  converted_room (Convert from to a) t numbered few =
+      less_operand (converted_operand (starts_of types) (Convert from to a) t) (converted_words (Convert from to a)) (words_of_kind to) (omega arith) (brought_room (Convert from to a) t numbered few)
 
   converted_value_in : (c : Converted) (t : ℕ) → FitsConverted b types c → t + converted_words c ≤ r.slots → IsOperand r (converted_operand (starts_of types) c t)
   converted_value_in c t numbered few = operand_in (converted_operand (starts_of types) c t) (passed_kind c) (converted_room c t numbered few)
@@ -327,9 +344,60 @@ module _ (program : PlainProgram) (r : Routine) (b : Numbering) (types : Types) 
   check_in : (tag : ℕ) (o : Operand) → tag ≤ 4 → IsOperand r o → AreIn (check_code (starts_of types) tag o)
   check_in tag o few inside = guard_in tag comparisons.Equal o (operands.Word 0) few inside tt
 
-  conversion_in : (to : Kind) (o : Operand) (p : ℕ) → IsOperand r o → p + length (conversion_code (starts_of types) to o p) < length r.code → AreIn (conversion_code (starts_of types) to o p)
-  conversion_in kinds.NonNull o p inside short = check_in null_exception o (omega arith) inside
-  conversion_in to o p inside short = tt
+  bounds_in : (index bound : Operand) → IsOperand r index → IsOperand r bound → AreIn (bounds_code (starts_of types) index bound)
+  bounds_in index bound first second = guard_in array_bounds comparisons.GreaterOrEqualUnsigned index bound (omega arith) first second
+
+  stepped_in : (span : Option ℕ) (n m t : ℕ) → n < r.slots → m < r.slots → t + 3 ≤ r.slots → AreIn (stepped_code span n m t)
+  stepped_in None n m t first index room = tt
+  stepped_in (Some words) n m t first index room = (by (words == 1), ((omega (arith, room), first, omega (arith, room)), tt))
+    where
+      by : (narrow : Bool) → IsInRange program r (if narrow then instructions.Binary plain_binary.ShiftLeft (t + 2) (operands.Slot m) (operands.Word 2) else instructions.Binary plain_binary.Multiply (t + 2) (operands.Slot m) (operands.Word 12))
+      by true = (omega (arith, room), index, tt)
+      by false = (omega (arith, room), index, tt)
+
+  bounded_in : (span : Option ℕ) (n m t : ℕ) → n + 2 ≤ r.slots → m < r.slots → t + 3 ≤ r.slots → AreIn (bounded_code (starts_of types) span n m t)
+  bounded_in span n m t first index room =
+      append (bounds_code (starts_of types) (operands.Slot m) (operands.Slot (n + 1))) (stepped_code span n m t) (bounds_in (operands.Slot m) (operands.Slot (n + 1)) index (omega (arith, first))) (stepped_in span n m t (omega (arith, first)) index room)
+
+  reached_in : (span : Option ℕ) (n m t : ℕ) → n + 2 ≤ r.slots → m < r.slots → t + 3 ≤ r.slots → AreIn (reached_code (starts_of types) span n m t)
+  reached_in span n m t first index room =
+      append (check_code (starts_of types) null_exception (operands.Slot n)) (bounded_code (starts_of types) span n m t) (check_in null_exception (operands.Slot n) (omega arith) (omega (arith, first))) (bounded_in span n m t first index room)
+
+  followed_in : (k : Kind) (thin : Bool) (span : Option ℕ) (o : Operand) (t : ℕ) → is_thin k ≡ thin → is_pointer k ≡ true → HasOperand o (words_of_kind k) → t + words_of_kind k ≤ r.slots → AreIn (followed_code (starts_of types) thin span o t)
+  followed_in k true span o t is pointer inside room = check_in null_exception o (omega arith) (operand_in o k inside)
+  followed_in k false span (operands.Word w) t is pointer inside room = check_in null_exception (operands.Word w) (omega arith) tt
+  followed_in k false span (operands.Slot n) t is pointer inside room =
+      let fat : k ≡ kinds.Fat = same_kind k kinds.Fat (ap (λ (b : Bool). if b then true else is_kind k kinds.Fat) (sym is) ∙ pointer) in
+      let three = ap words_of_kind fat in
+      reached_in span n (n + 2) t (omega (arith, inside, three)) (omega (arith, inside, three)) (omega (arith, room, three))
+
+  followed_operand_in : (thin : Bool) (span : Option ℕ) (o : Operand) (t : ℕ) → IsOperand r o → t < r.slots → IsOperand r (followed_operand thin span o t)
+  followed_operand_in true span o t inside room = inside
+  followed_operand_in false None (operands.Slot n) t inside room = inside
+  followed_operand_in false (Some words) (operands.Slot n) t inside room = room
+  followed_operand_in false span (operands.Word w) t inside room = inside
+
+  tested_in : (to : Kind) (o : Operand) → IsOperand r o → AreIn (tested_code (starts_of types) to o)
+  tested_in kinds.NonNull o inside = check_in null_exception o (omega arith) inside
+  tested_in to o inside = tt
+
+  widened_in : (o : Operand) → HasOperand o 3 → AreIn (widened_code o)
+  widened_in (operands.Slot n) inside = ((omega (arith, inside), tt), ((omega (arith, inside), tt), tt))
+  widened_in (operands.Word w) inside = tt
+
+  thinned_in : (to : Kind) (span : Option ℕ) (o : Operand) (p : ℕ) → HasOperand o 3 → p + length (thinned_code (starts_of types) to span o p) < length r.code → AreIn (thinned_code (starts_of types) to span o p)
+  thinned_in kinds.NonNull span (operands.Slot n) p inside short = reached_in span n (n + 2) n (omega (arith, inside)) (omega (arith, inside)) inside
+  thinned_in kinds.Nullable span (operands.Slot n) p inside short = ((omega (arith, inside), tt, omega (arith, short, past_long (starts_of types) span n (n + 2) n)), bounded_in span n (n + 2) n (omega (arith, inside)) (omega (arith, inside)) inside)
+  thinned_in to span o p inside short = tt
+
+  conversion_by_in : (wide : Bool) (to : Kind) (span : Option ℕ) (o : Operand) (p words : ℕ) → words_of_kind to ≤ words → (wide ≡ false → 3 ≤ words) → HasOperand o words
+      → p + length (conversion_by (starts_of types) wide to span o p) < length r.code → AreIn (conversion_by (starts_of types) wide to span o p)
+  conversion_by_in true to span o p words least three inside short = tested_in to o (operand_in o to (less_operand o words (words_of_kind to) least inside))
+  conversion_by_in false kinds.Fat span o p words least three inside short = widened_in o (less_operand o words 3 (three refl) inside)
+  conversion_by_in false to span o p words least three inside short = thinned_in to span o p (less_operand o words 3 (three refl) inside) short
+
+  conversion_in : (from to : Kind) (span : Option ℕ) (o : Operand) (p : ℕ) → HasOperand o (max (words_of_kind from) (words_of_kind to)) → p + length (conversion_code (starts_of types) from to span o p) < length r.code → AreIn (conversion_code (starts_of types) from to span o p)
+  conversion_in from to span o p inside short = conversion_by_in (are_as_wide from to) to span o p (max (words_of_kind from) (words_of_kind to)) (omega arith) (more_words from to) inside short
 
   divisor_in : (o : Operand) → IsOperand r o → AreIn (divisor_code (starts_of types) o)
   divisor_in (operands.Word (suc n)) inside = tt
@@ -346,10 +414,29 @@ module _ (program : PlainProgram) (r : Routine) (b : Numbering) (types : Types) 
   operator_in operators.Remainder l m d few left right = checked_in operators.Remainder l m d few left right
   operator_in o l m d few left right = ((few, left, right), tt)
 
+  -- words of globals come to slots, and from slots
+  loads_in : (words first d : ℕ) → first + words ≤ length program.globals → d + words ≤ r.slots → AreIn (word_by_word load_word words first d)
+  loads_in zero first d inside few = tt
+  loads_in (suc words) first d inside few = ((omega (arith, few), omega (arith, inside)), loads_in words (suc first) (suc d) (omega (arith, inside)) (omega (arith, few)))
+
+  saves_in : (words first n : ℕ) → first + words ≤ length program.globals → n + words ≤ r.slots → AreIn (word_by_word store_word words first n)
+  saves_in zero first n inside few = tt
+  saves_in (suc words) first n inside few = ((omega (arith, inside), omega (arith, few)), saves_in words (suc first) (suc n) (omega (arith, inside)) (omega (arith, few)))
+
+  global_in : (words first : ℕ) (o : Operand) → 1 ≤ words → first + words ≤ length program.globals → HasOperand o words → AreIn (global_code words first o)
+  global_in words first (operands.Slot n) some inside few = saves_in words first n inside few
+  global_in words first (operands.Word n) some inside few = ((omega (arith, some, inside), few), tt)
+
+  -- all words of a value have room in a global
+  assigned_in : (n : ℕ) (c : Converted) (o : Operand) → HasGlobal types n (passed_kind c) → HasOperand o (words_of_kind (passed_kind c)) → AreIn (global_code (passed_words c) (global_of (starts_of types) n) o)
+  assigned_in n c o room few =
+      subst (λ words. AreIn (global_code words (global_of (starts_of types) n) o)) (sym (passed_is c))
+      (global_in (words_of_kind (passed_kind c)) (global_of (starts_of types) n) o (kind_positive (passed_kind c)) (omega (arith, room, global-room types n (global-inside types n (passed_kind c) room), globals)) few)
+
   load_in : (l : Lvalue) (t : Ty) (d : ℕ) → FitsPlace b types l (kind_of t) → d + words_of_kind (kind_of t) ≤ r.slots → AreIn (load_code (starts_of types) (words_of t) l d)
   load_in (Local w n) t d (within, room) few =
       (subst (λ words. IsInRange program r (move_of words d (operands.Slot (slot_of (starts_of types) n)))) (type_words t) (move_in (kind_of t) d (operands.Slot (slot_of (starts_of types) n)) few (omega (arith, locals n within, room))), tt)
-  load_in (Global n) t d within few = ((omega (arith, few, kind_positive (kind_of t)), omega (arith, within, globals)), tt)
+  load_in (Global n) t d room few = loads_in (words_of t) (global_of (starts_of types) n) d (omega (arith, room, type_words t, global-room types n (global-inside types n (kind_of t) room), globals)) (omega (arith, few, type_words t))
 
   copy_in : (is : Bool) (c : Converted) (o : Operand) (d : ℕ) → HasOperand o (words_of_kind (passed_kind c)) → d + words_of_kind (passed_kind c) ≤ r.slots → AreIn (if is then [] else move_of (passed_words c) d o ∷ [])
   copy_in true c o d inside few = tt
@@ -383,6 +470,14 @@ module _ (program : PlainProgram) (r : Routine) (b : Numbering) (types : Types) 
   pointer_in pointers.EqualThin l m d few wide left right = ((omega (arith, few), left, right), tt)
   pointer_in pointers.NotEqualThin l m d few wide left right = ((omega (arith, few), left, right), tt)
 
+  count_in : (o : Operand) (p d : ℕ) → HasOperand o 3 → d < r.slots → p + length (count_code o p d) < length r.code → AreIn (count_code o p d)
+  count_in (operands.Word n) p d inside few short = ((few, tt), tt)
+  count_in (operands.Slot n) p d inside few short =
+      let first : n < r.slots = omega (arith, inside) in
+      let second : n + 1 < r.slots = omega (arith, inside) in
+      let third : n + 2 < r.slots = omega (arith, inside) in
+      ((first, tt, omega (arith, short)), ((second, third, omega (arith, short)), ((few, second, third), (omega (arith, short), ((few, tt), tt)))))
+
   test_in : (o : LogicalOperator) (operand : List Instruction) (p d t : ℕ) → d < r.slots → t < r.slots → p + length (test_code o operand p d t) < length r.code → AreIn operand → AreIn (test_code o operand p d t)
   test_in logical.AndThen operand p d t few room short inside =
       let long = length-append operand (truth_code t d) in
@@ -394,6 +489,27 @@ module _ (program : PlainProgram) (r : Routine) (b : Numbering) (types : Types) 
   stores_in : (many address offset slot : ℕ) → address < r.slots → slot + many ≤ r.slots → AreIn (stores_code many address offset slot)
   stores_in zero address offset slot room few = tt
   stores_in (suc many) address offset slot room few = ((room, omega (arith, few)), stores_in many address (offset + 4) (suc slot) room (omega (arith, few)))
+
+  -- an element of an array comes to its cell
+  filled_in : (narrow : Bool) (words head t : ℕ) → t + 3 + words < r.slots → head < length r.code
+      → AreIn ((if narrow then instructions.Binary plain_binary.ShiftLeft (t + 3 + words) (operands.Slot (t + 2)) (operands.Word 2) else instructions.Binary plain_binary.Multiply (t + 3 + words) (operands.Slot (t + 2)) (operands.Word 12))
+      ∷ instructions.Binary plain_binary.Add (t + 3 + words) (operands.Slot t) (operands.Slot (t + 3 + words))
+      ∷ (stores_code words (t + 3 + words) 0 (t + 3) ++ (instructions.Binary plain_binary.Add (t + 2) (operands.Slot (t + 2)) (operands.Word 1) ∷ instructions.Jump head ∷ [])))
+  filled_in narrow words head t few short = (
+    scaled narrow,
+    (
+      (few, omega (arith, few), few),
+      append (stores_code words (t + 3 + words) 0 (t + 3)) _ (stores_in words (t + 3 + words) 0 (t + 3) few (omega (arith, few))) ((omega (arith, few), omega (arith, few), tt), (short, tt)),
+    ),
+  )
+    where
+      scaled : (narrow : Bool) → IsInRange program r (if narrow then instructions.Binary plain_binary.ShiftLeft (t + 3 + words) (operands.Slot (t + 2)) (operands.Word 2) else instructions.Binary plain_binary.Multiply (t + 3 + words) (operands.Slot (t + 2)) (operands.Word 12))
+      scaled true = (few, omega (arith, few), tt)
+      scaled false = (few, omega (arith, few), tt)
+
+  saved_in : (words address : ℕ) (o : Operand) → address < r.slots → HasOperand o words → AreIn (saved_code words address o)
+  saved_in words address (operands.Slot n) room inside = stores_in words address 0 n room inside
+  saved_in words address (operands.Word n) room inside = ((room, tt), tt)
 
   object_in : (handle words d t : ℕ) → d < r.slots → t + words + 1 ≤ r.slots → AreIn (object_code handle words d t)
   object_in handle words d t room few = (
@@ -410,10 +526,40 @@ module _ (program : PlainProgram) (r : Routine) (b : Numbering) (types : Types) 
       by true = tt
       by false = ((few, inside), tt)
 
+  loaded_in : (t : Ty) (narrow : Bool) (o : Operand) (bytes d : ℕ) → (words_of t == 1) ≡ narrow → IsOperand r o → d + words_of_kind (kind_of t) ≤ r.slots
+      → AreIn (if narrow then instructions.Load d o bytes ∷ [] else address_code o bytes d ++ (instructions.Load (d + 2) (operands.Slot d) 8 ∷ instructions.Load (d + 1) (operands.Slot d) 4 ∷ instructions.Load d (operands.Slot d) 0 ∷ []))
+  loaded_in t true o bytes d narrow inside room = ((omega (arith, room, kind_positive (kind_of t)), inside), tt)
+  loaded_in t false o bytes d wide inside room =
+      let three : words_of_kind (kind_of t) ≡ 3 = ap words_of_kind (wide_kind (kind_of t) (ap (λ (n : ℕ). n == 1) (type_words t) ∙ wide)) in
+      let first : d < r.slots = omega (arith, room, three) in
+      append (address_code o bytes d) _ (address_in o bytes d inside first) ((omega (arith, room, three), first), ((omega (arith, room, three), first), ((first, first), tt)))
+
+  -- a fat pointer whose index is computed has room where it stands
+  pointer_room : (a i : Expression) (t : ℕ) → kind_at a ≡ kinds.Fat → Fits b types a → t + 3 ≤ r.slots → pointer_slot (starts_of types) a i t + 3 ≤ r.slots
+  pointer_room a i t fat numbered room = by (operand_of (starts_of types) i)
+    where
+      inside : (known : Option Operand) → operand_of (starts_of types) a ≡ known → slot_or known t + 3 ≤ r.slots
+      inside (Some (operands.Slot n)) is =
+          subst (HasOperand (operands.Slot n)) (ap words_of_kind fat)
+          (subst (λ (x : Option Operand). HasOperand (operand_or x (value_slot (starts_of types) a t)) (words_of_kind (kind_at a))) is (value_room a t numbered (omega (arith, room, ap words_of_kind fat))))
+      inside (Some (operands.Word w)) is = room
+      inside None is = room
+
+      by : (index : Option Operand) → slot_or (left_with index (operand_of (starts_of types) a)) t + 3 ≤ r.slots
+      by (Some o) = inside (operand_of (starts_of types) a) refl
+      by None = room
+
+  reached_operand_in : (span : Option ℕ) (n t : ℕ) → n < r.slots → t < r.slots → IsOperand r (reached_operand span n t)
+  reached_operand_in None n t inside room = inside
+  reached_operand_in (Some words) n t inside room = room
+
   place_operand_in : (x : Dereference) (own t : ℕ) → FitsCell b types x → 1 ≤ own → t + dereference_need x own ≤ r.slots → IsOperand r (place_operand (starts_of types) x t)
-  place_operand_in (Target k a ty) own t (thin, single, numbered) some few = value_in a t numbered (omega (arith, few, given_needs a numbered, some))
-  place_operand_in (Member k a s f ty) own t (thin, single, there, numbered) some few = value_in a t numbered (omega (arith, few, given_needs a numbered, some))
-  place_operand_in x own t numbered some few = absurd numbered
+  place_operand_in (Target k a ty) own t (pointer, kind_is, numbered) some few =
+      followed_operand_in (is_thin k) (span_in ty) (value_operand (starts_of types) a t) t (value_in a t numbered (omega (arith, few, given_needs a numbered, some))) (omega (arith, few, some))
+  place_operand_in (Member k a s f ty) own t (thin, there, numbered) some few = value_in a t numbered (omega (arith, few, given_needs a numbered, some))
+  place_operand_in (Element a i ty) own t (fat, three, first, second) some few =
+      let inside : pointer_slot (starts_of types) a i t + 3 ≤ r.slots = pointer_room a i t fat first (omega (arith, few, some, three, given_needs a first, ap words_of_kind fat)) in
+      reached_operand_in (span_in ty) (pointer_slot (starts_of types) a i t) t (omega (arith, inside)) (omega (arith, few, some))
 
   addressed_in : (x : Dereference) (p d t : ℕ) → FitsCell b types x → d < r.slots → t + dereference_need x place_words ≤ r.slots
       → p + length (addressed_by (place_code (starts_of types) x p t) (place_operand (starts_of types) x t) (place_offset (starts_of types) x) d) < length r.code
@@ -432,11 +578,11 @@ module _ (program : PlainProgram) (r : Routine) (b : Numbering) (types : Types) 
       let address = store_address_code (starts_of types) x p t in
       let q = p + length address in
       let value = converted_operand_code (starts_of types) c q (t + 1) in
-      let write = instructions.Store (operands.Slot t) 0 (converted_operand (starts_of types) c (t + 1)) ∷ [] in
+      let write = saved_code (passed_words c) t (converted_operand (starts_of types) c (t + 1)) in
       let long = length-append address (value ++ write) in
       let behind = length-append value write in
       append address (value ++ write) (address_inside (omega (arith, short, long)))
-      (append value write (value_inside q (omega (arith, short, long, behind))) ((omega (arith, room), converted_value_in c (t + 1) numbered room), tt))
+      (append value write (value_inside q (omega (arith, short, long, behind))) (saved_in (passed_words c) t (converted_operand (starts_of types) c (t + 1)) (omega (arith, room)) (subst (HasOperand (converted_operand (starts_of types) c (t + 1))) (sym (passed_is c)) (converted_room c (t + 1) numbered room))))
 
   -- ---- expressions
 
@@ -458,10 +604,10 @@ module _ (program : PlainProgram) (r : Routine) (b : Numbering) (types : Types) 
       (unless_in (operand_of (starts_of types) a) inner p (omega (arith, short, length-append operand back)) (λ less. computed slot (slot_fits a u numbered free) less))
       (pointer_in o l m d room all inside (value_in a u numbered free))
 
-  initial_by : (there : Bool) (from to : Kind) (a : Expression) (p d t : ℕ) → from ≡ kind_at a → are_as_wide from to ≡ true → Fits b types a → d + words_of_kind to ≤ r.slots → t + converted_words (Convert from to a) ≤ r.slots → converts_there from to ≡ there
+  initial_by : (there : Bool) (from to : Kind) (a : Expression) (p d t : ℕ) → from ≡ kind_at a → is_converted from to ≡ true → Fits b types a → d + words_of_kind to ≤ r.slots → t + converted_words (Convert from to a) ≤ r.slots → converts_there from to ≡ there
       → ((slot : ℕ) → slot + words_of_kind (kind_at a) ≤ r.slots → p + length (expression_code (starts_of types) a p slot t) < length r.code → AreIn (expression_code (starts_of types) a p slot t))
-      → p + length (if there then expression_code (starts_of types) a p d t else moved_by (starts_of types) (source_of (starts_of types) (Convert from to a)) (expression_code (starts_of types) a p (source_slot (starts_of types) (Convert from to a) t) t) to (converted_operand (starts_of types) (Convert from to a) t) p d) < length r.code
-      → AreIn (if there then expression_code (starts_of types) a p d t else moved_by (starts_of types) (source_of (starts_of types) (Convert from to a)) (expression_code (starts_of types) a p (source_slot (starts_of types) (Convert from to a) t) t) to (converted_operand (starts_of types) (Convert from to a) t) p d)
+      → p + length (if there then expression_code (starts_of types) a p d t else moved_by (starts_of types) (source_of (starts_of types) (Convert from to a)) (expression_code (starts_of types) a p (source_slot (starts_of types) (Convert from to a) t) t) from to (span_of a) (converted_operand (starts_of types) (Convert from to a) t) p d) < length r.code
+      → AreIn (if there then expression_code (starts_of types) a p d t else moved_by (starts_of types) (source_of (starts_of types) (Convert from to a)) (expression_code (starts_of types) a p (source_slot (starts_of types) (Convert from to a) t) t) from to (span_of a) (converted_operand (starts_of types) (Convert from to a) t) p d)
   initial_by true from to a p d t kind wide numbered room free lands inside short = inside d (omega (arith, room, ap words_of_kind kind, as_wide from to lands)) short
   initial_by false from to a p d t kind wide numbered room free lands inside short =
       let c = Convert from to a in
@@ -470,42 +616,42 @@ module _ (program : PlainProgram) (r : Routine) (b : Numbering) (types : Types) 
       let inner = expression_code (starts_of types) a p slot t in
       let o = converted_operand (starts_of types) c t in
       let front = code_unless known inner in
-      let conversion = conversion_code (starts_of types) to o (p + length front) in
+      let conversion = conversion_code (starts_of types) from to (span_of a) o (p + length front) in
       let move = move_of (words_of_kind to) d o ∷ [] in
       let long = length-append (front ++ conversion) move in
       let long_front = length-append front conversion in
       append (front ++ conversion) move
       (append front conversion (unless_in known inner p (omega (arith, short, long, long_front)) (λ less. inside slot (source_fits from to a t (kind, wide, numbered) free) less))
-      (conversion_in to o (p + length front) (converted_value_in c t (kind, wide, numbered) free) (omega (arith, short, long, long_front)))) (move_in to d o room (converted_room c t (kind, wide, numbered) free), tt)
+      (conversion_in from to (span_of a) o (p + length front) (brought_room c t (kind, wide, numbered) free) (omega (arith, short, long, long_front)))) (move_in to d o room (converted_room c t (kind, wide, numbered) free), tt)
 
-module _ (program : PlainProgram) (r : Routine) (b : Numbering) (globals : b.globals ≡ length program.globals) (called : (n : ℕ) (s : Signature) → slice_get b.functions n ≡ Some s → IsKnown program n s) (results : r.results ≡ results_of b.result) where
+module _ (program : PlainProgram) (r : Routine) (b : Numbering) (called : (n : ℕ) (s : Signature) → slice_get b.functions n ≡ Some s → IsKnown program n s) (results : r.results ≡ results_of b.result) where
   mutual
-    expression_in : (types : Types) (locals : (n : ℕ) → n < b.locals → slot_of (starts_of types) n + words_in types.locals n ≤ r.slots) (levels : (l slot : ℕ) → slice_get types.counters l ≡ Some slot → slot < r.slots) (behind : types.raises + 4 < length r.code) → (a : Expression) (p d t : ℕ) → Fits b types a → d + words_of_kind (kind_at program r b types locals levels globals called results behind a) ≤ r.slots → t + expression_need a ≤ r.slots → p + length (expression_code (starts_of types) a p d t) < length r.code → AreIn program r b types locals levels globals called results behind (expression_code (starts_of types) a p d t)
-    expression_in types locals levels behind (Number n) p d t numbered room few short = ((omega (arith, room), tt), tt)
-    expression_in types locals levels behind NullPointer p d t numbered room few short = ((omega (arith, room), tt), tt)
-    expression_in types locals levels behind (Counter l) p d t numbered room few short =
+    expression_in : (types : Types) (locals : (n : ℕ) → n < b.locals → slot_of (starts_of types) n + words_in types.locals n ≤ r.slots) (levels : (l slot : ℕ) → slice_get types.counters l ≡ Some slot → slot < r.slots) (globals : words_of_all types.globals ≡ length program.globals) (behind : types.raises + 4 < length r.code) → (a : Expression) (p d t : ℕ) → Fits b types a → d + words_of_kind (kind_at program r b types locals levels globals called results behind a) ≤ r.slots → t + expression_need a ≤ r.slots → p + length (expression_code (starts_of types) a p d t) < length r.code → AreIn program r b types locals levels globals called results behind (expression_code (starts_of types) a p d t)
+    expression_in types locals levels globals behind (Number n) p d t numbered room few short = ((omega (arith, room), tt), tt)
+    expression_in types locals levels globals behind NullPointer p d t numbered room few short = ((omega (arith, room), tt), tt)
+    expression_in types locals levels globals behind (Counter l) p d t numbered room few short =
         let (slot, there) = slice_get-there types.counters l numbered in
         ((omega (arith, room), subst (λ (s : Option ℕ). unwrap_or s 0 < r.slots) (sym there) (levels l slot there)), tt)
-    expression_in types locals levels behind (Copy l ty) p d t numbered room few short = load_in program r b types locals levels globals called results behind l ty d numbered room
-    expression_in types locals levels behind (Move w n ty) p d t numbered room few short = load_in program r b types locals levels globals called results behind (Local w n) ty d numbered room
-    expression_in types locals levels behind (Peek w n ty) p d t numbered room few short = load_in program r b types locals levels globals called results behind (Local w n) ty d numbered room
-    expression_in types locals levels behind (Call callees.Putchar cs ty) p d t (s, signature, many, passed, result, numbered) room few short =
+    expression_in types locals levels globals behind (Copy l ty) p d t numbered room few short = load_in program r b types locals levels globals called results behind l ty d numbered room
+    expression_in types locals levels globals behind (Move w n ty) p d t numbered room few short = load_in program r b types locals levels globals called results behind (Local w n) ty d numbered room
+    expression_in types locals levels globals behind (Peek w n ty) p d t numbered room few short = load_in program r b types locals levels globals called results behind (Local w n) ty d numbered room
+    expression_in types locals levels globals behind (Call callees.Putchar cs ty) p d t (s, signature, many, passed, result, numbered) room few short =
         let o = printed_operand (starts_of types) cs (operands.Slot t) t in
         let front = printed_code (starts_of types) cs p t in
         let back = instructions.WriteByte o ∷ low_byte o d ∷ [] in
         let gives : 1 ≤ result_words ty = omega (arith, result, ap (λ (x : Signature). results_of x.result) signature) in
         let inside = printed_value_in program r b types locals levels globals called results behind cs (operands.Slot t) t numbered (omega (arith, few, gives)) (omega (arith, few)) in
-        append program r b types locals levels globals called results behind front back (printed_in types locals levels behind cs p t t 0 numbered (omega (arith, few)) (omega arith) (omega (arith, few)) (omega (arith, short, length-append front back)))
+        append program r b types locals levels globals called results behind front back (printed_in types locals levels globals behind cs p t t 0 numbered (omega (arith, few)) (omega arith) (omega (arith, few)) (omega (arith, short, length-append front back)))
         (inside, ((omega (arith, room), inside, tt), tt))
-    expression_in types locals levels behind (Call callees.Getchar cs ty) p d t (s, signature, many, passed, result, numbered) room few short =
+    expression_in types locals levels globals behind (Call callees.Getchar cs ty) p d t (s, signature, many, passed, result, numbered) room few short =
         let front = arguments_code (starts_of types) cs p t in
         let back = instructions.ReadByte d ∷ [] in
-        append program r b types locals levels globals called results behind front back (arguments_in types locals levels behind cs p t t 0 numbered (omega arith) (omega (arith, few)) (omega (arith, few)) (omega (arith, short, length-append front back))) (omega (arith, room), tt)
-    expression_in types locals levels behind (Call (callees.Function g) cs ty) p d t (s, signature, many, passed, result, numbered) room few short =
+        append program r b types locals levels globals called results behind front back (arguments_in types locals levels globals behind cs p t t 0 numbered (omega arith) (omega (arith, few)) (omega (arith, few)) (omega (arith, short, length-append front back))) (omega (arith, room), tt)
+    expression_in types locals levels globals behind (Call (callees.Function g) cs ty) p d t (s, signature, many, passed, result, numbered) room few short =
         let front = arguments_code (starts_of types) cs p t in
         let back = instructions.Call g t (all_passed cs) d ∷ [] in
         let f = called g s signature in
-        append program r b types locals levels globals called results behind front back (arguments_in types locals levels behind cs p t t 0 numbered (omega arith) (omega (arith, few)) (omega (arith, few)) (omega (arith, short, length-append front back))) (
+        append program r b types locals levels globals called results behind front back (arguments_in types locals levels globals behind cs p t t 0 numbered (omega arith) (omega (arith, few)) (omega (arith, few)) (omega (arith, short, length-append front back))) (
           record {
             function_in_range = f.there;
             takes = passed ∙ sym f.parameters;
@@ -514,15 +660,25 @@ module _ (program : PlainProgram) (r : Routine) (b : Numbering) (globals : b.glo
           },
           tt,
         )
-    expression_in types locals levels behind (Unary o a) p d t numbered room few short =
+    expression_in types locals levels globals behind (NumberOfElements a) p d t (fat, numbered) room few short =
+        let slot = value_slot (starts_of types) a t in
+        let inner = expression_code (starts_of types) a p slot t in
+        let front = code_unless (operand_of (starts_of types) a) inner in
+        let o = value_operand (starts_of types) a t in
+        let back = count_code o (p + length front) d in
+        let free : t + words_of_kind (kind_at program r b types locals levels globals called results behind a) ≤ r.slots = omega (arith, few, given_needs program r b types locals levels globals called results behind a numbered) in
+        append program r b types locals levels globals called results behind front back
+        (unless_in program r b types locals levels globals called results behind (operand_of (starts_of types) a) inner p (omega (arith, short, length-append front back)) (λ less. expression_in types locals levels globals behind a p slot t numbered (slot_fits program r b types locals levels globals called results behind a t numbered free) (omega (arith, few)) less))
+        (count_in program r b types locals levels globals called results behind o (p + length front) d (subst (λ kind. HasOperand program r b types locals levels globals called results behind o (words_of_kind kind)) fat (value_room program r b types locals levels globals called results behind a t numbered free)) (omega (arith, room)) (omega (arith, short, length-append front back)))
+    expression_in types locals levels globals behind (Unary o a) p d t numbered room few short =
         let inner = expression_code (starts_of types) a p (value_slot (starts_of types) a t) t in
         let front = code_unless (operand_of (starts_of types) a) inner in
         let back = instructions.Unary (unary_operator o) d (value_operand (starts_of types) a t) ∷ [] in
         let free : t + words_of_kind (kind_at program r b types locals levels globals called results behind a) ≤ r.slots = omega (arith, few, given_needs program r b types locals levels globals called results behind a numbered) in
         append program r b types locals levels globals called results behind front back
-        (unless_in program r b types locals levels globals called results behind (operand_of (starts_of types) a) inner p (omega (arith, short, length-append front back)) (λ less. expression_in types locals levels behind a p (value_slot (starts_of types) a t) t numbered (slot_fits program r b types locals levels globals called results behind a t numbered free) (omega (arith, few)) less))
+        (unless_in program r b types locals levels globals called results behind (operand_of (starts_of types) a) inner p (omega (arith, short, length-append front back)) (λ less. expression_in types locals levels globals behind a p (value_slot (starts_of types) a t) t numbered (slot_fits program r b types locals levels globals called results behind a t numbered free) (omega (arith, few)) less))
         ((omega (arith, room), value_in program r b types locals levels globals called results behind a t numbered free), tt)
-    expression_in types locals levels behind (Binary a os ty) p d t (numbered, rest) room few short =
+    expression_in types locals levels globals behind (Binary a os ty) p d t (numbered, rest) room few short =
         let inner = expression_code (starts_of types) a p (left_slot (starts_of types) a os d t) t in
         let front = code_unless (left_of (starts_of types) a os) inner in
         let back = operations_code (starts_of types) os (p + length front) (operand_or (left_of (starts_of types) a os) (left_slot (starts_of types) a os d t)) d t in
@@ -530,42 +686,42 @@ module _ (program : PlainProgram) (r : Routine) (b : Numbering) (globals : b.glo
         let free = has_room program r b types locals levels globals called results behind os ty t (operand_words (type_of a)) rest some (omega (arith, few)) in
         let first = left_room program r b types locals levels globals called results behind os a t numbered (omega (arith, few)) free in
         append program r b types locals levels globals called results behind front back
-        (unless_in program r b types locals levels globals called results behind (left_of (starts_of types) a os) inner p (omega (arith, short, length-append front back)) (λ less. expression_in types locals levels behind a p (left_slot (starts_of types) a os d t) t numbered (left_slot_in program r b types locals levels globals called results behind a os ty d t numbered room first) (omega (arith, few)) less))
-        (operations_in types locals levels behind os ty (kind_at program r b types locals levels globals called results behind a) (p + length front) (operand_or (left_of (starts_of types) a os) (left_slot (starts_of types) a os d t)) d t (operand_words (type_of a)) rest room (first_left_in program r b types locals levels globals called results behind a os ty d t (operand_words (type_of a)) rest (omega (arith, few))) (left_in program r b types locals levels globals called results behind a os ty d t numbered room first) some (omega (arith, few)) (omega (arith, short, length-append front back)))
-    expression_in types locals levels behind (Assign (Local w n) c ty) p d t ((within, own), numbered) room few short =
+        (unless_in program r b types locals levels globals called results behind (left_of (starts_of types) a os) inner p (omega (arith, short, length-append front back)) (λ less. expression_in types locals levels globals behind a p (left_slot (starts_of types) a os d t) t numbered (left_slot_in program r b types locals levels globals called results behind a os ty d t numbered room first) (omega (arith, few)) less))
+        (operations_in types locals levels globals behind os ty (kind_at program r b types locals levels globals called results behind a) (p + length front) (operand_or (left_of (starts_of types) a os) (left_slot (starts_of types) a os d t)) d t (operand_words (type_of a)) rest room (first_left_in program r b types locals levels globals called results behind a os ty d t (operand_words (type_of a)) rest (omega (arith, few))) (left_in program r b types locals levels globals called results behind a os ty d t numbered room first) some (omega (arith, few)) (omega (arith, short, length-append front back)))
+    expression_in types locals levels globals behind (Assign (Local w n) c ty) p d t ((within, own), numbered) room few short =
         let o = operands.Slot (slot_of (starts_of types) n) in
         let front = initial_code (starts_of types) c p (slot_of (starts_of types) n) t in
         let back = copy_code (passed_words c) o d in
         let there : slot_of (starts_of types) n + words_of_kind (passed_kind c) ≤ r.slots = omega (arith, locals n within, own) in
-        append program r b types locals levels globals called results behind front back (initial_in types locals levels behind c p (slot_of (starts_of types) n) t numbered there (omega (arith, few)) (omega (arith, few)) (omega (arith, short, length-append front back)))
+        append program r b types locals levels globals called results behind front back (initial_in types locals levels globals behind c p (slot_of (starts_of types) n) t numbered there (omega (arith, few)) (omega (arith, few)) (omega (arith, short, length-append front back)))
         (copy_in program r b types locals levels globals called results behind (is_in o d) c o d there (omega (arith, room, ap words_of_kind (assigned_kind program r b types locals levels globals called results behind (Local w n) c ty))))
-    expression_in types locals levels behind (Assign (Global n) c ty) p d t ((within, single), numbered) room few short =
+    expression_in types locals levels globals behind (Assign (Global n) c ty) p d t (within, numbered) room few short =
         let o = converted_operand (starts_of types) c t in
         let front = converted_operand_code (starts_of types) c p t in
-        let store = instructions.StoreGlobal n o ∷ [] in
+        let store = global_code (passed_words c) (global_of (starts_of types) n) o in
         let back = copy_code (passed_words c) o d in
         append program r b types locals levels globals called results behind (front ++ store) back
-        (append program r b types locals levels globals called results behind front store (converted_operand_in types locals levels behind c p t numbered (omega (arith, few)) (omega (arith, few)) (omega (arith, short, length-append (front ++ store) back, length-append front store))) ((omega (arith, within, globals), converted_value_in program r b types locals levels globals called results behind c t numbered (omega (arith, few))), tt))
+        (append program r b types locals levels globals called results behind front store (converted_operand_in types locals levels globals behind c p t numbered (omega (arith, few)) (omega (arith, few)) (omega (arith, short, length-append (front ++ store) back, length-append front store))) (assigned_in program r b types locals levels globals called results behind n c o within (converted_room program r b types locals levels globals called results behind c t numbered (omega (arith, few)))))
         (copy_in program r b types locals levels globals called results behind (is_in o d) c o d (converted_room program r b types locals levels globals called results behind c t numbered (omega (arith, few))) (omega (arith, room, ap words_of_kind (assigned_kind program r b types locals levels globals called results behind (Global n) c ty))))
-    expression_in types locals levels behind (Load x) p d t numbered room few short =
+    expression_in types locals levels globals behind (Load x) p d t numbered room few short =
         let own = words_of (type_of_place x) in
         let some = words_positive (type_of_place x) in
-        let load = instructions.Load d (place_operand (starts_of types) x t) (place_offset (starts_of types) x) ∷ [] in
+        let load = loaded_code own (place_operand (starts_of types) x t) (place_offset (starts_of types) x) d in
         append program r b types locals levels globals called results behind (place_code (starts_of types) x p t) load
-        (place_in types locals levels behind x own p t numbered some few (omega (arith, short, length-append (place_code (starts_of types) x p t) load)))
-        ((omega (arith, room, kind_positive (kind_of (type_of_place x))), place_operand_in program r b types locals levels globals called results behind x own t numbered some few), tt)
-    expression_in types locals levels behind (AddressOfCell x ty) p d t numbered room few short =
-        addressed_in program r b types locals levels globals called results behind x p d t numbered (omega (arith, room)) (omega (arith, few)) short (λ less. place_in types locals levels behind x place_words p t numbered (omega arith) (omega (arith, few)) less)
-    expression_in types locals levels behind (Store x c ty) p d t (place, single, numbered) room few short =
+        (place_in types locals levels globals behind x own p t numbered some few (omega (arith, short, length-append (place_code (starts_of types) x p t) load)))
+        (loaded_in program r b types locals levels globals called results behind (type_of_place x) (own == 1) (place_operand (starts_of types) x t) (place_offset (starts_of types) x) d refl (place_operand_in program r b types locals levels globals called results behind x own t numbered some few) room)
+    expression_in types locals levels globals behind (AddressOfCell x ty) p d t numbered room few short =
+        addressed_in program r b types locals levels globals called results behind x p d t numbered (omega (arith, room)) (omega (arith, few)) short (λ less. place_in types locals levels globals behind x place_words p t numbered (omega arith) (omega (arith, few)) less)
+    expression_in types locals levels globals behind (Store x c ty) p d t (place, numbered) room few short =
         let o = converted_operand (starts_of types) c (t + 1) in
         let front = store_code (starts_of types) x c p t in
         let back = copy_code (passed_words c) o d in
         append program r b types locals levels globals called results behind front back
         (stored_in program r b types locals levels globals called results behind x c p t numbered (omega (arith, few)) (omega (arith, short, length-append front back))
-        (λ less. addressed_in program r b types locals levels globals called results behind x p t t place (omega (arith, few)) (omega (arith, few)) less (λ shorter. place_in types locals levels behind x place_words p t place (omega arith) (omega (arith, few)) shorter))
-        (λ q less. converted_operand_in types locals levels behind c q (t + 1) numbered (omega (arith, few)) (omega (arith, few)) less))
+        (λ less. addressed_in program r b types locals levels globals called results behind x p t t place (omega (arith, few)) (omega (arith, few)) less (λ shorter. place_in types locals levels globals behind x place_words p t place (omega arith) (omega (arith, few)) shorter))
+        (λ q less. converted_operand_in types locals levels globals behind c q (t + 1) numbered (omega (arith, few)) (omega (arith, few)) less))
         (copy_in program r b types locals levels globals called results behind (is_in o d) c o d (converted_room program r b types locals levels globals called results behind c (t + 1) numbered (omega (arith, few))) (omega (arith, room, ap words_of_kind (stored_kind program r b types locals levels globals called results behind x c ty))))
-    expression_in types locals levels behind (FreeUnique a) p d t numbered room few short =
+    expression_in types locals levels globals behind (FreeUnique a) p d t numbered room few short =
         let slot = value_slot (starts_of types) a t in
         let o = value_operand (starts_of types) a t in
         let inner = expression_code (starts_of types) a p slot t in
@@ -574,66 +730,77 @@ module _ (program : PlainProgram) (r : Routine) (b : Numbering) (globals : b.glo
         let long = length-append front back in
         let free : t + words_of_kind (kind_at program r b types locals levels globals called results behind a) ≤ r.slots = omega (arith, few, given_needs program r b types locals levels globals called results behind a numbered, operand_positive (type_of a)) in
         append program r b types locals levels globals called results behind front back
-        (unless_in program r b types locals levels globals called results behind (operand_of (starts_of types) a) inner p (omega (arith, short, long)) (λ less. expression_in types locals levels behind a p slot t numbered (slot_fits program r b types locals levels globals called results behind a t numbered free) (omega (arith, few)) less))
+        (unless_in program r b types locals levels globals called results behind (operand_of (starts_of types) a) inner p (omega (arith, short, long)) (λ less. expression_in types locals levels globals behind a p slot t numbered (slot_fits program r b types locals levels globals called results behind a t numbered free) (omega (arith, few)) less))
         (free_in program r b types locals levels globals called results behind o (p + length front) (value_in program r b types locals levels globals called results behind a t numbered free) (omega (arith, short, long)))
-    expression_in types locals levels behind (New OnHeap (Array w level n kind a) ty) p d t (level_is, single, kind_is, fits_n, fits_a) room few short =
+    expression_in types locals levels globals behind (New OnHeap i ty) p d t numbered room few short = made_in types locals levels globals behind i HEAP 0 ty p d t numbered room (omega (arith, few)) short
+    expression_in types locals levels globals behind (New AsUnique i ty) p d t numbered room few short = made_in types locals levels globals behind i UNIQUE 1 ty p d t numbered room (omega (arith, few)) short
+    expression_in types locals levels globals behind (New (ByHandle h) i ty) p d t numbered room few short = absurd numbered
+    expression_in types locals levels globals behind a p d t numbered room few short = absurd numbered
+
+    -- behind a handle of so many words
+    made_in : (types : Types) (locals : (n : ℕ) → n < b.locals → slot_of (starts_of types) n + words_in types.locals n ≤ r.slots) (levels : (l slot : ℕ) → slice_get types.counters l ≡ Some slot → slot < r.slots) (globals : words_of_all types.globals ≡ length program.globals) (behind : types.raises + 4 < length r.code) → (i : Initial) (handle words : ℕ) (ty : Ty) (p d t : ℕ) → FitsObject b types i → d + words_of_kind (made_kind i) ≤ r.slots → t + initial_value_need i words (words_of ty) ≤ r.slots → p + length (made_code (starts_of types) i handle p d t) < length r.code → AreIn program r b types locals levels globals called results behind (made_code (starts_of types) i handle p d t)
+    made_in types locals levels globals behind (Plain kind a) handle words ty p d t (kind_is, numbered) room few short =
+        let front = expression_code (starts_of types) a p t t in
+        let back = object_code handle (words_of_kind kind) d t in
+        append program r b types locals levels globals called results behind front back
+        (expression_in types locals levels globals behind a p t t numbered (omega (arith, few, ap words_of_kind kind_is, words_positive ty)) (omega (arith, few)) (omega (arith, short, length-append front back)))
+        (object_in program r b types locals levels globals called results behind handle (words_of_kind kind) d t (omega (arith, room)) (omega (arith, few, words_positive ty)))
+    made_in types locals levels globals behind (Fields cs) handle words ty p d t (some, many, numbered) room few short =
+        let front = arguments_code (starts_of types) cs p t in
+        let back = object_code handle (all_passed cs) d t in
+        append program r b types locals levels globals called results behind front back
+        (arguments_in types locals levels globals behind cs p t t words numbered (omega arith) (omega (arith, few)) (omega (arith, few)) (omega (arith, short, length-append front back)))
+        (object_in program r b types locals levels globals called results behind handle (all_passed cs) d t (omega (arith, room)) (omega (arith, few, arguments_words cs, words_positive ty)))
+    made_in types locals levels globals behind (Array w level n kind a) handle words ty p d t (level_is, kind_is, fits_n, fits_a) room few short =
+        let own = words_of_kind kind in
         let first = expression_code (starts_of types) n p t t in
         let m = p + length first in
-        let h = m + 6 in
-        let begun = begun_code (starts_of types) HEAP t in
+        let h = m + 7 in
+        let begun = begun_code (starts_of types) handle own t in
         let inner = expression_code (starts_of (counted types (t + 2))) a (h + 1) (t + 3) (t + 3) in
-        let filled = filled_code h t in
+        let filled = filled_code own h t in
         let ended = ended_code d t in
-        let elements = elements_code inner h d t in
+        let elements = elements_code own inner h d t in
         let long = length-append first (begun ++ elements) in
         let long_elements = length-append (inner ++ filled) ended in
         let long_both = length-append inner filled in
         append program r b types locals levels globals called results behind first (begun ++ elements)
-        (expression_in types locals levels behind n p t t fits_n (omega (arith, few, kind_few (kind_at program r b types locals levels globals called results behind n))) (omega (arith, few)) (omega (arith, short, long)))
+        (expression_in types locals levels globals behind n p t t fits_n (omega (arith, few, kind_few (kind_at program r b types locals levels globals called results behind n))) (omega (arith, few)) (omega (arith, short, long)))
         (append program r b types locals levels globals called results behind begun elements (
           (omega (arith, few), tt, omega (arith, behind)),
           (
             (omega (arith, few), omega (arith, few)),
-            ((omega (arith, few), tt), ((omega (arith, few), omega (arith, few)), ((omega (arith, few), omega (arith, few), omega (arith, few)), (record { answer_in_range = omega (arith, few); first_in_range = tt; second_in_range = omega (arith, few) }, tt)))),
+            (
+              (omega (arith, few), tt),
+              (
+                (omega (arith, few), omega (arith, few), tt),
+                ((omega (arith, few), omega (arith, few)), ((omega (arith, few), omega (arith, few), omega (arith, few)), (record { answer_in_range = omega (arith, few); first_in_range = tt; second_in_range = omega (arith, few) }, tt))),
+              ),
+            ),
           ),
         ) (
           (omega (arith, few), omega (arith, few), omega (arith, short, long, long_elements, long_both)),
           append program r b types locals levels globals called results behind (inner ++ filled) ended
               (append program r b types locals levels globals called results behind inner filled
-              (expression_in (counted types (t + 2)) locals (levels_inside r types levels (t + 2) (omega (arith, few))) behind a (h + 1) (t + 3) (t + 3) (fits_a (t + 2)) (omega (arith, few, single, ap words_of_kind kind_is)) (omega (arith, few))
-              (omega (arith, short, long, long_elements, long_both))) (
-                (omega (arith, few), omega (arith, few), tt),
-                (
-                  (omega (arith, few), omega (arith, few), omega (arith, few)),
-                  ((omega (arith, few), omega (arith, few)), ((omega (arith, few), omega (arith, few), tt), (omega (arith, short, long, long_elements, long_both), tt))),
-                ),
-              ))
+              (expression_in (counted types (t + 2)) locals (levels_inside r types levels (t + 2) (omega (arith, few))) globals behind a (h + 1) (t + 3) (t + 3) (fits_a (t + 2)) (omega (arith, few, ap words_of_kind kind_is)) (omega (arith, few))
+              (omega (arith, short, long, long_elements, long_both)))
+              (filled_in program r b types locals levels globals called results behind (own == 1) own h t (omega (arith, few)) (omega (arith, short, long, long_elements, long_both))))
               ((omega (arith, few), tt), pointer_copied program r b types locals levels globals called results behind d t room (omega (arith, few))),
         ))
-    expression_in types locals levels behind (New OnHeap i ty) p d t numbered room few short = made_in types locals levels behind i HEAP 0 ty p d t numbered (omega (arith, room, kind_positive (made_kind i))) (omega (arith, few)) short
-    expression_in types locals levels behind (New AsUnique i ty) p d t numbered room few short = made_in types locals levels behind i UNIQUE 1 ty p d t numbered (omega (arith, room, kind_positive (made_kind i))) (omega (arith, few)) short
-    expression_in types locals levels behind (New (ByHandle h) i ty) p d t numbered room few short = absurd numbered
-    expression_in types locals levels behind a p d t numbered room few short = absurd numbered
-
-    -- behind a handle of so many words
-    made_in : (types : Types) (locals : (n : ℕ) → n < b.locals → slot_of (starts_of types) n + words_in types.locals n ≤ r.slots) (levels : (l slot : ℕ) → slice_get types.counters l ≡ Some slot → slot < r.slots) (behind : types.raises + 4 < length r.code) → (i : Initial) (handle words : ℕ) (ty : Ty) (p d t : ℕ) → FitsObject b types i → d < r.slots → t + initial_value_need i words (words_of ty) ≤ r.slots → p + length (made_code (starts_of types) i handle p d t) < length r.code → AreIn program r b types locals levels globals called results behind (made_code (starts_of types) i handle p d t)
-    made_in types locals levels behind (Plain kind a) handle words ty p d t (single, kind_is, numbered) room few short =
-        let front = expression_code (starts_of types) a p t t in
-        let back = object_code handle 1 d t in
-        append program r b types locals levels globals called results behind front back
-        (expression_in types locals levels behind a p t t numbered (omega (arith, few, single, ap words_of_kind kind_is, words_positive ty)) (omega (arith, few)) (omega (arith, short, length-append front back)))
-        (object_in program r b types locals levels globals called results behind handle 1 d t room (omega (arith, few, single, words_positive ty)))
-    made_in types locals levels behind (Fields cs) handle words ty p d t (single, some, many, numbered) room few short =
-        let front = arguments_code (starts_of types) cs p t in
-        let back = object_code handle (argument_count cs) d t in
-        append program r b types locals levels globals called results behind front back
-        (arguments_in types locals levels behind cs p t t words numbered (omega arith) (omega (arith, few)) (omega (arith, few)) (omega (arith, short, length-append front back)))
-        (object_in program r b types locals levels globals called results behind handle (argument_count cs) d t room (omega (arith, few, single, arguments_words cs, words_positive ty)))
-    made_in types locals levels behind i handle words ty p d t numbered room few short = absurd numbered
 
     -- a place of what has so many words
-    place_in : (types : Types) (locals : (n : ℕ) → n < b.locals → slot_of (starts_of types) n + words_in types.locals n ≤ r.slots) (levels : (l slot : ℕ) → slice_get types.counters l ≡ Some slot → slot < r.slots) (behind : types.raises + 4 < length r.code) → (x : Dereference) (own p t : ℕ) → FitsCell b types x → 1 ≤ own → t + dereference_need x own ≤ r.slots → p + length (place_code (starts_of types) x p t) < length r.code → AreIn program r b types locals levels globals called results behind (place_code (starts_of types) x p t)
-    place_in types locals levels behind (Target k a ty) own p t (thin, single, numbered) some few short =
+    place_in : (types : Types) (locals : (n : ℕ) → n < b.locals → slot_of (starts_of types) n + words_in types.locals n ≤ r.slots) (levels : (l slot : ℕ) → slice_get types.counters l ≡ Some slot → slot < r.slots) (globals : words_of_all types.globals ≡ length program.globals) (behind : types.raises + 4 < length r.code) → (x : Dereference) (own p t : ℕ) → FitsCell b types x → 1 ≤ own → t + dereference_need x own ≤ r.slots → p + length (place_code (starts_of types) x p t) < length r.code → AreIn program r b types locals levels globals called results behind (place_code (starts_of types) x p t)
+    place_in types locals levels globals behind (Target k a ty) own p t (pointer, kind_is, numbered) some few short =
+        let slot = value_slot (starts_of types) a t in
+        let o = value_operand (starts_of types) a t in
+        let inner = expression_code (starts_of types) a p slot t in
+        let front = code_unless (operand_of (starts_of types) a) inner in
+        let access = followed_code (starts_of types) (is_thin k) (span_in ty) o t in
+        let long = length-append front access in
+        let free : t + words_of_kind (kind_at program r b types locals levels globals called results behind a) ≤ r.slots = omega (arith, few, given_needs program r b types locals levels globals called results behind a numbered, some) in
+        append program r b types locals levels globals called results behind front access (unless_in program r b types locals levels globals called results behind (operand_of (starts_of types) a) inner p (omega (arith, short, long)) (λ less. expression_in types locals levels globals behind a p slot t numbered (slot_fits program r b types locals levels globals called results behind a t numbered free) (omega (arith, few)) less))
+        (followed_in program r b types locals levels globals called results behind k (is_thin k) (span_in ty) o t refl pointer (subst (λ x. HasOperand program r b types locals levels globals called results behind o (words_of_kind x)) (sym kind_is) (value_room program r b types locals levels globals called results behind a t numbered free)) (omega (arith, free, ap words_of_kind kind_is)))
+    place_in types locals levels globals behind (Member k a s f ty) own p t (thin, there, numbered) some few short =
         let slot = value_slot (starts_of types) a t in
         let o = value_operand (starts_of types) a t in
         let inner = expression_code (starts_of types) a p slot t in
@@ -641,65 +808,76 @@ module _ (program : PlainProgram) (r : Routine) (b : Numbering) (globals : b.glo
         let check = check_code (starts_of types) null_exception o in
         let long = length-append front check in
         let free : t + words_of_kind (kind_at program r b types locals levels globals called results behind a) ≤ r.slots = omega (arith, few, given_needs program r b types locals levels globals called results behind a numbered, some) in
-        append program r b types locals levels globals called results behind front check (unless_in program r b types locals levels globals called results behind (operand_of (starts_of types) a) inner p (omega (arith, short, long)) (λ less. expression_in types locals levels behind a p slot t numbered (slot_fits program r b types locals levels globals called results behind a t numbered free) (omega (arith, few)) less))
+        append program r b types locals levels globals called results behind front check (unless_in program r b types locals levels globals called results behind (operand_of (starts_of types) a) inner p (omega (arith, short, long)) (λ less. expression_in types locals levels globals behind a p slot t numbered (slot_fits program r b types locals levels globals called results behind a t numbered free) (omega (arith, few)) less))
         (check_in program r b types locals levels globals called results behind null_exception o (omega arith) (value_in program r b types locals levels globals called results behind a t numbered free))
-    place_in types locals levels behind (Member k a s f ty) own p t (thin, single, there, numbered) some few short =
-        let slot = value_slot (starts_of types) a t in
-        let o = value_operand (starts_of types) a t in
-        let inner = expression_code (starts_of types) a p slot t in
-        let front = code_unless (operand_of (starts_of types) a) inner in
-        let check = check_code (starts_of types) null_exception o in
-        let long = length-append front check in
-        let free : t + words_of_kind (kind_at program r b types locals levels globals called results behind a) ≤ r.slots = omega (arith, few, given_needs program r b types locals levels globals called results behind a numbered, some) in
-        append program r b types locals levels globals called results behind front check (unless_in program r b types locals levels globals called results behind (operand_of (starts_of types) a) inner p (omega (arith, short, long)) (λ less. expression_in types locals levels behind a p slot t numbered (slot_fits program r b types locals levels globals called results behind a t numbered free) (omega (arith, few)) less))
-        (check_in program r b types locals levels globals called results behind null_exception o (omega arith) (value_in program r b types locals levels globals called results behind a t numbered free))
-    place_in types locals levels behind x own p t numbered some few short = absurd numbered
+    place_in types locals levels globals behind (Element a i ty) own p t (fat, three, first, second) some few short =
+        let known = pointer_of (starts_of types) a i in
+        let n = pointer_slot (starts_of types) a i t in
+        let pointer = expression_code (starts_of types) a p t t in
+        let front = code_unless_slot known pointer in
+        let m = p + length front in
+        let slot = value_slot (starts_of types) i (t + 3) in
+        let o = value_operand (starts_of types) i (t + 3) in
+        let inner = expression_code (starts_of types) i m slot (t + 3) in
+        let operand = code_unless (operand_of (starts_of types) i) inner in
+        let reached = reached_code (starts_of types) (span_in ty) n (t + 2) t in
+        let back = instructions.Binary plain_binary.Add (t + 2) (operands.Slot (n + 2)) o ∷ reached in
+        let long = length-append front (operand ++ back) in
+        let long_operand = length-append operand back in
+        let room : t + words_of_kind (kind_at program r b types locals levels globals called results behind a) ≤ r.slots = omega (arith, few, given_needs program r b types locals levels globals called results behind a first, some) in
+        let wide = ap words_of_kind fat in
+        let free : t + 3 + words_of_kind (kind_at program r b types locals levels globals called results behind i) ≤ r.slots = omega (arith, few, three, given_needs program r b types locals levels globals called results behind i second, operand_positive (type_of i)) in
+        let third : t + 2 < r.slots = omega (arith, room, wide) in
+        let inside : n + 3 ≤ r.slots = pointer_room program r b types locals levels globals called results behind a i t fat first (omega (arith, room, wide)) in
+        append program r b types locals levels globals called results behind front (operand ++ back) (unless_slot_in program r b types locals levels globals called results behind known pointer p (omega (arith, short, long)) (λ less. expression_in types locals levels globals behind a p t t first room (omega (arith, few)) less))
+        (append program r b types locals levels globals called results behind operand back (unless_in program r b types locals levels globals called results behind (operand_of (starts_of types) i) inner m (omega (arith, short, long, long_operand)) (λ less. expression_in types locals levels globals behind i m slot (t + 3) second (slot_fits program r b types locals levels globals called results behind i (t + 3) second free) (omega (arith, few, three)) less))
+        ((third, omega (arith, inside), value_in program r b types locals levels globals called results behind i (t + 3) second free), reached_in program r b types locals levels globals called results behind (span_in ty) n (t + 2) t (omega (arith, inside)) third (omega (arith, room, wide))))
 
-    initial_in : (types : Types) (locals : (n : ℕ) → n < b.locals → slot_of (starts_of types) n + words_in types.locals n ≤ r.slots) (levels : (l slot : ℕ) → slice_get types.counters l ≡ Some slot → slot < r.slots) (behind : types.raises + 4 < length r.code) → (c : Converted) (p d t : ℕ) → FitsConverted b types c → d + words_of_kind (passed_kind c) ≤ r.slots → t + converted_words c ≤ r.slots → t + converted_need c ≤ r.slots → p + length (initial_code (starts_of types) c p d t) < length r.code → AreIn program r b types locals levels globals called results behind (initial_code (starts_of types) c p d t)
-    initial_in types locals levels behind (Convert from to a) p d t (kind, wide, numbered) room free few short =
-        initial_by program r b types locals levels globals called results behind (converts_there from to) from to a p d t kind wide numbered room free refl (λ slot fits less. expression_in types locals levels behind a p slot t numbered fits few less) short
+    initial_in : (types : Types) (locals : (n : ℕ) → n < b.locals → slot_of (starts_of types) n + words_in types.locals n ≤ r.slots) (levels : (l slot : ℕ) → slice_get types.counters l ≡ Some slot → slot < r.slots) (globals : words_of_all types.globals ≡ length program.globals) (behind : types.raises + 4 < length r.code) → (c : Converted) (p d t : ℕ) → FitsConverted b types c → d + words_of_kind (passed_kind c) ≤ r.slots → t + converted_words c ≤ r.slots → t + converted_need c ≤ r.slots → p + length (initial_code (starts_of types) c p d t) < length r.code → AreIn program r b types locals levels globals called results behind (initial_code (starts_of types) c p d t)
+    initial_in types locals levels globals behind (Convert from to a) p d t (kind, wide, numbered) room free few short =
+        initial_by program r b types locals levels globals called results behind (converts_there from to) from to a p d t kind wide numbered room free refl (λ slot fits less. expression_in types locals levels globals behind a p slot t numbered fits few less) short
 
-    converted_in : (types : Types) (locals : (n : ℕ) → n < b.locals → slot_of (starts_of types) n + words_in types.locals n ≤ r.slots) (levels : (l slot : ℕ) → slice_get types.counters l ≡ Some slot → slot < r.slots) (behind : types.raises + 4 < length r.code) → (c : Converted) (p t : ℕ) → FitsConverted b types c → t + converted_words c ≤ r.slots → t + converted_need c ≤ r.slots → p + length (converted_code (starts_of types) c p t) < length r.code → AreIn program r b types locals levels globals called results behind (converted_code (starts_of types) c p t)
-    converted_in types locals levels behind (Convert from to a) p t (kind, wide, numbered) room few short =
+    converted_in : (types : Types) (locals : (n : ℕ) → n < b.locals → slot_of (starts_of types) n + words_in types.locals n ≤ r.slots) (levels : (l slot : ℕ) → slice_get types.counters l ≡ Some slot → slot < r.slots) (globals : words_of_all types.globals ≡ length program.globals) (behind : types.raises + 4 < length r.code) → (c : Converted) (p t : ℕ) → FitsConverted b types c → t + converted_words c ≤ r.slots → t + converted_need c ≤ r.slots → p + length (converted_code (starts_of types) c p t) < length r.code → AreIn program r b types locals levels globals called results behind (converted_code (starts_of types) c p t)
+    converted_in types locals levels globals behind (Convert from to a) p t (kind, wide, numbered) room few short =
         let front = expression_code (starts_of types) a p t t in
-        let back = conversion_code (starts_of types) to (operands.Slot t) (p + length front) in
-        append program r b types locals levels globals called results behind front back (expression_in types locals levels behind a p t t numbered (omega (arith, room, ap words_of_kind kind)) few (omega (arith, short, length-append front back)))
-        (conversion_in program r b types locals levels globals called results behind to (operands.Slot t) (p + length front) (omega (arith, room, kind_positive to)) (omega (arith, short, length-append front back)))
+        let back = conversion_code (starts_of types) from to (span_of a) (operands.Slot t) (p + length front) in
+        append program r b types locals levels globals called results behind front back (expression_in types locals levels globals behind a p t t numbered (omega (arith, room, ap words_of_kind kind)) few (omega (arith, short, length-append front back)))
+        (conversion_in program r b types locals levels globals called results behind from to (span_of a) (operands.Slot t) (p + length front) (omega (arith, room)) (omega (arith, short, length-append front back)))
 
-    converted_operand_in : (types : Types) (locals : (n : ℕ) → n < b.locals → slot_of (starts_of types) n + words_in types.locals n ≤ r.slots) (levels : (l slot : ℕ) → slice_get types.counters l ≡ Some slot → slot < r.slots) (behind : types.raises + 4 < length r.code) → (c : Converted) (p t : ℕ) → FitsConverted b types c → t + converted_words c ≤ r.slots → t + converted_need c ≤ r.slots → p + length (converted_operand_code (starts_of types) c p t) < length r.code → AreIn program r b types locals levels globals called results behind (converted_operand_code (starts_of types) c p t)
-    converted_operand_in types locals levels behind (Convert from to a) p t (kind, wide, numbered) room few short =
+    converted_operand_in : (types : Types) (locals : (n : ℕ) → n < b.locals → slot_of (starts_of types) n + words_in types.locals n ≤ r.slots) (levels : (l slot : ℕ) → slice_get types.counters l ≡ Some slot → slot < r.slots) (globals : words_of_all types.globals ≡ length program.globals) (behind : types.raises + 4 < length r.code) → (c : Converted) (p t : ℕ) → FitsConverted b types c → t + converted_words c ≤ r.slots → t + converted_need c ≤ r.slots → p + length (converted_operand_code (starts_of types) c p t) < length r.code → AreIn program r b types locals levels globals called results behind (converted_operand_code (starts_of types) c p t)
+    converted_operand_in types locals levels globals behind (Convert from to a) p t (kind, wide, numbered) room few short =
         let known = source_of (starts_of types) (Convert from to a) in
         let slot = source_slot (starts_of types) (Convert from to a) t in
         let o = converted_operand (starts_of types) (Convert from to a) t in
         let inner = expression_code (starts_of types) a p slot t in
         let front = code_unless known inner in
-        let back = conversion_code (starts_of types) to o (p + length front) in
+        let back = conversion_code (starts_of types) from to (span_of a) o (p + length front) in
         append program r b types locals levels globals called results behind front back
-        (unless_in program r b types locals levels globals called results behind known inner p (omega (arith, short, length-append front back)) (λ less. expression_in types locals levels behind a p slot t numbered (source_fits program r b types locals levels globals called results behind from to a t (kind, wide, numbered) room) few less))
-        (conversion_in program r b types locals levels globals called results behind to o (p + length front) (converted_value_in program r b types locals levels globals called results behind (Convert from to a) t (kind, wide, numbered) room) (omega (arith, short, length-append front back)))
+        (unless_in program r b types locals levels globals called results behind known inner p (omega (arith, short, length-append front back)) (λ less. expression_in types locals levels globals behind a p slot t numbered (source_fits program r b types locals levels globals called results behind from to a t (kind, wide, numbered) room) few less))
+        (conversion_in program r b types locals levels globals called results behind from to (span_of a) o (p + length front) (brought_room program r b types locals levels globals called results behind (Convert from to a) t (kind, wide, numbered) room) (omega (arith, short, length-append front back)))
 
     -- the arguments of `putchar`, which all are evaluated with the same temporaries
-    printed_in : (types : Types) (locals : (n : ℕ) → n < b.locals → slot_of (starts_of types) n + words_in types.locals n ≤ r.slots) (levels : (l slot : ℕ) → slice_get types.counters l ≡ Some slot → slot < r.slots) (behind : types.raises + 4 < length r.code) → (cs : Arguments) (p t first before : ℕ) → FitArguments b types cs → t + argument_words cs ≤ r.slots → t ≤ first + before → first + arguments_need cs before ≤ r.slots → p + length (printed_code (starts_of types) cs p t) < length r.code → AreIn program r b types locals levels globals called results behind (printed_code (starts_of types) cs p t)
-    printed_in types locals levels behind NoArguments p t first before numbered room place few short = tt
-    printed_in types locals levels behind (MoreArguments c cs) p t first before (numbered, rest) room place few short =
+    printed_in : (types : Types) (locals : (n : ℕ) → n < b.locals → slot_of (starts_of types) n + words_in types.locals n ≤ r.slots) (levels : (l slot : ℕ) → slice_get types.counters l ≡ Some slot → slot < r.slots) (globals : words_of_all types.globals ≡ length program.globals) (behind : types.raises + 4 < length r.code) → (cs : Arguments) (p t first before : ℕ) → FitArguments b types cs → t + argument_words cs ≤ r.slots → t ≤ first + before → first + arguments_need cs before ≤ r.slots → p + length (printed_code (starts_of types) cs p t) < length r.code → AreIn program r b types locals levels globals called results behind (printed_code (starts_of types) cs p t)
+    printed_in types locals levels globals behind NoArguments p t first before numbered room place few short = tt
+    printed_in types locals levels globals behind (MoreArguments c cs) p t first before (numbered, rest) room place few short =
         let front = converted_operand_code (starts_of types) c p t in
         let back = printed_code (starts_of types) cs (p + length front) t in
-        append program r b types locals levels globals called results behind front back (converted_operand_in types locals levels behind c p t numbered (omega (arith, room)) (omega (arith, few, place)) (omega (arith, short, length-append front back)))
-        (printed_in types locals levels behind cs (p + length front) t first (before + converted_words c) rest (omega (arith, room)) (omega (arith, place)) (omega (arith, few)) (omega (arith, short, length-append front back)))
+        append program r b types locals levels globals called results behind front back (converted_operand_in types locals levels globals behind c p t numbered (omega (arith, room)) (omega (arith, few, place)) (omega (arith, short, length-append front back)))
+        (printed_in types locals levels globals behind cs (p + length front) t first (before + converted_words c) rest (omega (arith, room)) (omega (arith, place)) (omega (arith, few)) (omega (arith, short, length-append front back)))
 
     -- the arguments begin at `first`, and those before have so many words
-    arguments_in : (types : Types) (locals : (n : ℕ) → n < b.locals → slot_of (starts_of types) n + words_in types.locals n ≤ r.slots) (levels : (l slot : ℕ) → slice_get types.counters l ≡ Some slot → slot < r.slots) (behind : types.raises + 4 < length r.code) → (cs : Arguments) (p t first before : ℕ) → FitArguments b types cs → t ≤ first + before → first + (before + argument_words cs) ≤ r.slots → first + arguments_need cs before ≤ r.slots → p + length (arguments_code (starts_of types) cs p t) < length r.code → AreIn program r b types locals levels globals called results behind (arguments_code (starts_of types) cs p t)
-    arguments_in types locals levels behind NoArguments p t first before numbered place few needs short = tt
-    arguments_in types locals levels behind (MoreArguments c cs) p t first before (numbered, rest) place few needs short =
+    arguments_in : (types : Types) (locals : (n : ℕ) → n < b.locals → slot_of (starts_of types) n + words_in types.locals n ≤ r.slots) (levels : (l slot : ℕ) → slice_get types.counters l ≡ Some slot → slot < r.slots) (globals : words_of_all types.globals ≡ length program.globals) (behind : types.raises + 4 < length r.code) → (cs : Arguments) (p t first before : ℕ) → FitArguments b types cs → t ≤ first + before → first + (before + argument_words cs) ≤ r.slots → first + arguments_need cs before ≤ r.slots → p + length (arguments_code (starts_of types) cs p t) < length r.code → AreIn program r b types locals levels globals called results behind (arguments_code (starts_of types) cs p t)
+    arguments_in types locals levels globals behind NoArguments p t first before numbered place few needs short = tt
+    arguments_in types locals levels globals behind (MoreArguments c cs) p t first before (numbered, rest) place few needs short =
         let front = converted_code (starts_of types) c p t in
         let back = arguments_code (starts_of types) cs (p + length front) (t + passed_words c) in
         append program r b types locals levels globals called results behind front back
-        (converted_in types locals levels behind c p t numbered (omega (arith, few, place)) (omega (arith, needs, place)) (omega (arith, short, length-append front back)))
-        (arguments_in types locals levels behind cs (p + length front) (t + passed_words c) first (before + converted_words c) rest (omega (arith, place, passed_is c, converted_least c)) (omega (arith, few)) (omega (arith, needs)) (omega (arith, short, length-append front back)))
+        (converted_in types locals levels globals behind c p t numbered (omega (arith, few, place)) (omega (arith, needs, place)) (omega (arith, short, length-append front back)))
+        (arguments_in types locals levels globals behind cs (p + length front) (t + passed_words c) first (before + converted_words c) rest (omega (arith, place, passed_is c, converted_least c)) (omega (arith, few)) (omega (arith, needs)) (omega (arith, short, length-append front back)))
 
-    operations_in : (types : Types) (locals : (n : ℕ) → n < b.locals → slot_of (starts_of types) n + words_in types.locals n ≤ r.slots) (levels : (l slot : ℕ) → slice_get types.counters l ≡ Some slot → slot < r.slots) (behind : types.raises + 4 < length r.code) → (os : Operations) (ty : Ty) (kind : Kind) (p : ℕ) (l : Operand) (d t left : ℕ) → FitOperations b types left ty os → d + words_of_kind (chain_kind kind os) ≤ r.slots → LeftIn program r b types locals levels globals called results behind os l → IsOperand r l → 1 ≤ left → t + operations_need os ty left ≤ r.slots → p + length (operations_code (starts_of types) os p l d t) < length r.code → AreIn program r b types locals levels globals called results behind (operations_code (starts_of types) os p l d t)
-    operations_in types locals levels behind NoOperations ty kind p l d t left numbered room all inside some few short = tt
-    operations_in types locals levels behind (ThenCompute o a os) ty kind p l d t left (numbered, rest) room all inside some few short =
+    operations_in : (types : Types) (locals : (n : ℕ) → n < b.locals → slot_of (starts_of types) n + words_in types.locals n ≤ r.slots) (levels : (l slot : ℕ) → slice_get types.counters l ≡ Some slot → slot < r.slots) (globals : words_of_all types.globals ≡ length program.globals) (behind : types.raises + 4 < length r.code) → (os : Operations) (ty : Ty) (kind : Kind) (p : ℕ) (l : Operand) (d t left : ℕ) → FitOperations b types left ty os → d + words_of_kind (chain_kind kind os) ≤ r.slots → LeftIn program r b types locals levels globals called results behind os l → IsOperand r l → 1 ≤ left → t + operations_need os ty left ≤ r.slots → p + length (operations_code (starts_of types) os p l d t) < length r.code → AreIn program r b types locals levels globals called results behind (operations_code (starts_of types) os p l d t)
+    operations_in types locals levels globals behind NoOperations ty kind p l d t left numbered room all inside some few short = tt
+    operations_in types locals levels globals behind (ThenCompute o a os) ty kind p l d t left (numbered, rest) room all inside some few short =
         let inner = expression_code (starts_of types) a p (value_slot (starts_of types) a (suc t)) (suc t) in
         let operand = code_unless (operand_of (starts_of types) a) inner in
         let next = next_slot os d t in
@@ -714,10 +892,10 @@ module _ (program : PlainProgram) (r : Routine) (b : Numbering) (globals : b.glo
         let next_few : next < r.slots = omega (arith, next_room) in
         append program r b types locals levels globals called results behind front back
         (append program r b types locals levels globals called results behind operand operator
-        (unless_in program r b types locals levels globals called results behind (operand_of (starts_of types) a) inner p (omega (arith, short, long, long_front)) (λ less. expression_in types locals levels behind a p (value_slot (starts_of types) a (suc t)) (suc t) numbered (slot_fits program r b types locals levels globals called results behind a (suc t) numbered free) (omega (arith, few, some)) less))
+        (unless_in program r b types locals levels globals called results behind (operand_of (starts_of types) a) inner p (omega (arith, short, long, long_front)) (λ less. expression_in types locals levels globals behind a p (value_slot (starts_of types) a (suc t)) (suc t) numbered (slot_fits program r b types locals levels globals called results behind a (suc t) numbered free) (omega (arith, few, some)) less))
         (operator_in program r b types locals levels globals called results behind o l m next next_few inside (value_in program r b types locals levels globals called results behind a (suc t) numbered free)))
-        (operations_in types locals levels behind os ty kinds.Int (p + length front) (operands.Slot next) d t (words_of ty) rest room (next_left_in program r b types locals levels globals called results behind os ty d t (words_of ty) rest (omega (arith, few))) next_few (words_positive ty) (omega (arith, few)) (omega (arith, short, long)))
-    operations_in types locals levels behind (ThenTest o a os) ty kind p l d t left (numbered, rest) room all inside some few short =
+        (operations_in types locals levels globals behind os ty kinds.Int (p + length front) (operands.Slot next) d t (words_of ty) rest room (next_left_in program r b types locals levels globals called results behind os ty d t (words_of ty) rest (omega (arith, few))) next_few (words_positive ty) (omega (arith, few)) (omega (arith, short, long)))
+    operations_in types locals levels globals behind (ThenTest o a os) ty kind p l d t left (numbered, rest) room all inside some few short =
         let operand = expression_code (starts_of types) a (p + 1) t t in
         let next = next_slot os d t in
         let front = test_code o operand p next t in
@@ -728,9 +906,9 @@ module _ (program : PlainProgram) (r : Routine) (b : Numbering) (globals : b.glo
         let next_room = next_in program r b types locals levels globals called results behind os kinds.Int d t room (omega (arith, free)) in
         let next_few : next < r.slots = omega (arith, next_room) in
         append program r b types locals levels globals called results behind front back
-        (test_in program r b types locals levels globals called results behind o operand p next t next_few free (omega (arith, short, long)) (expression_in types locals levels behind a (p + 1) t t numbered (omega (arith, few, free, given_needs program r b types locals levels globals called results behind a numbered)) (omega (arith, few)) (omega (arith, short, long, long_front))))
-        (operations_in types locals levels behind os ty kinds.Int (p + length front) (operands.Slot next) d t (words_of ty) rest room (next_left_in program r b types locals levels globals called results behind os ty d t (words_of ty) rest (omega (arith, few))) next_few (words_positive ty) (omega (arith, few)) (omega (arith, short, long)))
-    operations_in types locals levels behind (ThenPointer o a os) ty kind p l d t left (wide, numbered, rest) room all inside some few short =
+        (test_in program r b types locals levels globals called results behind o operand p next t next_few free (omega (arith, short, long)) (expression_in types locals levels globals behind a (p + 1) t t numbered (omega (arith, few, free, given_needs program r b types locals levels globals called results behind a numbered)) (omega (arith, few)) (omega (arith, short, long, long_front))))
+        (operations_in types locals levels globals behind os ty kinds.Int (p + length front) (operands.Slot next) d t (words_of ty) rest room (next_left_in program r b types locals levels globals called results behind os ty d t (words_of ty) rest (omega (arith, few))) next_few (words_positive ty) (omega (arith, few)) (omega (arith, short, long)))
+    operations_in types locals levels globals behind (ThenPointer o a os) ty kind p l d t left (wide, numbered, rest) room all inside some few short =
         let next = next_slot os d t in
         let m = value_operand (starts_of types) a (behind_left o t) in
         let operand = code_unless (operand_of (starts_of types) a) (expression_code (starts_of types) a p (value_slot (starts_of types) a (behind_left o t)) (behind_left o t)) in
@@ -740,9 +918,9 @@ module _ (program : PlainProgram) (r : Routine) (b : Numbering) (globals : b.glo
         let next_room = next_in program r b types locals levels globals called results behind os (operator_kind o) d t room (omega (arith, few, wide, operator_few program r b types locals levels globals called results behind o)) in
         let next_few : next < r.slots = omega (arith, next_room, kind_positive (operator_kind o)) in
         append program r b types locals levels globals called results behind front back
-        (right_in program r b types locals levels globals called results behind o a ty p l next t left numbered wide next_room all inside (omega (arith, few)) (omega (arith, short, long)) (λ slot fits less. expression_in types locals levels behind a p slot (behind_left o t) numbered fits (omega (arith, few, wide)) less))
-        (operations_in types locals levels behind os ty (operator_kind o) (p + length front) (operands.Slot next) d t (words_of ty) rest room (next_left_in program r b types locals levels globals called results behind os ty d t (words_of ty) rest (omega (arith, few))) next_few (words_positive ty) (omega (arith, few)) (omega (arith, short, long)))
-    operations_in types locals levels behind (ThenPointerPeek n o a os) ty kind p l d t left (wide, numbered, rest) room all inside some few short =
+        (right_in program r b types locals levels globals called results behind o a ty p l next t left numbered wide next_room all inside (omega (arith, few)) (omega (arith, short, long)) (λ slot fits less. expression_in types locals levels globals behind a p slot (behind_left o t) numbered fits (omega (arith, few, wide)) less))
+        (operations_in types locals levels globals behind os ty (operator_kind o) (p + length front) (operands.Slot next) d t (words_of ty) rest room (next_left_in program r b types locals levels globals called results behind os ty d t (words_of ty) rest (omega (arith, few))) next_few (words_positive ty) (omega (arith, few)) (omega (arith, short, long)))
+    operations_in types locals levels globals behind (ThenPointerPeek n o a os) ty kind p l d t left (wide, numbered, rest) room all inside some few short =
         let next = next_slot os d t in
         let m = value_operand (starts_of types) a (behind_left o t) in
         let operand = code_unless (operand_of (starts_of types) a) (expression_code (starts_of types) a p (value_slot (starts_of types) a (behind_left o t)) (behind_left o t)) in
@@ -752,30 +930,31 @@ module _ (program : PlainProgram) (r : Routine) (b : Numbering) (globals : b.glo
         let next_room = next_in program r b types locals levels globals called results behind os (operator_kind o) d t room (omega (arith, few, wide, operator_few program r b types locals levels globals called results behind o)) in
         let next_few : next < r.slots = omega (arith, next_room, kind_positive (operator_kind o)) in
         append program r b types locals levels globals called results behind front back
-        (right_in program r b types locals levels globals called results behind o a ty p l next t left numbered wide next_room all inside (omega (arith, few)) (omega (arith, short, long)) (λ slot fits less. expression_in types locals levels behind a p slot (behind_left o t) numbered fits (omega (arith, few, wide)) less))
-        (operations_in types locals levels behind os ty (operator_kind o) (p + length front) (operands.Slot next) d t (words_of ty) rest room (next_left_in program r b types locals levels globals called results behind os ty d t (words_of ty) rest (omega (arith, few))) next_few (words_positive ty) (omega (arith, few)) (omega (arith, short, long)))
+        (right_in program r b types locals levels globals called results behind o a ty p l next t left numbered wide next_room all inside (omega (arith, few)) (omega (arith, short, long)) (λ slot fits less. expression_in types locals levels globals behind a p slot (behind_left o t) numbered fits (omega (arith, few, wide)) less))
+        (operations_in types locals levels globals behind os ty (operator_kind o) (p + length front) (operands.Slot next) d t (words_of ty) rest room (next_left_in program r b types locals levels globals called results behind os ty d t (words_of ty) rest (omega (arith, few))) next_few (words_positive ty) (omega (arith, few)) (omega (arith, short, long)))
 
-module _ (program : PlainProgram) (r : Routine) (b : Numbering) (types : Types) (locals : (n : ℕ) → n < b.locals → slot_of (starts_of types) n + words_in types.locals n ≤ r.slots) (levels : (l slot : ℕ) → slice_get types.counters l ≡ Some slot → slot < r.slots) (globals : b.globals ≡ length program.globals) (called : (n : ℕ) (s : Signature) → slice_get b.functions n ≡ Some s → IsKnown program n s) (results : r.results ≡ results_of b.result) (behind : types.raises + 4 < length r.code) (no_return : All (λ i. is_return i ≡ false) r.code) where
-  assignment_in : (l : Lvalue) (c : Converted) (p t : ℕ) → FitsStored b types l (passed_kind c) → FitsConverted b types c → t + converted_words c ≤ r.slots → t + converted_need c ≤ r.slots → p + length (assignment_code (starts_of types) l c p t) < length r.code → AreIn program r b types locals levels globals called results behind (assignment_code (starts_of types) l c p t)
-  assignment_in (Local w n) c p t (within, own) numbered free few short = initial_in program r b globals called results types locals levels behind c p (slot_of (starts_of types) n) t numbered (omega (arith, locals n within, own)) free few short
-  assignment_in (Global n) c p t (within, single) numbered free few short =
+module _ (program : PlainProgram) (r : Routine) (b : Numbering) (types : Types) (locals : (n : ℕ) → n < b.locals → slot_of (starts_of types) n + words_in types.locals n ≤ r.slots) (levels : (l slot : ℕ) → slice_get types.counters l ≡ Some slot → slot < r.slots) (globals : words_of_all types.globals ≡ length program.globals) (called : (n : ℕ) (s : Signature) → slice_get b.functions n ≡ Some s → IsKnown program n s) (results : r.results ≡ results_of b.result) (behind : types.raises + 4 < length r.code) (no_return : All (λ i. is_return i ≡ false) r.code) where
+  assignment_in : (l : Lvalue) (c : Converted) (p t : ℕ) → FitsPlace b types l (passed_kind c) → FitsConverted b types c → t + converted_words c ≤ r.slots → t + converted_need c ≤ r.slots → p + length (assignment_code (starts_of types) l c p t) < length r.code → AreIn program r b types locals levels globals called results behind (assignment_code (starts_of types) l c p t)
+  assignment_in (Local w n) c p t (within, own) numbered free few short = initial_in program r b called results types locals levels globals behind c p (slot_of (starts_of types) n) t numbered (omega (arith, locals n within, own)) free few short
+  assignment_in (Global n) c p t within numbered free few short =
       let front = converted_operand_code (starts_of types) c p t in
-      let store = instructions.StoreGlobal n (converted_operand (starts_of types) c t) ∷ [] in
-      append program r b types locals levels globals called results behind front store (converted_operand_in program r b globals called results types locals levels behind c p t numbered free few (omega (arith, short, length-append front store))) ((omega (arith, within, globals), converted_value_in program r b types locals levels globals called results behind c t numbered free), tt)
+      let o = converted_operand (starts_of types) c t in
+      let store = global_code (passed_words c) (global_of (starts_of types) n) o in
+      append program r b types locals levels globals called results behind front store (converted_operand_in program r b called results types locals levels globals behind c p t numbered free few (omega (arith, short, length-append front store))) (assigned_in program r b types locals levels globals called results behind n c o within (converted_room program r b types locals levels globals called results behind c t numbered free))
 
   discarded_in : (a : Expression) (p t : ℕ) → Fits b types a → t + expression_need a + spare_slots ≤ r.slots → p + length (discarded_code (starts_of types) a p t) < length r.code → AreIn program r b types locals levels globals called results behind (discarded_code (starts_of types) a p t)
   discarded_in (Call callees.Putchar cs ty) p t (s, signature, many, passed, result, numbered) few short =
       let front = printed_code (starts_of types) cs p t in
       let back = instructions.WriteByte (printed_operand (starts_of types) cs (operands.Slot t) t) ∷ [] in
-      append program r b types locals levels globals called results behind front back (printed_in program r b globals called results types locals levels behind cs p t t 0 numbered (omega (arith, few)) (omega arith) (omega (arith, few)) (omega (arith, short, length-append front back)))
+      append program r b types locals levels globals called results behind front back (printed_in program r b called results types locals levels globals behind cs p t t 0 numbered (omega (arith, few)) (omega arith) (omega (arith, few)) (omega (arith, short, length-append front back)))
       (printed_value_in program r b types locals levels globals called results behind cs (operands.Slot t) t numbered (omega (arith, few)) (omega (arith, few)), tt)
   discarded_in (Assign l c ty) p t (within, numbered) few short = assignment_in l c p t within numbered (omega (arith, few)) (omega (arith, few)) short
-  discarded_in (Store x c ty) p t (place, single, numbered) few short =
+  discarded_in (Store x c ty) p t (place, numbered) few short =
       stored_in program r b types locals levels globals called results behind x c p t numbered (omega (arith, few)) short
-      (λ less. addressed_in program r b types locals levels globals called results behind x p t t place (omega (arith, few)) (omega (arith, few)) less (λ shorter. place_in program r b globals called results types locals levels behind x place_words p t place (omega arith) (omega (arith, few)) shorter))
-      (λ q less. converted_operand_in program r b globals called results types locals levels behind c q (t + 1) numbered (omega (arith, few)) (omega (arith, few)) less)
+      (λ less. addressed_in program r b types locals levels globals called results behind x p t t place (omega (arith, few)) (omega (arith, few)) less (λ shorter. place_in program r b called results types locals levels globals behind x place_words p t place (omega arith) (omega (arith, few)) shorter))
+      (λ q less. converted_operand_in program r b called results types locals levels globals behind c q (t + 1) numbered (omega (arith, few)) (omega (arith, few)) less)
   discarded_in a p t numbered few short =
-      unless_in program r b types locals levels globals called results behind (operand_of (starts_of types) a) (expression_code (starts_of types) a p t t) p short (λ less. expression_in program r b globals called results types locals levels behind a p t t numbered (omega (arith, few, kind_few (kind_at program r b types locals levels globals called results behind a))) (omega (arith, few)) less)
+      unless_in program r b types locals levels globals called results behind (operand_of (starts_of types) a) (expression_code (starts_of types) a p t t) p short (λ less. expression_in program r b called results types locals levels globals behind a p t t numbered (omega (arith, few, kind_few (kind_at program r b types locals levels globals called results behind a))) (omega (arith, few)) less)
 
   -- ---- statements
 
@@ -789,7 +968,7 @@ module _ (program : PlainProgram) (r : Routine) (b : Numbering) (types : Types) 
       let long = length-append front back in
       append program r b types locals levels globals called results behind front back
       (unless_in program r b types locals levels globals called results behind (left_with (operand_of (starts_of types) c) (operand_of (starts_of types) a)) (expression_code (starts_of types) a p slot t) p (omega (arith, short, long))
-      (λ less. expression_in program r b globals called results types locals levels behind a p slot t numbered (slot_with_in program r b types locals levels globals called results behind (operand_of (starts_of types) c) a t numbered (omega (arith, few, kind_few (kind_at program r b types locals levels globals called results behind a)))) (omega (arith, few)) less))
+      (λ less. expression_in program r b called results types locals levels globals behind a p slot t numbered (slot_with_in program r b types locals levels globals called results behind (operand_of (starts_of types) c) a t numbered (omega (arith, few, kind_few (kind_at program r b types locals levels globals called results behind a)))) (omega (arith, few)) less))
       (second (omega (arith, short, long)))
 
   condition_in : (a : Expression) (p t : ℕ) → Fits b types a → t + expression_need a + spare_slots ≤ r.slots → p + length (condition_code (starts_of types) a p t) < length r.code → AreIn program r b types locals levels globals called results behind (condition_code (starts_of types) a p t)
@@ -804,7 +983,7 @@ module _ (program : PlainProgram) (r : Routine) (b : Numbering) (types : Types) 
           let free : suc t + words_of_kind (kind_at program r b types locals levels globals called results behind c) ≤ r.slots = omega (arith, few, some, operand_positive (type_of c), words_positive ty, kind_few (kind_at program r b types locals levels globals called results behind c)) in
           pair_in a c p t first (omega (arith, few)) short
           (λ less. unless_in program r b types locals levels globals called results behind (operand_of (starts_of types) c) (expression_code (starts_of types) c next (value_slot (starts_of types) c (suc t)) (suc t)) next less
-          (λ fits. expression_in program r b globals called results types locals levels behind c next (value_slot (starts_of types) c (suc t)) (suc t) second (slot_fits program r b types locals levels globals called results behind c (suc t) second free) (omega (arith, few, some)) fits))
+          (λ fits. expression_in program r b called results types locals levels globals behind c next (value_slot (starts_of types) c (suc t)) (suc t) second (slot_fits program r b types locals levels globals called results behind c (suc t) second free) (omega (arith, few, some)) fits))
       by None short = pair_in (Binary a (ThenCompute o c NoOperations) ty) (Number 0) p t (first, (second, none)) few short (λ less. tt)
   condition_in a p t numbered few short = pair_in a (Number 0) p t numbered few short (λ less. tt)
 
@@ -845,92 +1024,112 @@ module _ (program : PlainProgram) (r : Routine) (b : Numbering) (types : Types) 
       let s = slot_or known t in
       let inner = expression_code (starts_of types) a p t t in
       let front = code_unless_slot known inner in
-      let conversion = conversion_code (starts_of types) to (operands.Slot s) (p + length front) in
+      let conversion = conversion_code (starts_of types) from to (span_of a) (operands.Slot s) (p + length front) in
       let leave = leave_code exits.first_record t in
       let back = instructions.Finish s ∷ [] in
       let long : length (((front ++ conversion) ++ leave) ++ back) ≡ length (front ++ conversion) + length leave + 1
       = length-append ((front ++ conversion) ++ leave) back ∙ ap (λ (n : ℕ). n + 1) (length-append (front ++ conversion) leave) in
       let long_front = length-append front conversion in
       let (words, kind, is) = value_of b.result numbered in
-      let there : s + words_of_kind to ≤ r.slots = returned_in (are_as_wide from to) kind is refl in
+      let there : s + converted_words c ≤ r.slots = returned_in (are_as_wide from to) kind is refl in
       append program r b types locals levels globals called results behind ((front ++ conversion) ++ leave) back
       (append program r b types locals levels globals called results behind (front ++ conversion) leave
-      (append program r b types locals levels globals called results behind front conversion (unless_slot_in program r b types locals levels globals called results behind known inner p (omega (arith, short, long, long_front)) (λ less. expression_in program r b globals called results types locals levels behind a p t t is (omega (arith, few, kind_few (kind_at program r b types locals levels globals called results behind a))) (omega (arith, few)) less))
-      (conversion_in program r b types locals levels globals called results behind to (operands.Slot s) (p + length front) (omega (arith, there, kind_positive to)) (omega (arith, short, long, long_front))))
+      (append program r b types locals levels globals called results behind front conversion (unless_slot_in program r b types locals levels globals called results behind known inner p (omega (arith, short, long, long_front)) (λ less. expression_in program r b called results types locals levels globals behind a p t t is (omega (arith, few, kind_few (kind_at program r b types locals levels globals called results behind a))) (omega (arith, few)) less))
+      (conversion_in program r b types locals levels globals called results behind from to (span_of a) (operands.Slot s) (p + length front) there (omega (arith, short, long, long_front))))
       (leave_in exits.first_record t outside.1)) (omega (arith, there, results, words), tt)
     where
       value_of : (result : Option Ty) → FitsReturn b types result (Some (Convert from to a)) → (results_of result ≡ words_of_kind to) × (from ≡ kind_at program r b types locals levels globals called results behind a) × Fits b types a
       value_of None numbered = absurd numbered
       value_of (Some ty) (same, (kind, wide, numbered)) = (sym (type_words ty) ∙ ap words_of_kind (sym same), kind, numbered)
 
-      slot_there : (known : Option Operand) → HasOperand program r b types locals levels globals called results behind (operand_or known t) (words_of_kind to) → slot_or known t + words_of_kind to ≤ r.slots
+      slot_there : (known : Option Operand) → HasOperand program r b types locals levels globals called results behind (operand_or known t) (converted_words (Convert from to a)) → slot_or known t + converted_words (Convert from to a) ≤ r.slots
       slot_there (Some (operands.Slot n)) inside = inside
-      slot_there (Some (operands.Word w)) inside = omega (arith, few, kind_few to)
+      slot_there (Some (operands.Word w)) inside = omega (arith, few, kind_few from, kind_few to)
       slot_there None inside = inside
 
-      wide_room : from ≡ kind_at program r b types locals levels globals called results behind a → Fits b types a → (words_of_kind from ≡ words_of_kind to) → (known : Option Operand) → operand_of (starts_of types) a ≡ known → slot_or known t + words_of_kind to ≤ r.slots
+      wide_room : from ≡ kind_at program r b types locals levels globals called results behind a → Fits b types a → (words_of_kind from ≡ words_of_kind to) → (known : Option Operand) → operand_of (starts_of types) a ≡ known → slot_or known t + converted_words (Convert from to a) ≤ r.slots
       wide_room kind is wide (Some o) there =
           slot_there (Some o)
-          (subst (HasOperand program r b types locals levels globals called results behind o) (ap words_of_kind (sym kind) ∙ wide)
+          (subst (HasOperand program r b types locals levels globals called results behind o) (let same : words_of_kind (kind_at program r b types locals levels globals called results behind a) ≡ converted_words (Convert from to a) = omega (arith, ap words_of_kind kind, wide) in same)
           (subst (λ (x : Option Operand). HasOperand program r b types locals levels globals called results behind (operand_or x (value_slot (starts_of types) a t)) (words_of_kind (kind_at program r b types locals levels globals called results behind a))) there (value_room program r b types locals levels globals called results behind a t is (omega (arith, few, kind_few (kind_at program r b types locals levels globals called results behind a))))))
-      wide_room kind is wide None there = omega (arith, few, kind_few to)
+      wide_room kind is wide None there = omega (arith, few, kind_few from, kind_few to)
 
-      returned_in : (same : Bool) → from ≡ kind_at program r b types locals levels globals called results behind a → Fits b types a → are_as_wide from to ≡ same → slot_or (if same then operand_of (starts_of types) a else None) t + words_of_kind to ≤ r.slots
+      null_slot : (x : Expression) → slot_or (null_of x) t ≡ t
+      null_slot NullPointer = refl
+      null_slot x = refl
+
+      returned_in : (same : Bool) → from ≡ kind_at program r b types locals levels globals called results behind a → Fits b types a → are_as_wide from to ≡ same → slot_or (if same then operand_of (starts_of types) a else null_of a) t + converted_words (Convert from to a) ≤ r.slots
       returned_in true kind is wide = wide_room kind is (eqb-true (words_of_kind from) (words_of_kind to) wide) (operand_of (starts_of types) a) refl
-      returned_in false kind is wide = omega (arith, few, kind_few to)
+      returned_in false kind is wide = omega (arith, few, kind_few from, kind_few to, null_slot a)
 
   declaration_in : (n : ℕ) (v : Option Converted) (p t : ℕ) → n < b.locals → FitsInitial b types n v → t + initial_need v + spare_slots ≤ r.slots → p + length (declaration_code (starts_of types) n v p t) < length r.code → AreIn program r b types locals levels globals called results behind (declaration_code (starts_of types) n v p t)
   declaration_in n None p t within numbered few short = tt
   declaration_in n (Some c) p t within (own, numbered) few short =
-      initial_in program r b globals called results types locals levels behind c p (slot_of (starts_of types) n) t numbered (omega (arith, locals n within, own)) (omega (arith, few, converted_few c)) (omega (arith, few)) short
+      initial_in program r b called results types locals levels globals behind c p (slot_of (starts_of types) n) t numbered (omega (arith, locals n within, own)) (omega (arith, few, converted_few c)) (omega (arith, few)) short
 
   -- ---- swaps
 
   side_in : (a : Side) (kind : Kind) (p t : ℕ) → FitsSide b types a kind → t < r.slots → t + side_need a ≤ r.slots → p + length (side_code (starts_of types) a p t) < length r.code → AreIn program r b types locals levels globals called results behind (side_code (starts_of types) a p t)
   side_in (VariableSide l ty) kind p t numbered room few short = tt
-  side_in (CellSide x) kind p t numbered room few short = addressed_in program r b types locals levels globals called results behind x p t t numbered room few short (λ less. place_in program r b globals called results types locals levels behind x place_words p t numbered (omega arith) few less)
+  side_in (CellSide x) kind p t numbered room few short = addressed_in program r b types locals levels globals called results behind x p t t numbered room few short (λ less. place_in program r b called results types locals levels globals behind x place_words p t numbered (omega arith) few less)
 
-  read_in : (a : Side) (kind : Kind) (s d : ℕ) → FitsSide b types a kind → s < r.slots → d < r.slots → IsInRange program r (read_side (starts_of types) a s d)
-  read_in (VariableSide (Local w n) ty) kind s d (within, own) low room = (room, omega (arith, locals n within, own, kind_positive kind))
-  read_in (VariableSide (Global n) ty) kind s d within low room = (room, omega (arith, within, globals))
-  read_in (CellSide x) kind s d numbered low room = (room, low)
+  reads_in : (many address index slot : ℕ) → address < r.slots → slot + many ≤ r.slots → AreIn program r b types locals levels globals called results behind (word_by_word (load_at address) many index slot)
+  reads_in zero address index slot low few = tt
+  reads_in (suc many) address index slot low few = ((omega (arith, few), low), reads_in many address (suc index) (suc slot) low (omega (arith, few)))
 
-  write_in : (a : Side) (kind : Kind) (s v : ℕ) → FitsSide b types a kind → s < r.slots → v < r.slots → IsInRange program r (write_side (starts_of types) a s v)
-  write_in (VariableSide (Local w n) ty) kind s v (within, own) low room = (omega (arith, locals n within, own, kind_positive kind), room)
-  write_in (VariableSide (Global n) ty) kind s v within low room = (omega (arith, within, globals), room)
-  write_in (CellSide x) kind s v numbered low room = (low, room)
+  read_in : (a : Side) (kind : Kind) (s d : ℕ) → FitsSide b types a kind → s < r.slots → d + words_of_kind kind ≤ r.slots → AreIn program r b types locals levels globals called results behind (read_side (starts_of types) a (words_of_kind kind) s d)
+  read_in (VariableSide (Local w n) ty) kind s d (within, own) low room =
+      (move_in program r b types locals levels globals called results behind kind d (operands.Slot (slot_of (starts_of types) n)) room (omega (arith, locals n within, own)), tt)
+  read_in (VariableSide (Global n) ty) kind s d within low room =
+      loads_in program r b types locals levels globals called results behind (words_of_kind kind) (global_of (starts_of types) n) d (omega (arith, within, global-room types n (global-inside types n kind within), globals)) room
+  read_in (CellSide x) kind s d numbered low room = reads_in (words_of_kind kind) s 0 d low room
+
+  write_in : (a : Side) (kind : Kind) (s v : ℕ) → FitsSide b types a kind → s < r.slots → v + words_of_kind kind ≤ r.slots → AreIn program r b types locals levels globals called results behind (write_side (starts_of types) a (words_of_kind kind) s v)
+  write_in (VariableSide (Local w n) ty) kind s v (within, own) low room =
+      (move_in program r b types locals levels globals called results behind kind (slot_of (starts_of types) n) (operands.Slot v) (omega (arith, locals n within, own)) room, tt)
+  write_in (VariableSide (Global n) ty) kind s v within low room =
+      global_in program r b types locals levels globals called results behind (words_of_kind kind) (global_of (starts_of types) n) (operands.Slot v) (kind_positive kind) (omega (arith, within, global-room types n (global-inside types n kind within), globals)) room
+  write_in (CellSide x) kind s v numbered low room = stores_in program r b types locals levels globals called results behind (words_of_kind kind) s 0 v low room
 
   right_near : (a : Side) (t : ℕ) → right_slot a t ≤ t + 1
   right_near (VariableSide l ty) t = omega arith
   right_near (CellSide x) t = omega arith
 
-  swap_in : (x y : Side) (kind : Kind) (p t : ℕ) → FitsSide b types x kind → FitsSide b types y kind → t + statement_need (Swap x y) ≤ r.slots → p + length (swap_code (starts_of types) x y p t) < length r.code → AreIn program r b types locals levels globals called results behind (swap_code (starts_of types) x y p t)
-  swap_in x y kind p t fits_x fits_y few short =
+  exchange_in : (x y : Side) (kind : Kind) (t : ℕ) → FitsSide b types x kind → FitsSide b types y kind → t + 8 ≤ r.slots → AreIn program r b types locals levels globals called results behind (exchange_code (starts_of types) (words_of_kind kind) x y t)
+  exchange_in x y kind t fits_x fits_y room =
+      let words = words_of_kind kind in
+      let few = kind_few kind in
+      let near = right_near x t in
+      let first = read_side (starts_of types) x words t (t + 2) in
+      let second = read_side (starts_of types) y words (right_slot x t) (t + 2 + words) in
+      let third = write_side (starts_of types) x words t (t + 2 + words) in
+      let fourth = write_side (starts_of types) y words (right_slot x t) (t + 2) in
+      append program r b types locals levels globals called results behind first (second ++ (third ++ fourth)) (read_in x kind t (t + 2) fits_x (omega (arith, room)) (omega (arith, room, few)))
+      (append program r b types locals levels globals called results behind second (third ++ fourth) (read_in y kind (right_slot x t) (t + 2 + words) fits_y (omega (arith, room, near)) (omega (arith, room, few)))
+      (append program r b types locals levels globals called results behind third fourth (write_in x kind t (t + 2 + words) fits_x (omega (arith, room)) (omega (arith, room, few)))
+      (write_in y kind (right_slot x t) (t + 2) fits_y (omega (arith, room, near)) (omega (arith, room, few)))))
+
+  swap_in : (x y : Side) (p t : ℕ) → FitsSide b types x (kind_of (type_of_side x)) → FitsSide b types y (kind_of (type_of_side x)) → t + statement_need (Swap x y) + spare_slots ≤ r.slots → p + length (swap_code (starts_of types) x y p t) < length r.code → AreIn program r b types locals levels globals called results behind (swap_code (starts_of types) x y p t)
+  swap_in x y p t fits_x fits_y few short =
+      let kind = kind_of (type_of_side x) in
+      let words = words_of (type_of_side x) in
       let front = side_code (starts_of types) x p t in
       let middle = side_code (starts_of types) y (p + length front) (right_slot x t) in
-      let back = exchange_code (starts_of types) x y t in
+      let back = exchange_code (starts_of types) words x y t in
       let slot = right_near x t in
       let long = length-append front (middle ++ back) in
       let long_rest = length-append middle back in
-      let room : t + 4 ≤ r.slots = omega (arith, few) in
+      let room : t + 8 ≤ r.slots = omega (arith, few) in
       append program r b types locals levels globals called results behind front (middle ++ back) (side_in x kind p t fits_x (omega (arith, room)) (omega (arith, few)) (omega (arith, short, long)))
-      (append program r b types locals levels globals called results behind middle back (side_in y kind (p + length front) (right_slot x t) fits_y (omega (arith, room, slot)) (omega (arith, few, slot)) (omega (arith, short, long, long_rest))) (
-        read_in x kind t (t + 2) fits_x (omega (arith, room)) (omega (arith, room)),
-        (
-          read_in y kind (right_slot x t) (t + 3) fits_y (omega (arith, room, slot)) (omega (arith, room)),
-          (
-            write_in x kind t (t + 3) fits_x (omega (arith, room)) (omega (arith, room)),
-            (write_in y kind (right_slot x t) (t + 2) fits_y (omega (arith, room, slot)) (omega (arith, room)), tt),
-          ),
-        ),
-      ))
+      (append program r b types locals levels globals called results behind middle back (side_in y kind (p + length front) (right_slot x t) fits_y (omega (arith, room, slot)) (omega (arith, few, slot)) (omega (arith, short, long, long_rest)))
+      (subst (λ n. AreIn program r b types locals levels globals called results behind (exchange_code (starts_of types) n x y t)) (type_words (type_of_side x)) (exchange_in x y kind t fits_x fits_y room)))
 
   thrown_in : (v : Option Expression) (p t : ℕ) → FitsThrown b types v → t + thrown_need v + spare_slots ≤ r.slots → p + length (thrown_code (starts_of types) v p t) < length r.code → AreIn program r b types locals levels globals called results behind (thrown_code (starts_of types) v p t)
   thrown_in None p t numbered few short = tt
   thrown_in (Some a) p t numbered few short =
       let slot = value_slot (starts_of types) a t in
       unless_in program r b types locals levels globals called results behind (operand_of (starts_of types) a) (expression_code (starts_of types) a p slot t) p short
-      (λ less. expression_in program r b globals called results types locals levels behind a p slot t numbered (slot_fits program r b types locals levels globals called results behind a t numbered (omega (arith, few, kind_few (kind_at program r b types locals levels globals called results behind a)))) (omega (arith, few)) less)
+      (λ less. expression_in program r b called results types locals levels globals behind a p slot t numbered (slot_fits program r b types locals levels globals called results behind a t numbered (omega (arith, few, kind_few (kind_at program r b types locals levels globals called results behind a)))) (omega (arith, few)) less)
 
   thrown_there : (v : Option Expression) (t : ℕ) → FitsThrown b types v → t + thrown_need v + spare_slots ≤ r.slots → IsOperand r (thrown_operand (starts_of types) v t)
   thrown_there None t numbered few = tt
@@ -950,7 +1149,7 @@ module _ (program : PlainProgram) (r : Routine) (b : Numbering) (types : Types) 
     statement_in (Block n js) in_loop p exits t numbered around outside few short = items_in js in_loop p exits t numbered around outside few short
     statement_in Empty in_loop p exits t numbered around outside few short = tt
     statement_in (Evaluate a) in_loop p exits t numbered around outside few short = discarded_in a p t numbered (omega (arith, few)) short
-    statement_in (Swap x y) in_loop p exits t (single, fits_x, fits_y, waits) around outside few short = swap_in x y (kind_of (type_of_side x)) p t fits_x fits_y (omega (arith, few)) short
+    statement_in (Swap x y) in_loop p exits t (fits_x, fits_y) around outside few short = swap_in x y p t fits_x fits_y (omega (arith, few)) short
     statement_in (If a s u) in_loop p exits t (numbered_a, numbered_s, numbered_u) around outside few short =
         let condition = condition_code (starts_of types) a p t in
         let m = p + length condition in
@@ -1046,38 +1245,38 @@ module _ (program : PlainProgram) (r : Routine) (b : Numbering) (types : Types) 
 
 -- ---- functions
 
-signatures_known : (structs : List StructType) (hs : List Function) (n : ℕ) (s : Signature) → slice_get (signatures_of hs) n ≡ Some s
-    → (n < length (map (lower_function structs) hs))
-    × ((slice_index_or (map (lower_function structs) hs) n no_routine).parameters ≡ words_of_all s.parameters)
-    × ((slice_index_or (map (lower_function structs) hs) n no_routine).results ≡ results_of s.result)
-signatures_known structs [] n s there = absurd (none-some s there)
-signatures_known structs (h ∷ hs) zero s there =
+signatures_known : (structs : List StructType) (globals : List ℕ) (hs : List Function) (n : ℕ) (s : Signature) → slice_get (signatures_of hs) n ≡ Some s
+    → (n < length (map (lower_function structs globals) hs))
+    × ((slice_index_or (map (lower_function structs globals) hs) n no_routine).parameters ≡ words_of_all s.parameters)
+    × ((slice_index_or (map (lower_function structs globals) hs) n no_routine).results ≡ results_of s.result)
+signatures_known structs globals [] n s there = absurd (none-some s there)
+signatures_known structs globals (h ∷ hs) zero s there =
     let same : signature_of h ≡ s = same_Some (signature_of h) s there in
     (omega arith, ap (λ (x : Signature). words_of_all x.parameters) same, ap (λ (x : Signature). results_of x.result) same)
-signatures_known structs (h ∷ hs) (suc n) s there =
-    let (few, parameters, results) = signatures_known structs hs n s there in (omega (arith, few), parameters, results)
+signatures_known structs globals (h ∷ hs) (suc n) s there =
+    let (few, parameters, results) = signatures_known structs globals hs n s there in (omega (arith, few), parameters, results)
 
-pub globals_counted : (gs : List GlobalVariable) → length gs ≡ length (map lower_global gs)
+pub globals_counted : (gs : List GlobalVariable) → words_of_all (global_types gs) ≡ length (lower_globals gs)
 globals_counted [] = refl
-globals_counted (g ∷ gs) = ap suc (globals_counted gs)
+globals_counted (g ∷ gs) = omega (arith, length-append (lower_global g) (lower_globals gs), length-replicate {A = ℕ} (words_of g.of_type - 1) 0, words_positive g.of_type, globals_counted gs)
 
 module _ (source : Program) (is_fitting : IsFitting source) where
   known_functions : (n : ℕ) (s : Signature) → slice_get (signatures_of source.functions) n ≡ Some s → IsKnown (lower_program source) n s
   known_functions n s there =
-      let (few, parameters, results) = signatures_known source.structs source.functions n s there in
+      let (few, parameters, results) = signatures_known source.structs (globals_of source) source.functions n s there in
       record { there = few; parameters = parameters; results = results }
 
-  function_well : (h : Function) → AreOfWordsItems h.body → FitItems (numbering_of (length source.globals) (signatures_of source.functions) h) (types_of source.structs h) false h.body → IsRoutine (lower_program source) (lower_function source.structs h)
+  function_well : (h : Function) → AreOfWordsItems h.body → FitItems (numbering_of (length source.globals) (signatures_of source.functions) h) (types_of source.structs (global_types source.globals) h) false h.body → IsRoutine (lower_program source) (lower_function source.structs (globals_of source) h)
   function_well h words numbered_body =
       let d = first_temporary h in
-      let r = lower_function source.structs h in
+      let r = lower_function source.structs (globals_of source) h in
       let b = numbering_of (length source.globals) (signatures_of source.functions) h in
-      let types = types_of source.structs h in
+      let types = types_of source.structs (global_types source.globals) h in
       let starts = starts_of types in
       let body = items_code starts h.body 0 (outside_loops d) d in
       let end = instructions.Finish d ∷ blocks in
       let long = length-append body end in
-      let placed = body_long source.structs h in
+      let placed = body_long source.structs (globals_of source) h in
       let none : (first : ℕ) → first ≡ d → (first ≤ d) × ((first == d) ≡ false → first + RECORD_WORDS ≤ r.slots)
       = λ first is. (omega (arith, is), λ other. absurd (let f : true ≡ false = sym (eq-eqb first d is) ∙ other in cc)) in
       record {
@@ -1086,21 +1285,21 @@ module _ (source : Program) (is_fitting : IsFitting source) where
         frame = omega (arith, slots-few h);
         instructions = all_of (IsInRange (lower_program source) r) (body ++ end)
             (all_append (IsInRange (lower_program source) r) body end
-            (items_in (lower_program source) r b types (λ n within. omega (arith, slot-room types n (omega (arith, within, slot_types-many h)))) (λ l slot there. absurd (none-some slot there)) (globals_counted source.globals) known_functions refl (omega (arith, long, placed)) (no_return source.structs h words)
+            (items_in (lower_program source) r b types (λ n within. omega (arith, slot-room types n (omega (arith, within, slot_types-many h)))) (λ l slot there. absurd (none-some slot there)) (globals_counted source.globals) known_functions refl (omega (arith, long, placed)) (no_return source.structs (globals_of source) h words)
             h.body false 0 (outside_loops d) d numbered_body (λ inside. absurd (let f : false ≡ true = inside in cc)) (none d refl, none d refl) (omega arith) (omega (arith, long)))
             (omega (arith, results_few h.result), ((tt, tt), ((tt, tt), ((tt, tt), ((tt, tt), tt))))));
         last = subst (λ (o : Option Instruction). IsSomeAnd o (λ i. leaves i ≡ true)) (sym (last_behind body end (omega arith))) refl;
       }
 
-  functions_well : (hs : List Function) → AreOfWordsFunctions hs → AreFitting source.structs (length source.globals) (signatures_of source.functions) hs → AllByRecursion (IsRoutine (lower_program source)) (map (lower_function source.structs) hs)
+  functions_well : (hs : List Function) → AreOfWordsFunctions hs → AreFitting source.structs source.globals (signatures_of source.functions) hs → AllByRecursion (IsRoutine (lower_program source)) (map (lower_function source.structs (globals_of source)) hs)
   functions_well [] words numbered_all = tt
   functions_well (h ∷ hs) (own, others) (first, rest) = (function_well h own first, functions_well hs others rest)
 
-  pub well_formed : IsOfWordsProgram source → length source.globals ≤ MOST_GLOBALS → IsWellFormed (lower_program source)
+  pub well_formed : IsOfWordsProgram source → words_of_all (global_types source.globals) ≤ MOST_GLOBALS → IsWellFormed (lower_program source)
   well_formed words few =
       let main = known_functions source.main _ is_fitting.main in
       record {
-        functions = all_of (IsRoutine (lower_program source)) (map (lower_function source.structs) source.functions) (functions_well source.functions words.functions is_fitting.functions);
+        functions = all_of (IsRoutine (lower_program source)) (map (lower_function source.structs (globals_of source)) source.functions) (functions_well source.functions words.functions is_fitting.functions);
         main = main.there;
         main_parameters = main.parameters;
         main_results = main.results;

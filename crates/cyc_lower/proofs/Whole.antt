@@ -1,5 +1,5 @@
 -- Each run of the plain program is one of the source.
-use Rattle.std.proofs.Common.{◌≡◌, ℕ, zero, suc, ◌≤◌, ◌<◌, Bool, true, false, List, [], ◌∷◌, length, map, Option, None, Some, slice_get, slice_index, refl, sym, ap, subst, ◌∙◌, arith, inl, inr}
+use Rattle.std.proofs.Common.{◌≡◌, ℕ, zero, suc, ◌≤◌, ◌<◌, Bool, true, false, List, [], ◌∷◌, length, map, Option, None, Some, slice_get, slice_index, refl, sym, ap, subst, ◌∙◌, arith, inl, inr, ◌+◌, ◌-◌}
 use Rattle.std.specs.Prelude.{◌==◌, if◌then◌else◌}
 use Rattle.std.proofs.lemmas.Bool.{le-leb, and_from}
 use Rattle.std.proofs.lemmas.Option.{same_Some, none-some}
@@ -7,7 +7,7 @@ use Rattle.cyc_words.specs.Ending.{Full}
 use Rattle.cyc_types.specs.TypedTrees.{Constant, GlobalVariable, Function, Program}
 use Rattle.cyc_syntax.specs.declared.tree.PointerKind.TheVariants as marks
 use Rattle.cyc_types.specs.declared.typed.Kind.TheVariants as kinds
-use Rattle.cyc_types.specs.Types.{Ty}
+use Rattle.cyc_types.specs.Types.{Ty, words_of}
 use Rattle.cyc_types.specs.Types as types
 use Rattle.cyc_types.specs.typing.WellTyped.{IsWellTypedGlobal, AreWellTypedGlobals}
 use Rattle.cyc_words.specs.Simulation as simulation
@@ -25,19 +25,19 @@ use Rattle.cyc_plain.specs.WellFormed.{HasWords}
 use Rattle.cyc_store.specs.State as stores
 use Rattle.std.specs.List.{AllByRecursion}
 use Rattle.cyc_words.proofs.Simulation.{simulates}
-use Rattle.cyc_meaning.specs.Values.{Int, Null, Operand as Kinded, kind_of}
+use Rattle.cyc_meaning.specs.Values.{Int, Null, Operand as Kinded, kind_of, words_of_kind}
 use Rattle.cyc_meaning.specs.State.{World, Environment, no_locals, constant_value, global_object, first_world, Entry, Main, Focus, Evaluating, Locating, Given, GivenPlace, Executing, Proceeding, Calling, Entering, Binding, Writing, Beginning, Repeating, Breaking, Continuing, Returning, Throwing, State, Running, Ended, Dead, Wrong, output_of, input_of, status_of, Swapping, Naming, Catching}
 use Rattle.cyc_meaning.specs.Step.{wrong, called, step}
 use Rattle.cyc_meaning.specs.Run.{start, is_within, limited_step}
-use Rattle.cyc_lower.specs.Lowering.{initial_word, lower_global, lower_program}
+use Rattle.cyc_lower.specs.Lowering.{initial_word, lower_global, lower_program, lower_globals}
 use Rattle.cyc_lower.specs.Lowered.{FollowsSource}
 use Rattle.cyc_meaning.specs.SourceMachine.{status_in}
 use Rattle.cyc_objects.specs.Tables.{Variable, Tables, first_tables}
 use Rattle.cyc_objects.specs.Related as objects
 use Rattle.cyc_objects.proofs.Start.{start-related}
-use Rattle.cyc_lower.proofs.Relation.{IsWord, silent, contents, Related, Matches}
+use Rattle.cyc_lower.proofs.Relation.{IsWord, silent, contents, Related, Matches, types_at, starts_at}
 use Rattle.cyc_lower.proofs.Fitting.{IsFitting}
-use Rattle.cyc_lower.proofs.Data.{no_locals_hold}
+use Rattle.cyc_lower.proofs.Data.{no_locals_hold, IsWord-is}
 use Rattle.cyc_lower.proofs.Accesses.{IsWell}
 use Rattle.cyc_lower.proofs.Matched.{IsMatched, above, below, matching}
 use Rattle.cyc_lower.proofs.Evaluations.{evaluating, locating}
@@ -51,42 +51,59 @@ use Rattle.cyc_lower.proofs.StatementSteps.{executing, proceeding, breaking, con
 use Rattle.cyc_lower.proofs.ExceptionSteps.{naming, throwing, catching}
 use Rattle.cyc_lower.proofs.Calls.{FunctionsStand, calling, entering, binding, entered}
 use Rattle.cyc_lower.proofs.Bridge.{functions_stand}
+use Rattle.cyc_lower.specs.Slots.{slot_in, global_of, global_types}
+use Rattle.cyc_lower.proofs.Widths.{words_in, type_words}
+use Rattle.cyc_lower.proofs.Slots.{words_positive, globals-are}
+use Rattle.std.proofs.lemmas.List.{length-replicate, get_or-append_right}
 
 -- ---- the globals at the start
 
-globals_start : (t : Tables) (gs : List GlobalVariable) (number : ℕ) (v : Kinded) → AreWellTypedGlobals gs → contents (map global_object gs) number ≡ Some v → IsWord t v.kind v.value (slice_index (map lower_global gs) number)
+-- the word with which a global begins tells its value
+initial_is : (t : Tables) (g : GlobalVariable) (v : Kinded) (constant : Constant) (u : Ty) → IsWellTypedGlobal (record { name = g.name; of_type = u; value = constant }) → Some (record { kind = kind_of u; value = constant_value constant }) ≡ Some v
+    → IsWord t v.kind v.value (initial_word constant)
+initial_is t g v constant u (inl (int, (n, word))) e =
+    let v_is : record { kind = kinds.Int; value = Int n } ≡ v
+    = sym (ap (λ (z : Ty). let x : Kinded = record { kind = kind_of z; value = Int n } in x) int) ∙ sym (ap (λ (c : Constant). let x : Kinded = record { kind = kind_of u; value = constant_value c } in x) word)
+    ∙ same_Some (record { kind = kind_of u; value = constant_value constant }) v e in
+    subst (λ (x : Kinded). IsWord t x.kind x.value (initial_word constant)) v_is (ap initial_word word)
+initial_is t g v constant (types.Pointer marks.Nullable y r) (inr (k, u, s, is, non_null, null)) e =
+    let v_is : record { kind = kinds.Nullable; value = Null } ≡ v
+    = sym (ap (λ (c : Constant). let x : Kinded = record { kind = kinds.Nullable; value = constant_value c } in x) null) ∙ same_Some (record { kind = kinds.Nullable; value = constant_value constant }) v e in
+    subst (λ (x : Kinded). IsWord t x.kind x.value (initial_word constant)) v_is (ap initial_word null)
+initial_is t g v constant (types.Pointer marks.Fat y r) (inr (k, u, s, is, non_null, null)) e =
+    let v_is : record { kind = kinds.Fat; value = Null } ≡ v
+    = sym (ap (λ (c : Constant). let x : Kinded = record { kind = kinds.Fat; value = constant_value c } in x) null) ∙ same_Some (record { kind = kinds.Fat; value = constant_value constant }) v e in
+    subst (λ (x : Kinded). IsWord t x.kind x.value (initial_word constant)) v_is (ap initial_word null)
+initial_is t g v constant (types.Pointer marks.NonNull y r) (inr (k, u, s, is, non_null, null)) e = absurd (let f : true ≡ false = non_null in cc)
+initial_is t g v constant types.Int (inr (k, u, s, is, non_null, null)) e = absurd (let f : types.Int ≡ types.Pointer k u s = is in cc)
+initial_is t g v constant (types.Handle r) (inr (k, u, s, is, non_null, null)) e = absurd (let f : types.Handle r ≡ types.Pointer k u s = is in cc)
+initial_is t g v constant (types.Key r) (inr (k, u, s, is, non_null, null)) e = absurd (let f : types.Key r ≡ types.Pointer k u s = is in cc)
+initial_is t g v constant (types.Struct n rs) (inr (k, u, s, is, non_null, null)) e = absurd (let f : types.Struct n rs ≡ types.Pointer k u s = is in cc)
+
+-- so the words of each, which stand behind those of the globals before it, are what it begins with
+globals_start : (t : Tables) (gs : List GlobalVariable) (number : ℕ) (v : Kinded) → AreWellTypedGlobals gs → contents (map global_object gs) number ≡ Some v
+    → IsWord t v.kind v.value (slice_index (lower_globals gs) (slot_in (global_types gs) number)) × (words_of_kind v.kind ≤ words_in (global_types gs) number)
 globals_start t [] number v well has = absurd (none-some v has)
-globals_start t (g ∷ gs) zero v (well, rest) has = first g.value g.of_type well has
-  where
-    first : (constant : Constant) (u : Ty) → IsWellTypedGlobal (record { name = g.name; of_type = u; value = constant }) → Some (record { kind = kind_of u; value = constant_value constant }) ≡ Some v
-        → IsWord t v.kind v.value (initial_word constant)
-    first constant u (inl (int, (n, word))) e =
-        let v_is : record { kind = kinds.Int; value = Int n } ≡ v
-        = sym (ap (λ (z : Ty). let x : Kinded = record { kind = kind_of z; value = Int n } in x) int) ∙ sym (ap (λ (c : Constant). let x : Kinded = record { kind = kind_of u; value = constant_value c } in x) word)
-        ∙ same_Some (record { kind = kind_of u; value = constant_value constant }) v e in
-        subst (λ (x : Kinded). IsWord t x.kind x.value (initial_word constant)) v_is (ap initial_word word)
-    first constant (types.Pointer marks.Nullable y r) (inr (k, u, s, is, non_null, null)) e =
-        let v_is : record { kind = kinds.Nullable; value = Null } ≡ v
-        = sym (ap (λ (c : Constant). let x : Kinded = record { kind = kinds.Nullable; value = constant_value c } in x) null) ∙ same_Some (record { kind = kinds.Nullable; value = constant_value constant }) v e in
-        subst (λ (x : Kinded). IsWord t x.kind x.value (initial_word constant)) v_is (ap initial_word null)
-    first constant (types.Pointer marks.Fat y r) (inr (k, u, s, is, non_null, null)) e =
-        let v_is : record { kind = kinds.Fat; value = Null } ≡ v
-        = sym (ap (λ (c : Constant). let x : Kinded = record { kind = kinds.Fat; value = constant_value c } in x) null) ∙ same_Some (record { kind = kinds.Fat; value = constant_value constant }) v e in
-        subst (λ (x : Kinded). IsWord t x.kind x.value (initial_word constant)) v_is (ap initial_word null)
-    first constant (types.Pointer marks.NonNull y r) (inr (k, u, s, is, non_null, null)) e = absurd (let f : true ≡ false = non_null in cc)
-    first constant types.Int (inr (k, u, s, is, non_null, null)) e = absurd (let f : types.Int ≡ types.Pointer k u s = is in cc)
-    first constant (types.Handle r) (inr (k, u, s, is, non_null, null)) e = absurd (let f : types.Handle r ≡ types.Pointer k u s = is in cc)
-    first constant (types.Key r) (inr (k, u, s, is, non_null, null)) e = absurd (let f : types.Key r ≡ types.Pointer k u s = is in cc)
-    first constant (types.Struct n rs) (inr (k, u, s, is, non_null, null)) e = absurd (let f : types.Struct n rs ≡ types.Pointer k u s = is in cc)
-globals_start t (g ∷ gs) (suc number) v (well, rest) has = globals_start t gs number v rest has
+globals_start t (g ∷ gs) zero v (well, rest) has = (
+  initial_is t g v g.value g.of_type well has,
+  omega (arith, type_words g.of_type, ap (λ (x : Kinded). words_of_kind x.kind) (same_Some (record { kind = kind_of g.of_type; value = constant_value g.value }) v has)),
+)
+globals_start t (g ∷ gs) (suc number) v (well, rest) has =
+    let (is, room) = globals_start t gs number v rest has in
+    let behind = slot_in (global_types gs) number in
+    let long : length (lower_global g) ≡ words_of g.of_type = omega (arith, length-replicate {A = ℕ} (words_of g.of_type - 1) 0, words_positive g.of_type) in
+    let next : slice_index (lower_globals (g ∷ gs)) (words_of g.of_type + behind) ≡ slice_index (lower_globals gs) behind
+    = get_or-append_right (lower_global g) (lower_globals gs) (words_of g.of_type) (words_of g.of_type + behind) 0 long (omega arith)
+    ∙ ap (λ (n : ℕ). slice_index (lower_globals gs) n) (let e : words_of g.of_type + behind - words_of g.of_type ≡ behind = omega arith in e) in
+    (subst (IsWord t v.kind v.value) (sym next) is, room)
 
 -- each global is a variable
-globals_rows : (gs : List GlobalVariable) (number : ℕ) → number < length gs → slice_get (map (λ (g : GlobalVariable). Variable) gs) number ≡ Some Variable
+globals_rows : (gs : List GlobalVariable) (number : ℕ) → number < length (global_types gs) → slice_get (map (λ (g : GlobalVariable). Variable) gs) number ≡ Some Variable
 globals_rows [] number few = absurd (omega (arith, few))
 globals_rows (g ∷ gs) zero few = refl
 globals_rows (g ∷ gs) (suc number) few = globals_rows gs number (omega (arith, few))
 
-globals_many : (gs : List GlobalVariable) → length gs ≤ length (map global_object gs)
+globals_many : (gs : List GlobalVariable) → length (global_types gs) ≤ length (map global_object gs)
 globals_many [] = omega arith
 globals_many (g ∷ gs) = omega (arith, globals_many gs)
 
@@ -152,7 +169,7 @@ module _ (source : Program) (pages calls : ℕ) (well_typed : AreWellTypedGlobal
   start_related h store input there new some_page few_pages some_call =
       let t = first_tables source in
       let w = first_world source input in
-      let words : ℕ → ℕ = λ global. slice_index (map lower_global source.globals) global in
+      let words : ℕ → ℕ = λ global. slice_index (lower_globals source.globals) global in
       let slots : ℕ → ℕ = λ slot. 0 in
       entered source pages calls stand source.main h [] (Main ∷ []) w slots words [] [] store [] input there
       (record {
@@ -172,7 +189,12 @@ module _ (source : Program) (pages calls : ℕ) (well_typed : AreWellTypedGlobal
           omega arith,
           no_locals_hold t _ w.objects (length w.objects) (length w.objects) slots,
           globals_many source.globals,
-          λ number few. (globals_rows source.globals number few, λ v has. globals_start t source.globals number v well_typed has),
+          λ number few. (
+            globals_rows source.globals number few,
+            λ v has.
+                let (is, room) = globals_start t source.globals number v well_typed has in
+                (IsWord-is t v.kind v.value (words (slot_in (global_types source.globals) number)) words (global_of (starts_at source source.main) number) (ap words (globals-are (types_at source source.main) number few)) is, room),
+          ),
         ),
         (refl, tt),
       )

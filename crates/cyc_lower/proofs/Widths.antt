@@ -1,6 +1,7 @@
 -- The kinds of what expressions give, and the words of locals.
-use Rattle.std.proofs.Common.{◌≡◌, ◌⊎◌, ℕ, zero, suc, ◌+◌, ◌≤◌, ◌<◌, true, false, List, [], ◌∷◌, length, Option, None, Some, slice_get, refl, sym, ap, ◌∙◌, arith}
-use Rattle.std.proofs.lemmas.Bool.{eqb-true, and_parts}
+use Rattle.std.proofs.Common.{◌≡◌, ◌⊎◌, ℕ, zero, suc, ◌+◌, ◌≤◌, ◌<◌, true, false, List, [], ◌∷◌, length, Option, None, Some, slice_get, refl, sym, ap, ◌∙◌, arith, inl, inr}
+use Rattle.std.specs.Prelude.{◌==◌, max}
+use Rattle.std.proofs.lemmas.Bool.{eqb-true, eqb-false, and_parts}
 use Rattle.cyc_syntax.specs.declared.tree.PointerKind.TheVariants as marks
 use Rattle.cyc_types.specs.declared.typed.Kind.{Kind}
 use Rattle.cyc_types.specs.declared.typed.Kind.TheVariants as kinds
@@ -30,6 +31,33 @@ kind_few kinds.NonNull = omega arith
 kind_few kinds.Fat = omega arith
 kind_few kinds.Handle = omega arith
 kind_few kinds.Key = omega arith
+
+-- a kind of more than one word
+pub wide_kind : (kind : Kind) → (words_of_kind kind == 1) ≡ false → kind ≡ kinds.Fat
+wide_kind kinds.Fat wide = refl
+wide_kind kinds.Int wide = absurd (let f : true ≡ false = wide in cc)
+wide_kind kinds.Nullable wide = absurd (let f : true ≡ false = wide in cc)
+wide_kind kinds.NonNull wide = absurd (let f : true ≡ false = wide in cc)
+wide_kind kinds.Handle wide = absurd (let f : true ≡ false = wide in cc)
+wide_kind kinds.Key wide = absurd (let f : true ≡ false = wide in cc)
+
+one_or_three : (kind : Kind) → (words_of_kind kind ≡ 1) ⊎ (words_of_kind kind ≡ 3)
+one_or_three kinds.Fat = inr refl
+one_or_three kinds.Int = inl refl
+one_or_three kinds.Nullable = inl refl
+one_or_three kinds.NonNull = inl refl
+one_or_three kinds.Handle = inl refl
+one_or_three kinds.Key = inl refl
+
+-- where the words of a value change, there are three before or after
+pub more_words : (from to : Kind) → (words_of_kind from == words_of_kind to) ≡ false → 3 ≤ max (words_of_kind from) (words_of_kind to)
+more_words from to apart = elim (one_or_three from) [
+  | inl one ↦ elim (one_or_three to) [
+    | inl other ↦ absurd (eqb-false (words_of_kind from) (words_of_kind to) apart (one ∙ sym other))
+    | inr three ↦ omega (arith, three)
+  ]
+  | inr three ↦ omega (arith, three)
+]
 
 -- a cell of a type has the words of its kind
 pub type_words : (t : Ty) → words_of_kind (kind_of t) ≡ words_of t
@@ -117,7 +145,7 @@ passed_kind (Convert from to a) = to
 
 -- ---- the words of locals
 
--- those of the local of this number
+-- those of the local, or global, of this number
 abbrev pub words_in : List Ty → ℕ → ℕ
 words_in [] n = 0
 words_in (t ∷ ts) zero = words_of t
@@ -126,6 +154,10 @@ words_in (t ∷ ts) (suc n) = words_in ts n
 -- a value of a kind has room in the local of this number
 abbrev pub HasRoom : Types → ℕ → Kind → Type 0
 HasRoom types n kind = words_of_kind kind ≤ words_in types.locals n
+
+-- and in the global of this number
+abbrev pub HasGlobal : Types → ℕ → Kind → Type 0
+HasGlobal types n kind = words_of_kind kind ≤ words_in types.globals n
 
 -- the struct of this number has a field of that number
 abbrev pub HasField : Types → (number field : ℕ) → Type 0

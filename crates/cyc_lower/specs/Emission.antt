@@ -15,7 +15,7 @@ use Rattle.cyc_plain.specs.declared.instruction.Operand.TheVariants.{Slot, Word}
 use Rattle.cyc_plain.specs.declared.instruction.Instruction.{Instruction}
 use Rattle.cyc_plain.specs.declared.instruction.Instruction.TheVariants.{WriteByte, Throw}
 use Rattle.cyc_lower.specs.Slots.{Starts}
-use Rattle.cyc_lower.specs.Lowering.{operand_of, source_of, source_slot, code_unless, slot_or, code_unless_slot, printed_operand, conversion_code, printed_code, left_of, value_slot, left_slot, value_operand, expression_code, compute_code, test_code, condition_code, failing_jump, while_code, statement_code, declaration_code, condition_of, behind_left, pointer_code, inside_loop, tag_operand, clause_code, thrown_operand, thrown_code, caught_code, items_code, clauses_code}
+use Rattle.cyc_lower.specs.Lowering.{operand_of, source_of, source_slot, code_unless, slot_or, code_unless_slot, printed_operand, conversion_code, printed_code, left_of, value_slot, left_slot, value_operand, expression_code, compute_code, test_code, condition_code, failing_jump, while_code, statement_code, declaration_code, condition_of, behind_left, pointer_code, inside_loop, tag_operand, clause_code, thrown_operand, thrown_code, caught_code, items_code, clauses_code, span_of}
 use Rattle.cyc_meaning.specs.FrameCount.{operand_words, argument_words, arguments_need, expression_need, initial_need, statement_need, kept_by, frame_count}
 use Rattle.cyc_plain.specs.declared.instruction.Comparison.{Comparison}
 use Rattle.cyc_lower.specs.declared.emitter.Emitter.{Emitter}
@@ -33,7 +33,7 @@ Gives answer result old new code = IfOk result (λ given. (given ≡ answer) × 
 
 -- where things begin, as the code has it
 abbrev pub view_starts : StartsCode → Starts
-view_starts starts = record { locals = starts.locals.now; structs = map view_struct starts.structs.now; raises = starts.raises; counters = starts.counters.now }
+view_starts starts = record { locals = starts.locals.now; structs = map view_struct starts.structs.now; raises = starts.raises; counters = starts.counters.now; globals = starts.globals.now }
 
 -- Slots are numbers that a word holds: a function has fewer locals than this, and of its temporaries no more are in use than
 -- there are instructions before.
@@ -74,7 +74,7 @@ module _ (starts : Starts) where
   abbrev pub converted_slot_code : Converted → (p t : ℕ) → List Instruction
   converted_slot_code (Convert from to a) p t =
       code_unless_slot (source_of starts (Convert from to a)) (expression_code starts a p t t)
-      ++ conversion_code starts to (Slot (slot_or (source_of starts (Convert from to a)) t)) (p + length (code_unless_slot (source_of starts (Convert from to a)) (expression_code starts a p t t)))
+      ++ conversion_code starts from to (span_of a) (Slot (slot_or (source_of starts (Convert from to a)) t)) (p + length (code_unless_slot (source_of starts (Convert from to a)) (expression_code starts a p t t)))
 
   -- what brings the left operand of a chain
   abbrev pub left_code : Expression → Operations → (p d t : ℕ) → List Instruction

@@ -1,16 +1,18 @@
 -- Which typed trees are lowered: those whose forms have code. Each number that such a tree has names something that is there, each call passes
 -- as many arguments as its function has parameters, and a break or a continue stands in a loop. A tree of the int language is one.
-use Rattle.std.specs.Prelude.{◌≡◌, ℕ, ◌<◌, Bool, true, false, not, ◌&&◌, List, [], ◌∷◌, Option, Some, None, length, slice_get, ◌≤◌, is_some}
+use Rattle.std.specs.Prelude.{◌≡◌, ℕ, ◌<◌, Bool, true, false, not, ◌&&◌, List, [], ◌∷◌, Option, Some, None, length, slice_get, ◌≤◌, if◌then◌else◌}
 use Rattle.cyc_types.specs.declared.typed.PointerOperator.{PointerOperator}
 use Rattle.cyc_types.specs.declared.typed.PointerOperator.TheVariants as pointers
 use Rattle.cyc_types.specs.Types.{Ty, words_of}
-use Rattle.cyc_types.specs.TypedTrees.{Array, Counter, Load, New, OnHeap, Initial, Plain, Fields, Dereference, Target, Lvalue, Local, Global, Expression, Number, NullPointer, Copy, Call, Unary, Binary, Assign, Converted, Convert, Arguments, NoArguments, MoreArguments, Operations, NoOperations, ThenCompute, ThenTest, ThenPointer, Statement, Block, Empty, Evaluate, If, While, Return, Break, Continue, Items, NoItems, MoreItems, Execute, Declare, Signature, Function, Program, Move, Peek, ThenPointerPeek, AddressOfCell, Store, Member, AsUnique, FreeUnique, Side, VariableSide, CellSide, Swap, peeked, Throw, Try, Clauses, NoClauses, Default, Case}
+use Rattle.cyc_types.specs.TypedTrees.{type_of_place, Array, Counter, Load, New, OnHeap, Initial, Plain, Fields, Dereference, Target, Lvalue, Local, Global, Expression, Number, NullPointer, Copy, Call, Unary, Binary, Assign, Converted, Convert, Arguments, NoArguments, MoreArguments, Operations, NoOperations, ThenCompute, ThenTest, ThenPointer, Statement, Block, Empty, Evaluate, If, While, Return, Break, Continue, Items, NoItems, MoreItems, Execute, Declare, Signature, Function, Program, Move, Peek, ThenPointerPeek, AddressOfCell, Store, Member, AsUnique, FreeUnique, Side, VariableSide, CellSide, Swap, Throw, Try, Clauses, NoClauses, Default, Case, NumberOfElements, Element}
 use Rattle.cyc_words.specs.Word.{IsWord}
+use Rattle.cyc_types.specs.declared.typed.Kind.{Kind}
+use Rattle.cyc_types.specs.declared.typed.Kind.TheVariants as kinds
 use Rattle.cyc_types.specs.typing.Scopes.{signature_of_ints}
 use Rattle.cyc_types.specs.Numbered.{Numbering, IsSignature, IsWithin, argument_count, numbering_of, signatures_of}
 use Rattle.cyc_store.specs.declared.range.TheConstants.{MOST_BLOCK_WORDS}
-use Rattle.cyc_meaning.specs.Values.{is_thin, words_of_kind}
-use Rattle.cyc_lower.specs.Lowering.{are_as_wide, passed_words, all_passed}
+use Rattle.cyc_meaning.specs.Values.{is_thin, words_of_kind, is_kind}
+use Rattle.cyc_lower.specs.Lowering.{are_as_wide, all_passed}
 
 -- pointers are compared, with one another or with `NULL`
 abbrev pub is_comparison : PointerOperator → Bool
@@ -30,12 +32,14 @@ stands_alone pointers.AddFat os = are_sums os
 stands_alone pointers.SubtractFat os = are_sums os
 stands_alone o os = true
 
--- a value of so many words has a place in a variable: a global has one word yet
-abbrev pub HasPlace : Numbering → Lvalue → (words : ℕ) → Type 0
-HasPlace b (Local p n) words = n < b.locals
-HasPlace b (Global n) words = (n < b.globals) × (words ≡ 1)
+-- a kind of pointers
+abbrev pub is_pointer : Kind → Bool
+is_pointer kind = if is_thin kind then true else is_kind kind kinds.Fat
 
--- Conversions keep the number of words yet, and the cells that pointers lead to have one.
+-- a conversion keeps the number of words, or makes a thin pointer of a fat one, or the other way
+abbrev pub is_converted : (from to : Kind) → Bool
+is_converted from to = if are_as_wide from to then true else is_pointer to
+
 abbrev mutual
   pub IsLowerable : Numbering → Expression → Type 0
   IsLowerable b (Number n) = Unit {0}
@@ -45,12 +49,12 @@ abbrev mutual
   IsLowerable b (Peek p n t) = IsWithin b (Local p n)
   IsLowerable b (Counter l) = Unit {0}
   IsLowerable b (Call f cs t) = (s : Signature) × IsSignature b f s × (argument_count cs ≡ length s.parameters) × AreLowerableArguments b cs
+  IsLowerable b (NumberOfElements a) = IsLowerable b a
   IsLowerable b (Unary o a) = IsLowerable b a
   IsLowerable b (Binary a os t) = IsLowerable b a × AreLowerableOperations b os
-  IsLowerable b (Assign l c t) = HasPlace b l (passed_words c) × IsLowerableConverted b c
+  IsLowerable b (Assign l c t) = IsWithin b l × IsLowerableConverted b c
   IsLowerable b (Load x) = IsLowerableCell b x
   IsLowerable b (FreeUnique a) = IsLowerable b a
-  IsLowerable b (New OnHeap (Array w level n kind a) t) = (words_of_kind kind ≡ 1) × IsLowerable b n × IsLowerable b a
   IsLowerable b (New OnHeap i t) = IsLowerableObject b i
   IsLowerable b (New AsUnique i t) = IsLowerableObject b i
   IsLowerable b (AddressOfCell x t) = IsLowerableCell b x
@@ -58,19 +62,18 @@ abbrev mutual
   IsLowerable b a = ⊥
 
   pub IsLowerableCell : Numbering → Dereference → Type 0
-  IsLowerableCell b (Target k a t) = (is_thin k ≡ true) × (words_of t ≡ 1) × IsLowerable b a
-  IsLowerableCell b (Member k a s f t) = (is_thin k ≡ true) × (words_of t ≡ 1) × IsLowerable b a
-  IsLowerableCell b x = ⊥
+  IsLowerableCell b (Target k a t) = IsLowerable b a
+  IsLowerableCell b (Element a i t) = IsLowerable b a × IsLowerable b i
+  IsLowerableCell b (Member k a s f t) = (is_thin k ≡ true) × IsLowerable b a
 
-  -- each cell has one word yet, and a block has room for all
+  -- a block has room for all cells
   pub IsLowerableObject : Numbering → Initial → Type 0
-  IsLowerableObject b (Plain kind a) = (words_of_kind kind ≡ 1) × IsLowerable b a
-  IsLowerableObject b (Fields cs) =
-      (argument_count cs ≡ all_passed cs) × (1 ≤ argument_count cs) × (argument_count cs ≤ MOST_BLOCK_WORDS) × AreLowerableArguments b cs
-  IsLowerableObject b i = ⊥
+  IsLowerableObject b (Plain kind a) = IsLowerable b a
+  IsLowerableObject b (Fields cs) = (1 ≤ argument_count cs) × (all_passed cs ≤ MOST_BLOCK_WORDS) × AreLowerableArguments b cs
+  IsLowerableObject b (Array w level n kind a) = IsLowerable b n × IsLowerable b a
 
   pub IsLowerableConverted : Numbering → Converted → Type 0
-  IsLowerableConverted b (Convert from to a) = (are_as_wide from to ≡ true) × IsLowerable b a
+  IsLowerableConverted b (Convert from to a) = (is_converted from to ≡ true) × IsLowerable b a
 
   pub AreLowerableArguments : Numbering → Arguments → Type 0
   AreLowerableArguments b NoArguments = Unit {0}
@@ -85,19 +88,9 @@ abbrev mutual
 
 -- ---- swaps
 
--- A side of a swap has one word yet.
 abbrev pub IsLowerableSide : Numbering → Side → Type 0
-IsLowerableSide b (VariableSide l t) = (words_of t ≡ 1) × IsWithin b l
+IsLowerableSide b (VariableSide l t) = IsWithin b l
 IsLowerableSide b (CellSide x) = IsLowerableCell b x
-
--- A cell on the left waits for one on the right only where it is reached by a peek: then it is told from a variable.
-abbrev pub waits_for : (peek : Option ℕ) → (right : Side) → Bool
-waits_for peek (VariableSide l t) = true
-waits_for peek (CellSide y) = is_some peek
-
-abbrev pub may_wait : (left right : Side) → Bool
-may_wait (VariableSide l t) b = true
-may_wait (CellSide x) b = waits_for (peeked x) b
 
 -- a value is returned exactly by a function with a result
 abbrev pub IsLowerableReturn : Numbering → Option Ty → Option Converted → Type 0
@@ -125,7 +118,7 @@ abbrev mutual
   IsLowerableStatement b l (Block r js) = AreLowerableItems b l js
   IsLowerableStatement b l Empty = Unit {0}
   IsLowerableStatement b l (Evaluate a) = IsLowerable b a
-  IsLowerableStatement b l (Swap x y) = IsLowerableSide b x × IsLowerableSide b y × (may_wait x y ≡ true)
+  IsLowerableStatement b l (Swap x y) = IsLowerableSide b x × IsLowerableSide b y
   IsLowerableStatement b l (If a s t) = IsLowerable b a × IsLowerableStatement b l s × IsLowerableStatement b l t
   IsLowerableStatement b l (While p a s) = IsLowerable b a × IsLowerableStatement b true s
   IsLowerableStatement b l (Return v) = IsLowerableReturn b b.result v

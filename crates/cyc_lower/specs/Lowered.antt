@@ -16,7 +16,8 @@ use Rattle.cyc_plain.specs.Step as plain
 use Rattle.cyc_plain.specs.WellFormed.{IsWellFormed, HasWords}
 use Rattle.cyc_meaning.specs.Run.{start}
 use Rattle.cyc_meaning.specs.SourceMachine.{source_machine}
-use Rattle.cyc_meaning.specs.FrameCount.{frame_count}
+use Rattle.cyc_meaning.specs.FrameCount.{frame_count, words_of_all}
+use Rattle.cyc_lower.specs.Slots.{global_types}
 use Rattle.cyc_lower.specs.Lowering.{span_of_place}
 use Rattle.cyc_lower.specs.Words.{IsOfWordsProgram}
 use Rattle.cyc_lower.specs.Lowerable.{IsLowerableProgram}
@@ -42,7 +43,7 @@ FollowsSource source lowered pages calls store input =
 
 -- the most words of text that the code of a function has for each token that its spelling needs
 abbrev pub size_per_weight : ℕ
-size_per_weight = 36
+size_per_weight = 100
 
 pub record IsLoweredFunction (h : Function) (r : Routine) : Type 0 where
   pub name : r.name ≡ span_of_place h.place
@@ -57,21 +58,21 @@ AreLoweredFunctions [] (r ∷ rs) = ⊥
 AreLoweredFunctions (h ∷ hs) [] = ⊥
 
 -- A plain program for a source program: it is well formed, and does what the source does. Of each function it says where its
--- name stands and how large its frame may be, and it has as many globals as the source.
+-- name stands and how large its frame may be, and its globals are the words of the source's.
 pub record IsLowered (source : Program) (lowered : PlainProgram) : Type 0 where
   pub well_formed : IsWellFormed lowered
   pub words : HasWords lowered
   pub functions : AreLoweredFunctions source.functions lowered.functions
-  pub globals : length lowered.globals ≡ length source.globals
+  pub globals : length lowered.globals ≡ words_of_all (global_types source.globals)
   pub follows : (pages calls : ℕ) (store : StoreState) (input : List ℕ) → IsNew pages store → 1 ≤ pages → pages ≤ MOST_PAGES → 1 ≤ calls → AllByRecursion (λ b. b < 256) input
       → FollowsSource source lowered pages calls store input
 
 -- What is asked of the typed tree. That of a text that is built has it all: its forms are lowered and its numbers name what is there, its
--- constants are words, and it has fewer globals than tokens.
+-- constants are words, and its globals have no more words than it has tokens.
 pub record CanBeLowered (source : Program) : Type 0 where
   pub lowerable : IsLowerableProgram source
   pub of_words : IsOfWordsProgram source
-  pub few_globals : length source.globals ≤ MOST_GLOBALS
+  pub few_globals : words_of_all (global_types source.globals) ≤ MOST_GLOBALS
 
 -- What is accepted: a program with no more functions than there may be.
 abbrev pub IsAccepted : (given program : Program) → Type 0

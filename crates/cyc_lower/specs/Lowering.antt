@@ -2,9 +2,9 @@
 -- for a place p. An expression brings its value to a slot d by its last instruction, so d may be the slot of a local that
 -- is read on the way. Else it writes to the slots from t on alone. Numbers and locals are operands where they are used.
 --
--- A value has as many slots as its kind has words, one behind the other. A global has one word yet, the first of its value. There is
--- code for the int language and more; a form that is not built has a constant in its place, which nothing runs.
-use Rattle.std.specs.Prelude.{ℕ, zero, suc, ◌+◌, max, ◌==◌, Bool, false, if◌then◌else◌, List, [], ◌∷◌, ◌++◌, length, map, Option, None, Some, slice_get, ◌%◌, ◌^◌}
+-- A value has as many slots as its kind has words, one behind the other, and a global as many words. There is code for the int language
+-- and more; a form that is not built has a constant in its place, which nothing runs.
+use Rattle.std.specs.Prelude.{ℕ, zero, suc, ◌+◌, max, ◌==◌, Bool, false, if◌then◌else◌, List, [], ◌∷◌, ◌++◌, length, map, replicate, ◌-◌, Option, None, Some, slice_get, ◌%◌, ◌^◌, true, option_map, ◌*◌}
 use Rattle.cyc_words.specs.declared.span.Span.{Span}
 use Rattle.cyc_syntax.specs.Symbols.{Place}
 use Rattle.cyc_types.specs.declared.typed.Kind.{Kind}
@@ -19,8 +19,8 @@ use Rattle.cyc_types.specs.declared.typed.PointerOperator.TheVariants as pointer
 use Rattle.cyc_types.specs.declared.typed.LogicalOperator.{LogicalOperator}
 use Rattle.cyc_types.specs.declared.typed.LogicalOperator.TheVariants as logical
 use Rattle.cyc_types.specs.Types.{Ty, words_of}
-use Rattle.cyc_types.specs.Numbered.{argument_count}
-use Rattle.cyc_types.specs.TypedTrees.{Array, Counter, Load, New, OnHeap, Initial, Plain, Fields, Dereference, Target, Lvalue, Local, Global, Expression, Number, NullPointer, Copy, Call, Unary, Binary, Assign, Converted, Convert, Arguments, NoArguments, MoreArguments, Operations, NoOperations, ThenCompute, ThenTest, ThenPointer, ThenPointerPeek, Statement, Block, Empty, Evaluate, If, While, Return, Break, Continue, Items, NoItems, MoreItems, Execute, Declare, Constant, Word, Null, GlobalVariable, StructType, Function, Program, Move, Peek, AddressOfCell, Store, Member, Element, AsUnique, FreeUnique, Side, VariableSide, CellSide, Swap, Throw, Try, Clauses, NoClauses, Default, Case}
+use Rattle.cyc_types.specs.typing.Expressions.{type_of_side}
+use Rattle.cyc_types.specs.TypedTrees.{Array, Counter, Load, New, OnHeap, Initial, Plain, Fields, Dereference, Target, Lvalue, Local, Global, Expression, Number, NullPointer, Copy, Call, Unary, Binary, Assign, Converted, Convert, Arguments, NoArguments, MoreArguments, Operations, NoOperations, ThenCompute, ThenTest, ThenPointer, ThenPointerPeek, Statement, Block, Empty, Evaluate, If, While, Return, Break, Continue, Items, NoItems, MoreItems, Execute, Declare, Constant, Word, Null, GlobalVariable, StructType, Function, Program, Move, Peek, AddressOfCell, Store, Member, Element, AsUnique, FreeUnique, Side, VariableSide, CellSide, Swap, Throw, Try, Clauses, NoClauses, Default, Case, NumberOfElements, type_of_place}
 use Rattle.cyc_plain.specs.declared.instruction.UnaryOperator.{UnaryOperator as PlainUnary}
 use Rattle.cyc_plain.specs.declared.instruction.UnaryOperator.TheVariants as plain_unary
 use Rattle.cyc_plain.specs.declared.instruction.BinaryOperator.{BinaryOperator as PlainBinary}
@@ -35,10 +35,11 @@ use Rattle.cyc_plain.specs.declared.instruction.Instruction.TheVariants as instr
 use Rattle.cyc_plain.specs.Program.{Routine, Program as PlainProgram}
 use Rattle.cyc_store.specs.declared.range.TheConstants.{HEAP, UNIQUE}
 use Rattle.cyc_plain.specs.declared.limits.TheConstants.{RECORD_WORDS}
-use Rattle.cyc_meaning.specs.Values.{words_of_kind}
+use Rattle.cyc_meaning.specs.Values.{words_of_kind, is_thin}
 use Rattle.cyc_meaning.specs.Operators.{null_exception, array_size, division_by_zero, array_bounds}
 use Rattle.cyc_meaning.specs.FrameCount.{frame_count, items_need, words_of_all, kept_by_items}
-use Rattle.cyc_lower.specs.Slots.{Types, Starts, starts_of, slot_of, with_counter, counter_of, field_of}
+use Rattle.cyc_lower.specs.Slots.{Types, Starts, starts_from, slot_of, with_counter, counter_of, field_of, global_of, global_types}
+use Rattle.cyc_meaning.specs.Parts.{target_of, target_by}
 use Rattle.cyc_lower.specs.declared.operands.Condition.{Condition}
 use Rattle.cyc_lower.specs.declared.statements.Exits.{Exits}
 
@@ -177,9 +178,91 @@ move_of words d (operands.Slot n) = if words == 1 then instructions.Move d (oper
 move_of words d (operands.Word n) = instructions.Move d (operands.Word n)
 
 -- a value that may not be null is tested
-abbrev pub conversion_code : Starts → (to : Kind) → Operand → (p : ℕ) → List Instruction
-conversion_code starts kinds.NonNull o p = check_code starts null_exception o
-conversion_code starts to o p = []
+abbrev pub tested_code : Starts → (to : Kind) → Operand → List Instruction
+tested_code starts kinds.NonNull o = check_code starts null_exception o
+tested_code starts to o = []
+
+-- an index that is not below a length raises an exception
+abbrev pub bounds_code : Starts → (index length : Operand) → List Instruction
+bounds_code starts index length = guard_code starts array_bounds comparisons.GreaterOrEqualUnsigned index length
+
+-- an index that counts cells of so many words becomes a number of bytes
+abbrev pub scale_of : (words d m : ℕ) → Instruction
+scale_of words d m =
+    if words == 1
+    then instructions.Binary plain_binary.ShiftLeft d (operands.Slot m) (operands.Word 2)
+    else instructions.Binary plain_binary.Multiply d (operands.Slot m) (operands.Word 12)
+
+-- The cell at an index has its address in slot t then: that of the first is in slot n, the index is in slot m, and each cell has one word or
+-- three. A struct stands alone, where the source does not go wrong.
+abbrev pub stepped_code : (span : Option ℕ) → (n m t : ℕ) → List Instruction
+stepped_code None n m t = []
+stepped_code (Some words) n m t =
+    scale_of words (t + 2) m
+    ∷ instructions.Binary plain_binary.Add t (operands.Slot n) (operands.Slot (t + 2))
+    ∷ []
+
+-- the same where the index, in slot m, is compared with the length behind the first word
+abbrev pub bounded_code : Starts → (span : Option ℕ) → (n m t : ℕ) → List Instruction
+bounded_code starts span n m t = bounds_code starts (operands.Slot m) (operands.Slot (n + 1)) ++ stepped_code span n m t
+
+-- an access by a fat pointer whose first words are in slot n and the next, and whose index is in slot m
+abbrev pub reached_code : Starts → (span : Option ℕ) → (n m t : ℕ) → List Instruction
+reached_code starts span n m t = check_code starts null_exception (operands.Slot n) ++ bounded_code starts span n m t
+
+abbrev pub reached_operand : (span : Option ℕ) → (n t : ℕ) → Operand
+reached_operand None n t = operands.Slot n
+reached_operand (Some words) n t = operands.Slot t
+
+-- an access by a pointer in an operand, which is thin or fat
+abbrev pub followed_code : Starts → (thin : Bool) → (span : Option ℕ) → Operand → (t : ℕ) → List Instruction
+followed_code starts true span o t = check_code starts null_exception o
+followed_code starts false span (operands.Slot n) t = reached_code starts span n (n + 2) t
+followed_code starts false span (operands.Word w) t = check_code starts null_exception (operands.Word w)
+
+abbrev pub followed_operand : (thin : Bool) → (span : Option ℕ) → Operand → (t : ℕ) → Operand
+followed_operand true span o t = o
+followed_operand false span (operands.Slot n) t = reached_operand span n t
+followed_operand false span (operands.Word w) t = operands.Word w
+
+-- the words of the cells of a type, where it is none of structs
+abbrev pub span_in : Ty → Option ℕ
+span_in t = option_map words_of_kind (target_of t)
+
+-- A thin pointer gets the length and the index of a fat one that leads to one cell. Of null the first word tells.
+abbrev pub widened_code : Operand → List Instruction
+widened_code (operands.Slot n) = instructions.Move (n + 1) (operands.Word 1) ∷ instructions.Move (n + 2) (operands.Word 0) ∷ []
+widened_code (operands.Word n) = []
+
+-- how long that is with a jump over it
+abbrev pub past_bounded : (span : Option ℕ) → ℕ
+past_bounded None = 2
+past_bounded (Some words) = 4
+
+-- A fat pointer in slots becomes a thin one in the first of them, to the cell at its index. Null stays null, or raises an exception.
+abbrev pub thinned_code : Starts → (to : Kind) → (span : Option ℕ) → Operand → (p : ℕ) → List Instruction
+thinned_code starts kinds.NonNull span (operands.Slot n) p = reached_code starts span n (n + 2) n
+thinned_code starts kinds.Nullable span (operands.Slot n) p =
+    jump_if_zero (operands.Slot n) (p + past_bounded span) ∷ bounded_code starts span n (n + 2) n
+thinned_code starts to span o p = []
+
+-- A value is converted where it is, with as many words as before or not. The cells that it leads to, if it is a pointer to cells, have so
+-- many words each.
+abbrev pub conversion_by : Starts → (as_wide : Bool) → (to : Kind) → (span : Option ℕ) → Operand → (p : ℕ) → List Instruction
+conversion_by starts true to span o p = tested_code starts to o
+conversion_by starts false kinds.Fat span o p = widened_code o
+conversion_by starts false to span o p = thinned_code starts to span o p
+
+abbrev pub conversion_code : Starts → (from to : Kind) → (span : Option ℕ) → Operand → (p : ℕ) → List Instruction
+conversion_code starts from to span o p = conversion_by starts (words_of_kind from == words_of_kind to) to span o p
+
+abbrev pub span_of : Expression → Option ℕ
+span_of a = option_map words_of_kind (target_by a)
+
+-- null is an operand also where its words change
+abbrev pub null_of : Expression → Option Operand
+null_of NullPointer = Some (operands.Word 0)
+null_of a = None
 
 -- a divisor is tested, but a number other than 0
 abbrev pub divisor_code : Starts → Operand → List Instruction
@@ -217,6 +300,17 @@ pointer_instructions pointers.AddFat l r d = index_code (pointer_operator pointe
 pointer_instructions pointers.SubtractFat l r d = index_code (pointer_operator pointers.SubtractFat) l r d
 pointer_instructions o l r d = instructions.Binary (pointer_operator o) d l r ∷ []
 
+-- How many elements a fat pointer has from its index on: none where it is null, or its index is past its length.
+abbrev pub count_code : Operand → (p d : ℕ) → List Instruction
+count_code (operands.Slot n) p d =
+    jump_if_zero (operands.Slot n) (p + 4)
+    ∷ instructions.Branch comparisons.LessUnsigned (operands.Slot (n + 1)) (operands.Slot (n + 2)) (p + 4)
+    ∷ instructions.Binary plain_binary.Subtract d (operands.Slot (n + 1)) (operands.Slot (n + 2))
+    ∷ instructions.Jump (p + 5)
+    ∷ instructions.Move d (operands.Word 0)
+    ∷ []
+count_code (operands.Word n) p d = instructions.Move d (operands.Word 0) ∷ []
+
 -- 0 stays 0, and any other word becomes 1
 abbrev pub truth_code : (t d : ℕ) → List Instruction
 truth_code t d =
@@ -252,9 +346,33 @@ address_code o (suc bytes) d = instructions.Binary plain_binary.Add d o (operand
 abbrev pub addressed_by : (place : List Instruction) → Operand → (bytes d : ℕ) → List Instruction
 addressed_by place o bytes d = place ++ address_code o bytes d
 
--- a value is stored in a cell, whose address waits in a slot
-abbrev pub stored_by : (address value : List Instruction) → (slot : ℕ) → Operand → List Instruction
-stored_by address value slot o = address ++ (value ++ instructions.Store (operands.Slot slot) 0 o ∷ [])
+-- an instruction for each of so many words, by its number in the globals and its slot
+abbrev pub word_by_word : (each : (global slot : ℕ) → Instruction) → (words first slot : ℕ) → List Instruction
+word_by_word each zero first slot = []
+word_by_word each (suc words) first slot = each first slot ∷ word_by_word each words (suc first) (suc slot)
+
+abbrev pub load_word : (global slot : ℕ) → Instruction
+load_word global slot = instructions.LoadGlobal slot global
+
+abbrev pub store_word : (global slot : ℕ) → Instruction
+store_word global slot = instructions.StoreGlobal global (operands.Slot slot)
+
+-- A value of so many words comes to a global. A number has one word: where there are more, it is that of a null pointer.
+abbrev pub global_code : (words first : ℕ) → Operand → List Instruction
+global_code words first (operands.Slot n) = word_by_word store_word words first n
+global_code words first (operands.Word n) = instructions.StoreGlobal first (operands.Word n) ∷ []
+
+-- A cell of so many words comes to a slot and those behind it, whose address stands in an operand but for so many bytes. Where there are
+-- more words the address comes to the slot of the first, which is loaded last.
+abbrev pub loaded_code : (words : ℕ) → Operand → (bytes d : ℕ) → List Instruction
+loaded_code words o bytes d =
+    if words == 1
+    then instructions.Load d o bytes ∷ []
+    else address_code o bytes d
+    ++ instructions.Load (d + 2) (operands.Slot d) 8
+    ∷ instructions.Load (d + 1) (operands.Slot d) 4
+    ∷ instructions.Load d (operands.Slot d) 0
+    ∷ []
 
 -- ---- conversions
 
@@ -276,12 +394,25 @@ all_passed NoArguments = 0
 all_passed (MoreArguments c cs) = passed_words c + all_passed cs
 
 -- code that brings a value, and its conversion where it is then
-abbrev pub converted_by : Starts → Option Operand → (code : List Instruction) → (to : Kind) → Operand → (p : ℕ) → List Instruction
-converted_by starts known code to o p = code_unless known code ++ conversion_code starts to o (p + length (code_unless known code))
+abbrev pub converted_by : Starts → Option Operand → (code : List Instruction) → (from to : Kind) → (span : Option ℕ) → Operand → (p : ℕ) → List Instruction
+converted_by starts known code from to span o p = code_unless known code ++ conversion_code starts from to span o (p + length (code_unless known code))
 
 -- the same, and the value comes to slot d
-abbrev pub moved_by : Starts → Option Operand → (code : List Instruction) → (to : Kind) → Operand → (p d : ℕ) → List Instruction
-moved_by starts known code to o p d = converted_by starts known code to o p ++ move_of (words_of_kind to) d o ∷ []
+abbrev pub moved_by : Starts → Option Operand → (code : List Instruction) → (from to : Kind) → (span : Option ℕ) → Operand → (p d : ℕ) → List Instruction
+moved_by starts known code from to span o p d = converted_by starts known code from to span o p ++ move_of (words_of_kind to) d o ∷ []
+
+-- code that brings a pointer, and an access by it
+abbrev pub followed_by : Starts → Option Operand → (code : List Instruction) → (thin : Bool) → (span : Option ℕ) → Operand → (t : ℕ) → List Instruction
+followed_by starts known code thin span o t = code_unless known code ++ followed_code starts thin span o t
+
+-- code that brings a fat pointer to slot n, and an index, by which it moves before the access
+abbrev pub element_by : Starts → (pointer index : List Instruction) → (span : Option ℕ) → (n : ℕ) → Operand → (t : ℕ) → List Instruction
+element_by starts pointer index span n o t =
+    pointer ++ (index ++ instructions.Binary plain_binary.Add (t + 2) (operands.Slot (n + 2)) o ∷ reached_code starts span n (t + 2) t)
+
+-- code that brings a pointer, which is tested where it is then
+abbrev pub tested_by : Starts → Option Operand → (code : List Instruction) → Operand → List Instruction
+tested_by starts known code o = code_unless known code ++ check_code starts null_exception o
 
 -- ---- new objects
 
@@ -290,6 +421,15 @@ abbrev pub stores_code : (many address offset slot : ℕ) → List Instruction
 stores_code zero address offset slot = []
 stores_code (suc many) address offset slot =
     instructions.Store (operands.Slot address) offset (operands.Slot slot) ∷ stores_code many address (offset + 4) (suc slot)
+
+-- A value of so many words comes to the cell whose address is in a slot. Of null the first word tells.
+abbrev pub saved_code : (words address : ℕ) → Operand → List Instruction
+saved_code words address (operands.Slot n) = stores_code words address 0 n
+saved_code words address (operands.Word n) = instructions.Store (operands.Slot address) 0 (operands.Word n) ∷ []
+
+-- a value is stored in a cell, whose address waits in a slot
+abbrev pub stored_by : (address value : List Instruction) → (words slot : ℕ) → Operand → List Instruction
+stored_by address value words slot o = address ++ (value ++ saved_code words slot o)
 
 -- A block is asked for in the region of this handle, and gets so many words, which stand in the slots from t on. Its address comes to the
 -- slot behind them, and then to slot d.
@@ -302,42 +442,45 @@ object_code handle words d t =
 
 -- ---- arrays
 
--- the most elements that an array may have, each of one word
-abbrev pub most_elements : ℕ
-most_elements = 1000
+-- the most elements that an array may have, of one word each or of three: those of 1000 words
+abbrev pub most_elements : (words : ℕ) → ℕ
+most_elements words = if words == 1 then 1000 else 333
 
--- The length of an array in slot t is tested, and comes to slot x, and 0, as the index, to slot y.
-abbrev pub measured_code : Starts → (x y t : ℕ) → List Instruction
-measured_code starts x y t =
-    guard_code starts array_size comparisons.GreaterOrEqualUnsigned (operands.Slot t) (operands.Word (most_elements + 1))
+-- The length of an array in slot t, whose elements have so many words, is tested, and comes to slot x, and 0, as the index, to slot y.
+abbrev pub measured_code : Starts → (words x y t : ℕ) → List Instruction
+measured_code starts words x y t =
+    guard_code starts array_size comparisons.GreaterOrEqualUnsigned (operands.Slot t) (operands.Word (most_elements words + 1))
     ++ instructions.Move x (operands.Slot t)
     ∷ instructions.Move y (operands.Word 0)
     ∷ []
 
--- A block is asked for of as many words as slot t tells, or of one where that is 0: their number comes to slot s, and the address to t.
-abbrev pub asked_code : (handle s t : ℕ) → List Instruction
-asked_code handle s t =
-    instructions.Unary plain_unary.Not s (operands.Slot t)
+-- A block is asked for of so many words for each element that slot t counts, or of one where that is 0: their number comes to slot s, and
+-- the address to t.
+abbrev pub asked_code : (handle words s t : ℕ) → List Instruction
+asked_code handle words s t =
+    instructions.Binary plain_binary.Multiply t (operands.Slot t) (operands.Word words)
+    ∷ instructions.Unary plain_unary.Not s (operands.Slot t)
     ∷ instructions.Binary plain_binary.Add s (operands.Slot s) (operands.Slot t)
     ∷ instructions.Ask (requests.Allocate t (operands.Word handle) (operands.Slot s))
     ∷ []
 
 -- a new array, whose length is in slot t: its address comes there, and its length and the index behind it
-abbrev pub begun_code : Starts → (handle t : ℕ) → List Instruction
-begun_code starts handle t = measured_code starts (t + 1) (t + 2) t ++ asked_code handle (t + 3) t
+abbrev pub begun_code : Starts → (handle words t : ℕ) → List Instruction
+begun_code starts handle words t = measured_code starts words (t + 1) (t + 2) t ++ asked_code handle words (t + 3) t
 
--- The element in slot s comes to its cell of the array at the address in slot t, by the index in slot y, which goes to the next one.
-abbrev pub written_code : (head y s z t : ℕ) → List Instruction
-written_code head y s z t =
-    instructions.Binary plain_binary.ShiftLeft z (operands.Slot y) (operands.Word 2)
+-- The element in slot s and those behind it comes to its cell of the array at the address in slot t, by the index in slot y, which goes to
+-- the next one. The address of the cell comes to slot z.
+abbrev pub written_code : (words head y s z t : ℕ) → List Instruction
+written_code words head y s z t =
+    scale_of words z y
     ∷ instructions.Binary plain_binary.Add z (operands.Slot t) (operands.Slot z)
-    ∷ instructions.Store (operands.Slot z) 0 (operands.Slot s)
-    ∷ instructions.Binary plain_binary.Add y (operands.Slot y) (operands.Word 1)
+    ∷ stores_code words z 0 s
+    ++ instructions.Binary plain_binary.Add y (operands.Slot y) (operands.Word 1)
     ∷ instructions.Jump head
     ∷ []
 
-abbrev pub filled_code : (head t : ℕ) → List Instruction
-filled_code head t = written_code head (t + 2) (t + 3) (t + 4) t
+abbrev pub filled_code : (words head t : ℕ) → List Instruction
+filled_code words head t = written_code words head (t + 2) (t + 3) (t + 3 + words) t
 
 -- behind the last element the index in slot y is 0, and the pointer comes from slot t to slot d
 abbrev pub restarted_code : (d y t : ℕ) → List Instruction
@@ -351,21 +494,25 @@ abbrev pub last_element : (x y : ℕ) → Condition
 last_element x y = record { failing = comparisons.Equal; left = operands.Slot y; right = operands.Slot x }
 
 -- the elements of an array, of which the code of each one stands behind the head
-abbrev pub elements_code : (element : List Instruction) → (head d t : ℕ) → List Instruction
-elements_code element head d t =
-    instructions.Branch comparisons.Equal (operands.Slot (t + 2)) (operands.Slot (t + 1)) (head + 1 + length (element ++ filled_code head t))
-    ∷ ((element ++ filled_code head t) ++ ended_code d t)
+abbrev pub elements_code : (words : ℕ) → (element : List Instruction) → (head d t : ℕ) → List Instruction
+elements_code words element head d t =
+    instructions.Branch comparisons.Equal (operands.Slot (t + 2)) (operands.Slot (t + 1)) (head + 1 + length (element ++ filled_code words head t))
+    ∷ ((element ++ filled_code words head t) ++ ended_code d t)
 
 -- the code of the length stands at place p, and that of an element is made for its place
-abbrev pub array_code : Starts → (count : List Instruction) → (element : ℕ → List Instruction) → (handle p d t : ℕ) → List Instruction
-array_code starts count element handle p d t =
-    count ++ (begun_code starts handle t ++ elements_code (element (p + length count + 6 + 1)) (p + length count + 6) d t)
+abbrev pub array_code : Starts → (words : ℕ) → (count : List Instruction) → (element : ℕ → List Instruction) → (handle p d t : ℕ) → List Instruction
+array_code starts words count element handle p d t =
+    count ++ (begun_code starts handle words t ++ elements_code words (element (p + length count + 7 + 1)) (p + length count + 7) d t)
 
 -- the unique block at an address is freed, where that is not 0
 abbrev pub free_code : Operand → (p : ℕ) → List Instruction
 free_code o p = jump_if_zero o (p + 2) ∷ instructions.Ask (requests.Free o) ∷ []
 
 -- ---- swaps
+
+-- a word of a cell, by its number in the cell, comes to a slot from the address in a slot
+abbrev pub load_at : (address : ℕ) → (index slot : ℕ) → Instruction
+load_at address index slot = instructions.Load slot (operands.Slot address) (4 * index)
 
 -- the slot for the address of the right side of a swap, behind that of the left one
 abbrev pub right_slot : (left : Side) → (t : ℕ) → ℕ
@@ -509,7 +656,7 @@ module _ (starts : Starts) where
 
   -- A value is converted where it is, but where it changes its words: then it is brought to slot t.
   abbrev pub source_of : Converted → Option Operand
-  source_of (Convert from to a) = if are_as_wide from to then operand_of a else None
+  source_of (Convert from to a) = if are_as_wide from to then operand_of a else null_of a
 
   abbrev pub source_slot : Converted → (t : ℕ) → ℕ
   source_slot (Convert from to a) t = if are_as_wide from to then value_slot a t else t
@@ -522,11 +669,18 @@ module _ (starts : Starts) where
   printed_operand NoArguments o t = o
   printed_operand (MoreArguments c cs) o t = printed_operand cs (converted_operand c t) t
 
+  -- where a fat pointer stands while its index is computed: in its local where the index has no code, so that nothing between assigns it
+  abbrev pub pointer_of : (a i : Expression) → Option Operand
+  pointer_of a i = left_with (operand_of i) (operand_of a)
+
+  abbrev pub pointer_slot : (a i : Expression) → (t : ℕ) → ℕ
+  pointer_slot a i t = slot_or (pointer_of a i) t
+
   -- where the address of a place stands that a pointer leads to, but for so many bytes that are to be added
   abbrev pub place_operand : Dereference → (t : ℕ) → Operand
-  place_operand (Target k a ty) t = value_operand a t
+  place_operand (Target k a ty) t = followed_operand (is_thin k) (span_in ty) (value_operand a t) t
   place_operand (Member k a s f ty) t = value_operand a t
-  place_operand (Element a i ty) t = operands.Slot t
+  place_operand (Element a i ty) t = reached_operand (span_in ty) (pointer_slot a i t) t
 
   abbrev pub place_offset : Dereference → ℕ
   place_offset (Member k a s f ty) = field_of starts s f
@@ -537,7 +691,7 @@ module _ (starts : Starts) where
   -- the value of a place, which has so many words
   abbrev pub load_code : (words : ℕ) → Lvalue → (d : ℕ) → List Instruction
   load_code words (Local p n) d = move_of words d (operands.Slot (slot_of starts n)) ∷ []
-  load_code words (Global n) d = instructions.LoadGlobal d n ∷ []
+  load_code words (Global n) d = word_by_word load_word words (global_of starts n) d
 
 -- The code of an expression that begins at place p and brings its value to slot d, with temporaries from slot t on.
 abbrev mutual
@@ -556,6 +710,9 @@ abbrev mutual
   expression_code starts (Call callees.Getchar cs ty) p d t = arguments_code starts cs p t ++ instructions.ReadByte d ∷ []
   expression_code starts (Call (callees.Function n) cs ty) p d t =
       arguments_code starts cs p t ++ instructions.Call n t (all_passed cs) d ∷ []
+  expression_code starts (NumberOfElements a) p d t =
+      code_unless (operand_of starts a) (expression_code starts a p (value_slot starts a t) t)
+      ++ count_code (value_operand starts a t) (p + length (code_unless (operand_of starts a) (expression_code starts a p (value_slot starts a t) t))) d
   expression_code starts (Unary o a) p d t =
       code_unless (operand_of starts a) (expression_code starts a p (value_slot starts a t) t)
       ++ instructions.Unary (unary_operator o) d (value_operand starts a t)
@@ -567,12 +724,12 @@ abbrev mutual
   expression_code starts (Assign (Local w n) c ty) p d t =
       initial_code starts c p (slot_of starts n) t ++ copy_code (passed_words c) (operands.Slot (slot_of starts n)) d
   expression_code starts (Assign (Global n) c ty) p d t =
-      (converted_operand_code starts c p t ++ instructions.StoreGlobal n (converted_operand starts c t) ∷ []) ++ copy_code (passed_words c) (converted_operand starts c t) d
-  expression_code starts (Load x) p d t = place_code starts x p t ++ instructions.Load d (place_operand starts x t) (place_offset starts x) ∷ []
+      (converted_operand_code starts c p t ++ global_code (passed_words c) (global_of starts n) (converted_operand starts c t)) ++ copy_code (passed_words c) (converted_operand starts c t) d
+  expression_code starts (Load x) p d t = place_code starts x p t ++ loaded_code (words_of (type_of_place x)) (place_operand starts x t) (place_offset starts x) d
   expression_code starts (AddressOfCell x ty) p d t = addressed_by (place_code starts x p t) (place_operand starts x t) (place_offset starts x) d
   expression_code starts (Store x c ty) p d t =
       stored_by (addressed_by (place_code starts x p t) (place_operand starts x t) (place_offset starts x) t)
-      (converted_operand_code starts c (p + length (addressed_by (place_code starts x p t) (place_operand starts x t) (place_offset starts x) t)) (t + 1)) t (converted_operand starts c (t + 1))
+      (converted_operand_code starts c (p + length (addressed_by (place_code starts x p t) (place_operand starts x t) (place_offset starts x) t)) (t + 1)) (passed_words c) t (converted_operand starts c (t + 1))
       ++ copy_code (passed_words c) (converted_operand starts c (t + 1)) d
   expression_code starts (FreeUnique a) p d t =
       code_unless (operand_of starts a) (expression_code starts a p (value_slot starts a t) t)
@@ -583,16 +740,19 @@ abbrev mutual
 
   -- a place that a pointer leads to, which is tested
   pub place_code : (starts : Starts) → Dereference → (p t : ℕ) → List Instruction
-  place_code starts (Target k a ty) p t = converted_by starts (operand_of starts a) (expression_code starts a p (value_slot starts a t) t) kinds.NonNull (value_operand starts a t) p
-  place_code starts (Member k a s f ty) p t = converted_by starts (operand_of starts a) (expression_code starts a p (value_slot starts a t) t) kinds.NonNull (value_operand starts a t) p
-  place_code starts (Element a i ty) p t = instructions.Move t (operands.Word 0) ∷ []
+  place_code starts (Target k a ty) p t = followed_by starts (operand_of starts a) (expression_code starts a p (value_slot starts a t) t) (is_thin k) (span_in ty) (value_operand starts a t) t
+  place_code starts (Member k a s f ty) p t = tested_by starts (operand_of starts a) (expression_code starts a p (value_slot starts a t) t) (value_operand starts a t)
+  place_code starts (Element a i ty) p t =
+      element_by starts (code_unless_slot (pointer_of starts a i) (expression_code starts a p t t))
+      (code_unless (operand_of starts i) (expression_code starts i (p + length (code_unless_slot (pointer_of starts a i) (expression_code starts a p t t))) (value_slot starts i (t + 3)) (t + 3)))
+      (span_in ty) (pointer_slot starts a i t) (value_operand starts i (t + 3)) t
 
-  -- A new object in the region of this handle. Each of its cells has one word yet. The elements of an array have a counter.
+  -- A new object in the region of this handle. The elements of an array have a counter.
   pub made_code : (starts : Starts) → Initial → (handle p d t : ℕ) → List Instruction
-  made_code starts (Plain kind a) handle p d t = expression_code starts a p t t ++ object_code handle 1 d t
-  made_code starts (Fields cs) handle p d t = arguments_code starts cs p t ++ object_code handle (argument_count cs) d t
+  made_code starts (Plain kind a) handle p d t = expression_code starts a p t t ++ object_code handle (words_of_kind kind) d t
+  made_code starts (Fields cs) handle p d t = arguments_code starts cs p t ++ object_code handle (all_passed cs) d t
   made_code starts (Array w level n kind a) handle p d t =
-      array_code starts (expression_code starts n p t t) (λ q. expression_code (with_counter starts (t + 2)) a q (t + 3) (t + 3)) handle p d t
+      array_code starts (words_of_kind kind) (expression_code starts n p t t) (λ q. expression_code (with_counter starts (t + 2)) a q (t + 3) (t + 3)) handle p d t
 
   -- each argument comes into the slots behind those of the one before
   pub arguments_code : (starts : Starts) → Arguments → (p t : ℕ) → List Instruction
@@ -602,12 +762,12 @@ abbrev mutual
   -- the value comes to slot t and is converted there
   pub converted_code : (starts : Starts) → Converted → (p t : ℕ) → List Instruction
   converted_code starts (Convert from to a) p t =
-      expression_code starts a p t t ++ conversion_code starts to (operands.Slot t) (p + length (expression_code starts a p t t))
+      expression_code starts a p t t ++ conversion_code starts from to (span_of a) (operands.Slot t) (p + length (expression_code starts a p t t))
 
   -- the value is converted where it is
   pub converted_operand_code : (starts : Starts) → Converted → (p t : ℕ) → List Instruction
   converted_operand_code starts (Convert from to a) p t =
-      converted_by starts (source_of starts (Convert from to a)) (expression_code starts a p (source_slot starts (Convert from to a) t) t) to (converted_operand starts (Convert from to a) t) p
+      converted_by starts (source_of starts (Convert from to a)) (expression_code starts a p (source_slot starts (Convert from to a) t) t) from to (span_of a) (converted_operand starts (Convert from to a) t) p
 
   -- the arguments of `putchar`, of which there is one
   pub printed_code : (starts : Starts) → Arguments → (p t : ℕ) → List Instruction
@@ -620,7 +780,7 @@ abbrev mutual
   initial_code starts (Convert from to a) p d t =
       if converts_there from to
       then expression_code starts a p d t
-      else moved_by starts (source_of starts (Convert from to a)) (expression_code starts a p (source_slot starts (Convert from to a) t) t) to (converted_operand starts (Convert from to a) t) p d
+      else moved_by starts (source_of starts (Convert from to a)) (expression_code starts a p (source_slot starts (Convert from to a) t) t) from to (span_of a) (converted_operand starts (Convert from to a) t) p d
 
   -- The left operand is l. It is t where an operator is a test, or where the right operand has code.
   pub operations_code : (starts : Starts) → Operations → (p : ℕ) → (l : Operand) → (d t : ℕ) → List Instruction
@@ -648,7 +808,7 @@ module _ (starts : Starts) where
   -- an assignment, and the operand where its value stands then
   abbrev pub assignment_code : Lvalue → Converted → (p t : ℕ) → List Instruction
   assignment_code (Local w n) c p t = initial_code starts c p (slot_of starts n) t
-  assignment_code (Global n) c p t = converted_operand_code starts c p t ++ instructions.StoreGlobal n (converted_operand starts c t) ∷ []
+  assignment_code (Global n) c p t = converted_operand_code starts c p t ++ global_code (passed_words c) (global_of starts n) (converted_operand starts c t)
 
   abbrev pub assigned_operand : Lvalue → Converted → (t : ℕ) → Operand
   assigned_operand (Local w n) c t = operands.Slot (slot_of starts n)
@@ -661,7 +821,7 @@ module _ (starts : Starts) where
   -- a value is stored in a cell
   abbrev pub store_code : Dereference → Converted → (p t : ℕ) → List Instruction
   store_code x c p t =
-      stored_by (store_address_code x p t) (converted_operand_code starts c (p + length (store_address_code x p t)) (t + 1)) t (converted_operand starts c (t + 1))
+      stored_by (store_address_code x p t) (converted_operand_code starts c (p + length (store_address_code x p t)) (t + 1)) (passed_words c) t (converted_operand starts c (t + 1))
 
   -- the code of an expression whose value nobody wants
   abbrev pub discarded_code : Expression → (p t : ℕ) → List Instruction
@@ -703,7 +863,7 @@ module _ (starts : Starts) where
   return_code None p exits t = leave_code exits.first_record t ++ instructions.Finish t ∷ []
   return_code (Some (Convert from to a)) p exits t =
       code_unless_slot (source_of starts (Convert from to a)) (expression_code starts a p t t)
-      ++ conversion_code starts to (operands.Slot (slot_or (source_of starts (Convert from to a)) t)) (p + length (code_unless_slot (source_of starts (Convert from to a)) (expression_code starts a p t t)))
+      ++ conversion_code starts from to (span_of a) (operands.Slot (slot_or (source_of starts (Convert from to a)) t)) (p + length (code_unless_slot (source_of starts (Convert from to a)) (expression_code starts a p t t)))
       ++ leave_code exits.first_record t
       ++ instructions.Finish (slot_or (source_of starts (Convert from to a)) t)
       ∷ []
@@ -713,26 +873,26 @@ module _ (starts : Starts) where
   side_code (VariableSide l ty) p t = []
   side_code (CellSide x) p t = store_address_code x p t
 
-  -- a word that a side holds comes to slot d
-  abbrev pub read_side : Side → (address d : ℕ) → Instruction
-  read_side (VariableSide (Local w n) ty) s d = instructions.Move d (operands.Slot (slot_of starts n))
-  read_side (VariableSide (Global n) ty) s d = instructions.LoadGlobal d n
-  read_side (CellSide x) s d = instructions.Load d (operands.Slot s) 0
+  -- the words that a side holds come to slot d and those behind it
+  abbrev pub read_side : Side → (words address d : ℕ) → List Instruction
+  read_side (VariableSide l ty) words s d = load_code starts words l d
+  read_side (CellSide x) words s d = word_by_word (load_at s) words 0 d
 
-  -- the word in a slot comes to a side
-  abbrev pub write_side : Side → (address from : ℕ) → Instruction
-  write_side (VariableSide (Local w n) ty) s v = instructions.Move (slot_of starts n) (operands.Slot v)
-  write_side (VariableSide (Global n) ty) s v = instructions.StoreGlobal n (operands.Slot v)
-  write_side (CellSide x) s v = instructions.Store (operands.Slot s) 0 (operands.Slot v)
+  -- the words in slot v and those behind it come to a side
+  abbrev pub write_side : Side → (words address v : ℕ) → List Instruction
+  write_side (VariableSide (Local w n) ty) words s v = move_of words (slot_of starts n) (operands.Slot v) ∷ []
+  write_side (VariableSide (Global n) ty) words s v = global_code words (global_of starts n) (operands.Slot v)
+  write_side (CellSide x) words s v = stores_code words s 0 v
 
-  -- both sides are read, the left one first, and then written
-  abbrev pub exchange_code : (left right : Side) → (t : ℕ) → List Instruction
-  exchange_code a b t =
-      read_side a t (t + 2) ∷ read_side b (right_slot a t) (t + 3) ∷ write_side a t (t + 3) ∷ write_side b (right_slot a t) (t + 2) ∷ []
+  -- both sides, of so many words, are read, the left one first, and then written
+  abbrev pub exchange_code : (words : ℕ) → (left right : Side) → (t : ℕ) → List Instruction
+  exchange_code words a b t =
+      read_side a words t (t + 2)
+      ++ (read_side b words (right_slot a t) (t + 2 + words) ++ (write_side a words t (t + 2 + words) ++ write_side b words (right_slot a t) (t + 2)))
 
   abbrev pub swap_code : (left right : Side) → (p t : ℕ) → List Instruction
   swap_code a b p t =
-      side_code a p t ++ (side_code b (p + length (side_code a p t)) (right_slot a t) ++ exchange_code a b t)
+      side_code a p t ++ (side_code b (p + length (side_code a p t)) (right_slot a t) ++ exchange_code (words_of (type_of_side a)) a b t)
 
   -- a local with an initial value gets it
   abbrev pub declaration_code : (number : ℕ) → Option Converted → (p t : ℕ) → List Instruction
@@ -797,25 +957,26 @@ module _ (starts : Starts) where
 
 -- ---- programs
 
--- by which the code of a function is made, in a program with these structs, where blocks stand behind this place
-abbrev pub types_with : (raises : ℕ) → List StructType → Function → Types
-types_with raises structs h = record { locals = slot_types h; structs = structs; raises = raises; counters = [] }
+-- By which the code of a function is made, in a program with these structs, whose globals have these first words, where blocks stand
+-- behind this place.
+abbrev pub starts_with : (raises : ℕ) → List StructType → (globals : List ℕ) → Function → Starts
+starts_with raises structs globals h = record { locals = starts_from 0 (slot_types h); structs = structs; raises = raises; counters = []; globals = globals }
 
 -- the code of its body
-abbrev pub body_code : Types → Function → List Instruction
-body_code types h = items_code (starts_of types) h.body 0 (outside_loops (first_temporary h)) (first_temporary h)
+abbrev pub body_code : Starts → Function → List Instruction
+body_code starts h = items_code starts h.body 0 (outside_loops (first_temporary h)) (first_temporary h)
 
 -- Blocks stand behind the code. How long that is does not depend on where they stand: so it is made twice, and at first for any place.
-abbrev pub raises_of : List StructType → Function → ℕ
-raises_of structs h = length (body_code (types_with 0 structs h) h)
+abbrev pub raises_of : List StructType → (globals : List ℕ) → Function → ℕ
+raises_of structs globals h = length (body_code (starts_with 0 structs globals h) h)
 
-abbrev pub types_of : List StructType → Function → Types
-types_of structs h = types_with (raises_of structs h) structs h
+abbrev pub types_of : List StructType → (globals : List Ty) → Function → Types
+types_of structs globals h = record { locals = slot_types h; structs = structs; raises = raises_of structs (starts_from 0 globals) h; counters = []; globals = globals }
 
 -- A body's code ends in a return, which is the end of a void function. In any other it is never reached, and stands there so that no
 -- code runs off its end. The blocks stand behind it.
-abbrev pub function_code : List StructType → Function → List Instruction
-function_code structs h = body_code (types_of structs h) h ++ instructions.Finish (first_temporary h) ∷ blocks
+abbrev pub function_code : List StructType → (globals : List ℕ) → Function → List Instruction
+function_code structs globals h = body_code (starts_with (raises_of structs globals h) structs globals h) h ++ instructions.Finish (first_temporary h) ∷ blocks
 
 -- the words that a function returns
 abbrev pub results_of : Option Ty → ℕ
@@ -831,24 +992,33 @@ spare_slots = 3
 
 -- its slots are the locals, the records of its handlers, as many temporaries as its expressions need, and those of one value more,
 -- such as what it returns
-abbrev pub lower_function : List StructType → Function → Routine
-lower_function structs h = record {
+abbrev pub lower_function : List StructType → (globals : List ℕ) → Function → Routine
+lower_function structs globals h = record {
   name = span_of_place h.place;
   parameters = words_of_all h.parameters;
   results = results_of h.result;
   slots = first_temporary h + kept_by_items h.body + items_need h.body + spare_slots;
   frame_count = frame_count h;
-  code = function_code structs h;
+  code = function_code structs globals h;
 }
 
--- the word that a global holds at the start
+-- the first word that a global holds at the start
 abbrev pub initial_word : Constant → ℕ
 initial_word (Word n) = n
 initial_word Null = 0
 
-abbrev pub lower_global : GlobalVariable → ℕ
-lower_global g = initial_word g.value
+-- The words of a global: that of a number or null, and 0 behind it. The words of all stand one behind the other.
+abbrev pub lower_global : GlobalVariable → List ℕ
+lower_global g = initial_word g.value ∷ replicate (words_of g.of_type - 1) 0
 
--- each function and each global keeps its number
+abbrev pub lower_globals : List GlobalVariable → List ℕ
+lower_globals [] = []
+lower_globals (g ∷ gs) = lower_global g ++ lower_globals gs
+
+-- the first words of its globals
+abbrev pub globals_of : Program → List ℕ
+globals_of p = starts_from 0 (global_types p.globals)
+
+-- each function keeps its number
 abbrev pub lower_program : Program → PlainProgram
-lower_program p = record { functions = map (lower_function p.structs) p.functions; globals = map lower_global p.globals; main = p.main }
+lower_program p = record { functions = map (lower_function p.structs (globals_of p)) p.functions; globals = lower_globals p.globals; main = p.main }

@@ -1,9 +1,10 @@
 -- The slots of a function's locals, by their types: each has as many as its value has words, in the order of their
--- numbers. Where every type has one word, a local's slot is its number. The fields of a struct begin likewise, by their types.
-use Rattle.std.specs.Prelude.{ℕ, zero, suc, ◌+◌, ◌*◌, List, [], ◌∷◌, ◌++◌, Option, Some, None, slice_get, unwrap_or}
+-- numbers. Where every type has one word, a local's slot is its number. The fields of a struct begin likewise, by their types, and so do
+-- the globals of the plain program.
+use Rattle.std.specs.Prelude.{ℕ, zero, suc, ◌+◌, ◌*◌, List, [], ◌∷◌, ◌++◌, map, Option, Some, None, slice_get, unwrap_or}
 use Rattle.cyc_words.specs.Word.{add_of}
 use Rattle.cyc_types.specs.Types.{Ty, words_of}
-use Rattle.cyc_types.specs.TypedTrees.{StructType}
+use Rattle.cyc_types.specs.TypedTrees.{StructType, GlobalVariable}
 
 -- the first slot of a local of this number
 abbrev pub slot_in : List Ty → ℕ → ℕ
@@ -16,31 +17,36 @@ abbrev pub starts_from : (slot : ℕ) → List Ty → List ℕ
 starts_from slot [] = []
 starts_from slot (t ∷ ts) = slot ∷ starts_from (slot + words_of t) ts
 
+abbrev pub global_types : List GlobalVariable → List Ty
+global_types globals = map (λ (g : GlobalVariable). g.of_type) globals
+
 -- The types of a function's locals, and the structs of its program. Behind the place `raises` of its code stand the blocks that raise
--- exceptions. Of the arrays around, the outermost first, the counters have these slots.
+-- exceptions. Of the arrays around, the outermost first, the counters have these slots. The globals of the program have these types.
 pub record Types : Type 0 where
   pub locals : List Ty
   pub structs : List StructType
   pub raises : ℕ
   pub counters : List ℕ
+  pub globals : List Ty
 
 -- What tells where things begin: the first slots of a function's locals, the structs of its program, for their fields, the place
--- behind which the blocks stand that raise exceptions, and the slots of counters.
+-- behind which the blocks stand that raise exceptions, the slots of counters, and the first words of globals.
 pub record Starts : Type 0 where
   pub locals : List ℕ
   pub structs : List StructType
   pub raises : ℕ
   pub counters : List ℕ
+  pub globals : List ℕ
 
 abbrev pub starts_of : Types → Starts
-starts_of types = record { locals = starts_from 0 types.locals; structs = types.structs; raises = types.raises; counters = types.counters }
+starts_of types = record { locals = starts_from 0 types.locals; structs = types.structs; raises = types.raises; counters = types.counters; globals = starts_from 0 types.globals }
 
 -- for the elements of an array, whose counter has this slot
 abbrev pub counted : Types → (slot : ℕ) → Types
-counted types slot = record { locals = types.locals; structs = types.structs; raises = types.raises; counters = types.counters ++ slot ∷ [] }
+counted types slot = record { locals = types.locals; structs = types.structs; raises = types.raises; counters = types.counters ++ slot ∷ []; globals = types.globals }
 
 abbrev pub with_counter : Starts → (slot : ℕ) → Starts
-with_counter starts slot = record { locals = starts.locals; structs = starts.structs; raises = starts.raises; counters = starts.counters ++ slot ∷ [] }
+with_counter starts slot = record { locals = starts.locals; structs = starts.structs; raises = starts.raises; counters = starts.counters ++ slot ∷ []; globals = starts.globals }
 
 -- Where the field of this number begins, in bytes behind what is before its struct's fields: a word, since it is wrapped. No text has as
 -- many fields as that takes.
@@ -64,3 +70,7 @@ slot_of starts number = unwrap_or (slice_get starts.locals number) 0
 -- the slot of the counter of this level
 abbrev pub counter_of : Starts → (level : ℕ) → ℕ
 counter_of starts level = unwrap_or (slice_get starts.counters level) 0
+
+-- the first word of the global of this number
+abbrev pub global_of : Starts → (number : ℕ) → ℕ
+global_of starts number = unwrap_or (slice_get starts.globals number) 0

@@ -4,7 +4,7 @@ use Rattle.std.specs.Prelude.{◌≤◌, List, [], ◌∷◌, Option, None, Some
 use Rattle.cyc_words.specs.Word.{IsWord}
 use Rattle.cyc_types.specs.Numbered.{argument_count}
 use Rattle.cyc_store.specs.declared.range.TheConstants.{MOST_BLOCK_WORDS}
-use Rattle.cyc_types.specs.TypedTrees.{Array, Counter, Load, New, OnHeap, Initial, Plain, Fields, Dereference, Target, Expression, Number, NullPointer, Copy, Call, Unary, Binary, Assign, Converted, Convert, Arguments, NoArguments, MoreArguments, Operations, NoOperations, ThenCompute, ThenTest, ThenPointer, Statement, Block, Empty, Evaluate, If, While, Return, Break, Continue, Items, NoItems, MoreItems, Execute, Declare, Constant, Word, Null, GlobalVariable, Function, Program, Move, Peek, ThenPointerPeek, AddressOfCell, Store, Member, AsUnique, FreeUnique, Side, VariableSide, CellSide, Swap, Throw, Try, Clauses, NoClauses, Default, Case}
+use Rattle.cyc_types.specs.TypedTrees.{Array, Counter, Load, New, OnHeap, Initial, Plain, Fields, Dereference, Target, Expression, Number, NullPointer, Copy, Call, Unary, Binary, Assign, Converted, Convert, Arguments, NoArguments, MoreArguments, Operations, NoOperations, ThenCompute, ThenTest, ThenPointer, Statement, Block, Empty, Evaluate, If, While, Return, Break, Continue, Items, NoItems, MoreItems, Execute, Declare, Constant, Word, Null, GlobalVariable, Function, Program, Move, Peek, ThenPointerPeek, AddressOfCell, Store, Member, AsUnique, FreeUnique, Side, VariableSide, CellSide, Swap, Throw, Try, Clauses, NoClauses, Default, Case, NumberOfElements, Element}
 
 abbrev mutual
   pub IsOfWords : Expression → Type 0
@@ -15,6 +15,7 @@ abbrev mutual
   IsOfWords (Peek p n t) = Unit {0}
   IsOfWords (Counter l) = Unit {0}
   IsOfWords (Call f cs t) = AreOfWordsArguments cs
+  IsOfWords (NumberOfElements a) = IsOfWords a
   IsOfWords (Unary o a) = IsOfWords a
   IsOfWords (Binary a os t) = IsOfWords a × AreOfWordsOperations os
   IsOfWords (Assign l c t) = IsOfWordsConverted c
@@ -28,8 +29,8 @@ abbrev mutual
 
   pub IsOfWordsCell : Dereference → Type 0
   IsOfWordsCell (Target k a t) = IsOfWords a
+  IsOfWordsCell (Element a i t) = IsOfWords a × IsOfWords i
   IsOfWordsCell (Member k a s f t) = IsOfWords a
-  IsOfWordsCell x = ⊥
 
   -- of its fields too there are as many as a word counts
   pub IsOfWordsObject : Initial → Type 0

@@ -11,7 +11,7 @@ use std::alloc::AllocError;
 /// The exceptions that the language itself raises, by their tags.
 pub(crate) const NULL_EXCEPTION: u32 = 1;
 
-const ARRAY_BOUNDS: u32 = 2;
+pub(crate) const ARRAY_BOUNDS: u32 = 2;
 
 pub(crate) const ARRAY_SIZE: u32 = 3;
 

@@ -4,6 +4,7 @@ ghost use Rattle.cyc_types.specs.TypedTreeView.{view_lvalue};
 ghost use Rattle.cyc_lower.specs.Lowering.{failing_jump, load_code};
 ghost use Rattle.cyc_lower.specs.Emission.{Appends, view_starts};
 
+use crate::globals::global_of;
 use crate::locals::slot_of;
 use crate::operands::Condition;
 use crate::operators::{failing_jump, move_of};
@@ -87,18 +88,15 @@ impl Emitter {
     ) -> Result<(), AllocError>
         ensures { Appends result self.old self.new (load_code (view_starts starts.now) words (view_lvalue source) slot) }
     {
-        self.emit(match source {
-            Lvalue::Local { number, .. } => move_of(
+        match source {
+            Lvalue::Local { number, .. } => self.emit(move_of(
                 words,
                 slot,
                 Operand::Slot {
                     number: slot_of(starts, number),
                 },
-            ),
-            Lvalue::Global { number } => Instruction::LoadGlobal {
-                destination: slot,
-                global: number,
-            },
-        })
+            )),
+            Lvalue::Global { number } => self.load_global(words, global_of(starts, number), slot),
+        }
     }
 }

@@ -7,24 +7,26 @@ ghost use Rattle.cyc_types.specs.TypedTrees.{Call};
 ghost use Rattle.cyc_meaning.specs.Values.{words_of_kind};
 ghost use Rattle.cyc_plain.specs.declared.instruction.Operand.TheVariants as operands;
 ghost use Rattle.cyc_plain.specs.declared.instruction.Instruction.TheVariants as instructions;
-ghost use Rattle.cyc_lower.specs.Lowering.{operand_of, operand_or, left_of, left_slot, value_operand, converted_operand, printed_operand, check_code, conversion_code, divisor_code, operator_code, truth_code, copy_code, all_passed, expression_code, arguments_code, converted_operand_code, printed_code, initial_code, assignment_code, assigned_operand, operations_code, discarded_code, condition_of, condition_code, first_two, index_code, pointer_instructions, stores_code, object_code, made_code, address_code, place_operand, place_offset, place_code, addressed_by, measured_code, asked_code, begun_code, written_code, restarted_code, elements_code, last_element, free_code};
+ghost use Rattle.cyc_lower.specs.Lowering.{operand_of, operand_or, left_of, left_slot, value_operand, converted_operand, printed_operand, check_code, conversion_code, divisor_code, operator_code, truth_code, copy_code, all_passed, expression_code, arguments_code, converted_operand_code, printed_code, initial_code, assignment_code, assigned_operand, operations_code, discarded_code, condition_of, condition_code, first_two, index_code, pointer_instructions, made_code, address_code, place_operand, place_offset, place_code, addressed_by, reached_operand, pointer_of, pointer_slot, code_unless_slot, elements_code, last_element, span_of, saved_code};
 ghost use Rattle.cyc_lower.specs.Slots.{with_counter};
 ghost use Rattle.cyc_lower.specs.Emission.{Appends, Gives, HasRoom, HasRoomFor, most_locals, value_code, source_code, slot_code, print_code, converted_slot, converted_slot_code, left_code, operation_code, IsChain, zero_condition, view_starts, pointer_operation_code};
 
-use crate::checks::{ARRAY_SIZE, DIVISION_BY_ZERO, NULL_EXCEPTION};
+use crate::checks::{DIVISION_BY_ZERO, NULL_EXCEPTION};
 use crate::emitter::Emitter;
-use crate::frame_count::{words_of, words_of_kind};
+use crate::frame_count::{words_at, words_of, words_of_kind};
+use crate::globals::global_of;
 use crate::locals::{counter_of, field_of, slot_of, with_counter};
+use crate::objects::last_element;
 use crate::operands::{
-    Condition, are_as_wide, converts_there, index_of, is_in, operand_of, slot_behind,
-    takes_operand, value_slot,
+    Condition, are_as_wide, converts_there, index_of, is_in, null_of, operand_of, pointer_of,
+    slot_behind, span_in, span_of, takes_operand, value_slot,
 };
 use crate::operators::{
-    binary_operator, failing_comparison, jump_if_zero, left_kind, move_of, pointer_operator,
-    test_jump, unary_operator,
+    binary_operator, failing_comparison, left_kind, move_of, pointer_operator, test_jump,
+    unary_operator,
 };
 use crate::starts::Starts;
-use cyc_plain::{BinaryOperator, Comparison, Instruction, Operand, Request, UnaryOperator};
+use cyc_plain::{BinaryOperator, Comparison, Instruction, Operand, UnaryOperator};
 use cyc_store::{HEAP, UNIQUE};
 use cyc_types::typed;
 use cyc_types::typed::{
@@ -32,12 +34,6 @@ use cyc_types::typed::{
     PointerOperator,
 };
 use std::alloc::AllocError;
-
-/// An array has at most so many elements, each of one word.
-const MOST_ELEMENTS: u32 = 1000;
-
-/// An object has at most as many words as a block.
-const MOST_OBJECT_WORDS: usize = 1000;
 
 /// How many bytes are to be added to an address.
 fn place_offset(starts: &Starts, place: &Dereference) -> u32
@@ -49,26 +45,28 @@ fn place_offset(starts: &Starts, place: &Dereference) -> u32
     }
 }
 
-/// An index is behind the last element of an array, by its length.
-fn last_element(words: usize, index: usize) -> Condition
-    ensures { result ≡ last_element words index }
-{
-    Condition {
-        failing: Comparison::Equal,
-        left: Operand::Slot { number: index },
-        right: Operand::Slot { number: words },
-    }
-}
-
 impl Emitter {
-    /// A conversion of a value where it is: where it may not be null, it is tested.
-    fn convert(&mut self, starts: &Starts, to: Kind, value: Operand) -> Result<(), AllocError>
-        ensures { Appends result self.old self.new (conversion_code (view_starts starts.now) to value (length self.old.code.items)) }
+    /// A conversion of a value where it is: where it may not be null, it is tested, a thin pointer gets the other words of a fat one, and
+    /// a fat pointer leads to its cell.
+    fn convert(
+        &mut self,
+        starts: &Starts,
+        conversion: &Converted,
+        value: Operand,
+    ) -> Result<(), AllocError>
+        ensures { Appends result self.old self.new (conversion_code (view_starts starts.now) conversion.now.from conversion.now.to (span_of (view_expression conversion.now.value)) value (length self.old.code.items)) }
     {
-        if matches!(to, Kind::NonNull) {
-            return self.check(starts, NULL_EXCEPTION, value);
+        if are_as_wide(conversion.from, conversion.to) {
+            if matches!(conversion.to, Kind::NonNull) {
+                return self.check(starts, NULL_EXCEPTION, value);
+            }
+            return Ok(());
         }
-        Ok(())
+        if matches!(conversion.to, Kind::Fat) {
+            return self.widen(value);
+        }
+        let span = span_of(&conversion.value);
+        self.thin(starts, conversion.to, span, value)
     }
 
     /// A divisor is tested, but a number other than 0.
@@ -123,7 +121,12 @@ impl Emitter {
     }
 
     /// A value of a kind comes to a slot, where it is not there yet.
-    fn copy(&mut self, kind: Kind, source: Operand, slot: usize) -> Result<(), AllocError>
+    pub(crate) fn copy(
+        &mut self,
+        kind: Kind,
+        source: Operand,
+        slot: usize,
+    ) -> Result<(), AllocError>
         ensures { Appends result self.old self.new (copy_code (words_of_kind kind) source slot) }
     {
         if is_in(source, slot) {
@@ -132,175 +135,8 @@ impl Emitter {
         self.emit(move_of(words_of_kind(kind), slot, source))
     }
 
-    /// So many words, which stand in the slots from one on, come to memory behind an address.
-    fn store_words(&mut self, words: u32, address: usize, first: usize) -> Result<(), AllocError>
-        requires few { words ≤ 1000 }
-        requires low { first + words ≤ address }
-        ensures { Appends result self.old self.new (stores_code words address 0 first) }
-    {
-        for index in 0..words {
-            self.emit(Instruction::Store {
-                address: Operand::Slot { number: address },
-                offset: 4 * index,
-                source: Operand::Slot {
-                    number: first + index as usize,
-                },
-            })?;
-        }
-        Ok(())
-    }
-
-    /// A block is asked for in the region of a handle, and gets so many words, which stand in the slots from `free` on. Its address
-    /// comes to a slot. No object has more words than a block.
-    fn make_object(
-        &mut self,
-        handle: u32,
-        words: usize,
-        slot: usize,
-        free: usize,
-    ) -> Result<(), AllocError>
-        requires { free ≤ most_locals + length self.old.code.items }
-        ensures { Appends result self.old self.new (object_code handle words slot free) }
-    {
-        if words > MOST_OBJECT_WORDS {
-            return Err(AllocError);
-        }
-        let size = words as u32;
-        let address = free + words;
-        self.emit(Instruction::Ask {
-            request: Request::Allocate {
-                destination: address,
-                handle: Operand::Word { word: handle },
-                words: Operand::Word { word: size.max(1) },
-            },
-        })?;
-        self.store_words(size, address, free)?;
-        self.emit(Instruction::Move {
-            destination: slot,
-            source: Operand::Slot { number: address },
-        })
-    }
-
-    /// The length of an array in `free` comes to a slot, and 0, as the index, to another. A length that is too large raises an
-    /// exception.
-    fn measure_array(
-        &mut self,
-        starts: &Starts,
-        words: usize,
-        index: usize,
-        free: usize,
-    ) -> Result<(), AllocError>
-        ensures { Appends result self.old self.new (measured_code (view_starts starts.now) words index free) }
-    {
-        let count = Operand::Slot { number: free };
-        let first = Operand::Word { word: 0 };
-        let limit = Operand::Word {
-            word: MOST_ELEMENTS + 1,
-        };
-        self.guard(
-            starts,
-            ARRAY_SIZE,
-            Comparison::GreaterOrEqualUnsigned,
-            count,
-            limit,
-        )?;
-        self.emit(Instruction::Move {
-            destination: words,
-            source: count,
-        })?;
-        self.emit(Instruction::Move {
-            destination: index,
-            source: first,
-        })
-    }
-
-    /// A block is asked for of as many words as the slot `free` tells, or of one where that is 0. Its address comes there.
-    fn ask_for_array(&mut self, handle: u32, size: usize, free: usize) -> Result<(), AllocError>
-        ensures { Appends result self.old self.new (asked_code handle size free) }
-    {
-        let count = Operand::Slot { number: free };
-        let words = Operand::Slot { number: size };
-        self.emit(Instruction::Unary {
-            operator: UnaryOperator::Not,
-            destination: size,
-            operand: count,
-        })?;
-        self.emit(Instruction::Binary {
-            operator: BinaryOperator::Add,
-            destination: size,
-            left: words,
-            right: count,
-        })?;
-        self.emit(Instruction::Ask {
-            request: Request::Allocate {
-                destination: free,
-                handle: Operand::Word { word: handle },
-                words,
-            },
-        })
-    }
-
-    /// A new array, whose length is in `free`. Its address comes there, and its length and the index to the slots behind it.
-    fn begin_array(&mut self, starts: &Starts, handle: u32, free: usize) -> Result<(), AllocError>
-        ensures { Appends result self.old self.new (begun_code (view_starts starts.now) handle free) }
-    {
-        let behind = slot_behind(free, Kind::Fat)?;
-        self.measure_array(starts, behind - 2, behind - 1, free)?;
-        self.ask_for_array(handle, behind, free)
-    }
-
-    /// An element comes to its cell of an array, by an index, which goes to the next one.
-    fn write_element(
-        &mut self,
-        head: usize,
-        index: usize,
-        element: usize,
-        address: usize,
-        free: usize,
-    ) -> Result<(), AllocError>
-        ensures { Appends result self.old self.new (written_code head index element address free) }
-    {
-        let number = Operand::Slot { number: index };
-        let cell = Operand::Slot { number: address };
-        self.emit(Instruction::Binary {
-            operator: BinaryOperator::ShiftLeft,
-            destination: address,
-            left: number,
-            right: Operand::Word { word: 2 },
-        })?;
-        self.emit(Instruction::Binary {
-            operator: BinaryOperator::Add,
-            destination: address,
-            left: Operand::Slot { number: free },
-            right: cell,
-        })?;
-        self.emit(Instruction::Store {
-            address: cell,
-            offset: 0,
-            source: Operand::Slot { number: element },
-        })?;
-        self.emit(Instruction::Binary {
-            operator: BinaryOperator::Add,
-            destination: index,
-            left: number,
-            right: Operand::Word { word: 1 },
-        })?;
-        self.emit(Instruction::Jump { target: head })
-    }
-
-    /// Behind the last element the index is 0, and the pointer comes to its slot.
-    fn end_array(&mut self, slot: usize, index: usize, free: usize) -> Result<(), AllocError>
-        ensures { Appends result self.old self.new (restarted_code slot index free) }
-    {
-        self.emit(Instruction::Move {
-            destination: index,
-            source: Operand::Word { word: 0 },
-        })?;
-        self.copy(Kind::Fat, Operand::Slot { number: free }, slot)
-    }
-
     /// An address comes to a slot: the word of an operand, and so many bytes more.
-    fn bring_address(
+    pub(crate) fn bring_address(
         &mut self,
         address: Operand,
         offset: u32,
@@ -317,17 +153,6 @@ impl Emitter {
                 right: Operand::Word { word: offset },
             }),
         }
-    }
-
-    /// The unique block at an address is freed, where that is not 0.
-    fn free_block(&mut self, address: Operand) -> Result<(), AllocError>
-        ensures { Appends result self.old self.new (free_code address (length self.old.code.items)) }
-    {
-        let behind = self.place() + 2;
-        self.emit(jump_if_zero(address, behind))?;
-        self.emit(Instruction::Ask {
-            request: Request::Free { address },
-        })
     }
 
     /// What stands for a form that is not built yet, and is never run.
@@ -365,6 +190,10 @@ impl Emitter {
                 arguments,
                 ..
             } => self.call(starts, *callee, arguments, slot, free),
+            Expr::NumberOfElements { pointer } => {
+                let pointer = self.lower_operand(starts, pointer, free)?;
+                self.count_elements(pointer, slot)
+            }
             Expr::Unary { operator, operand } => {
                 let operand = self.lower_operand(starts, operand, free)?;
                 self.emit(Instruction::Unary {
@@ -383,11 +212,12 @@ impl Emitter {
             }
             Expr::Load { source } => {
                 let address = self.locate(starts, source, free)?;
-                self.emit(Instruction::Load {
-                    destination: slot,
+                self.load_cell(
+                    words_at(source),
                     address,
-                    offset: place_offset(starts, source),
-                })
+                    place_offset(starts, source),
+                    slot,
+                )
             }
             Expr::AddressOfCell { place, .. } => self.take_address(starts, place, slot, free),
             Expr::Store { target, value, .. } => {
@@ -431,11 +261,8 @@ impl Emitter {
                 },
             }),
             // `NULL` is 0, and the others are not built yet.
-            Expr::NullPointer
-            | Expr::HeapRegion
-            | Expr::AddressOf { .. }
-            | Expr::NumberOfElements { .. }
-            | Expr::FreeKey { .. } => self.emit_missing(slot),
+            Expr::NullPointer | Expr::HeapRegion | Expr::AddressOf { .. } | Expr::FreeKey { .. } =>
+                self.emit_missing(slot),
         }
     }
 
@@ -451,16 +278,49 @@ impl Emitter {
         ensures { Gives (place_operand (view_starts starts.now) (view_dereference place.now) free) result self.old self.new (place_code (view_starts starts.now) (view_dereference place.now) (length self.old.code.items) free) }
     {
         match place {
-            Dereference::Target { pointer, .. } | Dereference::Member { pointer, .. } => {
+            Dereference::Target {
+                kind,
+                pointer,
+                of_type,
+            } => {
+                let address = self.lower_operand(starts, pointer, free)?;
+                self.follow(starts, *kind, span_in(of_type), address, free)
+            }
+            Dereference::Member { pointer, .. } => {
                 let address = self.lower_operand(starts, pointer, free)?;
                 self.check(starts, NULL_EXCEPTION, address)?;
                 Ok(address)
             }
-            Dereference::Element { .. } => {
-                self.emit_missing(free)?;
-                Ok(Operand::Slot { number: free })
+            Dereference::Element {
+                pointer,
+                index,
+                of_type,
+            } => {
+                let first = self.lower_pointer(starts, pointer, index, free)?;
+                let behind = slot_behind(free, Kind::Fat)?;
+                let moved = self.lower_operand(starts, index, behind)?;
+                self.reach_element(starts, span_in(of_type), first, moved, free)
             }
         }
+    }
+
+    /// A fat pointer for its index: it stays in its local where the index has no code, or comes to slots.
+    #[cycle(expression)]
+    fn lower_pointer(
+        &mut self,
+        starts: &Starts,
+        pointer: &Expr,
+        index: &Expr,
+        free: usize,
+    ) -> Result<usize, AllocError>
+        requires { free ≤ most_locals + length self.old.code.items }
+        ensures { Gives (pointer_slot (view_starts starts.now) (view_expression pointer.now) (view_expression index.now) free) result self.old self.new (code_unless_slot (pointer_of (view_starts starts.now) (view_expression pointer.now) (view_expression index.now)) (expression_code (view_starts starts.now) (view_expression pointer.now) (length self.old.code.items) free free)) }
+    {
+        if let Some(Operand::Slot { number }) = pointer_of(starts, pointer, index) {
+            return Ok(number);
+        }
+        self.lower_expression(starts, pointer, free, free)?;
+        Ok(free)
     }
 
     /// The address of a place comes to a slot.
@@ -488,19 +348,15 @@ impl Emitter {
         free: usize,
     ) -> Result<Operand, AllocError>
         requires { free < most_locals + length self.old.code.items }
-        ensures { Gives (converted_operand (view_starts starts.now) (view_converted value.now) (free + 1)) result self.old self.new (converted_operand_code (view_starts starts.now) (view_converted value.now) (length self.old.code.items) (free + 1) ++ instructions.Store (operands.Slot free) 0 (converted_operand (view_starts starts.now) (view_converted value.now) (free + 1)) ∷ []) }
+        ensures { Gives (converted_operand (view_starts starts.now) (view_converted value.now) (free + 1)) result self.old self.new (converted_operand_code (view_starts starts.now) (view_converted value.now) (length self.old.code.items) (free + 1) ++ saved_code (words_of_kind value.now.to) free (converted_operand (view_starts starts.now) (view_converted value.now) (free + 1))) }
     {
         let source = self.lower_converted(starts, value, free + 1)?;
-        self.emit(Instruction::Store {
-            address: Operand::Slot { number: free },
-            offset: 0,
-            source,
-        })?;
+        self.save(value.to, free, source)?;
         Ok(source)
     }
 
     /// A new object in the region of a handle: its values come to slots, it is made of them, and its address comes to a
-    /// slot. Each of its cells has one word yet.
+    /// slot.
     #[cycle(expression)]
     fn lower_object(
         &mut self,
@@ -514,22 +370,23 @@ impl Emitter {
         ensures { Appends result self.old self.new (made_code (view_starts starts.now) (view_initial initial.now) handle (length self.old.code.items) slot free) }
     {
         match initial {
-            Initial::Plain { value, .. } => {
+            Initial::Plain { kind, value } => {
                 self.lower_expression(starts, value, free, free)?;
-                self.make_object(handle, 1, slot, free)
+                self.make_object(handle, words_of_kind(*kind), slot, free)
             }
             Initial::Fields { values } => {
-                self.lower_arguments(starts, values, free)?;
-                self.make_object(handle, values.len(), slot, free)
+                let words = self.lower_arguments(starts, values, free)?;
+                self.make_object(handle, words, slot, free)
             }
             Initial::Array {
                 length,
+                kind,
                 element,
                 ..
             } => {
                 self.lower_expression(starts, length, free, free)?;
-                self.begin_array(starts, handle, free)?;
-                self.lower_elements(starts, element, slot, free)
+                self.begin_array(starts, handle, *kind, free)?;
+                self.lower_elements(starts, *kind, element, slot, free)
             }
         }
     }
@@ -540,11 +397,12 @@ impl Emitter {
     fn lower_elements(
         &mut self,
         starts: &Starts,
+        kind: Kind,
         element: &Expr,
         slot: usize,
         free: usize,
     ) -> Result<(), AllocError>
-        ensures { Appends result self.old self.new (elements_code (expression_code (with_counter (view_starts starts.now) (free + 2)) (view_expression element.now) (length self.old.code.items + 1) (free + 3) (free + 3)) (length self.old.code.items) slot free) }
+        ensures { Appends result self.old self.new (elements_code (words_of_kind kind) (expression_code (with_counter (view_starts starts.now) (free + 2)) (view_expression element.now) (length self.old.code.items + 1) (free + 3) (free + 3)) (length self.old.code.items) slot free) }
     {
         let behind = slot_behind(free, Kind::Fat)?;
         let counters = with_counter(starts, behind - 1)?;
@@ -553,11 +411,12 @@ impl Emitter {
             structs: starts.structs,
             raises: starts.raises,
             counters: &counters,
+            globals: starts.globals,
             alloc: starts.alloc,
         };
         let head = self.reserve()?;
         self.lower_expression(&inner, element, behind, behind)?;
-        self.write_element(head, behind - 1, behind, behind + 1, free)?;
+        self.write_element(kind, head, behind - 1, behind, free)?;
         self.jump_here_if_failing(head, last_element(behind - 2, behind - 1));
         self.end_array(slot, behind - 1, free)
     }
@@ -655,7 +514,7 @@ impl Emitter {
         let mut slot = first;
         for argument in arguments {
             self.lower_expression(starts, &argument.value, slot, slot)?;
-            self.convert(starts, argument.to, Operand::Slot { number: slot })?;
+            self.convert(starts, argument, Operand::Slot { number: slot })?;
             slot = slot_behind(slot, argument.to)?;
         }
         Ok(slot - first)
@@ -675,6 +534,9 @@ impl Emitter {
         if are_as_wide(value.from, value.to) {
             return self.lower_operand(starts, &value.value, free);
         }
+        if let Some(null) = null_of(&value.value) {
+            return Ok(null);
+        }
         self.lower_expression(starts, &value.value, free, free)?;
         Ok(Operand::Slot { number: free })
     }
@@ -691,7 +553,7 @@ impl Emitter {
         ensures { Gives (converted_operand (view_starts starts.now) (view_converted value.now) free) result self.old self.new (converted_operand_code (view_starts starts.now) (view_converted value.now) (length self.old.code.items) free) }
     {
         let operand = self.lower_source(starts, value, free)?;
-        self.convert(starts, value.to, operand)?;
+        self.convert(starts, value, operand)?;
         Ok(operand)
     }
 
@@ -734,10 +596,7 @@ impl Emitter {
             }
             Lvalue::Global { number } => {
                 let source = self.lower_converted(starts, value, free)?;
-                self.emit(Instruction::StoreGlobal {
-                    global: number,
-                    source,
-                })?;
+                self.store_global(words_of_kind(value.to), global_of(starts, number), source)?;
                 Ok(source)
             }
         }
@@ -1056,7 +915,7 @@ impl Emitter {
         ensures { Gives (converted_slot (view_starts starts.now) (view_converted value.now) free) result self.old self.new (converted_slot_code (view_starts starts.now) (view_converted value.now) (length self.old.code.items) free) }
     {
         let slot = self.lower_to_slot(starts, value, free)?;
-        self.convert(starts, value.to, Operand::Slot { number: slot })?;
+        self.convert(starts, value, Operand::Slot { number: slot })?;
         Ok(slot)
     }
 }

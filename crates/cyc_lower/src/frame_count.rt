@@ -56,7 +56,7 @@ fn result_words(of_type: &ValueType) -> usize
 }
 
 /// The words of what is at a place that a pointer leads to.
-fn words_at(place: &Dereference) -> usize
+pub(crate) fn words_at(place: &Dereference) -> usize
     ensures { result ≡ words_of (type_of_place (view_dereference place.now)) }
 {
     match place {

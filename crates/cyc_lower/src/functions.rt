@@ -1,23 +1,24 @@
-//! The plain functions and globals of a typed tree.
+//! The plain functions of a typed tree, and the program that it becomes.
 ghost use Rattle.std.specs.Prelude.{◌≡◌, ◌+◌, ◌≤◌, map, option_map, IfOk};
 ghost use Rattle.cyc_syntax.specs.TokenRule.{max_tokens};
 ghost use Rattle.cyc_types.specs.TypeView.{view_ty};
-ghost use Rattle.cyc_types.specs.TypedTreeView.{items_of, view_constant, view_global, view_struct, view_function, view_program};
+ghost use Rattle.cyc_types.specs.TypedTreeView.{items_of, view_struct, view_function, view_program};
 ghost use Rattle.cyc_types.specs.typing.WellTyped.{IsWellTypedProgram};
 ghost use Rattle.cyc_types.specs.Weight.{program_weight};
 ghost use Rattle.cyc_plain.specs.Program.{routine_of};
 ghost use Rattle.cyc_meaning.specs.FrameCount.{frame_count, kept_by_items};
-ghost use Rattle.cyc_lower.specs.Lowering.{items_code, outside_loops, results_of, initial_word, lower_function, lower_global, lower_program};
+ghost use Rattle.cyc_lower.specs.Lowering.{items_code, outside_loops, results_of, lower_function, lower_program};
 ghost use Rattle.cyc_lower.specs.Emission.{most_frame_count, most_locals, view_starts, HaveFewWords};
 ghost use Rattle.cyc_lower.specs.Lowered.{CanBeLowered};
 
 use crate::emitter::Emitter;
 use crate::frame_count::{frame_count, items_need, kept_by_items, words_of, words_of_all};
+use crate::globals::{starts_of_globals, words_of_globals};
 use crate::locals::slots_of_locals;
 use crate::starts::Starts;
 use crate::statements::Exits;
 use cyc_plain::{Function, Instruction, Plain};
-use cyc_types::typed::{self, Constant, StructType};
+use cyc_types::typed::{self, StructType};
 use cyc_types::{Ty, TypedTree};
 use std::alloc::{AllocError, Global};
 
@@ -31,16 +32,6 @@ fn results_of(of_type: &Option<Ty>) -> usize
     match of_type {
         Some(of_type) => words_of(of_type),
         None => 0,
-    }
-}
-
-/// The word that a global holds at the start.
-fn initial_word(value: Constant) -> u32
-    ensures { result ≡ initial_word (view_constant value) }
-{
-    match value {
-        Constant::Word { value } => value,
-        Constant::Null => 0,
     }
 }
 
@@ -69,10 +60,11 @@ fn lower_body(
 fn lower_function(
     alloc: Global,
     structs: &[StructType],
+    globals: &[usize],
     function: &typed::Function,
 ) -> Result<Function, AllocError>
     requires { frame_count (view_function function.now) ≤ most_frame_count }
-    ensures { IfOk result (λ f. routine_of f ≡ lower_function (map view_struct structs.now) (view_function function.now)) }
+    ensures { IfOk result (λ f. routine_of f ≡ lower_function (map view_struct structs.now) globals.now (view_function function.now)) }
 {
     let (locals, free) = slots_of_locals(alloc, function)?;
     let anywhere = Starts {
@@ -80,6 +72,7 @@ fn lower_function(
         structs,
         raises: 0,
         counters: &[],
+        globals,
         alloc,
     };
     let raises = lower_body(alloc, &anywhere, function, free)?.place();
@@ -88,6 +81,7 @@ fn lower_function(
         structs,
         raises,
         counters: &[],
+        globals,
         alloc,
     };
     let mut emitter = lower_body(alloc, &starts, function, free)?;
@@ -106,29 +100,20 @@ fn lower_function(
 fn lower_functions(
     alloc: Global,
     structs: &[StructType],
+    globals: &[usize],
     functions: &[typed::Function],
 ) -> Result<Vec<Function>, AllocError>
     requires { HaveFewWords (map view_function functions.now) }
-    ensures { IfOk result (λ fs. map routine_of fs.items ≡ map (lower_function (map view_struct structs.now)) (map view_function functions.now)) }
+    ensures { IfOk result (λ fs. map routine_of fs.items ≡ map (lower_function (map view_struct structs.now) globals.now) (map view_function functions.now)) }
 {
     let mut lowered = Vec::new(alloc);
     for function in functions {
-        lowered.push(lower_function(alloc, structs, function)?)?;
+        lowered.push(lower_function(alloc, structs, globals, function)?)?;
     }
     Ok(lowered)
 }
 
-fn lower_globals(alloc: Global, globals: &[typed::Global]) -> Result<Vec<u32>, AllocError>
-    ensures { IfOk result (λ words. words.items ≡ map lower_global (map view_global globals.now)) }
-{
-    let mut words = Vec::new(alloc);
-    for global in globals {
-        words.push(initial_word(global.value))?;
-    }
-    Ok(words)
-}
-
-/// The program, in which each function and each global keeps its number.
+/// The program, in which each function keeps its number.
 pub(crate) fn lower_tree(alloc: Global, tree: &TypedTree) -> Result<Plain, AllocError>
     requires few { HaveFewWords (map view_function tree.now.functions.items) }
     requires well_typed { IsWellTypedProgram (view_program tree.now) }
@@ -136,7 +121,8 @@ pub(crate) fn lower_tree(alloc: Global, tree: &TypedTree) -> Result<Plain, Alloc
     requires can_be { CanBeLowered (view_program tree.now) }
     ensures { IfOk result (λ plain. plain ≡ lower_program (view_program tree.now)) }
 {
-    let functions = lower_functions(alloc, &tree.structs, &tree.functions)?;
-    let globals = lower_globals(alloc, &tree.globals)?;
+    let starts = starts_of_globals(alloc, &tree.globals)?;
+    let functions = lower_functions(alloc, &tree.structs, &starts, &tree.functions)?;
+    let globals = words_of_globals(alloc, &tree.globals)?;
     Ok(Plain::new(functions, globals, tree.main))
 }

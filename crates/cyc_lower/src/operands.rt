@@ -1,19 +1,25 @@
 //! Where the values of expressions stand.
-ghost use Rattle.std.specs.Prelude.{◌≡◌, ◌+◌, ◌≤◌, IfOk};
-ghost use Rattle.cyc_types.specs.TypedTreeView.{view_expression, operations_of};
-ghost use Rattle.cyc_meaning.specs.Values.{words_of_kind};
-ghost use Rattle.cyc_lower.specs.Lowering.{operand_of, value_slot, is_in, index_of, are_as_wide, converts_there};
+ghost use Rattle.std.specs.Prelude.{◌≡◌, ◌+◌, ◌≤◌, IfOk, option_map};
+ghost use Rattle.cyc_types.specs.TypedTreeView.{view_dereference, view_expression, operations_of};
+ghost use Rattle.cyc_types.specs.Types.{Value};
+ghost use Rattle.cyc_types.specs.TypedTrees.{type_of_place};
+ghost use Rattle.cyc_types.specs.TypeView.{view_ty, view_value_type};
+ghost use Rattle.cyc_meaning.specs.Parts.{target_of_value};
+ghost use Rattle.cyc_meaning.specs.Values.{is_thin, words_of_kind};
+ghost use Rattle.cyc_lower.specs.Lowering.{operand_of, null_of, pointer_of, reached_operand, span_in, span_of, value_slot, is_in, index_of, are_as_wide, converts_there};
 ghost use Rattle.cyc_lower.specs.Emission.{most_locals, takes_operand, view_starts};
 
 use crate::frame_count::words_of_kind;
 use crate::locals::slot_of;
 use crate::starts::Starts;
 use cyc_plain::{Comparison, Operand};
-use cyc_types::typed::{Expr, Kind, Lvalue, Operation};
+use cyc_syntax::PointerKind;
+use cyc_types::Ty;
+use cyc_types::typed::{Dereference, Expr, Kind, Lvalue, Operation, ValueType};
 use std::alloc::AllocError;
 
 /// A frame has fewer slots than this and a few.
-const MOST_SLOTS: usize = 4_294_967_000;
+pub(crate) const MOST_SLOTS: usize = 4_294_967_000;
 
 /// A condition: it fails where this comparison of two operands holds.
 #[derive(Clone, Copy)]
@@ -47,6 +53,16 @@ pub(crate) fn operand_of(starts: &Starts, value: &Expr) -> Option<Operand>
     }
 }
 
+/// Null is an operand also where its words change.
+pub(crate) fn null_of(value: &Expr) -> Option<Operand>
+    ensures { result ≡ null_of (view_expression value.now) }
+{
+    match value {
+        Expr::NullPointer => Some(Operand::Word { word: 0 }),
+        _ => None,
+    }
+}
+
 /// The slot for the value of an expression that is an operand: an assigned local has it already.
 pub(crate) fn value_slot(starts: &Starts, value: &Expr, free: usize) -> usize
     ensures { result ≡ value_slot (view_starts starts.now) (view_expression value.now) free }
@@ -57,6 +73,26 @@ pub(crate) fn value_slot(starts: &Starts, value: &Expr, free: usize) -> usize
             Lvalue::Global { .. } => free,
         },
         _ => free,
+    }
+}
+
+/// Where a fat pointer stands while its index is computed: in its local where the index has no code, so that nothing between assigns it.
+pub(crate) fn pointer_of(starts: &Starts, pointer: &Expr, index: &Expr) -> Option<Operand>
+    ensures { result ≡ pointer_of (view_starts starts.now) (view_expression pointer.now) (view_expression index.now) }
+{
+    match operand_of(starts, index) {
+        Some(_) => operand_of(starts, pointer),
+        None => None,
+    }
+}
+
+/// Where the address of the cell stands that an access by a fat pointer has reached: that of a struct is its first word.
+pub(crate) fn reached_operand(span: Option<usize>, first: usize, slot: usize) -> Operand
+    ensures { result ≡ reached_operand span first slot }
+{
+    match span {
+        None => Operand::Slot { number: first },
+        Some(_) => Operand::Slot { number: slot },
     }
 }
 
@@ -84,6 +120,88 @@ pub(crate) fn converts_there(from: Kind, to: Kind) -> bool
     match to {
         Kind::NonNull => false,
         Kind::Int | Kind::Nullable | Kind::Fat | Kind::Handle | Kind::Key => are_as_wide(from, to),
+    }
+}
+
+/// Whether a pointer of a kind is thin.
+pub(crate) fn is_thin(kind: Kind) -> bool
+    ensures { result ≡ is_thin kind }
+{
+    match kind {
+        Kind::Nullable | Kind::NonNull => true,
+        Kind::Int | Kind::Fat | Kind::Handle | Kind::Key => false,
+    }
+}
+
+/// How many words the cells of a type have, where it is none of structs.
+pub(crate) fn span_in(of_type: &Ty) -> Option<usize>
+    ensures { result ≡ span_in (view_ty of_type.now) }
+{
+    match of_type {
+        Ty::Int | Ty::Handle { .. } | Ty::Key { .. } => Some(1),
+        Ty::Pointer { kind, .. } => match kind {
+            PointerKind::Fat => Some(3),
+            PointerKind::Nullable | PointerKind::NonNull => Some(1),
+        },
+        Ty::Struct { .. } => None,
+    }
+}
+
+/// The same of the cells that a value of a type leads to, where it is a pointer.
+fn span_behind(of_type: &Ty) -> Option<usize>
+    ensures { result ≡ option_map words_of_kind (target_of_value (Value (view_ty of_type.now))) }
+{
+    match of_type {
+        Ty::Pointer { target, .. } => span_in(target),
+        Ty::Int | Ty::Handle { .. } | Ty::Key { .. } | Ty::Struct { .. } => None,
+    }
+}
+
+/// Of what is at a place that a pointer leads to.
+fn span_at(place: &Dereference) -> Option<usize>
+    ensures { result ≡ option_map words_of_kind (target_of_value (Value (type_of_place (view_dereference place.now)))) }
+{
+    match place {
+        Dereference::Target { of_type, .. }
+        | Dereference::Member { of_type, .. }
+        | Dereference::Element { of_type, .. } => span_behind(of_type),
+    }
+}
+
+/// Of what an expression gives, which may be nothing.
+fn span_given(of_type: &ValueType) -> Option<usize>
+    ensures { result ≡ option_map words_of_kind (target_of_value (view_value_type of_type.now)) }
+{
+    match of_type {
+        ValueType::Void | ValueType::Null => None,
+        ValueType::Value { of_type } => span_behind(of_type),
+    }
+}
+
+/// Of the value of an expression.
+pub(crate) fn span_of(value: &Expr) -> Option<usize>
+    ensures { result ≡ span_of (view_expression value.now) }
+{
+    match value {
+        Expr::Copy { of_type, .. }
+        | Expr::Move { of_type, .. }
+        | Expr::Peek { of_type, .. }
+        | Expr::AddressOf { of_type, .. }
+        | Expr::AddressOfCell { of_type, .. }
+        | Expr::Binary { of_type, .. }
+        | Expr::New { of_type, .. } => span_behind(of_type),
+        Expr::Load { source } => span_at(source),
+        Expr::Call { result, .. } | Expr::Assign { result, .. } | Expr::Store { result, .. } => {
+            span_given(result)
+        }
+        Expr::Number { .. }
+        | Expr::NullPointer
+        | Expr::HeapRegion
+        | Expr::Counter { .. }
+        | Expr::NumberOfElements { .. }
+        | Expr::FreeUnique { .. }
+        | Expr::FreeKey { .. }
+        | Expr::Unary { .. } => None,
     }
 }
 

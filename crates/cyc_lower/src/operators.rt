@@ -1,6 +1,6 @@
 //! What operators become.
 ghost use Rattle.std.specs.Prelude.{◌≡◌, ◌≤◌};
-ghost use Rattle.cyc_lower.specs.Lowering.{unary_operator, binary_operator, left_kind, pointer_operator, failing_comparison, move_of, failing_jump, jump_if_zero, jump_if_nonzero, test_jump, tag_operand, other_jump, goes_on};
+ghost use Rattle.cyc_lower.specs.Lowering.{unary_operator, binary_operator, left_kind, pointer_operator, failing_comparison, move_of, failing_jump, jump_if_zero, jump_if_nonzero, test_jump, tag_operand, other_jump, goes_on, scale_of};
 ghost use Rattle.cyc_lower.specs.Emission.{most_locals};
 
 use crate::operands::Condition;
@@ -115,6 +115,27 @@ pub(crate) fn move_of(words: usize, destination: usize, source: Operand) -> Inst
             destination,
             source,
         },
+    }
+}
+
+/// A number of bytes by an index that counts cells of so many words, which are one or three.
+pub(crate) fn scale_of(words: usize, destination: usize, index: usize) -> Instruction
+    ensures { result ≡ scale_of words destination index }
+{
+    let left = Operand::Slot { number: index };
+    if words == 1 {
+        return Instruction::Binary {
+            operator: BinaryOperator::ShiftLeft,
+            destination,
+            left,
+            right: Operand::Word { word: 2 },
+        };
+    }
+    Instruction::Binary {
+        operator: BinaryOperator::Multiply,
+        destination,
+        left,
+        right: Operand::Word { word: 12 },
     }
 }
 

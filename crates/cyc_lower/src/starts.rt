@@ -5,14 +5,15 @@ use cyc_types::typed::StructType;
 use std::alloc::Global;
 
 /// What tells where things begin: the first slots of a function's locals, the structs of its program, for their fields, the
-/// place behind which the blocks stand that raise exceptions, and the slots of the counters of the arrays around, the outermost
-/// first.
+/// place behind which the blocks stand that raise exceptions, the slots of the counters of the arrays around, the outermost
+/// first, and the first words of the globals.
 #[derive(Clone, Copy)]
 pub(crate) struct Starts<'a> {
     pub(crate) locals: &'a [usize],
     pub(crate) structs: &'a [StructType],
     pub(crate) raises: usize,
     pub(crate) counters: &'a [usize],
+    pub(crate) globals: &'a [usize],
     pub(crate) alloc: Global,
     pub(crate) ghost low: { raises < 2 ^ 63 },
 }

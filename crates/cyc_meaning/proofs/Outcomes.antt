@@ -159,19 +159,19 @@ loading_at kind place stack e w = Fails
 
 -- ---- swaps
 
-finding_right : {access : Bool} (kind : Kind) (peek : Option ℕ) (left : Value) (right : Side) (stack : List Entry) (e : Environment) (w : World) → Silent access stack e w (finds_right kind peek left right stack e w)
-finding_right {access} kind peek left (VariableSide l t) stack e w = go (object_of e l)
+finding_right : {access : Bool} (kind : Kind) (peek : Option ℕ) (is_cell : Bool) (left : Value) (right : Side) (stack : List Entry) (e : Environment) (w : World) → Silent access stack e w (finds_right kind peek is_cell left right stack e w)
+finding_right {access} kind peek is_cell left (VariableSide l t) stack e w = go (object_of e l)
   where
     go : (o : Option ℕ) → Silent access stack e w (finds_right_object kind left o stack e w)
     go (Some object) = Goes refl Keeps (λ h. h)
     go None = Fails
-finding_right kind peek left (CellSide d) stack e w = Goes refl Keeps (λ h. h)
+finding_right kind peek is_cell left (CellSide d) stack e w = Goes refl Keeps (λ h. h)
 
 swapping : {access : Bool} (left right : Side) (stack : List Entry) (e : Environment) (w : World) → Silent access stack e w (swaps left right stack e w)
 swapping {access} (VariableSide l t) right stack e w = go (object_of e l)
   where
     go : (o : Option ℕ) → Silent access stack e w (finds_left_object (kind_of t) o right stack e w)
-    go (Some object) = finding_right (kind_of t) None (Thin object 0) right stack e w
+    go (Some object) = finding_right (kind_of t) None false (Thin object 0) right stack e w
     go None = Fails
 swapping (CellSide d) right stack e w = Goes refl Keeps (λ h. h)
 
@@ -198,8 +198,8 @@ given_place place [] e w = Fails
 given_place place (NeedsPlace (LoadFrom kind) ∷ stack) e w = loading_at kind place stack e w
 given_place place (NeedsPlace TakeAddress ∷ stack) e w = Goes refl Keeps (λ h. h)
 given_place place (NeedsPlace (StoreTo peek (Convert from to a)) ∷ stack) e w = Goes refl Keeps (λ h. h)
-given_place place (NeedsPlace (SwapLeft kind peek right) ∷ stack) e w = finding_right kind peek place right stack e w
-given_place place (NeedsPlace (SwapRight kind peek left) ∷ stack) e w = Goes refl Keeps (λ h. h)
+given_place place (NeedsPlace (SwapLeft kind peek right) ∷ stack) e w = finding_right kind peek true place right stack e w
+given_place place (NeedsPlace (SwapRight kind peek is_cell left) ∷ stack) e w = Goes refl Keeps (λ h. h)
 given_place place (entry ∷ stack) e w = Fails
 
 -- ---- new objects

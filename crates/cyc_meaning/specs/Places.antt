@@ -1,6 +1,6 @@
 -- Places that a pointer leads to: `*e`, `e->f` and `e[i]`. A place's checks are made when it is evaluated: on the left of `=` before the
 -- right side is, and under `&` too (this project's own choice).
-use Rattle.std.specs.Prelude.{ℕ, ◌==◌, ◌&&◌, if◌then◌else◌, List, ◌∷◌, map, Option, Some, None, slice_get}
+use Rattle.std.specs.Prelude.{ℕ, ◌==◌, ◌&&◌, if◌then◌else◌, List, ◌∷◌, map, Option, Some, None, slice_get, true}
 use Rattle.cyc_types.specs.declared.typed.Kind.{Kind}
 use Rattle.cyc_types.specs.declared.typed.Kind.TheVariants as kinds
 use Rattle.cyc_types.specs.declared.typed.PointerOperator.TheVariants as operators
@@ -66,8 +66,8 @@ placed (LoadFrom kind) place stack e w = loaded_at kind place stack e w
 placed TakeAddress place stack e w = gives kinds.NonNull place stack e w
 placed (StoreTo peek (Convert from to a)) place stack e w =
     Running (Evaluating a) (Needs (ConvertTo from to (target_by a)) ∷ Needs (StoreCell peek place) ∷ stack) e w
-placed (SwapLeft kind peek right) place stack e w = finds_right kind peek place right stack e w
-placed (SwapRight kind peek left) place stack e w = both_places kind left place stack e w
+placed (SwapLeft kind peek right) place stack e w = finds_right kind peek true place right stack e w
+placed (SwapRight kind peek is_cell left) place stack e w = both_places kind left place stack e w
 
 abbrev pub step_given_place : (place : Value) → List Entry → Environment → World → State
 step_given_place place (NeedsPlace a ∷ stack) e w = placed a place stack e w

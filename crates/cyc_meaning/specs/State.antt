@@ -216,9 +216,10 @@ pub data AwaitingPlace : Type 0 where
   TakeAddress : AwaitingPlace
   -- the left side of `=`, with the right side
   StoreTo : (peek : Option ℕ) → Converted → AwaitingPlace
-  -- a side of a swap of values of this kind: the left one, with the right side, and the right one, with the left place
+  -- a side of a swap of values of this kind: the left one, with the right side, and the right one, with the left place, which is a cell
+  -- or a variable
   SwapLeft : Kind → (peek : Option ℕ) → (right : Side) → AwaitingPlace
-  SwapRight : Kind → (peek : Option ℕ) → (left : Value) → AwaitingPlace
+  SwapRight : Kind → (peek : Option ℕ) → (is_cell : Bool) → (left : Value) → AwaitingPlace
 
 pub data Entry : Type 0 where
   Needs : Awaiting → Entry

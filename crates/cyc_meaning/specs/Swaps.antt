@@ -1,6 +1,6 @@
 -- Swaps: the left place is evaluated, then the right one; then both are read, the left one first, and written. (The order is this
 -- project's own choice.)
-use Rattle.std.specs.Prelude.{ℕ, List, [], ◌∷◌, Option, Some, None, if◌then◌else◌}
+use Rattle.std.specs.Prelude.{ℕ, List, [], ◌∷◌, Option, Some, None, if◌then◌else◌, Bool, false}
 use Rattle.cyc_types.specs.declared.typed.Kind.{Kind}
 use Rattle.cyc_types.specs.TypedTrees.{type_of_place, peeked, Side, VariableSide, CellSide}
 use Rattle.cyc_meaning.specs.Values.{Value, Thin, Operand, kind_of, is_kind}
@@ -17,12 +17,12 @@ abbrev pub finds_right_object : Kind → (left : Value) → Option ℕ → List 
 finds_right_object kind left (Some object) stack e w = both_places kind left (Thin object 0) stack e w
 finds_right_object kind left None stack e w = wrong w
 
-abbrev pub finds_right : Kind → (peek : Option ℕ) → (left : Value) → Side → List Entry → Environment → World → State
-finds_right kind peek left (VariableSide l t) stack e w = finds_right_object kind left (object_of e l) stack e w
-finds_right kind peek left (CellSide d) stack e w = Running (Locating d) (NeedsPlace (SwapRight kind peek left) ∷ stack) e w
+abbrev pub finds_right : Kind → (peek : Option ℕ) → (is_cell : Bool) → (left : Value) → Side → List Entry → Environment → World → State
+finds_right kind peek is_cell left (VariableSide l t) stack e w = finds_right_object kind left (object_of e l) stack e w
+finds_right kind peek is_cell left (CellSide d) stack e w = Running (Locating d) (NeedsPlace (SwapRight kind peek is_cell left) ∷ stack) e w
 
 abbrev pub finds_left_object : Kind → Option ℕ → (right : Side) → List Entry → Environment → World → State
-finds_left_object kind (Some object) right stack e w = finds_right kind None (Thin object 0) right stack e w
+finds_left_object kind (Some object) right stack e w = finds_right kind None false (Thin object 0) right stack e w
 finds_left_object kind None right stack e w = wrong w
 
 abbrev pub swaps : (left right : Side) → List Entry → Environment → World → State

@@ -26,18 +26,18 @@ use Rattle.cyc_meaning.specs.Parts.{wrong, inside, region_end, declared}
 use Rattle.cyc_meaning.specs.Exceptions.{catches, step_catching}
 use Rattle.cyc_meaning.specs.Nesting.{ends_of, IsNested}
 use Rattle.cyc_meaning.specs.Step.{called, values_of, prints, reads, step_calling, step_entering, step_binding}
-use Rattle.cyc_soundness.specs.Lives.{Life, RunTy, RunValue, Value, Lives, at, value_at, lives_of, Reading, AsHeap, ByScope}
+use Rattle.cyc_soundness.specs.Lives.{Life, OfRegion, OfObject, Never, Kept, RunTy, RunValue, Value, Lives, at, value_at, lives_of, Reading, AsHeap, ByScope}
 use Rattle.cyc_soundness.specs.Lives as lives
-use Rattle.cyc_soundness.specs.Worlds.{Typing, IsKnownLife, HasType, AreOperands, IsTyped, Grows}
+use Rattle.cyc_soundness.specs.Worlds.{Holder, Hand, In, Claims, giving, given, lent_now, IsOpenIn, Stays, Typing, IsKnownLife, HasType, AreOperands, IsTyped, Grows}
 use Rattle.cyc_soundness.specs.Frames.{InScope, Variable, Names, Instance, Home, lives_in, read, IsScope, AreBelow, IsBound, AreVariables, IsLasting, LiveIn, Within, itself, older, AreSet, Holds, Implies, Exits, HasResult, loop_of, around, AreBreaks, Stand, IsHome, IsContext, KnowsProgram}
 use Rattle.cyc_soundness.specs.Classes.{IsDeclarable, InItems, InClauses, Source}
-use Rattle.cyc_soundness.specs.Stacks.{regions_at_call, IsInstance, Continues, Catches, IsAccepted, Val, Go, turned, IsCalled, IsBlocked, AreFull, IsBody, IsStack, IsWell}
+use Rattle.cyc_soundness.specs.Stacks.{regions_at_call, IsInstance, Continues, Catches, IsAccepted, Val, Go, turned, operands_in, AreClaimed, AreGiven, IsCalled, IsBlocked, AreFull, AreOwn, IsBody, IsStack, IsWell}
 use Rattle.cyc_soundness.proofs.TypeLemmas.{is_kind_same, kind_meant}
 use Rattle.cyc_soundness.proofs.FlowLemmas.{implies_self, implies_after, meet_second, each_full_implies}
 use Rattle.cyc_soundness.proofs.RuleLemmas.{breaks_clauses, clauses_implied}
-use Rattle.cyc_soundness.proofs.WorldLemmas.{type_grown, operands_grown, opened_typed}
-use Rattle.cyc_soundness.proofs.StackLemmas.{AreAccepted, stack_grown, below_more}
-use Rattle.cyc_soundness.proofs.RegionLemmas.{region_known, opened_known, live_more, there_lasting, opened_life, opened_lasting, stand_opened, new_home, context_inside, other_same, named_function, known_body}
+use Rattle.cyc_soundness.proofs.WorldLemmas.{type_grown, operands_grown, variables_grown, holds_grown, claims_stay, claims_other, giving_grows, given_now, given_typed, given_globals, variables_other, moment_grows, moment_typed, moment_globals, opened_typed}
+use Rattle.cyc_soundness.proofs.StackLemmas.{AreAccepted, hand_same, in_no_hand, stack_other, stack_grown, below_more}
+use Rattle.cyc_soundness.proofs.RegionLemmas.{region_known, there_open, opened_known, live_more, there_lasting, opened_life, opened_lasting, stand_opened, new_home, context_inside, other_same, named_function, known_body}
 use Rattle.cyc_soundness.proofs.Cells.{running}
 use Rattle.cyc_soundness.proofs.Objects.{operands_reversed}
 use Rattle.cyc_soundness.proofs.Supply.{new_life, declares}
@@ -52,6 +52,54 @@ turned_length (a ∷ as') bs =
     let r : length (turned as' (a ∷ bs)) ≡ suc (length as') + length bs = omega (arith, e) in
     r
 
+-- what operands on the stack claim, they claim as arguments in order
+given_turned : (own : ℕ → Holder) (i : ℕ) (ts us : List RunTy) → AreClaimed own i ts → AreGiven own (i + length ts) us → AreGiven own i (turned ts us)
+given_turned own i [] us are more = let e : i + 0 ≡ i = omega arith in subst (λ j. AreGiven own j us) e more
+given_turned own i (t ∷ ts) us (is, are) more =
+    let e : i + suc (length ts) ≡ suc (i + length ts) = omega arith in
+    given_turned own i ts (t ∷ us) are (is, subst (λ j. AreGiven own j us) e more)
+
+-- the arguments behind one that becomes a parameter
+given_later : (g : Typing) (t : RunTy) (new : Holder) (i j : ℕ) (ts : List RunTy) → Claims g.own (Hand i) t → i < j → AreGiven g.own j ts → AreGiven (given t new g.own) j ts
+given_later g t new i j [] has less are = tt
+given_later g t new i j (u ∷ ts) has less (is, are) = (
+  claims_other g t (Hand i) new (Hand j) u has (λ e. (let same : j ≡ i = hand_same j i e in absurd (omega (arith, less, same)))) is,
+  given_later g t new i (suc j) ts has (let more : i < suc j = omega (arith, less) in more) are,
+)
+
+-- and the parameters before it
+own_other : (g : Typing) (t : RunTy) (new : Holder) (i : ℕ) (bs : List InScope) → Claims g.own (Hand i) t → AreOwn g bs → AreOwn (giving g t new) bs
+own_other g t new i [] has are = tt
+own_other g t new i (Variable b ∷ bs) has (is, are) = (claims_other g t (Hand i) new (In g.depth b.number) b.of_type has (in_no_hand g.depth b.number i) is, own_other g t new i bs has are)
+own_other g t new i (b ∷ bs) has (is, are) = (tt, own_other g t new i bs has are)
+
+own_grown : (g h : Typing) → Stays g h → (bs : List InScope) → AreOwn g bs → AreOwn h bs
+own_grown g h same [] are = tt
+own_grown g h same (Variable b ∷ bs) (is, are) = (subst (λ d. Claims h.own (In d b.number) b.of_type) (sym same.depth) (claims_stay g h same (In g.depth b.number) b.of_type is), own_grown g h same bs are)
+own_grown g h same (b ∷ bs) (is, are) = (tt, own_grown g h same bs are)
+
+-- what is open is so in a call, too
+open_inside : (g : Typing) (d : ℕ) (l : Life) → IsOpenIn g l → IsOpenIn (record g { depth = d }) l
+open_inside g d (OfRegion number ns us) opens = opens
+open_inside g d (Kept region) opens = opens
+open_inside g d (OfObject object) opens = opens
+open_inside g d Never opens = opens
+
+known_inside : (g : Typing) (d : ℕ) (l : Life) → IsKnownLife g l → IsKnownLife (record g { depth = d }) l
+known_inside g d (OfRegion number ns us) known = known
+known_inside g d (Kept region) known = known
+known_inside g d (OfObject object) known = known
+known_inside g d Never known = known
+
+-- and around it all is as it was
+same_around : (g : Typing) → Stays g (record g { depth = g.depth })
+same_around g = record {
+  grows = record { objects = λ n u is. is; filled = λ n count is. is; fields = λ n ls ts is. is; kept = λ n is. is };
+  own = refl;
+  depth = refl;
+  loans = refl;
+}
+
 operands_count : (n : Lives) (g : Typing) (ts : List Ty) (vs : List Operand) → AreOperands g (map (at n) ts) vs → length vs ≡ length ts
 operands_count n g [] [] are = refl
 operands_count n g [] (v ∷ vs) are = absurd are
@@ -62,10 +110,10 @@ pub blocked_of : (o : Option Ty) (f : flow.State) → ((t : Ty) → o ≡ Some t
 blocked_of None f ends = tt
 blocked_of (Some t) f ends = ends t refl
 
-all_set : (g : Typing) (f : flow.State) (bs : List InScope) → AreFull g bs → AreSet g f bs
-all_set g f [] are = tt
-all_set g f (Variable b ∷ bs) (is, are) = (λ s. is, all_set g f bs are)
-all_set g f (b ∷ bs) (is, are) = (tt, all_set g f bs are)
+all_set : (g : Typing) (f : flow.State) (bs : List InScope) → AreFull g bs → AreOwn g bs → AreSet g f bs
+all_set g f [] are have = tt
+all_set g f (Variable b ∷ bs) (is, are) (has, have) = ((λ s. is, λ s. has), all_set g f bs are have)
+all_set g f (b ∷ bs) (is, are) (has, have) = (tt, all_set g f bs are have)
 
 full_grown : (g h : Typing) → Grows g h → (bs : List InScope) → AreFull g bs → AreFull h bs
 full_grown g h grows [] are = tt
@@ -102,13 +150,13 @@ module _ (p : Source) (accepted : AreAccepted p) where
       where
         go : (value : values.Value) → HasType g lives.Int value → IsWell p (prints (value ∷ []) k e w)
         go (values.Int word) has = running p g x bs e (record w { output = w.output ++ word % 256 ∷ [] }) typed globals bound variables
-            (Given (record { kind = kinds.Int; value = values.Int (word % 256) })) k live (Value lives.Int, f, holds, (refl, tt), stack)
+            (Given (record { kind = kinds.Int; value = values.Int (word % 256) })) k live (Value lives.Int, f, holds, (refl, tt), tt, stack)
         go value has = absurd has
 
     read_on : (ts : List RunTy) (vs : List Operand) (k : List Entry) (f : flow.State) → LiveIn k bs → Holds g f bs → turned ts [] ≡ [] → AreOperands g ts vs
         → IsStack p g x bs (Val (Value lives.Int) f) k → IsWell p (reads (values_of vs) k e w)
     read_on [] [] k f live holds same are stack =
-        running p g x bs e _ typed globals bound variables (Given _) k live (Value lives.Int, f, holds, (refl, tt), stack)
+        running p g x bs e _ typed globals bound variables (Given _) k live (Value lives.Int, f, holds, (refl, tt), tt, stack)
     read_on [] (v ∷ vs) k f live holds same are stack = absurd are
     read_on (t ∷ ts) vs k f live holds same are stack =
         let e1 : length (turned ts (t ∷ [])) ≡ length ts + 1 = turned_length ts (t ∷ []) in let e2 : length (turned ts (t ∷ [])) ≡ 0 = ap length same in absurd (omega (arith, e1, e2))
@@ -122,20 +170,30 @@ module _ (p : Source) (accepted : AreAccepted p) where
     instance_known : (h : Function) (these : ℕ → Life) (alive : ℕ → Bool) → IsInstance p bs h these alive → (n : ℕ) → IsKnownLife g (these n)
     instance_known h these alive instance n = let (r, same) = instance.named n in subst (λ l. IsKnownLife g l) same (region_known g bs r variables)
 
-    pub call : (callee : Callee) (vs : List Operand) (k : List Entry) (ts : List RunTy) (r : RunValue) (f : flow.State) → LiveIn k bs → Holds g f bs → IsCalled p bs callee (turned ts []) r → AreOperands g ts vs
+    instance_open : (h : Function) (these : ℕ → Life) (alive : ℕ → Bool) → IsInstance p bs h these alive → (n : ℕ) → alive n ≡ true → IsOpenIn g (these n)
+    instance_open h these alive instance n is = let (r, there, same) = instance.lasting n is in subst (λ l. IsOpenIn g l) same (there_open g bs r variables there)
+
+    pub call : (callee : Callee) (vs : List Operand) (k : List Entry) (ts : List RunTy) (r : RunValue) (f : flow.State) → LiveIn k bs → Holds g f bs → IsCalled p bs callee (turned ts []) r → AreOperands g ts vs → AreClaimed g.own (operands_in k) ts
         → IsStack p g x bs (Val r f) k → IsWell p (step_calling p.program callee vs k e w)
-    call callees.Putchar vs k ts r f live holds (types_is, result_is) are stack = printed_on ts vs k f live holds types_is are (subst (λ z. IsStack p g x bs (Val z f) k) result_is stack)
-    call callees.Getchar vs k ts r f live holds (types_is, result_is) are stack = read_on ts vs k f live holds types_is are (subst (λ z. IsStack p g x bs (Val z f) k) result_is stack)
-    call (callees.Function n) vs k ts r f live holds (h, these, alive, there, instance, types_is, result_is) are stack =
+    call callees.Putchar vs k ts r f live holds (types_is, result_is) are claims stack = printed_on ts vs k f live holds types_is are (subst (λ z. IsStack p g x bs (Val z f) k) result_is stack)
+    call callees.Getchar vs k ts r f live holds (types_is, result_is) are claims stack = read_on ts vs k f live holds types_is are (subst (λ z. IsStack p g x bs (Val z f) k) result_is stack)
+    call (callees.Function n) vs k ts r f live holds (h, these, alive, there, instance, types_is, result_is) are claims stack =
         let (end, ok) = accepted n h there in
         let arguments : AreOperands g (map (at (lives_of these)) h.parameters) (reverse vs) = subst (λ us. AreOperands g us (reverse vs)) types_is (operands_reversed g ts vs are) in
-        let given : RunValue = value_at (lives_of these) (result_type h.result) in
-        let y : Exits = record { loop = None; result = h.result; gives = given; locks = []; relied = [] } in
+        let given_value : RunValue = value_at (lives_of these) (result_type h.result) in
+        let y : Exits = record { loop = None; result = h.result; gives = given_value; locks = []; relied = [] } in
         let cs : List InScope = Instance these alive ∷ [] in
+        let d = suc g.depth in
+        let i = record g { depth = d } in
+        let grows : Grows g i = moment_grows g d g.loans in
+        let claimed : AreGiven g.own (operands_in k) (map (at (lives_of these)) h.parameters) = subst (λ us. AreGiven g.own (operands_in k) us) types_is (given_turned g.own (operands_in k) ts [] claims tt) in
+        let same = same_around g in
+        let back = record i { depth = g.depth } in
         subst (λ o. IsWell p (called o (reverse vs) (Caller e ∷ k) w)) (sym there)
         (subst (λ (b : Bool). IsWell p (if b then Running (Entering h (reverse vs)) (Caller e ∷ k) no_locals w else wrong w))
         (sym (eq-eqb (length (reverse vs)) (length h.parameters) (operands_count (lives_of these) g h.parameters (reverse vs) arguments)))
-        (running p g y cs no_locals w typed globals (tt, tt) (instance_known h these alive instance, tt) (Entering h (reverse vs)) (Caller e ∷ k) ((instance_lasting k h these alive live instance, tt), refl) (
+        (running p i y cs no_locals w (moment_typed g d g.loans w.regions w.objects typed) (moment_globals p g d g.loans globals) (tt, tt)
+        ((λ n. (known_inside g d (these n) (instance_known h these alive instance n), λ e. open_inside g d (these n) (instance_open h these alive instance n e))), tt) (Entering h (reverse vs)) (Caller e ∷ k) ((instance_lasting k h these alive live instance, tt), refl) (
           end,
           these,
           alive,
@@ -143,24 +201,40 @@ module _ (p : Source) (accepted : AreAccepted p) where
           (refl, refl, refl, refl, refl),
           refl,
           instance.stand,
-          arguments,
-          (x, bs, f, refl, blocked_of h.result end ok.ends, result_given h.result (lives_of these), bound, variables, live, holds, subst (λ z. IsStack p g x bs (Val z f) k) result_is stack),
+          operands_grown g i grows (map (at (lives_of these)) h.parameters) (reverse vs) arguments,
+          claimed,
+          (
+            x,
+            bs,
+            f,
+            g.depth,
+            refl,
+            refl,
+            blocked_of h.result end ok.ends,
+            result_given h.result (lives_of these),
+            bound,
+            variables_grown g back same bs variables,
+            live,
+            holds_grown g back same f bs holds,
+            stack_grown p g back same x bs (Val given_value f) k (subst (λ z. IsStack p g x bs (Val z f) k) result_is stack),
+          ),
         )))
 
     pub enter : (h : Function) (vs : List Operand) (k : List Entry) (end : flow.State) (these : ℕ → Life) (alive : ℕ → Bool) → LiveIn k bs → IsAccepted p h end → IsBody x bs h → bs ≡ Instance these alive ∷ []
-        → Stand p.reading (regions_at_call h) bs → AreOperands g (map (read bs) h.parameters) vs → IsStack p g x bs (Go end) k → IsWell p (step_entering h vs k e w)
-    enter h vs k end these alive live ok body these_are stand are stack =
+        → Stand p.reading (regions_at_call h) bs → AreOperands g (map (read bs) h.parameters) vs → AreGiven g.own (operands_in k) (map (read bs) h.parameters) → IsStack p g x bs (Go end) k → IsWell p (step_entering h vs k e w)
+    enter h vs k end these alive live ok body these_are stand are claims stack =
         let count : 0 + length h.parameters ≡ length h.parameters = omega arith in
         let region = length w.regions in
-        let l : Life = opened_life p.reading region (ends_of k) in
+        let l : Life = opened_life p.reading region (ends_of k) (lent_now g) in
         let cs : List InScope = Home region ∷ Names 0 l true ∷ bs in
         let bare : IsScope p.reading (lives_in cs) [] bs = subst (λ z. IsScope p.reading (lives_in cs) [] z) (sym these_are) ([], refl, refl) in
         let below : AreBelow 0 bs = subst (λ z. AreBelow 0 z) (sym these_are) (tt, tt) in
         let full : AreFull g bs = subst (λ z. AreFull g z) (sym these_are) (tt, tt) in
+        let own : AreOwn g bs = subst (λ z. AreOwn g z) (sym these_are) (tt, tt) in
         let named = named_function p.reading p.program h ok.typed in
-        let same = other_same p.reading region (ends_of k) (regions_at_call h) bs stand in
+        let same = other_same p.reading region (ends_of k) (lent_now g) (regions_at_call h) bs stand in
         running p g x cs (inside e w) (opened w) (opened_typed g w.regions (new_region Stack ∷ []) w.objects typed) globals (tt, (tt, bound)) (tt, (opened_known g p.reading region (ends_of k), variables)) (Binding 0 h.parameters vs h.body) (region_end e w ∷ k)
-        ((tt, ((λ is. opened_lasting p.reading region (ends_of k)), live_more region (ends_of k) bs live.0)), refl) (
+        ((tt, ((λ is. opened_lasting p.reading region (ends_of k) (lent_now g)), live_more region (ends_of k) bs live.0)), refl) (
           h,
           end,
           [],
@@ -175,15 +249,17 @@ module _ (p : Source) (accepted : AreAccepted p) where
           ([], refl, ([], refl, bare)),
           (tt, (tt, below)),
           (tt, (tt, full)),
-          stand_opened p.reading scopes.Block 0 region (ends_of k) (regions_at_call h) bs refl live.0 named.live named.pairs stand,
-          new_home p.reading 0 region (ends_of k) bs,
+          stand_opened g p.reading scopes.Block 0 region (ends_of k) (regions_at_call h) bs variables refl live.0 named.live named.pairs stand,
+          new_home p.reading 0 region (ends_of k) (lent_now g) bs,
+          (operands_in k, (let le : operands_in k ≤ operands_in k = omega arith in le), subst (λ us. AreGiven g.own (operands_in k) us) (named.parameters (lives_in bs) (lives_in cs) same) claims),
+          (tt, (tt, own)),
           (bs, 0, l, true, end, refl, implies_self end, live, stack),
         )
 
     begin : (h : Function) (number : ℕ) (js : Items) (k : List Entry) (end : flow.State) (vs : List LocalInScope) (cs : List InScope) → LiveIn k bs → Within cs bs → IsAccepted p h end → IsBody x bs h → js ≡ h.body
         → vs ≡ parameters_in_scope h.parameters 0 [] → number + 0 ≡ length h.parameters → IsScope p.reading (lives_in bs) vs bs → AreBelow number bs → AreFull g bs
-        → Stand p.reading (body_context p.program h).regions bs → IsHome p.reading 0 bs → IsStack p g x cs (Go end) k → IsWell p (Running Proceeding (Rest js ∷ k) e w)
-    begin h number js k end vs cs live within ok (loop, locks, relied, result, gives) body scope_is count scope below full stand at_home stack =
+        → Stand p.reading (body_context p.program h).regions bs → IsHome p.reading 0 bs → AreOwn g bs → IsStack p g x cs (Go end) k → IsWell p (Running Proceeding (Rest js ∷ k) e w)
+    begin h number js k end vs cs live within ok (loop, locks, relied, result, gives) body scope_is count scope below full stand at_home own stack =
         let flows = subst (λ o. Derives (rule_items (record { loop = loop_of o; locks = x.locks }) h.body (record { now = start_of h; breaks = Unreached })) (record { now = end; breaks = ok.breaks })) (sym loop)
         (subst (λ ns. Derives (rule_items (record { loop = None; locks = ns }) h.body (record { now = start_of h; breaks = Unreached })) (record { now = end; breaks = ok.breaks })) (sym locks) ok.flows) in
         let rest : Continues p.reading x (body_context p.program h) h.body (start_of h) end = record {
@@ -213,23 +289,29 @@ module _ (p : Source) (accepted : AreAccepted p) where
         } in
         subst (λ z. IsWell p (Running Proceeding (Rest z ∷ k) e w)) (sym body)
         (running p g x bs e w typed globals bound variables Proceeding (Rest h.body ∷ k) live
-        (start_of h, (refl, all_set g (start_of h) bs full), (cs, body_context p.program h, end, within, stands, rest, stack)))
+        (start_of h, (refl, all_set g (start_of h) bs full own), (cs, body_context p.program h, end, within, stands, rest, stack)))
 
     pub bind : (number : ℕ) (ts : List Ty) (arguments : List Operand) (js : Items) (k : List Entry) (h : Function) (end : flow.State) (vs : List LocalInScope) (cs : List InScope) → IsNested k e w → LiveIn k bs
         → Within cs bs → IsAccepted p h end → IsBody x bs h → js ≡ h.body → parameters_in_scope ts number vs ≡ parameters_in_scope h.parameters 0 [] → number + length ts ≡ length h.parameters
         → AreOperands g (map (read bs) ts) arguments → IsScope p.reading (lives_in bs) vs bs → AreBelow number bs → AreFull g bs → Stand p.reading (body_context p.program h).regions bs → IsHome p.reading 0 bs
-        → IsStack p g x cs (Go end) k → IsWell p (step_binding number ts arguments js k e w)
-    bind number [] [] js k h end vs cs nests live within ok body body_is scope_is count are scope below full stand at_home stack =
-        begin h number js k end vs cs live within ok body body_is scope_is count scope below full stand at_home stack
-    bind number [] (v ∷ arguments) js k h end vs cs nests live within ok body body_is scope_is count are scope below full stand at_home stack = absurd are
-    bind number (t ∷ ts) [] js k h end vs cs nests live within ok body body_is scope_is count are scope below full stand at_home stack = absurd are
-    bind number (t ∷ ts) (v ∷ arguments) js k h end vs cs nests live within ok body body_is scope_is count (is, are) scope below full stand at_home stack =
+        → (i : ℕ) × (operands_in k ≤ i) × AreGiven g.own i (map (read bs) ts) → AreOwn g bs → IsStack p g x cs (Go end) k → IsWell p (step_binding number ts arguments js k e w)
+    bind number [] [] js k h end vs cs nests live within ok body body_is scope_is count are scope below full stand at_home claims own stack =
+        begin h number js k end vs cs live within ok body body_is scope_is count scope below full stand at_home own stack
+    bind number [] (v ∷ arguments) js k h end vs cs nests live within ok body body_is scope_is count are scope below full stand at_home claims own stack = absurd are
+    bind number (t ∷ ts) [] js k h end vs cs nests live within ok body body_is scope_is count are scope below full stand at_home claims own stack = absurd are
+    bind number (t ∷ ts) (v ∷ arguments) js k h end vs cs nests live within ok body body_is scope_is count (is, are) scope below full stand at_home (i, least, (has, claims)) own stack =
         let more : suc number + length ts ≡ length h.parameters = omega (arith, count) in
         let l = new_life p.reading bs 0 e.home k live at_home nests.2 in
+        let u = read bs t in
+        let its = In g.depth number in
+        let o = giving g u its in
+        let grows_so = giving_grows g u its in
+        let scope_now : AreVariables o bs = variables_other g u (Hand i) its bs has refl variables in
         subst (λ (b : Bool). IsWell p (if b then declared (region_at w e.home) (Binding (suc number) ts arguments js) number (values.kind_of t) (Some v.value) k e w else wrong w))
         (sym (is_kind_same v.kind (values.kind_of t) (is.0 ∙ kind_meant (lives_in bs) t)))
-        (declares p g x bs e w typed globals bound variables number (values.kind_of t) t (Some v.value) 1 l.life (Binding (suc number) ts arguments js) k nests live below l.number l.lasting (l.known g variables)
-        (λ grows. ((sym (kind_meant (lives_in bs) t), type_grown g _ grows (read bs t) v.value is.1), tt))
+        (declares p o x bs e w (given_typed g u (Hand i) its w.regions w.objects has tt typed) (given_globals p g u its globals) bound scope_now number (values.kind_of t) t (Some v.value) 1 l.life (Binding (suc number) ts arguments js) k nests live below
+        l.number l.lasting (l.known o scope_now)
+        (λ grows. ((sym (kind_meant (lives_in bs) t), type_grown o _ grows u v.value (type_grown g o grows_so u v.value is.1)), tt))
         (λ grows filled. (
           h,
           end,
@@ -241,13 +323,15 @@ module _ (p : Source) (accepted : AreAccepted p) where
           body_is,
           scope_is,
           more,
-          operands_grown g _ grows (map (read bs) ts) arguments are,
+          operands_grown o _ grows.grows (map (read bs) ts) arguments (operands_grown g o grows_so (map (read bs) ts) arguments are),
           (vs, (_, refl, refl, refl, refl, l.homed), scope),
           ((let less : number < suc number = omega arith in less), below_more number (suc number) bs (let le : number ≤ suc number = omega arith in le) below),
-          (filled, full_grown g _ grows bs full),
+          (filled, full_grown o _ grows.grows bs (full_grown g o grows_so bs full)),
           stand,
           at_home,
-          stack_grown p g _ grows x cs (Go end) k stack,
+          (suc i, (let le : operands_in k ≤ suc i = omega (arith, least) in le), given_later g u its i (suc i) (map (read bs) ts) has (let less : i < suc i = omega arith in less) claims),
+          (given_now g u its, own_grown o _ grows bs (own_other g u its i bs has own)),
+          stack_grown p o _ grows x cs (Go end) k (stack_other u (Hand i) its p g x cs (Go end) k has least stack),
         )))
 
     -- ---- clauses
@@ -278,7 +362,7 @@ module _ (p : Source) (accepted : AreAccepted p) where
             in_block c,
             h,
             itself (scope c k),
-            context_inside p x bs c stands (length w.regions) (ends_of k) live.0,
+            context_inside p x bs c stands g variables (length w.regions) (ends_of k) live.0,
             rest,
             block_stack p g x bs e w typed globals bound variables c k h h live (implies_self h) stack,
           ),
@@ -309,11 +393,12 @@ module _ (p : Source) (accepted : AreAccepted p) where
           start,
           h,
           itself (scope c k),
-          context_inside p x bs c stands (length w.regions) (ends_of k) live.0,
+          context_inside p x bs c stands g variables (length w.regions) (ends_of k) live.0,
           (holds.0, (tt, (tt, holds.1))),
           (new_int p.reading (suc c.next_region), block_region c),
           number,
           (refl, tt),
+          tt,
           rest,
           block_stack p g x bs e w typed globals bound variables c k h h live (implies_self h) stack,
         )

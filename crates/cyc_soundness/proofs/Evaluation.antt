@@ -1,6 +1,6 @@
 -- EVALUATION of a typed expression, and what waits for its value: each step leads to a typed state.
 use Rattle.std.proofs.Common.{◌≡◌, ◌⊎◌, inl, inr, ℕ, ◌≤◌, zero, suc, Bool, true, false, not, List, [], ◌∷◌, map, Option, Some, None, slice_get, refl, sym, ap, subst, ◌∙◌, arith}
-use Rattle.std.specs.Prelude.{if◌then◌else◌, option_map}
+use Rattle.std.specs.Prelude.{◌+◌, if◌then◌else◌, option_map}
 use Rattle.cyc_syntax.specs.declared.tree.PointerKind.TheVariants as marks
 use Rattle.cyc_types.specs.declared.typed.Kind.{Kind}
 use Rattle.cyc_types.specs.declared.typed.Kind.TheVariants as kinds
@@ -12,42 +12,42 @@ use Rattle.cyc_types.specs.declared.region.Region.{Region}
 use Rattle.cyc_types.specs.declared.region.Region.TheVariants as regions
 use Rattle.cyc_types.specs.Types.{Ty, ValueType, result_type, substituted_ty}
 use Rattle.cyc_types.specs.Types as types
-use Rattle.cyc_types.specs.TypedTrees.{Local, Global, Expression, Number, NullPointer, HeapRegion, Counter, Copy, Move, Peek, Load, AddressOf, AddressOfCell, NumberOfElements, Call, Unary, Binary, Assign, New, OnHeap, AsUnique, ByHandle, type_of_place, peeked, Convert, Arguments, NoArguments, MoreArguments, Operations, NoOperations, ThenCompute, ThenTest, ThenPointer, ThenPointerPeek, GlobalVariable, Signature, Function, Program}
+use Rattle.cyc_types.specs.TypedTrees.{Local, Global, Expression, Number, NullPointer, HeapRegion, Counter, Copy, Move, Peek, Load, AddressOf, AddressOfCell, NumberOfElements, FreeKey, Call, Unary, Binary, Assign, New, OnHeap, AsUnique, ByHandle, type_of_place, peeked, Convert, Arguments, NoArguments, MoreArguments, Operations, NoOperations, ThenCompute, ThenTest, ThenPointer, ThenPointerPeek, GlobalVariable, Signature, Function, Program}
 use Rattle.cyc_types.specs.TypedTrees as typed'
 use Rattle.cyc_types.specs.Rules.{Derives}
 use Rattle.cyc_types.specs.typing.Tests.{is_moved, is_tested}
 use Rattle.cyc_types.specs.typing.Tests as tests
 use Rattle.cyc_types.specs.typing.Expressions.{assigned_type, instantiated}
-use Rattle.cyc_types.specs.typing.WellTyped.{Context, HasLocal, AreLive, AreOutliving, IsCallee, WellTyped, IsPeek, IsLeft, ArePassed, Converts, PointerOperation, IsChain, signature_of}
+use Rattle.cyc_types.specs.typing.WellTyped.{Context, HasLocal, AreLive, AreOutliving, IsCallee, WellTyped, IsPeek, IsLeft, ArePassed, Converts, PointerOperation, adds, subtracts, equals, differs, thin_null, thin_there, fat_null, fat_there, IsChain, signature_of}
 use Rattle.cyc_types.specs.flow.States as flow
-use Rattle.cyc_types.specs.flow.States.{Full, meet, fullness, with_fullness, is_vacant}
+use Rattle.cyc_types.specs.flow.States.{Fullness, Vacant, Locked, Full, is_locked, meet, fullness, with_fullness, is_vacant}
 use Rattle.cyc_types.specs.flow.Expressions.{and_peeked, peek_behind, rule, rule_arguments, rule_operations}
 use Rattle.cyc_meaning.specs.Values.{Operand, is_kind}
 use Rattle.cyc_meaning.specs.Values as values
 use Rattle.cyc_meaning.specs.Operators.{Gives, is_zero, truth, truth_result, truth_of, decides}
 use Rattle.cyc_meaning.specs.Conversion.{conversion}
 use Rattle.cyc_meaning.specs.Pointers.{takes_kind, followed}
-use Rattle.cyc_meaning.specs.State.{InRegion, Unique, World, heap_number, cell_at, Environment, ConvertTo, Operate, Chain, Apply, ApplyPointer, Decide, Store, Pass, CountElements, PlaceBy, LoadFrom, TakeAddress, StoreTo, Entry, Needs, NeedsPlace, Focus, Evaluating, Locating, Given, Calling, Running}
+use Rattle.cyc_meaning.specs.State.{InRegion, Unique, World, heap_number, cell_at, Environment, ConvertTo, Operate, Chain, Apply, ApplyPointer, Decide, Store, CloseByKey, Pass, CountElements, PlaceBy, LoadFrom, TakeAddress, StoreTo, Entry, Needs, NeedsPlace, Focus, Evaluating, Locating, Given, Calling, Running}
 use Rattle.cyc_meaning.specs.Parts.{target_of_value, target_by, leads_to, wrong, computed, loaded_from, stored}
 use Rattle.cyc_meaning.specs.Nesting.{ends_of, AreOpen}
 use Rattle.cyc_meaning.specs.Step.{step_evaluating, addressed, counts, passes, assigned, decided, tested, awaits_right, chained, converts}
 use Rattle.cyc_soundness.specs.Lives.{Life, heap_life, as_heap, Reading, Lives, AsHeap, ByScope, RunTy, RunValue, Value, kind_at}
 use Rattle.cyc_soundness.specs.Lives as lives
-use Rattle.cyc_soundness.specs.Worlds.{Typing, IsFull, variable_type, global_type, Outlasts, alike, globals as with_globals, AgreesWith, IsResult, AreOperands, IsTyped, IsOpenLife}
-use Rattle.cyc_soundness.specs.Frames.{IsAmong, Bound, InScope, Variable, IsBound, AreVariables, IsHomed, LiveIn, IsSet, Holds, Implies, Exits, IsContext, KnowsProgram, lives_in, read, read_value}
-use Rattle.cyc_soundness.specs.Classes.{Relied, HasScopes, InExpression, InArguments, InOperations, Source}
-use Rattle.cyc_soundness.specs.Stacks.{Evaluates, Val, turned, IsCalled, null, IsStack, IsFocus, IsWell}
+use Rattle.cyc_soundness.specs.Worlds.{In, Hand, Claims, ClaimsBy, giving, HasType, Typing, IsFull, variable_type, global_type, Outlasts, alike, globals as with_globals, AgreesWith, IsResult, AreOperands, IsTyped, IsOpenLife}
+use Rattle.cyc_soundness.specs.Frames.{IsAmong, Bound, InScope, Variable, IsBound, AreVariables, IsHomed, LiveIn, IsSet, IsFullIn, Holds, Implies, Exits, IsContext, KnowsProgram, lives_in, read, read_value}
+use Rattle.cyc_soundness.specs.Classes.{is_full, Relied, IsSpared, HasScopes, InExpression, InArguments, InOperations, Source}
+use Rattle.cyc_soundness.specs.Stacks.{Evaluates, Val, Go, turned, IsCalled, null, IsStack, IsFocus, IsWell}
 use Rattle.cyc_soundness.specs.Stacks as stacks
 use Rattle.cyc_soundness.proofs.Numbers.{some_same, both}
 use Rattle.cyc_soundness.proofs.TypeLemmas.{place_type, target_typed, is_kind_same, kind_read, kind_meant}
 use Rattle.cyc_soundness.proofs.FlowLemmas.{implies_self, meet_first, meet_second, vacant_implied, holds_implied, reached_with}
-use Rattle.cyc_soundness.proofs.WorldLemmas.{risen, with_filled, result_grown, holds_grown}
-use Rattle.cyc_soundness.proofs.StackLemmas.{stack_grown, pointer_left, bound_of, bound_to, lasting_open, kept_open, object_known, place_local, among_bound, among_variable, among_live, among_level, among_set, set_stored, open_of, globals_among}
+use Rattle.cyc_soundness.proofs.WorldLemmas.{risen, with_filled, result_grown, variables_grown, set_grown, holds_grown, giving_grows, given_now, given_typed, given_globals, variables_other}
+use Rattle.cyc_soundness.proofs.StackLemmas.{OneLocal, emptied_other, in_no_hand, stack_grown, stack_other, holds_other, keeps_passed, void_goes, pointer_left, bound_of, bound_to, lasting_open, kept_open, object_known, among_open, among_own, place_local, among_bound, among_variable, among_live, among_level, among_set, set_stored, open_of, globals_among}
 use Rattle.cyc_soundness.proofs.ValueLemmas.{zero_is, converted_by, kind_given}
 use Rattle.cyc_soundness.proofs.RegionLemmas.{agrees_of, there_of, cell_live, global_means, these_by, live_by, instance_is, parameters_mean, result_means}
 use Rattle.cyc_soundness.proofs.Cells.{running, part_at, reads, writes}
 use Rattle.cyc_soundness.proofs.Objects.{makes_on}
-use Rattle.cyc_soundness.proofs.Places.{takes, gives, converted_leads}
+use Rattle.cyc_soundness.proofs.Places.{takes, gives, gives_by, converted_leads, moved_comes}
 
 pub not_true : (b : Bool) → not b ≡ true → b ≡ false
 not_true true e = absurd (let k : false ≡ true = e in cc)
@@ -70,6 +70,98 @@ homed : (m : Reading) (these : Lives) (region : ℕ) (l : Life) → HasScopes m 
 homed AsHeap these region l scopes is = absurd scopes
 homed (ByScope lends) these region l scopes is = is
 
+-- a global is no key, and what is copied or only looked at neither
+heap_comes : (g : Typing) (i : ℕ) (t : Ty) → Claims g.own (Hand i) (lives.at as_heap t)
+heap_comes g i types.Int = tt
+heap_comes g i (types.Pointer k t r) = tt
+heap_comes g i (types.Handle r) = tt
+heap_comes g i (types.Key r) = tt
+heap_comes g i (types.Struct n rs) = tt
+
+copied_comes : (g : Typing) (i : ℕ) (n : Lives) (t : Ty) → is_moved t ≡ false → Claims g.own (Hand i) (lives.at n t)
+copied_comes g i n types.Int plain = tt
+copied_comes g i n (types.Pointer k t r) plain = tt
+copied_comes g i n (types.Handle r) plain = tt
+copied_comes g i n (types.Key r) plain = absurd (let k : true ≡ false = plain in cc)
+copied_comes g i n (types.Struct s rs) plain = tt
+
+pub unique_comes : (g : Typing) (i : ℕ) (n : Lives) (t : Ty) → tests.is_unique t ≡ true → Claims g.own (Hand i) (lives.at n t)
+unique_comes g i n types.Int unique = tt
+unique_comes g i n (types.Pointer k t r) unique = tt
+unique_comes g i n (types.Handle r) unique = tt
+unique_comes g i n (types.Key r) unique = absurd (let k : false ≡ true = unique in cc)
+unique_comes g i n (types.Struct s rs) unique = tt
+
+-- what is converted is a key where it was one
+converted_claims : (g : Typing) (i : ℕ) (n : Lives) (c : Context) (s : ValueType) (t : Ty) → Converts c s t → ClaimsBy g.own (Hand i) (lives.value_at n s) → Claims g.own (Hand i) (lives.at n t)
+converted_claims g i n c s types.Int conv is = tt
+converted_claims g i n c s (types.Pointer k t r) conv is = tt
+converted_claims g i n c s (types.Handle r) conv is = tt
+converted_claims g i n c s (types.Struct m rs) conv is = tt
+converted_claims g i n c (types.Value (types.Key r)) (types.Key s) conv is = subst (λ z. Claims g.own (Hand i) (lives.Key (n z))) conv is
+converted_claims g i n c s (types.Key r) conv is = absurd conv
+
+-- an operand of pointers is none
+pointer_claims : {c : Context} {o : PointerOperator} {t : Ty} {v w : ValueType} (g : Typing) (i : ℕ) (n : Lives) → PointerOperation c o (types.Value t) v w → Claims g.own (Hand i) (lives.at n t)
+pointer_claims g i n (adds t r other) = tt
+pointer_claims g i n (subtracts t r other) = tt
+pointer_claims g i n (equals k l t r s one two here there) = tt
+pointer_claims g i n (differs k l t r s one two here there) = tt
+pointer_claims g i n (thin_null k t r thin) = tt
+pointer_claims g i n (thin_there k t r thin) = tt
+pointer_claims g i n (fat_null k t r fat) = tt
+pointer_claims g i n (fat_there k t r fat) = tt
+
+-- ---- what is known of a local that is moved
+
+full_of : (a : Fullness) → is_vacant a ≡ false → is_locked a ≡ false → is_full a ≡ true
+full_of Vacant set free = absurd (let k : true ≡ false = set in cc)
+full_of Locked set free = absurd (let k : true ≡ false = free in cc)
+full_of Full set free = refl
+
+pub full_set : (a : Fullness) → is_full a ≡ true → is_vacant a ≡ false
+full_set Vacant full = absurd (let k : false ≡ true = full in cc)
+full_set Locked full = absurd (let k : false ≡ true = full in cc)
+full_set Full full = refl
+
+-- what the rules ask of a local that is used up
+pub used_full : (f : flow.State) (n : ℕ) → not (is_vacant (fullness f n)) ≡ true → not (is_locked (fullness f n)) ≡ true → IsFullIn f n
+used_full f n set free = full_of (fullness f n) (not_true (is_vacant (fullness f n)) set) (not_true (is_locked (fullness f n)) free)
+
+-- ---- a local is read
+
+module _ (p : Source) (g : Typing) (x : Exits) (bs : List InScope) (e : Environment) (w : World) (typed : IsTyped g w.regions w.objects) (globals : KnowsProgram g p) (bound : IsBound e.locals e.counters bs) (variables : AreVariables g bs) where
+  pub open_local : (k : List Entry) (b : Bound) → AreOpen w.regions (ends_of k) → LiveIn k bs → IsAmong (Variable b) bs → IsOpenLife w.regions b.life
+  open_local k b opens live among = lasting_open w.regions (ends_of k) b.life opens typed.heap
+      (kept_open g w.regions w.objects b.life typed (object_known g w.regions w.objects b.object (variable_type b.of_type b.life b.is_hidden) typed (among_variable g among variables)) (among_open g among variables)) (among_live (ends_of k) among live.0)
+
+  -- its value, for what waits
+  pub from_bound : (k : List Entry) (n : ℕ) (u : Ty) (b : Bound) (h : flow.State) (r : RunValue) → AreOpen w.regions (ends_of k) → LiveIn k bs → Holds g h bs → IsAmong (Variable b) bs → b.number ≡ n → b.of_type ≡ read bs u → IsFull g b.object
+      → ((v : values.Value) → HasType g b.of_type v → IsResult g r (record { kind = values.kind_of u; value = v })) → stacks.Comes g r k → IsStack p g x bs (Val r h) k → IsWell p (loaded_from (values.kind_of u) (e.locals n) k e w)
+  from_bound k n u b h r opens live holds among number of_type full fits comes stack =
+      let there : e.locals n ≡ Some b.object = ap e.locals (sym number) ∙ among_bound e among bound in
+      subst (λ o. IsWell p (loaded_from (values.kind_of u) o k e w)) (sym there)
+      (reads p g x bs e w typed globals bound variables k (values.kind_of u) b.object 0 b.of_type (variable_type b.of_type b.life b.is_hidden) h live holds
+      (among_variable g among variables) refl (open_local k b opens live among) full (ap kind_at of_type ∙ kind_meant (lives_in bs) u) r fits comes stack)
+
+module _ (p : Source) (g : Typing) (x : Exits) (bs : List InScope) (e : Environment) (w : World) (typed : IsTyped g w.regions w.objects) (globals : KnowsProgram g p) (bound : IsBound e.locals e.counters bs) (variables : AreVariables g bs) where
+  -- a local's value goes to an operand
+  pub moves : (k : List Entry) (c : Context) (n : ℕ) (u : Ty) (f : flow.State) → AreOpen w.regions (ends_of k) → LiveIn k bs → IsContext p x bs c → Holds g f bs → (r : ℕ) × HasLocal c.locals n u r → IsFullIn f n → IsSpared x.relied n
+      → IsStack p g x bs (Val (Value (read bs u)) (with_fullness Vacant f n)) k → IsWell p (loaded_from (values.kind_of u) (e.locals n) k e w)
+  moves k c n u f opens live stands holds (r, has) full spared stack =
+      let (b, among, number, of_type) = bound_of p.reading (lives_in bs) c.locals bs n u r stands.scope has in
+      let full_here : IsFullIn f b.number = subst (λ i. IsFullIn f i) (sym number) full in
+      let t = read bs u in
+      let old = In g.depth n in
+      let h = giving g t (Hand (stacks.operands_in k)) in
+      let f1 = with_fullness Vacant f n in
+      let claims : Claims g.own old t = subst (λ i. Claims g.own (In g.depth i) t) number (subst (λ z. Claims g.own (In g.depth b.number) z) of_type (among_own g f among holds.1 full_here)) in
+      from_bound p h x bs e w (given_typed g t old (Hand (stacks.operands_in k)) w.regions w.objects claims tt typed) (given_globals p g t (Hand (stacks.operands_in k)) globals) bound
+      (variables_other g t old (Hand (stacks.operands_in k)) bs claims refl variables) k n u b f1 (Value t) opens live
+      (holds_other t old (Hand (stacks.operands_in k)) g f1 bs claims (λ m s. emptied_other g Vacant f n m refl holds.0 s) (holds_implied g f f1 bs (vacant_implied f n) holds)) among number of_type
+      (among_set g f among holds.1 (full_set (fullness f b.number) full_here)) (λ v is. (sym (kind_meant (lives_in bs) u), subst (λ z. HasType h z v) of_type is)) (given_now g t (Hand (stacks.operands_in k)))
+      (stack_other t old (Hand (stacks.operands_in k)) p g x bs (Val (Value t) f1) k claims (inl (refl, spared)) stack)
+
 module _ (p : Source) where
   -- what is called takes and gives this, where its region variables stand for what is put in their place
   called_is : (x : Exits) (bs : List InScope) (c : Context) (callee : Callee) (s : Signature) (m : List Region) → IsContext p x bs c → IsCallee c callee s → AreLive c (instantiated m s).effect
@@ -91,16 +183,12 @@ module _ (p : Source) where
     on focus k live stands = running p g x bs e w typed globals bound variables focus k live stands
 
     -- a value is handed on
-    pub hands : (k : List Entry) (r s : RunValue) (v : Operand) (f h : flow.State) → LiveIn k bs → Holds g f bs → h ≡ f → r ≡ s → IsResult g s v → IsStack p g x bs (Val r h) k
+    pub hands : (k : List Entry) (r s : RunValue) (v : Operand) (f h : flow.State) → LiveIn k bs → Holds g f bs → h ≡ f → r ≡ s → IsResult g s v → stacks.Comes g s k → IsStack p g x bs (Val r h) k
         → IsWell p (Running (Given v) k e w)
-    hands k r s v f h live holds same_flow same_type is stack =
-        on (Given v) k live (r, h, subst (λ z. Holds g z bs) (sym same_flow) holds, subst (λ z. IsResult g z v) (sym same_type) is, stack)
+    hands k r s v f h live holds same_flow same_type is comes stack =
+        on (Given v) k live (r, h, subst (λ z. Holds g z bs) (sym same_flow) holds, subst (λ z. IsResult g z v) (sym same_type) is, subst (λ z. stacks.Comes g z k) (sym same_type) comes, stack)
 
     -- ---- variables
-
-    open_local : (k : List Entry) (b : Bound) → AreOpen w.regions (ends_of k) → LiveIn k bs → IsAmong (Variable b) bs → IsOpenLife w.regions b.life
-    open_local k b opens live among = lasting_open w.regions (ends_of k) b.life opens typed.heap
-        (kept_open g w.regions w.objects b.life typed (object_known g w.regions w.objects b.object (variable_type b.of_type b.life b.is_hidden) typed (among_variable g among variables))) (among_live (ends_of k) among live.0)
 
     -- a global, whose type means the same everywhere
     global_there : (n : ℕ) (u : Ty) (c : Context) → IsContext p x bs c → slice_get c.globals n ≡ Some u
@@ -111,16 +199,13 @@ module _ (p : Source) where
         (there, global_means p.reading c.regions bs u stands.regions closed)
 
     pub from_local : (k : List Entry) (c : Context) (n : ℕ) (u : Ty) (t : ValueType) (f h : flow.State) → AreOpen w.regions (ends_of k) → LiveIn k bs → IsContext p x bs c → Holds g f bs
-        → (r : ℕ) × HasLocal c.locals n u r → IsSet f n → Implies f h → t ≡ types.Value u → IsStack p g x bs (Val (read_value bs t) h) k
+        → (r : ℕ) × HasLocal c.locals n u r → IsSet f n → Implies f h → t ≡ types.Value u → stacks.Comes g (Value (read bs u)) k → IsStack p g x bs (Val (read_value bs t) h) k
         → IsWell p (loaded_from (values.kind_of u) (e.locals n) k e w)
-    from_local k c n u t f h opens live stands holds (r, has) is_set implies same stack =
+    from_local k c n u t f h opens live stands holds (r, has) is_set implies same comes stack =
         let (b, among, number, of_type) = bound_of p.reading (lives_in bs) c.locals bs n u r stands.scope has in
         let full : IsFull g b.object = among_set g f among holds.1 (subst (λ m. IsSet f m) (sym number) is_set) in
-        let there : e.locals n ≡ Some b.object = ap e.locals (sym number) ∙ among_bound e among bound in
-        subst (λ o. IsWell p (loaded_from (values.kind_of u) o k e w)) (sym there)
-        (reads p g x bs e w typed globals bound variables k (values.kind_of u) b.object 0 b.of_type (variable_type b.of_type b.life b.is_hidden) h live (holds_implied g f h bs implies holds)
-        (among_variable g among variables) refl (open_local k b opens live among) full (ap kind_at of_type ∙ kind_meant (lives_in bs) u)
-        (subst (λ z. IsStack p g x bs (Val z h) k) (ap (read_value bs) same ∙ ap Value (sym of_type)) stack))
+        from_bound p g x bs e w typed globals bound variables k n u b h (Value (read bs u)) opens live (holds_implied g f h bs implies holds) among number of_type full
+        (λ v is. (sym (kind_meant (lives_in bs) u), subst (λ z. HasType g z v) of_type is)) comes (subst (λ z. IsStack p g x bs (Val z h) k) (ap (read_value bs) same) stack)
 
     from_global : (k : List Entry) (c : Context) (n : ℕ) (u : Ty) (t : ValueType) (f : flow.State) → AreOpen w.regions (ends_of k) → LiveIn k bs → IsContext p x bs c → Holds g f bs
         → slice_get c.globals n ≡ Some u → t ≡ types.Value u → IsStack p g x bs (Val (read_value bs t) f) k
@@ -129,18 +214,18 @@ module _ (p : Source) where
         let (there, means) = global_there n u c stands has in
         let (at, full, closed) = globals.globals n u there in
         reads p g x bs e w typed globals bound variables k (values.kind_of u) n 0 (lives.at as_heap u) (global_type (lives.at as_heap u)) f live holds at refl (open_of w.regions (globals_among k) opens) full (kind_meant as_heap u)
-        (subst (λ z. IsStack p g x bs (Val z f) k) (ap (read_value bs) same ∙ ap Value means) stack)
+        (Value (lives.at as_heap u)) (λ v is. (sym (kind_meant as_heap u), is)) (heap_comes g (stacks.operands_in k) u) (subst (λ z. IsStack p g x bs (Val z f) k) (ap (read_value bs) same ∙ ap Value means) stack)
 
     -- ---- arguments
 
     pub pass_on : (k : List Entry) (callee : Callee) (before : List Operand) (done : List RunTy) (as' : Arguments) (ts : List Ty) (c : Context) (r : ValueType) (f h : flow.State) (q : List ℕ)
-        → LiveIn k bs → IsContext p x bs c → Holds g f bs → ArePassed c ts as' → Derives (rule_arguments q as' f) h → InArguments p.reading x.relied as' → AreOperands g done before
+        → LiveIn k bs → IsContext p x bs c → Holds g f bs → ArePassed c ts as' → Derives (rule_arguments q as' f) h → InArguments p.reading x.relied as' → AreOperands g done before → stacks.AreClaimed g.own (stacks.operands_in k) done
         → IsCalled p bs callee (turned done (map (read bs) ts)) (read_value bs r) → IsStack p g x bs (Val (read_value bs r) h) k → IsWell p (passes callee before as' k e w)
-    pass_on k callee before done NoArguments [] c r f h q live stands holds passed (u, same) kept operands called stack =
-        on (Calling callee before) k live (done, read_value bs r, h, subst (λ z. Holds g z bs) (sym same) holds, called, operands, stack)
-    pass_on k callee before done NoArguments (t ∷ ts) c r f h q live stands holds passed flows kept operands called stack = absurd passed
-    pass_on k callee before done (MoreArguments d as') [] c r f h q live stands holds passed flows kept operands called stack = absurd passed
-    pass_on k callee before done (MoreArguments (Convert from to a) as') (t ∷ ts) c r f h q live stands holds ((v, well, conv, from_is, to_is), passed) (f1, d, ds) (one, kept) operands called stack =
+    pass_on k callee before done NoArguments [] c r f h q live stands holds passed (u, same) kept operands claims called stack =
+        on (Calling callee before) k live (done, read_value bs r, h, subst (λ z. Holds g z bs) (sym same) holds, called, operands, claims, stack)
+    pass_on k callee before done NoArguments (t ∷ ts) c r f h q live stands holds passed flows kept operands claims called stack = absurd passed
+    pass_on k callee before done (MoreArguments d as') [] c r f h q live stands holds passed flows kept operands claims called stack = absurd passed
+    pass_on k callee before done (MoreArguments (Convert from to a) as') (t ∷ ts) c r f h q live stands holds ((v, well, conv, from_is, to_is), passed) (f1, d, ds) (one, kept) operands claims called stack =
         on (Evaluating a) (Needs (ConvertTo from to (target_by a)) ∷ Needs (Pass callee before as') ∷ k) live (
           c,
           v,
@@ -155,7 +240,7 @@ module _ (p : Source) where
             Val (Value (read bs t)) f1,
             stacks.converts c v t f1 (agrees_of p x bs c stands) conv from_is to_is (target_typed c a v (inl well)),
             tt,
-            (done, bs, Val (read_value bs r) h, stacks.passes c done t ts r f1 h stands (record { waiting = q; typed = passed; flows = ds; kept = kept }) called, operands, stack),
+            (done, bs, Val (read_value bs r) h, stacks.passes c done t ts r f1 h stands (record { waiting = q; typed = passed; flows = ds; kept = kept }) called, keeps_passed g (stacks.operands_in k) callee before as' done operands claims, stack),
           ),
         )
 
@@ -164,25 +249,26 @@ module _ (p : Source) where
     pub evaluate : (a : Expression) (k : List Entry) (c : Context) (t : ValueType) (f h : flow.State) (q : List ℕ) → AreOpen w.regions (ends_of k) → LiveIn k bs → IsContext p x bs c → Holds g f bs
         → WellTyped c a t ⊎ IsPeek c a t → Derives (rule q a f) h → InExpression p.reading x.relied a → IsStack p g x bs (Val (read_value bs t) h) k → IsWell p (step_evaluating a k e w)
     evaluate (Number n) k c t f h q opens live stands holds (inl is) (u, same) kept stack =
-        hands k (read_value bs t) (Value lives.Int) (record { kind = kinds.Int; value = values.Int n }) f h live holds same (ap (read_value bs) is) (refl, tt) stack
+        hands k (read_value bs t) (Value lives.Int) (record { kind = kinds.Int; value = values.Int n }) f h live holds same (ap (read_value bs) is) (refl, tt) tt stack
     evaluate NullPointer k c t f h q opens live stands holds (inl is) (u, same) kept stack =
-        hands k (read_value bs t) lives.Null (record { kind = kinds.Nullable; value = values.Null }) f h live holds same (ap (read_value bs) is) (refl, refl) stack
+        hands k (read_value bs t) lives.Null (record { kind = kinds.Nullable; value = values.Null }) f h live holds same (ap (read_value bs) is) (refl, refl) tt stack
     evaluate HeapRegion k c t f h q opens live stands holds (inl is) (u, same) kept stack =
-        hands k (read_value bs t) (Value (lives.Handle heap_life)) (record { kind = kinds.Handle; value = values.Handle 0 }) f h live holds same (ap (read_value bs) is) (refl, refl) stack
+        hands k (read_value bs t) (Value (lives.Handle heap_life)) (record { kind = kinds.Handle; value = values.Handle 0 }) f h live holds same (ap (read_value bs) is) (refl, refl) tt stack
     evaluate (Counter l) k c t f h q opens live stands holds (inl (less, is)) (u, same) kept stack =
         let (index, counted) = among_level e (stands.counters l less) bound in
         subst (λ o. IsWell p (counts o k e w)) (sym counted)
-        (hands k (read_value bs t) (Value lives.Int) (record { kind = kinds.Int; value = values.Int index }) f h live holds same (ap (read_value bs) is) (refl, tt) stack)
+        (hands k (read_value bs t) (Value lives.Int) (record { kind = kinds.Int; value = values.Int index }) f h live holds same (ap (read_value bs) is) (refl, tt) tt stack)
     evaluate (Copy (Local place n) u) k c t f h q opens live stands holds (inl ((has, there), moved, same)) (demands, known) kept stack =
-        from_local k c n u t f h opens live stands holds has (not_true (is_vacant (fullness f n)) demands.0) (subst (λ z. Implies f z) (sym known) (implies_self f)) same stack
+        from_local k c n u t f h opens live stands holds has (not_true (is_vacant (fullness f n)) demands.0) (subst (λ z. Implies f z) (sym known) (implies_self f)) same (copied_comes g (stacks.operands_in k) (lives_in bs) u moved) stack
     evaluate (Copy (Global n) u) k c t f h q opens live stands holds (inl (there, moved, same)) (demands, known) kept stack =
         from_global k c n u t h opens live stands (subst (λ z. Holds g z bs) (sym known) holds) there same stack
     evaluate (Move place n u) k c t f h q opens live stands holds (inl ((has, there), moved, same)) (demands, known) kept stack =
-        from_local k c n u t f h opens live stands holds has (not_true (is_vacant (fullness f n)) demands.0) (subst (λ z. Implies f z) (sym known) (vacant_implied f n)) same stack
+        moves p g x bs e w typed globals bound variables k c n u f opens live stands holds has (used_full f n demands.0 demands.1.0) kept
+        (subst (λ z. IsStack p g x bs (Val z (with_fullness Vacant f n)) k) (ap (read_value bs) same) (subst (λ z. IsStack p g x bs (Val (read_value bs t) z) k) known stack))
     evaluate (Peek place n u) k c t f h q opens live stands holds (inr ((has, there), unique, same)) (demands, known) kept stack =
-        from_local k c n u t f h opens live stands holds has (not_true (is_vacant (fullness f n)) demands.0) (subst (λ z. Implies f z) (sym known) (implies_self f)) same stack
+        from_local k c n u t f h opens live stands holds has (not_true (is_vacant (fullness f n)) demands.0) (subst (λ z. Implies f z) (sym known) (implies_self f)) same (unique_comes g (stacks.operands_in k) (lives_in bs) u unique) stack
     evaluate (Call callee as' u) k c t f h q opens live stands holds (inl (s, m, is, count, apart, passed, alive, outlive, gives_u, same)) flows kept stack =
-        pass_on k callee [] [] as' (map (substituted_ty m) s.parameters) c (result_type (option_map (substituted_ty m) s.result)) f h q live stands holds passed flows kept tt
+        pass_on k callee [] [] as' (map (substituted_ty m) s.parameters) c (result_type (option_map (substituted_ty m) s.result)) f h q live stands holds passed flows kept tt tt
         (called_is x bs c callee s m stands is alive outlive) (subst (λ z. IsStack p g x bs (Val (read_value bs z) h) k) (same ∙ gives_u) stack)
     evaluate (Unary unary.Not a) k c t f h q opens live stands holds (inl (v, (well, is_tested'), same)) flows kept stack =
         on (Evaluating a) (Needs (Operate unary.Not) ∷ k) live (
@@ -313,7 +399,7 @@ module _ (p : Source) where
         let is : read_value bs t ≡ Value (lives.Pointer marks.NonNull (lives.at as_heap v) (lives_in bs r)) =
         ap (read_value bs) (same ∙ ap types.Value u_is) ∙ ap (λ z. Value (lives.Pointer marks.NonNull z (lives_in bs r))) means in
         hands k (read_value bs t) (Value (lives.Pointer marks.NonNull (lives.at as_heap v) (lives_in bs r))) (record { kind = kinds.NonNull; value = values.Thin n 0 }) f h live holds known
-        is (refl, (global_type (lives.at as_heap v), at, refl, with_globals (lives_in bs r), part)) stack
+        is (refl, (global_type (lives.at as_heap v), at, refl, with_globals (lives_in bs r), part)) tt stack
     evaluate (AddressOf (Local place n) u) k c t f h q opens live stands holds (inl (v, r, (m, has, region, there), plain, u_is, same)) (demands, known) kept stack =
         let l = bound_to p.reading (lives_in bs) c.locals bs n v m stands.scope (place_local c.locals n v m has) in
         let b = l.bound in
@@ -321,11 +407,11 @@ module _ (p : Source) where
         let full : IsFull g b.object = among_set g f l.among holds.1 (subst (λ m. IsSet f m) (sym l.number) (not_true (is_vacant (fullness f n)) demands.0)) in
         let life : b.life ≡ lives_in bs r = homed p.reading (lives_in bs) m b.life kept l.life ∙ ap (lives_in bs) (sym region) in
         let y = variable_type b.of_type b.life b.is_hidden in
-        let part = part_at g w typed b.object y (read bs v) 0 (among_variable g l.among variables) (ap (λ z. Some z) l.of_type) (open_local k b opens live l.among) full in
+        let part = part_at g w typed b.object y (read bs v) 0 (among_variable g l.among variables) (ap (λ z. Some z) l.of_type) (open_local p g x bs e w typed globals bound variables k b opens live l.among) full in
         subst (λ o. IsWell p (addressed o k e w)) (sym at)
         (hands k (read_value bs t) (Value (lives.Pointer marks.NonNull (read bs v) (lives_in bs r))) (record { kind = kinds.NonNull; value = values.Thin b.object 0 }) f h live holds known
         (ap (read_value bs) (same ∙ ap types.Value u_is))
-        (refl, (y, among_variable g l.among variables, l.hidden ∙ plain, subst (λ z. Outlasts b.life z) life (alike b.life), part)) stack)
+        (refl, (y, among_variable g l.among variables, l.hidden ∙ plain, subst (λ z. Outlasts b.life z) life (alike b.life), part)) tt stack)
     evaluate (AddressOfCell d u) k c t f h q opens live stands holds (inl (v, r, cell, plain, other, u_is, same)) flows kept stack =
         on (Locating d) (NeedsPlace TakeAddress ∷ k) live (
           c,
@@ -395,6 +481,17 @@ module _ (p : Source) where
             subst (λ z. IsStack p g x bs (Val (read_value bs z) h) k) (same ∙ ap types.Value u_is) stack,
           ),
         )
+    evaluate (FreeKey a) k c t f h q opens live stands holds (inl (r, well, same)) flows (loans, kept) stack =
+        on (Evaluating a) (Needs CloseByKey ∷ k) live (
+          c,
+          types.Value (types.Key r),
+          f,
+          h,
+          stands,
+          holds,
+          record { waiting = q; typed = inl well; flows = flows; kept = kept },
+          ([], bs, Go h, stacks.closes_by_key r h, tt, void_goes p g x bs h (read_value bs t) k (ap (read_value bs) same) stack),
+        )
     evaluate (Peek place n u) k c t f h q opens live stands holds (inl is) flows kept stack = absurd is
     evaluate a k c t f h q opens live stands holds (inr is) flows kept stack = absurd is
     evaluate a k c t f h q opens live stands holds typed' flows kept stack = absurd kept
@@ -409,7 +506,7 @@ module _ (p : Source) where
         subst (λ z. IsWell p (Running (Evaluating b) (Needs (ApplyPointer peek o (record { kind = z; value = value })) ∷ Needs (Chain os) ∷ k) e w)) (sym kind_is)
         (subst (λ z. IsWell p (Running (Evaluating b) (Needs (ApplyPointer peek o (record { kind = kinds.Nullable; value = z })) ∷ Needs (Chain os) ∷ k) e w)) (sym value_is)
         (on (Evaluating b) (Needs (ApplyPointer peek o null) ∷ Needs (Chain os) ∷ k) live
-        (c, v, f, f1, stands, holds, evaluates, (lives.Pointer marks.Nullable lives.Int heap_life ∷ [], bs, Val (read_value bs w') f1, stacks.null_points c v w' f1 op, ((refl, tt), tt), stack))))
+        (c, v, f, f1, stands, holds, evaluates, (lives.Pointer marks.Nullable lives.Int heap_life ∷ [], bs, Val (read_value bs w') f1, stacks.null_points c v w' f1 op, (((refl, tt), tt), (tt, tt)), stack))))
 
     pointed : (o : PointerOperator) (peek : Option ℕ) (q : List ℕ) (left : Operand) (b : Expression) (os : Operations) (k : List Entry) (c : Context) (s v w' : ValueType) (f f1 : flow.State) → LiveIn k bs → IsContext p x bs c → Holds g f bs
         → IsResult g (read_value bs s) left → PointerOperation c o s v w' → Evaluates p.reading x.relied c b f v f1 → IsStack p g x bs (Val (read_value bs w') f1) (Needs (Chain os) ∷ k)
@@ -421,14 +518,14 @@ module _ (p : Source) where
         go types.Void is op = absurd (pointer_left op refl)
         go types.Null is op = null_on {o = o} peek q left.kind left.value b os k c v w' f f1 live is.0 is.1 stands holds op evaluates stack
         go (types.Value t) is op = on (Evaluating b) (Needs (ApplyPointer peek o left) ∷ Needs (Chain os) ∷ k) live
-            (c, v, f, f1, stands, holds, evaluates, (read bs t ∷ [], bs, Val (read_value bs w') f1, stacks.points c t v w' f1 stands op, (is, tt), stack))
+            (c, v, f, f1, stands, holds, evaluates, (read bs t ∷ [], bs, Val (read_value bs w') f1, stacks.points c t v w' f1 stands op, ((is, tt), (pointer_claims g (stacks.operands_in (Needs (Chain os) ∷ k) + 0) (lives_in bs) op, tt)), stack))
 
     -- a left operand stands before what is left of its chain
     pub chain_on : (os : Operations) (v : Operand) (k : List Entry) (c : Context) (s : ValueType) (u : Ty) (f h : flow.State) (q : List ℕ) → LiveIn k bs → IsContext p x bs c → Holds g f bs
-        → IsResult g (read_value bs s) v → IsChain c s os u → Derives (rule_operations q os f) h → InOperations p.reading x.relied os → IsStack p g x bs (Val (Value (read bs u)) h) k → IsWell p (chained os v k e w)
-    chain_on NoOperations v k c s u f h q live stands holds is chain (unit, same) kept stack =
-        hands k (Value (read bs u)) (read_value bs s) v f h live holds same (ap (read_value bs) (sym chain)) is stack
-    chain_on (ThenCompute o b os) v k c s u f h q live stands holds is (int, well, chain) (f1, d, ds) (one, kept) stack =
+        → IsResult g (read_value bs s) v → stacks.Comes g (read_value bs s) k → IsChain c s os u → Derives (rule_operations q os f) h → InOperations p.reading x.relied os → IsStack p g x bs (Val (Value (read bs u)) h) k → IsWell p (chained os v k e w)
+    chain_on NoOperations v k c s u f h q live stands holds is comes chain (unit, same) kept stack =
+        hands k (Value (read bs u)) (read_value bs s) v f h live holds same (ap (read_value bs) (sym chain)) is comes stack
+    chain_on (ThenCompute o b os) v k c s u f h q live stands holds is comes (int, well, chain) (f1, d, ds) (one, kept) stack =
         let is_int : IsResult g (Value lives.Int) v = subst (λ z. IsResult g (read_value bs z) v) int is in
         subst (λ z. IsWell p (awaits_right z (Apply o v) b os k e w)) (sym (is_kind_same v.kind kinds.Int is_int.0)) (
         on (Evaluating b) (Needs (Apply o v) ∷ Needs (Chain os) ∷ k) live (
@@ -444,11 +541,11 @@ module _ (p : Source) where
             bs,
             Val (Value lives.Int) f1,
             stacks.applies f1,
-            (is_int, tt),
+            ((is_int, tt), (tt, tt)),
             ([], bs, Val (Value (read bs u)) h, stacks.chains c (types.Value types.Int) u f1 h stands (record { waiting = q; typed = chain; flows = ds; kept = kept }), tt, stack),
           ),
         ))
-    chain_on (ThenTest o b os) v k c s u f h q live stands holds is (is_tested', (s2, well, tested2), chain) (f1, d, ds) (one, kept) stack =
+    chain_on (ThenTest o b os) v k c s u f h q live stands holds is comes (is_tested', (s2, well, tested2), chain) (f1, d, ds) (one, kept) stack =
         let (fails, at_zero) = zero_is g (lives_in bs) s v is_tested' is in
         let waits : IsStack p g x bs (Val (Value lives.Int) (meet f f1)) (Needs (Chain os) ∷ k) =
         ([], bs, Val (Value (read bs u)) h, stacks.chains c (types.Value types.Int) u (meet f f1) h stands (record { waiting = q; typed = chain; flows = ds; kept = kept }), tt, stack) in
@@ -456,7 +553,7 @@ module _ (p : Source) where
       where
         go : (fails : Bool) → IsStack p g x bs (Val (Value lives.Int) (meet f f1)) (Needs (Chain os) ∷ k) → (b' : Bool) → IsWell p (decided b' fails b os k e w)
         go fails waits true = on (Given (record { kind = kinds.Int; value = values.Int (if fails then 0 else 1) })) (Needs (Chain os) ∷ k) live
-            (Value lives.Int, meet f f1, holds_implied g f (meet f f1) bs (meet_first f f1) holds, (refl, tt), waits)
+            (Value lives.Int, meet f f1, holds_implied g f (meet f f1) bs (meet_first f f1) holds, (refl, tt), tt, waits)
         go fails waits false = on (Evaluating b) (Needs Decide ∷ Needs (Chain os) ∷ k) live (
           c,
           s2,
@@ -467,55 +564,66 @@ module _ (p : Source) where
           record { waiting = q; typed = well; flows = d; kept = one },
           ([], bs, Val (Value lives.Int) (meet f f1), stacks.decides s2 f1 (meet f f1) tested2 (meet_second f f1), tt, waits),
         )
-    chain_on (ThenPointer o b os) v k c s u f h q live stands holds is (v2, w2, well, op, chain) (f1, d, ds) (one, kept) stack =
+    chain_on (ThenPointer o b os) v k c s u f h q live stands holds is comes (v2, w2, well, op, chain) (f1, d, ds) (one, kept) stack =
         pointed o None q v b os k c s v2 w2 f f1 live stands holds is op (record { waiting = q; typed = well; flows = d; kept = one })
         ([], bs, Val (Value (read bs u)) h, stacks.chains c w2 u f1 h stands (record { waiting = q; typed = chain; flows = ds; kept = kept }), tt, stack)
-    chain_on (ThenPointerPeek n o b os) v k c s u f h q live stands holds is (v2, w2, well, op, chain) (f1, d, ds) (one, kept) stack =
+    chain_on (ThenPointerPeek n o b os) v k c s u f h q live stands holds is comes (v2, w2, well, op, chain) (f1, d, ds) (one, kept) stack =
         pointed o (Some n) q v b os k c s v2 w2 f f1 live stands holds is op (record { waiting = and_peeked (Some n) q; typed = well; flows = d; kept = one })
         ([], bs, Val (Value (read bs u)) h, stacks.chains c w2 u f1 h stands (record { waiting = q; typed = chain; flows = ds; kept = kept }), tt, stack)
 
-    pub converted_on : (from to : Kind) (target : Option Kind) (v : Operand) (k : List Entry) (c : Context) (s : ValueType) (t : Ty) (f : flow.State) → LiveIn k bs → AgreesWith c.regions (lives_in bs) → Holds g f bs → IsResult g (read_value bs s) v → Converts c s t
+    pub converted_on : (from to : Kind) (target : Option Kind) (v : Operand) (k : List Entry) (c : Context) (s : ValueType) (t : Ty) (f : flow.State) → LiveIn k bs → AgreesWith c.regions (lives_in bs) → Holds g f bs → IsResult g (read_value bs s) v → stacks.Comes g (read_value bs s) k → Converts c s t
         → from ≡ tests.kind_of_value s → to ≡ tests.kind_of t → target ≡ target_of_value s → IsStack p g x bs (Val (Value (read bs t)) f) k → IsWell p (converts from to target v k e w)
-    converted_on from to target v k c s t f live agrees holds is conv from_is to_is same stack =
+    converted_on from to target v k c s t f live agrees holds is comes conv from_is to_is same stack =
         let leads_so : leads_to w target (followed v.value) ≡ true = ap (λ z. leads_to w z (followed v.value)) same ∙ converted_leads g w typed (lives_in bs) c s t v conv is in
         subst (λ (b : Bool). IsWell p (if b then computed to (conversion to v.value) k e w else wrong w))
         (sym (both (is_kind v.kind from) (leads_to w target (followed v.value)) (is_kind_same v.kind from (kind_given g (lives_in bs) c s t v conv is ∙ sym from_is)) leads_so))
         (subst (λ z. IsWell p (computed z (conversion z v.value) k e w)) (sym to_is)
-        (gives p g x bs e w typed globals bound variables k (tests.kind_of t) (read bs t) f (conversion (tests.kind_of t) v.value) live holds (sym (kind_read (lives_in bs) t)) (converted_by g (lives_in bs) c s t v agrees conv is) stack))
+        (gives_by p g x bs e w typed globals bound variables k (tests.kind_of t) (read bs t) f (conversion (tests.kind_of t) v.value) live holds (sym (kind_read (lives_in bs) t)) (converted_by g (lives_in bs) c s t v agrees conv is)
+        (converted_claims g (stacks.operands_in k) (lives_in bs) c s t conv comes) stack))
 
     pub denied_on : (v : Operand) (k : List Entry) (s : ValueType) (f : flow.State) → LiveIn k bs → Holds g f bs → is_tested s ≡ true → IsResult g (read_value bs s) v
         → IsStack p g x bs (Val (Value lives.Int) f) k → IsWell p (computed kinds.Int (truth_result (is_zero v.value)) k e w)
     denied_on v k s f live holds is_tested' is stack =
         let (b, at_zero) = zero_is g (lives_in bs) s v is_tested' is in
-        subst (λ z. IsWell p (computed kinds.Int (truth_result z) k e w)) (sym at_zero) (gives p g x bs e w typed globals bound variables k kinds.Int lives.Int f (Gives (values.Int (truth b))) live holds refl tt stack)
+        subst (λ z. IsWell p (computed kinds.Int (truth_result z) k e w)) (sym at_zero) (gives p g x bs e w typed globals bound variables k kinds.Int lives.Int f (Gives (values.Int (truth b))) live holds tt refl tt stack)
 
     pub decided_on : (v : Operand) (k : List Entry) (s : ValueType) (f h : flow.State) → LiveIn k bs → Holds g f bs → is_tested s ≡ true → Implies f h → IsResult g (read_value bs s) v
         → IsStack p g x bs (Val (Value lives.Int) h) k → IsWell p (computed kinds.Int (truth_of (is_zero v.value)) k e w)
     decided_on v k s f h live holds is_tested' implies is stack =
         let (b, at_zero) = zero_is g (lives_in bs) s v is_tested' is in
-        subst (λ z. IsWell p (computed kinds.Int (truth_of z) k e w)) (sym at_zero) (gives p g x bs e w typed globals bound variables k kinds.Int lives.Int h (Gives (values.Int (truth (not b)))) live (holds_implied g f h bs implies holds) refl tt stack)
+        subst (λ z. IsWell p (computed kinds.Int (truth_of z) k e w)) (sym at_zero) (gives p g x bs e w typed globals bound variables k kinds.Int lives.Int h (Gives (values.Int (truth (not b)))) live (holds_implied g f h bs implies holds) tt refl tt stack)
 
     handed : (h : Typing) (t : Ty) (v : Operand) (b : Bool) → IsResult h (Value (read bs t)) v → IsResult h (read_value bs (if b then types.Void else types.Value t)) v
     handed h t v true is = tt
     handed h t v false is = is
 
     pub writes_local : (v : Operand) (k : List Entry) (b : Bound) (t : Ty) (f : flow.State) → AreOpen w.regions (ends_of k) → LiveIn k bs → IsAmong (Variable b) bs → b.of_type ≡ read bs t
-        → Holds g f bs → IsResult g (Value (read bs t)) v → IsStack p g x bs (Val (read_value bs (assigned_type t)) (with_fullness Full f b.number)) k
+        → Holds g f bs → IsResult g (Value (read bs t)) v → stacks.Comes g (Value (read bs t)) k → IsStack p g x bs (Val (read_value bs (assigned_type t)) (with_fullness Full f b.number)) k
         → IsWell p (stored (cell_at w b.object 0) b.object 0 v (Given v) k e w)
-    writes_local v k b t f opens live among of_type (reached, are) is stack =
+    writes_local v k b t f opens live among of_type holds is comes stack =
+        let u = read bs t in
+        let old = Hand (stacks.operands_in k) in
+        let new = In g.depth b.number in
+        let o = giving g u new in
         let there = among_variable g among variables in
         let (y, m, stands, flag, typed_is) = typed.each b.object (variable_type b.of_type b.life b.is_hidden) there in
-        writes p g x bs e w typed globals bound variables v (Given v) k b.object 0 m (read bs t) (variable_type b.of_type b.life b.is_hidden) live there
-        (ap (λ u. Some u) of_type) (open_local k b opens live among) flag (let few : 0 ≤ m = omega arith in few) is
+        let h = with_filled o b.object (risen 0 m) in
+        let is_now = result_grown g o (giving_grows g u new) (Value u) v is in
+        let (reached, are) = holds_other u old new g f bs comes (λ i s. in_no_hand g.depth i (stacks.operands_in k)) holds in
+        let one : OneLocal h e bs b.number b.object u = record { there = among_bound e among bound; life = b.life; hidden = b.is_hidden; of_type = subst (λ z. slice_get g.objects b.object ≡ Some (variable_type z b.life b.is_hidden)) of_type there } in
+        writes p o x bs e w (given_typed g u old new w.regions w.objects comes tt typed) (given_globals p g u new globals) bound (variables_other g u old new bs comes refl variables) v (Given v) k b.object 0 m u
+        (variable_type b.of_type b.life b.is_hidden) live there (ap (λ z. Some z) of_type) (open_local p g x bs e w typed globals bound variables k b opens live among) flag (let few : 0 ≤ m = omega arith in few) is_now
         (λ grows now. (
           read_value bs (assigned_type t),
           with_fullness Full f b.number,
           (
             reached_with Full f b.number reached,
-            set_stored (with_filled g b.object (risen 0 m)) e Full f b.number b.object bs bound (among_bound e among bound) now (holds_grown g (with_filled g b.object (risen 0 m)) grows f bs (reached, are)).1,
+            set_stored h e Full f b.number b.object u bs bs bound (variables_grown o h grows bs (variables_other g u old new bs comes refl variables)) one now reached (λ s. given_now g u new) (set_grown o h grows f bs are),
           ),
-          handed (with_filled g b.object (risen 0 m)) t v (is_moved t) (result_grown g (with_filled g b.object (risen 0 m)) grows (Value (read bs t)) v is),
-          stack_grown p g (with_filled g b.object (risen 0 m)) grows x bs (Val (read_value bs (assigned_type t)) (with_fullness Full f b.number)) k stack,
+          handed h t v (is_moved t) (result_grown o h grows.grows (Value u) v is_now),
+          moved_comes h (stacks.operands_in k) bs t,
+          stack_grown p o h grows x bs (Val (read_value bs (assigned_type t)) (with_fullness Full f b.number)) k
+              (stack_other u old new p g x bs (Val (read_value bs (assigned_type t)) (with_fullness Full f b.number)) k comes (let le : stacks.operands_in k ≤ stacks.operands_in k = omega arith in le) stack),
         ))
 
     pub writes_global : (v : Operand) (k : List Entry) (n : ℕ) (t : Ty) (f : flow.State) → AreOpen w.regions (ends_of k) → LiveIn k bs
@@ -530,6 +638,7 @@ module _ (p : Source) where
           read_value bs (assigned_type t),
           f,
           holds_grown g (with_filled g n (risen 0 m)) grows f bs holds,
-          handed (with_filled g n (risen 0 m)) t v (is_moved t) (result_grown g (with_filled g n (risen 0 m)) grows (Value (read bs t)) v is),
+          handed (with_filled g n (risen 0 m)) t v (is_moved t) (result_grown g (with_filled g n (risen 0 m)) grows.grows (Value (read bs t)) v is),
+          moved_comes (with_filled g n (risen 0 m)) (stacks.operands_in k) bs t,
           stack_grown p g (with_filled g n (risen 0 m)) grows x bs (Val (read_value bs (assigned_type t)) f) k stack,
         ))

@@ -9,7 +9,7 @@ use Rattle.cyc_syntax.specs.declared.tree.PointerKind.TheVariants as marks
 use Rattle.cyc_syntax.specs.declared.tree.PrefixOperator.TheVariants as prefixes
 use Rattle.cyc_syntax.specs.declared.tree.BinaryOperator.TheVariants as operators
 use Rattle.cyc_syntax.specs.Symbols.{Place}
-use Rattle.cyc_syntax.specs.Trees.{Named, BaseType, Int, Struct, Handle, Key, WrittenType, Expression, Number, Null, HeapRegion, UniqueRegion, Variable, Call, NumberOfElements, Chained, Prefixed, New, RegionNew, Binary, Assign, Plain, Fields, Array, NoExpressions, MoreExpressions, NoPostfixes, ThenIndex, ThenField, NoOperations, ThenOperation, Block, Labelled, Evaluate, Swap, While, Return, Break, Try, Braces, Items, NoItems, MoreItems, Execute, Local, Region, Alias, DynamicRegion, Default, Listed, Declaration, StructType, Global, Function}
+use Rattle.cyc_syntax.specs.Trees.{Named, BaseType, Int, Struct, Handle, Key, WrittenType, Expression, Number, Null, HeapRegion, UniqueRegion, Variable, Call, NumberOfElements, FreeKey, Chained, Prefixed, New, RegionNew, Binary, Assign, Plain, Fields, Array, NoExpressions, MoreExpressions, NoPostfixes, ThenIndex, ThenField, NoOperations, ThenOperation, Block, Labelled, Evaluate, Swap, While, Return, Break, Try, Braces, Items, NoItems, MoreItems, Execute, Local, Region, Alias, DynamicRegion, Default, Listed, Declaration, StructType, Global, Function}
 use Rattle.cyc_types.specs.TypedTrees as typed
 use Rattle.cyc_types.specs.Rules.{Checked}
 use Rattle.cyc_types.specs.typing.Programs.{rule_program, check_of, IsTypedProgram}
@@ -20,7 +20,7 @@ use Rattle.cyc_types.proofs.RuleLaws.{answers_tree}
 use Rattle.cyc_types.proofs.typing.ProgramLemmas.{program_well}
 use Rattle.cyc_meaning.specs.State.{Status, HasEnded, status_of}
 use Rattle.cyc_meaning.specs.Run.{run}
-use Rattle.cyc_soundness.specs.Classes.{IsOfTheHeap, IsOfScopes, FreesNothing}
+use Rattle.cyc_soundness.specs.Classes.{IsOfTheHeap, IsOfScopes, FreesNoObject}
 use Rattle.cyc_soundness.specs.Sound.{IsSound}
 use Rattle.cyc_soundness.proofs.Whole.{heap_sound, lending_sound, scopes_sound}
 
@@ -35,7 +35,7 @@ abbrev Ends : Checked typed.Program → Status → Type 0
 Ends = EndsIn IsOfTheHeap
 
 abbrev EndsWithLoans : Checked typed.Program → Status → Type 0
-EndsWithLoans = EndsIn FreesNothing
+EndsWithLoans = EndsIn FreesNoObject
 
 abbrev EndsByScope : Checked typed.Program → Status → Type 0
 EndsByScope = EndsIn IsOfScopes
@@ -61,7 +61,7 @@ never_dead_by_scope texts tree s ends = never_dead_in IsOfScopes scopes_sound te
 
 pub never_dead_with_loans : (texts : List (List ℕ)) (tree : List Declaration) (s : Status) → EndsWithLoans (check_of texts tree) s
     → (p : typed.Program) × IsTypedProgram texts tree p × IsSound p × (status_of (run p [] 200) ≡ s)
-never_dead_with_loans texts tree s ends = never_dead_in FreesNothing lending_sound texts tree s ends
+never_dead_with_loans texts tree s ends = never_dead_in FreesNoObject lending_sound texts tree s ends
 
 -- ---- trees
 
@@ -287,3 +287,49 @@ left_by_exception_in_a_call : EndsWithLoans (check_of texts (
     ∷ main (with_key (MoreItems (Execute (Try (at 13) (Return (at 14) (Some (Call (named 7 15) (MoreExpressions (Variable (named 5 16)) NoExpressions)))) (Default (returned (Number (at 17) 8))))) NoItems))
     ∷ [])) (HasEnded (Returned (pos 8)))
 left_by_exception_in_a_call = (refl, (((refl, tt, ((tt, tt), tt, (tt, tt))), ((refl, (((tt, tt), (tt, tt)), tt)), tt)), tt, tt), refl)
+
+-- ---- texts that give keys back
+
+abbrev freed : Items → Items
+freed is = MoreItems (Execute (Evaluate (FreeKey (at 55) (named 5 56)))) is
+
+-- int main(){ let NewDynamicRegion{<`r> i} = new_ukey(); { region<`r> h = open(i); int @`r p = rnew(h) 4; } free_ukey(i); return 3; }
+given_back : EndsWithLoans (check_of texts (
+    main (
+    with_key (
+    block (opened (MoreItems (Local (into 8) (named 2 7) (Some (RegionNew (at 8) (Variable (named 9 9)) (Plain (Number (at 10) 4))))) NoItems))
+    (freed (returned (Number (at 11) 3)))))
+    ∷ [])) (HasEnded (Returned (pos 3)))
+given_back = (refl, (((refl, ((refl, tt, ((tt, (let few : 1 < 3 = omega arith in few)), (tt, tt), tt)), ((refl, tt), (tt, tt)))), tt), tt, tt), refl)
+
+-- int f(region_key_t<`r> i){ free_ukey(i); return 2; } int main(){ let NewDynamicRegion{<`r> i} = new_ukey(); return f(i); }
+given_back_by_a_call : EndsWithLoans (check_of texts (
+    Function (Some (written Int [])) (named 7 1) (record { list = Listed (record { of_type = written (Key (named 8 2)) []; name = named 5 3 } ∷ []); effect = None; constraints = [] }) (Braces (at 4) (freed (returned (Number (at 5) 2))) (at 12))
+    ∷ main (with_key (returned (Call (named 7 15) (MoreExpressions (Variable (named 5 16)) NoExpressions))))
+    ∷ [])) (HasEnded (Returned (pos 2)))
+given_back_by_a_call = (refl, ((((refl, tt), (tt, tt)), ((refl, ((tt, tt), tt)), tt)), tt, tt), refl)
+
+-- int main(){ let NewDynamicRegion{<`r> i} = new_ukey(); int *p = NULL; try return *p; catch { default: free_ukey(i); return 8; } }
+given_back_by_a_clause : EndsWithLoans (check_of texts (
+    main (
+    with_key (
+    MoreItems (Local (written Int (marks.Nullable ∷ [])) (named 2 5) (Some (Null (at 6))))
+    (MoreItems (Execute (Try (at 13) (Return (at 14) (Some (behind 2))) (Default (freed (returned (Number (at 17) 8)))))) NoItems)))
+    ∷ [])) (HasEnded (Returned (pos 8)))
+given_back_by_a_clause = (refl, (((refl, ((tt, tt), tt, ((tt, ((refl, tt), (tt, tt))), tt))), tt), tt, tt), refl)
+
+-- int main(){ int n = 0; while (n < 6) { let NewDynamicRegion{<`r> i} = new_ukey(); { region<`r> h = open(i); int @`r p = rnew(h) 3; n = n + *p; } free_ukey(i); } return n; }
+given_back_in_a_loop : EndsWithLoans (check_of texts (
+    main (
+    MoreItems (Local (written Int []) (named 4 5) (Some (Number (at 6) 0)))
+    (MoreItems (Execute (While (at 7) (Binary (Variable (named 4 8)) (ThenOperation operators.Less (at 9) (Number (at 10) 6) NoOperations)) (Block (Braces (at 11) (
+    with_key (
+    block (opened (
+    MoreItems (Local (into 8) (named 2 14) (Some (RegionNew (at 15) (Variable (named 9 16)) (Plain (Number (at 17) 3)))))
+    (assigned (Variable (named 4 18)) (plus (Variable (named 4 19)) (behind 2)) NoItems)))
+    (freed NoItems))) (at 20)))))
+    (returned (Variable (named 4 21)))))
+    ∷ [])) (HasEnded (Returned (pos 6)))
+unfolding slt_of
+given_back_in_a_loop =
+    (refl, (((tt, tt, (((tt, (tt, tt)), (refl, ((refl, tt, ((tt, (let few : 2 < 4 = omega arith in few)), (tt, tt), ((tt, (tt, tt)), tt))), ((refl, tt), tt)))), (tt, tt))), tt), tt, tt), refl)

@@ -26,20 +26,20 @@ use Rattle.cyc_meaning.specs.Parts.{target_by, loaded_from, inside, region_end}
 use Rattle.cyc_meaning.specs.Exceptions.{throws}
 use Rattle.cyc_meaning.specs.Nesting.{ends_of, IsNested}
 use Rattle.cyc_meaning.specs.Step.{step_executing, returns, continues_with}
-use Rattle.cyc_soundness.specs.Lives.{Life, Value, Reading, AsHeap, ByScope}
-use Rattle.cyc_soundness.specs.Worlds.{IsNumber, Typing, IsTyped}
+use Rattle.cyc_soundness.specs.Lives.{Life, Value, Seen, Reading, AsHeap, ByScope}
+use Rattle.cyc_soundness.specs.Worlds.{HasType, IsNumber, Typing, lent_now, IsTyped}
 use Rattle.cyc_soundness.specs.Frames.{InScope, Names, Home, life_named, lives_in, read, read_value, IsBound, AreVariables, LiveIn, Within, itself, older, IsSet, Holds, Implies, LoopExit, Exits, loop_of, around, lending, relying, AreBreaks, is_loop, IsContext, KnowsProgram}
 use Rattle.cyc_soundness.specs.Classes.{HasScopes, IsDeclarable, InStatement, InItems, InValue, InThrown, Source}
-use Rattle.cyc_soundness.specs.Stacks.{Evaluates, Executes, Continues, Catches, IsLoop, Val, Go, IsReturn, IsStack, IsFocus, IsWell}
+use Rattle.cyc_soundness.specs.Stacks.{Evaluates, Executes, Continues, Catches, IsLoop, Val, Go, operands_in, IsReturn, IsStack, IsFocus, IsWell}
 use Rattle.cyc_soundness.specs.Stacks as stacks
 use Rattle.cyc_soundness.proofs.TypeLemmas.{target_typed, kind_read, kind_meant}
 use Rattle.cyc_soundness.proofs.FlowLemmas.{implies_self, implies_after, meet_first, meet_second, at_least_implies, emptied_implied, holds_implied, not_vacant, full_last}
 use Rattle.cyc_soundness.proofs.RuleLemmas.{breaks_statement, breaks_items, breaks_clauses, clauses_implied, nothing_locked}
-use Rattle.cyc_soundness.proofs.StackLemmas.{bound_of, within_bound, within_variables, within_live, within_holds, below_more}
+use Rattle.cyc_soundness.proofs.StackLemmas.{among_set, bound_of, within_bound, within_variables, within_live, within_holds, below_more}
 use Rattle.cyc_soundness.proofs.RegionLemmas.{opened_known, contains_more, live_more, same_name, known_behind, opened_life, opened_lasting, agrees_of, context_inside, context_lexical}
 use Rattle.cyc_soundness.proofs.WorldLemmas.{opened_typed}
 use Rattle.cyc_soundness.proofs.Cells.{running}
-use Rattle.cyc_soundness.proofs.Evaluation.{from_local}
+use Rattle.cyc_soundness.proofs.Evaluation.{from_bound, used_full}
 use Rattle.cyc_soundness.proofs.Loans.{type_known, keys_on}
 use Rattle.cyc_soundness.proofs.Touched.{relied_body}
 use Rattle.cyc_soundness.proofs.Supply.{declares_blank}
@@ -85,9 +85,9 @@ pub context_after : (p : Source) (x : Exits) (bs : List InScope) (c : Context) (
 context_after p x bs c s stands = context_behind p x bs c (length (declared_types s)) (declared_regions s) stands
 
 -- the handle of a region that was opened
-handle_of : (m : Reading) (region : ℕ) (ns : List ℕ) → HasScopes m → IsNumber (opened_life m region ns) region
-handle_of AsHeap region ns scopes = absurd scopes
-handle_of (ByScope lends) region ns scopes = refl
+handle_of : (m : Reading) (region : ℕ) (ns : List ℕ) (us : ℕ → Bool) → HasScopes m → IsNumber (opened_life m region ns us) region
+handle_of AsHeap region ns us scopes = absurd scopes
+handle_of (ByScope lends) region ns us scopes = refl
 
 new_handle : (m : Reading) (n r : ℕ) → r ≡ n → IsDeclarable m (suc n) (types.Handle (regions.Variable r))
 new_handle AsHeap n r same = tt
@@ -109,9 +109,9 @@ module _ (p : Source) (g : Typing) (x : Exits) (bs : List InScope) (e : Environm
   on : (focus : Focus) (k : List Entry) → LiveIn k bs → IsFocus p g x bs focus k → IsWell p (Running focus k e w)
   on focus k live stands = running p g x bs e w typed' globals bound variables focus k live stands
 
-  return_none : (r : Option Ty) (c : Context) → IsReturned c r None → IsReturn g r x.gives None
-  return_none None c is = tt
-  return_none (Some t) c is = absurd is
+  return_none : (i : ℕ) (r : Option Ty) (c : Context) → IsReturned c r None → IsReturn g i r x.gives None
+  return_none i None c is = tt
+  return_none i (Some t) c is = absurd is
 
   return_on : (a : Expression) (from to : Kind) (k : List Entry) (c : Context) (f h : flow.State) (o : Option Ty) → LiveIn k bs → IsContext p x bs c → Holds g f bs → o ≡ x.result → o ≡ c.result
       → IsReturned c o (Some (Convert from to a)) → Derives (statements.rule_value (Some (Convert from to a)) f) h → InValue p.reading x.relied (Some (Convert from to a)) → IsStack p g x bs (Go Unreached) k
@@ -160,14 +160,14 @@ module _ (p : Source) (g : Typing) (x : Exits) (bs : List InScope) (e : Environm
 
   -- the scope of a block, whose region is open now
   abbrev pub block_scope : Context → List Entry → List InScope
-  block_scope c k = Home (length w.regions) ∷ Names c.next_region (opened_life p.reading (length w.regions) (ends_of k)) true ∷ bs
+  block_scope c k = Home (length w.regions) ∷ Names c.next_region (opened_life p.reading (length w.regions) (ends_of k) (lent_now g)) true ∷ bs
 
   pub block_live : (c : Context) (k : List Entry) → LiveIn k bs → LiveIn (region_end e w ∷ k) (block_scope c k)
-  block_live c k live = ((tt, ((λ is. opened_lasting p.reading (length w.regions) (ends_of k)), live_more (length w.regions) (ends_of k) bs live.0)), refl)
+  block_live c k live = ((tt, ((λ is. opened_lasting p.reading (length w.regions) (ends_of k) (lent_now g)), live_more (length w.regions) (ends_of k) bs live.0)), refl)
 
   -- where it ends
   pub block_stack : (c : Context) (k : List Entry) (f h : flow.State) → LiveIn k bs → Implies f h → IsStack p g x bs (Go h) k → IsStack p g x (block_scope c k) (Go f) (region_end e w ∷ k)
-  block_stack c k f h live implies stack = (bs, c.next_region, opened_life p.reading (length w.regions) (ends_of k), true, h, refl, implies, live, stack)
+  block_stack c k f h live implies stack = (bs, c.next_region, opened_life p.reading (length w.regions) (ends_of k) (lent_now g), true, h, refl, implies, live, stack)
 
   -- ---- statements
 
@@ -196,7 +196,7 @@ module _ (p : Source) (g : Typing) (x : Exits) (bs : List InScope) (e : Environm
           in_block c,
           h,
           itself (block_scope c k),
-          context_inside p x bs c stands (length w.regions) (ends_of k) live.0,
+          context_inside p x bs c stands g variables (length w.regions) (ends_of k) live.0,
           continues,
           block_stack c k h h live (implies_self h) stack,
         ),
@@ -261,7 +261,7 @@ module _ (p : Source) (g : Typing) (x : Exits) (bs : List InScope) (e : Environm
       } in
       on (Evaluating a) (Needs (Test a s) ∷ k) live (c, v, f, f1, stands, holds, first, ([], bs, Go h, stacks.tests exit v f1 h loop, tt, stack))
   execute (typed.Return None) k c f h before behind' live stands holds is (f1, d, (u, known)) are kept stack =
-      on (Returning None) k live (h, return_none x.result c (subst (λ r. IsReturned c r None) stands.result is), stack)
+      on (Returning None) k live (h, return_none (operands_in k) x.result c (subst (λ r. IsReturned c r None) stands.result is), stack)
   execute (typed.Return (Some (Convert from to a))) k c f h before behind' live stands holds is (f1, d, (u, known)) are kept stack =
       return_on a from to k c f f1 c.result live stands holds stands.result refl is d kept (subst (λ z. IsStack p g x bs (Go z) k) (ap (λ (z : Known). z.now) known) stack)
   execute Break k c f h before behind' live stands holds is (u, known) are kept stack =
@@ -366,14 +366,14 @@ module _ (p : Source) (g : Typing) (x : Exits) (bs : List InScope) (e : Environm
       let d : Context = with_opened scopes.Lexical c in
       let rest : Continues p.reading x (with_local false t d) js (with_fullness Full f n) h =
       record { before = before; behind = behind'; ending = ending; typed = wjs; flows = flows; breaks = are; kept = kjs; ends = ends } in
-      let l : Life = opened_life p.reading (length w.regions) (ends_of k) in
+      let l : Life = opened_life p.reading (length w.regions) (ends_of k) (lent_now g) in
       let inner : List InScope = Names c.next_region l true ∷ bs in
-      let here : IsContext p x inner d = context_lexical p x bs c stands (length w.regions) (ends_of k) live.0 alive in
+      let here : IsContext p x inner d = context_lexical p x bs c stands g variables (length w.regions) (ends_of k) live.0 alive in
       let stands_for : lives_in inner (regions.Variable r) ≡ l = ap (λ i. life_named inner i) region ∙ same_name c.next_region l (life_named bs c.next_region) in
       let there : IsLive d (regions.Variable c.region) = contains_more (regions.Variable c.next_region) (regions.Variable c.region) (live_regions c.regions.live c.regions.opened) alive in
       running p g x inner e (opened_as Lexical w) (opened_typed g w.regions (new_region Lexical ∷ []) w.objects typed') globals (tt, bound) (opened_known g p.reading (length w.regions) (ends_of k), variables)
       (Naming n (record { kind = kinds.Handle; value = values.Handle (length w.regions) }) js) (CloseLexical (length w.regions) ∷ k)
-      (((λ is. opened_lasting p.reading (length w.regions) (ends_of k)), live_more (length w.regions) (ends_of k) bs live.0), live.1) (
+      (((λ is. opened_lasting p.reading (length w.regions) (ends_of k) (lent_now g)), live_more (length w.regions) (ends_of k) bs live.0), live.1) (
         d,
         false,
         t,
@@ -385,7 +385,8 @@ module _ (p : Source) (g : Typing) (x : Exits) (bs : List InScope) (e : Environm
         (holds.0, (tt, holds.1)),
         (new_handle p.reading c.next_region r region, there),
         number,
-        (refl, subst (λ z. IsNumber z (length w.regions)) (sym stands_for) (handle_of p.reading (length w.regions) (ends_of k) scoped)),
+        (refl, subst (λ z. IsNumber z (length w.regions)) (sym stands_for) (handle_of p.reading (length w.regions) (ends_of k) (lent_now g) scoped)),
+        tt,
         rest,
         (h, implies_self h, within_live k cs bs within live, stack),
       )
@@ -396,11 +397,12 @@ module _ (p : Source) (g : Typing) (x : Exits) (bs : List InScope) (e : Environm
       let set : IsSet f key = not_vacant (is_vacant (flow.fullness f key)) demands.0 in
       let rest = lent_rest key js (with_local false (types.Handle (regions.Variable r)) (with_key_opened r c)) (with_fullness Full (with_fullness Locked f key) n) before behind' ending wjs
       (subst (λ (z : Known). Derives (rule_items (around (lending x key)) js z) (record { now = ending; breaks = behind' })) now djs) are kjs in
-      from_local p g x bs e w typed' globals bound variables (Needs (OpenBy n key js) ∷ k) c key t (types.Value t) f f nests.0 live stands holds (home, has) set (implies_self f) refl (
+      from_bound p g x bs e w typed' globals bound variables (Needs (OpenBy n key js) ∷ k) key t b f (Seen (read bs t)) nests.0 live holds bound_among number_of of_type (among_set g f bound_among holds.1 (subst (λ i. IsSet f i) (sym number_of) set))
+      (λ v is. (sym (kind_meant (lives_in bs) t), subst (λ z. HasType g z v) of_type is)) tt (
         [],
         cs,
         Go h,
-        stacks.opens_by cs c b r f (with_each Full (locks_of js) ending) h loans within stands bound_among number_of set (type_known p.reading c key t home loans stands.known has) alive number rest (again key js ending h ends),
+        stacks.opens_by cs c b r f (with_each Full (locks_of js) ending) h loans within stands bound_among number_of of_type set spared (used_full f key demands.0 demands.1.0) (type_known p.reading c key t home loans stands.known has) alive number rest (again key js ending h ends),
         tt,
         stack,
       )
@@ -411,11 +413,12 @@ module _ (p : Source) (g : Typing) (x : Exits) (bs : List InScope) (e : Environm
       let rest = lent_rest source js (with_local true t (with_opened scopes.Alias c)) (with_fullness Full (with_fullness Locked f source) n) before behind' ending wjs
       (subst (λ (z : Known). Derives (rule_items (around (lending x source)) js z) (record { now = ending; breaks = behind' })) now djs) are kjs in
       subst (λ kind. IsWell p (loaded_from kind (e.locals source) (Needs (AliasOf n source js) ∷ k) e w)) (sym (ap values.kind_of of_type ∙ alias_kind (regions.Variable r) v))
-      (from_local p g x bs e w typed' globals bound variables (Needs (AliasOf n source js) ∷ k) c source v (types.Value v) f f nests.0 live stands holds (home, has) set (implies_self f) refl (
+      (from_bound p g x bs e w typed' globals bound variables (Needs (AliasOf n source js) ∷ k) source v b f (Seen (read bs v)) nests.0 live holds bound_among number_of of_bound (among_set g f bound_among holds.1 (subst (λ i. IsSet f i) (sym number_of) set))
+      (λ u is. (sym (kind_meant (lives_in bs) v), subst (λ z. HasType g z u) of_bound is)) tt (
         [],
         cs,
         Go h,
-        stacks.aliases cs c b v t f (with_each Full (locks_of js) ending) h loans within stands bound_among number_of set unique (type_known p.reading c source v home loans stands.known has)
+        stacks.aliases cs c b v t f (with_each Full (locks_of js) ending) h loans within stands bound_among number_of set spared (used_full f source demands.0 demands.1.0) unique (type_known p.reading c source v home loans stands.known has)
             (of_type ∙ ap (λ i. with_region_of (regions.Variable i) v) region) alive number rest (again source js ending h ends),
         tt,
         stack,
@@ -423,5 +426,5 @@ module _ (p : Source) (g : Typing) (x : Exits) (bs : List InScope) (e : Environm
   continue_with (MoreItems (DeclareKey r n) js) k cs c f h before behind' ending nests live within stands holds ((region, less), (number, variable, alive), wjs) (l, (u, known), djs') are (loans, kjs) ends stack =
       let djs = nothing_locked (around x) js l (record { now = ending; breaks = behind' }) djs' in
       let flows = subst (λ (z : Known). Derives (rule_items (around x) js z) (record { now = ending; breaks = behind' })) known djs in
-      keys_on p g x bs e w typed' globals bound variables n r js k cs c f h live holds loans within stands region alive number
+      keys_on p g x bs e w typed' globals bound variables n r js k cs c f h nests live holds loans within stands region alive number
       (record { before = before; behind = behind'; ending = ending; typed = wjs; flows = flows; breaks = are; kept = kjs; ends = ends }) stack

@@ -96,6 +96,19 @@ pub other_set : (a : Fullness) (f : State) (n m : ℕ) → m ≢ n → IsSet (wi
 other_set a Unreached n m other s = refl
 other_set a (Reached as') n m other s = subst (λ z. is_vacant z ≡ false) (get_or-set_other as' n m a Vacant other) s
 
+pub other_full : (a : Fullness) (f : State) (n m : ℕ) → m ≢ n → is_full (fullness (with_fullness a f n) m) ≡ true → is_full (fullness f m) ≡ true
+other_full a Unreached n m other s = refl
+other_full a (Reached as') n m other s = subst (λ z. is_full z ≡ true) (get_or-set_other as' n m a Vacant other) s
+
+put_full : (a : Fullness) (as' : List Fullness) (n : ℕ) → is_full (get_or (slice_set as' n a) n Vacant) ≡ true → is_full a ≡ true
+put_full a [] n s = absurd (let k : false ≡ true = s in cc)
+put_full a (b ∷ as') zero s = s
+put_full a (b ∷ as') (suc n) s = put_full a as' n s
+
+pub full_put : (a : Fullness) (f : State) (n : ℕ) → is_reached f ≡ true → is_full (fullness (with_fullness a f n) n) ≡ true → is_full a ≡ true
+full_put a Unreached n reached s = absurd (let k : false ≡ true = reached in cc)
+full_put a (Reached as') n reached s = put_full a as' n s
+
 pub reached_with : (a : Fullness) (f : State) (n : ℕ) → is_reached f ≡ true → is_reached (with_fullness a f n) ≡ true
 reached_with a Unreached n h = h
 reached_with a (Reached as') n h = refl
@@ -136,7 +149,7 @@ emptied_implied (n ∷ ns) f =
 -- ---- what holds
 
 one_implied : (g : Typing) (f h : State) (b : InScope) → Implies f h → HoldsIts g f b → HoldsIts g h b
-one_implied g f h (Variable b) i is = λ e. is (i.set b.number e)
+one_implied g f h (Variable b) i (set, full) = (λ e. set (i.set b.number e), λ e. full (i.full b.number e))
 one_implied g f h b i is = tt
 
 are_set_implied : (g : Typing) (f h : State) (bs : List InScope) → Implies f h → AreSet g f bs → AreSet g h bs

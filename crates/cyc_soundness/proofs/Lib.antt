@@ -18,7 +18,6 @@ mod Supply
 mod Execution
 mod Calls
 mod Unwinding
-mod BuiltLemmas
 -- what `cyc_system` cites
 pub mod Whole
 -- texts, and programs that the rules accept and refuse

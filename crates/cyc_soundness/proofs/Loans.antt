@@ -1,6 +1,7 @@
 -- WHAT IS LENT to the end of a block: dynamic regions that their keys open, and what a unique pointer leads to, by an alias.
-use Rattle.std.proofs.Common.{◌≡◌, inl, inr, ℕ, suc, ◌≤◌, ◌<◌, Bool, true, false, List, [], ◌∷◌, ◌++◌, length, Option, Some, None, slice_get, refl, sym, ap, subst, ◌∙◌, arith}
+use Rattle.std.proofs.Common.{◌≡◌, inl, inr, set, ℕ, suc, ◌≤◌, ◌<◌, Bool, true, false, List, [], ◌∷◌, ◌++◌, length, Option, Some, None, slice_get, refl, sym, ap, subst, ◌∙◌, arith}
 use Rattle.std.specs.Prelude.{if◌then◌else◌}
+use Rattle.cyc_types.specs.declared.region.Region.{Region as Region'}
 use Rattle.cyc_types.specs.declared.region.Region.TheVariants as regions
 use Rattle.cyc_types.specs.declared.scope.ScopeKind.TheVariants as scopes
 use Rattle.cyc_types.specs.declared.typed.Kind.TheVariants as kinds
@@ -16,22 +17,23 @@ use Rattle.cyc_types.specs.flow.States.{Locked, Full, with_fullness}
 use Rattle.cyc_meaning.specs.Values.{Operand}
 use Rattle.cyc_meaning.specs.Values as values
 use Rattle.cyc_meaning.specs.State as state
-use Rattle.cyc_meaning.specs.State.{World, Found, Closed, found_region, region_at, opened_as, Environment, Entry, EndLoan, Focus, Naming, State, Running}
+use Rattle.cyc_meaning.specs.State.{World, Found, Closed, found_region, region_at, opened_as, Environment, Entry, EndLoan, Focus, Proceeding, Naming, closed, State, Running}
 use Rattle.cyc_meaning.specs.Parts.{wrong}
-use Rattle.cyc_meaning.specs.Nesting.{ends_of}
-use Rattle.cyc_meaning.specs.Regions.{is_dynamic, opened_by, opens_with, opens_dynamic, aliased}
+use Rattle.cyc_meaning.specs.Nesting.{ends_of, IsNested}
+use Rattle.cyc_meaning.specs.Regions.{is_dynamic, opened_by, opens_with, opens_dynamic, closes_dynamic, closes_with, aliased}
 use Rattle.cyc_soundness.specs.Lives.{Life, OfRegion, OfObject, Never, Kept, heap_life, Value, at, Reading, AsHeap, ByScope, AllIn, IsKnown}
 use Rattle.cyc_soundness.specs.Lives as lives
-use Rattle.cyc_soundness.specs.Worlds.{Typing, IsKnownLife, IsNumber, IsKeyOf, HasType, IsResult, IsTyped, IsDynamic}
-use Rattle.cyc_soundness.specs.Classes.{HasLoans, IsDeclarable, Source}
-use Rattle.cyc_soundness.specs.Frames.{IsAmong, first, later, Bound, InScope, Variable, Names, life_named, lives_in, read, IsBound, AreVariables, IsLasting, LiveIn, Within, older, IsSet, Holds, Implies, Exits, lending, AreKnownLocals, AreKnown, IsContext, KnowsProgram}
-use Rattle.cyc_soundness.specs.Stacks.{Continues, Go, IsStack, IsWell}
+use Rattle.cyc_soundness.specs.Worlds.{Nobody, Hand, In, Lent, giving, given, Claims, ClaimsBy, IsHeld, is_lent_by, IsOpenIn, Stays, Grows, IsFull, Typing, IsKnownLife, IsNumber, IsKeyOf, HasType, IsResult, IsTyped, IsDynamic}
+use Rattle.cyc_soundness.specs.Classes.{IsSpared, HasLoans, IsDeclarable, Source}
+use Rattle.cyc_soundness.specs.Frames.{IsAmong, first, later, Bound, InScope, Variable, Names, life_named, lives_in, read, IsBound, AreVariables, IsLasting, LiveIn, Within, older, IsFullIn, Holds, Implies, Exits, lending, AreKnownLocals, AreKnown, IsContext, KnowsProgram}
+use Rattle.cyc_soundness.specs.Stacks.{operands_in, Continues, Go, IsStack, IsWell}
 use Rattle.cyc_soundness.proofs.TypeLemmas.{all_in, read_alike}
 use Rattle.cyc_soundness.proofs.FlowLemmas.{reached_with}
-use Rattle.cyc_soundness.proofs.RegionLemmas.{contains_more, name_known, same_name, known_other, known_more, other_life, context_key, context_alias, context_again}
-use Rattle.cyc_soundness.proofs.WorldLemmas.{with_kept, kept_grows, kept_typed, globals_grown, variables_grown, holds_grown}
-use Rattle.cyc_soundness.proofs.StackLemmas.{stack_grown, full_here, within_full_at, among_bound, among_set, set_stored}
+use Rattle.cyc_soundness.proofs.RegionLemmas.{region_known, contains_more, name_known, same_name, known_other, known_more, other_life, context_key, context_alias, context_again}
+use Rattle.cyc_soundness.proofs.WorldLemmas.{with_kept, kept_grows, kept_typed, globals_grown, variables_grown, holds_grown, result_grown, given_now, given_typed, given_globals, variables_other, variables_more, moment_typed, moment_globals, holds_lent, lent_last, closed_by_key}
+use Rattle.cyc_soundness.proofs.StackLemmas.{OneLocal, emptied_other, in_no_hand, in_some, holds_other, stack_other, stack_grown, above_globals, full_here, within_full_at, within_variables, among_bound, among_variable, among_own, among_set, set_stored}
 use Rattle.cyc_soundness.proofs.Cells.{running}
+use Rattle.cyc_soundness.proofs.Evaluation.{full_set, unique_comes}
 
 -- ---- lists
 
@@ -109,34 +111,87 @@ context_lending p x bs c n stands = record {
 }
 
 module _ (p : Source) (g : Typing) (x : Exits) (bs : List InScope) (e : Environment) (w : World) (typed : IsTyped g w.regions w.objects) (globals : KnowsProgram g p) (bound : IsBound e.locals e.counters bs) (variables : AreVariables g bs) where
-  -- a local that holds something is lent
-  lent_holds : (b : Bound) (lent : ℕ) (f : flow.State) → IsAmong (Variable b) bs → b.number ≡ lent → IsSet f lent → Holds g f bs → Holds g (with_fullness Locked f lent) bs
-  lent_holds b lent f among number set (reached, are) =
-      let full = among_set g f among are (subst (λ n. IsSet f n) (sym number) set) in
-      (reached_with Locked f lent reached, set_stored g e Locked f lent b.object bs bound (ap e.locals (sym number) ∙ among_bound e among bound) full are)
+  -- where a local has lent what it holds
+  abbrev lending_typing : Bound → Typing
+  lending_typing b = record (giving g b.of_type (Lent g.loans)) { loans = suc g.loans }
+
+  lending_grows : (b : Bound) → Grows g (lending_typing b)
+  lending_grows b = record { objects = λ n u is. is; filled = λ n count is. is; fields = λ n ls ts is. is; kept = λ n is. is }
+
+  -- what is known then
+  record IsLent (b : Bound) (lent : ℕ) (f h : flow.State) (cs : List InScope) (k : List Entry) : Type 0 where
+    objects : IsTyped (lending_typing b) w.regions w.objects
+    knows : KnowsProgram (lending_typing b) p
+    scope : AreVariables (lending_typing b) bs
+    holds : Holds (lending_typing b) (with_fullness Locked f lent) bs
+    stack : IsStack p (lending_typing b) (lending x lent) cs (Go h) (EndLoan lent ∷ k)
+
+  lends : (b : Bound) (lent : ℕ) (f h i : flow.State) (cs : List InScope) (k : List Entry) → Within cs bs → IsAmong (Variable b) bs → b.number ≡ lent → IsFullIn f lent → IsSpared x.relied lent → Holds g f bs → Implies (with_fullness Full h lent) i
+      → IsStack p g x cs (Go i) k → IsLent b lent f h cs k
+  lends b lent f h i cs k within among number full spared holds again stack =
+      let t = b.of_type in
+      let old = In g.depth lent in
+      let new = Lent g.loans in
+      let o = giving g t new in
+      let j = lending_typing b in
+      let f1 = with_fullness Locked f lent in
+      let full_here' : IsFullIn f b.number = subst (λ n. IsFullIn f n) (sym number) full in
+      let has : Claims g.own old t = subst (λ n. Claims g.own (In g.depth n) t) number (among_own g f among holds.1 full_here') in
+      let there : e.locals lent ≡ Some b.object = ap e.locals (sym number) ∙ among_bound e among bound in
+      let some : IsFull g b.object = among_set g f among holds.1 (full_set (flow.fullness f b.number) full_here') in
+      let one : OneLocal g e bs lent b.object t = record { there = there; life = b.life; hidden = b.is_hidden; of_type = among_variable g among variables } in
+      let one_now : OneLocal j e bs lent b.object t = record { there = there; life = b.life; hidden = b.is_hidden; of_type = among_variable g among variables } in
+      let locked : Holds g f1 bs = (reached_with Locked f lent holds.0, set_stored g e Locked f lent b.object t bs bs bound variables one some holds.0 (λ s. let z : false ≡ true = s in absurd (cc)) holds.1) in
+      let lent_out : Holds o f1 bs = holds_other t old new g f1 bs has (λ m s. emptied_other g Locked f lent m refl holds.0 s) locked in
+      let scope : AreVariables o bs = variables_other g t old new bs has refl variables in
+      let scope_now : AreVariables j bs = variables_more o bs scope in
+      record {
+        objects = moment_typed o g.depth (suc g.loans) w.regions w.objects (given_typed g t old new w.regions w.objects has tt typed);
+        knows = moment_globals p o g.depth (suc g.loans) (given_globals p g t new globals);
+        scope = scope_now;
+        holds = holds_lent o (suc g.loans) f1 bs lent_out;
+        stack = (
+          x,
+          i,
+          g.loans,
+          t,
+          refl,
+          refl,
+          given_now g t new,
+          again,
+          within_full_at j lent t cs bs within (full_here j e lent b.object t bs bs bound scope_now one_now some),
+          within_variables o cs bs within scope,
+          stack_other t old new p g x cs (Go i) k has (inl (refl, spared)) stack,
+        );
+      }
 
   -- the key of a region comes, which is opened
   pub opens_on : (number lent : ℕ) (js : Items) (v : values.Value) (k : List Entry) (cs : List InScope) (c : Context) (b : Bound) (r : ℕ) (f h i : flow.State) → LiveIn k bs → Holds g f bs → HasLoans p.reading → Within cs bs
-      → IsContext p x bs c → IsAmong (Variable b) bs → b.number ≡ lent → IsSet f lent → r < c.next_region → IsLive c (regions.Variable c.region) → number ≡ c.next_local
+      → IsContext p x bs c → IsAmong (Variable b) bs → b.number ≡ lent → b.of_type ≡ lives.Key (life_named bs r) → IsSpared x.relied lent → IsFullIn f lent → r < c.next_region → IsLive c (regions.Variable c.region) → number ≡ c.next_local
       → Continues p.reading (lending x lent) (with_local false (types.Handle (regions.Variable r)) (with_key_opened r c)) js (with_fullness Full (with_fullness Locked f lent) number) h → Implies (with_fullness Full h lent) i
       → HasType g (lives.Key (life_named bs r)) v → IsStack p g x cs (Go i) k → IsWell p (opens_with number lent js v k e w)
-  opens_on number lent js (values.Key region) k cs c b r f h i live holds loans within stands among number_of set less alive number_is next again is stack = by_life (life_named bs r) refl is
+  opens_on number lent js (values.Key region) k cs c b r f h i live holds loans within stands among number_of of_type spared full less alive number_is next again is stack = by_life (life_named bs r) refl is
     where
       inner : List InScope
       inner = Names r (life_named bs r) true ∷ bs
 
       by_life : (l : Life) → life_named bs r ≡ l → IsKeyOf l region → IsWell p (opens_with number lent js (values.Key region) k e w)
       by_life (Kept n) is_kept same =
+          let key : b.of_type ≡ lives.Key (Kept n) = of_type ∙ ap (λ l. lives.Key l) is_kept in
           let known : IsAmong n g.kept = subst (λ l. IsKnownLife g l) is_kept (name_known g bs r variables) in
-          let (s, found, dynamic) = dynamic_found (slice_get w.regions region) (subst (λ i. IsDynamic (slice_get w.regions i)) same (typed.kept n known)) in
-          let there : e.locals lent ≡ Some b.object = ap e.locals (sym number_of) ∙ among_bound e among bound in
-          let full = among_set g f among holds.1 (subst (λ i. IsSet f i) (sym number_of) set) in
-          let (reached, are) = lent_holds b lent f among number_of set holds in
+          let has : g.own n ≡ In g.depth lent = subst (λ t. Claims g.own (In g.depth lent) t) key
+          (subst (λ m. Claims g.own (In g.depth m) b.of_type) number_of (among_own g f among holds.1 (subst (λ m. IsFullIn f m) (sym number_of) full))) in
+          let held : IsHeld (g.own n) = subst (λ o. IsHeld o) (sym has) tt in
+          let (s, found, dynamic) = dynamic_found (slice_get w.regions region) (subst (λ i. IsDynamic (slice_get w.regions i)) same ((typed.kept n known).1 held)) in
+          let z = lends b lent f h i cs k within among number_of full spared holds again stack in
+          let j = lending_typing b in
+          let now : j.own n ≡ Lent g.loans = subst (λ t. Claims (given b.of_type (Lent g.loans) g.own) (Lent g.loans) t) key (given_now g b.of_type (Lent g.loans)) in
+          let opens : IsOpenIn j (life_named bs r) = subst (λ l. IsOpenIn j l) (sym is_kept) (subst (λ o. is_lent_by (suc g.loans) o ≡ true) (sym now) (lent_last g.loans)) in
           let named : life_named inner r ≡ Kept n = same_name r (life_named bs r) (life_named bs r) ∙ is_kept in
           let here = context_lending p x (Names r (life_named bs r) true ∷ bs) (with_key_opened r c) lent (context_again p x bs c stands loans alive r less) in
           subst (λ a. IsWell p (opened_by a region number lent js k e w)) (sym found)
-          (subst (λ (z : Bool). IsWell p (if z then Running (Naming number (record { kind = kinds.Handle; value = values.Handle region }) js) (EndLoan lent ∷ k) e w else wrong w)) (sym dynamic)
-          (running p g (lending x lent) inner e w typed globals (tt, bound) (name_known g bs r variables, variables)
+          (subst (λ (y : Bool). IsWell p (if y then Running (Naming number (record { kind = kinds.Handle; value = values.Handle region }) js) (EndLoan lent ∷ k) e w else wrong w)) (sym dynamic)
+          (running p j (lending x lent) inner e w z.objects z.knows (tt, bound) ((name_known j bs r z.scope, λ e. opens), z.scope)
           (Naming number (record { kind = kinds.Handle; value = values.Handle region }) js) (EndLoan lent ∷ k)
           (((λ is. subst (λ l. IsLasting (ends_of k) l) (sym is_kept) tt), live.0), live.1) (
             with_key_opened r c,
@@ -147,33 +202,34 @@ module _ (p : Source) (g : Typing) (x : Exits) (bs : List InScope) (e : Environm
             h,
             older (Names r (life_named bs r) true) cs bs tt within,
             here,
-            (reached, (tt, are)),
+            (z.holds.0, (tt, z.holds.1)),
             (named_before p.reading c.next_region r less, contains_more (regions.Variable r) (regions.Variable c.region) (live_regions c.regions.live c.regions.opened) alive),
             number_is,
             (refl, subst (λ l. IsNumber l region) (sym named) same),
+            tt,
             next,
-            (x, i, refl, again, within_full_at g lent cs bs within (full_here g e lent b.object bs bound there full), stack),
+            z.stack,
           )))
-      by_life (OfRegion n ns) is_kept same = absurd same
+      by_life (OfRegion n ns us) is_kept same = absurd same
       by_life (OfObject o) is_kept same = absurd same
       by_life Never is_kept same = absurd same
-  opens_on number lent js v k cs c b r f h i live holds loans within stands among number_of set less alive number_is next again is stack = absurd is
+  opens_on number lent js v k cs c b r f h i live holds loans within stands among number_of of_type spared full less alive number_is next again is stack = absurd is
 
   -- a unique pointer comes, which an alias shares
   pub aliases_on : (number lent : ℕ) (js : Items) (v : Operand) (k : List Entry) (cs : List InScope) (c : Context) (b : Bound) (u t : Ty) (f h i : flow.State) → LiveIn k bs → Holds g f bs → HasLoans p.reading → Within cs bs
-      → IsContext p x bs c → IsAmong (Variable b) bs → b.number ≡ lent → IsSet f lent → is_unique u ≡ true → AllIn (IsKnown c.next_region) u → t ≡ with_region_of (regions.Variable c.next_region) u
+      → IsContext p x bs c → IsAmong (Variable b) bs → b.number ≡ lent → IsSpared x.relied lent → IsFullIn f lent → is_unique u ≡ true → AllIn (IsKnown c.next_region) u → t ≡ with_region_of (regions.Variable c.next_region) u
       → IsLive c (regions.Variable c.region) → number ≡ c.next_local
       → Continues p.reading (lending x lent) (with_local true t (with_opened scopes.Alias c)) js (with_fullness Full (with_fullness Locked f lent) number) h → Implies (with_fullness Full h lent) i
       → IsResult g (Value (read bs u)) v → IsStack p g x cs (Go i) k → IsWell p (aliased number lent js v k e w)
-  aliases_on number lent js v k cs c b u t f h i live holds loans within stands among number_of set unique known of_type alive number_is next again is stack =
+  aliases_on number lent js v k cs c b u t f h i live holds loans within stands among number_of spared full unique known of_type alive number_is next again is stack =
       let named : List InScope = Names c.next_region heap_life true ∷ bs in
-      let there : e.locals lent ≡ Some b.object = ap e.locals (sym number_of) ∙ among_bound e among bound in
-      let full = among_set g f among holds.1 (subst (λ i. IsSet f i) (sym number_of) set) in
-      let (reached, are) = lent_holds b lent f among number_of set holds in
+      let z = lends b lent f h i cs k within among number_of full spared holds again stack in
+      let j = lending_typing b in
       let here = context_lending p x named (with_opened scopes.Alias c) lent (context_alias p x bs c stands loans alive heap_life) in
-      let declared : IsDeclarable p.reading (suc c.next_region) t = subst (λ z. IsDeclarable p.reading (suc c.next_region) z) (sym of_type) (alias_known p.reading c.next_region u unique known) in
+      let declared : IsDeclarable p.reading (suc c.next_region) t = subst (λ y. IsDeclarable p.reading (suc c.next_region) y) (sym of_type) (alias_known p.reading c.next_region u unique known) in
       let same : read named t ≡ read bs u = ap (read named) of_type ∙ alias_read bs c.next_region u unique known in
-      running p g (lending x lent) named e w typed globals (tt, bound) (tt, variables) (Naming number v js) (EndLoan lent ∷ k)
+      let is_now : IsResult j (Value (read bs u)) v = result_grown g j (lending_grows b) (Value (read bs u)) v is in
+      running p j (lending x lent) named e w z.objects z.knows (tt, bound) ((tt, λ e. λ r lent. let y : false ≡ true = lent in absurd (cc)), z.scope) (Naming number v js) (EndLoan lent ∷ k)
       (((λ is. inl refl), live.0), live.1) (
         with_opened scopes.Alias c,
         true,
@@ -183,28 +239,36 @@ module _ (p : Source) (g : Typing) (x : Exits) (bs : List InScope) (e : Environm
         h,
         older (Names c.next_region heap_life true) cs bs tt within,
         here,
-        (reached, (tt, are)),
+        (z.holds.0, (tt, z.holds.1)),
         (declared, contains_more (regions.Variable c.next_region) (regions.Variable c.region) (live_regions c.regions.live c.regions.opened) alive),
         number_is,
-        subst (λ z. IsResult g (Value z) v) (sym same) is,
+        subst (λ y. IsResult j (Value y) v) (sym same) is_now,
+        subst (λ y. ClaimsBy j.own (Hand (operands_in (EndLoan lent ∷ k))) (Value y)) (sym same) (unique_comes j (operands_in (EndLoan lent ∷ k)) (lives_in bs) u unique),
         next,
-        (x, i, refl, again, within_full_at g lent cs bs within (full_here g e lent b.object bs bound there full), stack),
+        z.stack,
       )
 
-  -- a region is opened for good, and its key is a local
-  pub keys_on : (number r : ℕ) (js : Items) (k : List Entry) (cs : List InScope) (c : Context) (f h : flow.State) → LiveIn k bs → Holds g f bs → HasLoans p.reading → Within cs bs → IsContext p x bs c → r ≡ c.next_region
+  -- a region is opened whose key is a local
+  pub keys_on : (number r : ℕ) (js : Items) (k : List Entry) (cs : List InScope) (c : Context) (f h : flow.State) → IsNested k e w → LiveIn k bs → Holds g f bs → HasLoans p.reading → Within cs bs → IsContext p x bs c → r ≡ c.next_region
       → IsLive c (regions.Variable c.region) → number ≡ c.next_local → Continues p.reading x (with_local true (types.Key (regions.Variable r)) (with_region c)) js (with_fullness Full f number) h
       → IsStack p g x cs (Go h) k → IsWell p (opens_dynamic number js k e w)
-  keys_on number r js k cs c f h live holds loans within stands region alive number_is next stack =
-      let l : Life = Kept (length w.regions) in
-      let i = with_kept g (length w.regions) in
-      let grows = kept_grows g (length w.regions) in
+  keys_on number r js k cs c f h nests live holds loans within stands region alive number_is next stack =
+      let n = length w.regions in
+      let l : Life = Kept n in
+      let hand = Hand (operands_in k) in
+      let key : lives.RunTy = lives.Key l in
+      let o = giving g key hand in
+      let i = with_kept g n hand in
+      let none : g.own n ≡ Nobody = typed.fresh n (let le : n ≤ n = omega arith in le) in
+      let stays : Stays o i = record { grows = record { objects = λ m t is. is; filled = λ m count is. is; fields = λ m ls ts is. is; kept = λ m is. later n g.kept is }; own = refl; depth = refl; loans = refl } in
+      let many : 1 < n = above_globals n k nests.1 in
       let inner : List InScope = Names c.next_region l false ∷ bs in
-      let named : life_named inner r ≡ l = ap (λ n. life_named inner n) region ∙ same_name c.next_region l (life_named bs c.next_region) in
+      let named : life_named inner r ≡ l = ap (λ m. life_named inner m) region ∙ same_name c.next_region l (life_named bs c.next_region) in
       let less : r < suc c.next_region = omega (arith, region) in
-      let (reached, are) = holds_grown g i grows f bs holds in
-      running p i x inner e (opened_as state.Dynamic w) (kept_typed g w.regions w.objects typed) (globals_grown g i grows p (λ n ls. refl) globals) (tt, bound) (first g.kept, variables_grown g i grows bs variables)
-      (Naming number (record { kind = kinds.Key; value = values.Key (length w.regions) }) js) k (((λ is. tt), live.0), live.1) (
+      let (reached, are) = holds_grown o i stays f bs (holds_other key Nobody hand g f bs none (λ m s. in_some g.depth m) holds) in
+      running p i x inner e (opened_as state.Dynamic w) (kept_typed g w.regions w.objects hand many typed) (globals_grown g i (kept_grows g n hand) p (λ m ls. refl) (λ m among. loans) globals) (tt, bound)
+      ((first g.kept, λ no. let z : false ≡ true = no in absurd (cc)), variables_grown o i stays bs (variables_other g key Nobody hand bs none refl variables))
+      (Naming number (record { kind = kinds.Key; value = values.Key n }) js) k (((λ is. tt), live.0), live.1) (
         with_region c,
         true,
         types.Key (regions.Variable r),
@@ -216,7 +280,31 @@ module _ (p : Source) (g : Typing) (x : Exits) (bs : List InScope) (e : Environm
         (reached, (tt, are)),
         (key_before p.reading (suc c.next_region) r less, alive),
         number_is,
-        (refl, subst (λ m. IsKeyOf m (length w.regions)) (sym named) refl),
+        (refl, subst (λ m. IsKeyOf m n) (sym named) refl),
+        subst (λ m. Claims i.own hand (lives.Key m)) (sym named) (given_now g key hand),
         next,
-        stack_grown p g i grows x cs (Go h) k stack,
+        stack_grown p o i stays x cs (Go h) k (stack_other key Nobody hand p g x cs (Go h) k none tt stack),
       )
+
+  -- a key comes whose region closes
+  pub closes_on : (v : values.Value) (k : List Entry) (r : Region') (f : flow.State) → LiveIn k bs → Holds g f bs → HasType g (lives.Key (lives_in bs r)) v → Claims g.own (Hand (operands_in k)) (lives.Key (lives_in bs r))
+      → IsStack p g x bs (Go f) k → IsWell p (closes_with v k e w)
+  closes_on (values.Key region) k r f live holds is has stack = by_life (lives_in bs r) refl is has
+    where
+      by_life : (l : Life) → lives_in bs r ≡ l → IsKeyOf l region → Claims g.own (Hand (operands_in k)) (lives.Key l) → IsWell p (closes_with (values.Key region) k e w)
+      by_life (Kept n) is_kept same claims =
+          let t : lives.RunTy = lives.Key (Kept n) in
+          let hand = Hand (operands_in k) in
+          let known : IsAmong n g.kept = subst (λ l. IsKnownLife g l) is_kept (region_known g bs r variables) in
+          let held : IsHeld (g.own n) = subst (λ o. IsHeld o) (sym claims) tt in
+          let (s, found, dynamic) = dynamic_found (slice_get w.regions region) (subst (λ i. IsDynamic (slice_get w.regions i)) same ((typed.kept n known).1 held)) in
+          subst (λ a. IsWell p (closes_dynamic a region k e w)) (sym found)
+          (subst (λ (y : Bool). IsWell p (if y then Running Proceeding k e (closed w region s) else wrong w)) (sym dynamic)
+          (running p (giving g t Nobody) x bs e (closed w region s)
+          (subst (λ m. IsTyped (giving g t Nobody) (set w.regions m (record s { is_open = false })) w.objects) same (closed_by_key g w.regions w.objects n (operands_in k) (record s { is_open = false }) known claims typed))
+          (given_globals p g t Nobody globals) bound (variables_other g t hand Nobody bs claims refl variables) Proceeding k live
+          (f, holds_other t hand Nobody g f bs claims (λ m s. in_no_hand g.depth m (operands_in k)) holds, stack_other t hand Nobody p g x bs (Go f) k claims (let le : operands_in k ≤ operands_in k = omega arith in le) stack)))
+      by_life (OfRegion n ns us) is_kept same claims = absurd same
+      by_life (OfObject o) is_kept same claims = absurd same
+      by_life Never is_kept same claims = absurd same
+  closes_on v k r f live holds is has stack = absurd is

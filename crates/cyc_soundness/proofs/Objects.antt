@@ -1,5 +1,5 @@
 -- OBJECTS are made: their cells hold nothing yet, and then are written one by one.
-use Rattle.std.proofs.Common.{◌≡◌, ◌≢◌, inl, inr, ℕ, zero, suc, ◌+◌, ◌*◌, ◌≤◌, ◌<◌, Bool, true, false, List, [], ◌∷◌, ◌++◌, length, map, set, reverse, Some, slice_get, refl, sym, ap, subst, ◌∙◌, arith}
+use Rattle.std.proofs.Common.{◌≡◌, ◌≢◌, ◌⊎◌, inl, inr, ℕ, zero, suc, ◌+◌, ◌*◌, ◌≤◌, ◌<◌, Bool, true, false, List, [], ◌∷◌, ◌++◌, length, map, set, reverse, Some, slice_get, refl, sym, ap, subst, ◌∙◌, arith}
 use Rattle.std.specs.Prelude.{if◌then◌else◌, ◌==◌, nat_le}
 use Rattle.std.proofs.lemmas.Bool.{eq-eqb, eqb-true}
 use mathlib.Core.List.{reverse_aux}
@@ -13,6 +13,8 @@ use Rattle.cyc_types.specs.Types as types
 use Rattle.cyc_types.specs.TypedTrees.{Expression, Initial, Plain, Fields, Array, Convert, Arguments, NoArguments, MoreArguments}
 use Rattle.cyc_types.specs.Rules.{Derives}
 use Rattle.cyc_types.specs.typing.Tests as tests
+use Rattle.cyc_types.specs.typing.Tests.{is_key}
+use Rattle.std.proofs.lemmas.List.{length-set}
 use Rattle.cyc_types.specs.typing.WellTyped.{Context, ArePassed, IsMade}
 use Rattle.cyc_types.specs.typing.WellTyped as counting
 use Rattle.cyc_types.specs.flow.States as flow
@@ -26,18 +28,18 @@ use Rattle.cyc_meaning.specs.Operators.{array_size}
 use Rattle.cyc_meaning.specs.Allocation.{writes_from, blanks_of, filled, makes_of, makes_plain, makes_fields, most_words, blanks, begun, makes_array, step_beginning, step_repeating, fills_element, makes}
 use Rattle.cyc_meaning.specs.Nesting.{ends_of, AreOpen}
 use Rattle.cyc_meaning.proofs.ListLemmas.{slice_get-end, slice_get-set_other}
-use Rattle.cyc_soundness.specs.Lives.{Life, OfRegion, OfObject, Never, Kept, RunTy, Int, Pointer, Handle, Key, Struct, Value, kind_at}
-use Rattle.cyc_soundness.specs.Worlds.{IsAmong, IsKnownLife, IsDynamic, ObjectType, Typing, Outlasts, alike, IsFilled, IsPart, IsTarget, HasType, IsResult, AreOperands, AreCells, IsOwner, IsObject, IsTyped, IsOpenLife, Grows}
-use Rattle.cyc_soundness.specs.Frames.{first, later, InScope, Level, HasMeaning, IsBound, AreVariables, LiveIn, Holds, Implies, Exits, IsContext, KnowsProgram, lives_in, read, IsThere}
-use Rattle.cyc_soundness.specs.Classes.{InInitial, InArguments, Source}
-use Rattle.cyc_soundness.specs.Stacks.{Val, turned, AreFields, Repeats, AreNext, IsWhole, IsMaking, IsArray, IsStack, IsFocus, IsWell}
+use Rattle.cyc_soundness.specs.Lives.{Reading, AsHeap, ByScope, Lives, at, Life, OfRegion, OfObject, Never, Kept, RunTy, Int, Pointer, Handle, Key, Struct, Value, kind_at}
+use Rattle.cyc_soundness.specs.Worlds.{IsAmong, IsKnownLife, IsHeld, IsKeyless, AreKeyless, Stays, IsDynamic, ObjectType, Typing, Outlasts, alike, IsFilled, IsPart, IsTarget, HasType, IsResult, AreOperands, AreCells, IsOwner, IsObject, IsTyped, IsOpenLife, Grows}
+use Rattle.cyc_soundness.specs.Frames.{first, later, InScope, Level, HasMeaning, IsBound, AreVariables, LiveIn, Holds, Implies, Exits, IsContext, KnowsProgram, lives_among, lives_in, read, IsThere}
+use Rattle.cyc_soundness.specs.Classes.{HasLoans, InInitial, InArguments, Source}
+use Rattle.cyc_soundness.specs.Stacks.{Val, turned, AreClaimed, operands_in, AreFields, Repeats, AreNext, IsWhole, IsMaking, IsArray, IsStack, IsFocus, IsWell}
 use Rattle.cyc_soundness.specs.Stacks as stacks
 use Rattle.cyc_soundness.proofs.Numbers.{same_or_other, less_or_same, slice_get-set_same}
 use Rattle.cyc_soundness.proofs.FlowLemmas.{at_least_implies, holds_implied}
 use Rattle.cyc_soundness.proofs.TypeLemmas.{target_typed, is_kind_same, kind_read}
-use Rattle.cyc_soundness.proofs.WorldLemmas.{life_grown, operands_grown, variables_grown, holds_grown, globals_grown, with_object, object_grows, object_typed, typed_beside, open_region, risen, with_filled}
-use Rattle.cyc_soundness.proofs.StackLemmas.{stack_grown, kept_open, lasting_open}
-use Rattle.cyc_soundness.proofs.RegionLemmas.{region_known, agrees_of, there_lasting, mapped_count, fields_mean}
+use Rattle.cyc_soundness.proofs.WorldLemmas.{life_grown, operands_grown, variables_grown, holds_grown, globals_grown, with_object, object_stays, object_typed, typed_beside, open_region, risen, with_filled}
+use Rattle.cyc_soundness.proofs.StackLemmas.{keeps_fields, stack_grown, kept_open, lasting_open}
+use Rattle.cyc_soundness.proofs.RegionLemmas.{region_known, there_open, agrees_of, there_lasting, mapped_count, fields_mean}
 use Rattle.cyc_soundness.proofs.Cells.{running, part_at, writes}
 
 -- ---- lists of operands
@@ -112,11 +114,52 @@ whole_part g object y (Handle l) is full = one_part g object y (Handle l) is ful
 whole_part g object y (Key l) is full = one_part g object y (Key l) is full
 whole_part g object y (Struct n ls) is full = (refl, is, full)
 
+-- ---- keys
+
+-- what is no key is read as none
+pub plain_keyless : (n : Lives) (t : Ty) → is_key t ≡ false → IsKeyless (at n t)
+plain_keyless n types.Int plain = tt
+plain_keyless n (types.Pointer k t r) plain = tt
+plain_keyless n (types.Handle r) plain = tt
+plain_keyless n (types.Key r) plain = absurd (let k : true ≡ false = plain in cc)
+plain_keyless n (types.Struct s rs) plain = tt
+
+plain_each : (n : Lives) (ts : List Ty) → ((field : ℕ) (t : Ty) → slice_get ts field ≡ Some t → is_key t ≡ false) → AreKeyless (map (at n) ts)
+plain_each n [] plain = tt
+plain_each n (t ∷ ts) plain = (plain_keyless n t (plain 0 t refl), plain_each n ts (λ i u there. plain (suc i) u there))
+
+-- without dynamic regions there are no keys
+no_key : (g : Typing) (l : Life) → ((n : ℕ) → IsAmong n g.kept → ⊥) → IsKnownLife g l → IsKeyless (Key l)
+no_key g (Kept region) none known = none region known
+no_key g (OfRegion number ns us) none known = tt
+no_key g (OfObject object) none known = tt
+no_key g Never none known = tt
+
+unkept : (g : Typing) (n : Lives) (t : Ty) → ((m : ℕ) → IsAmong m g.kept → ⊥) → ((r : Region') → IsKnownLife g (n r)) → IsKeyless (at n t)
+unkept g n types.Int none known = tt
+unkept g n (types.Pointer k t r) none known = tt
+unkept g n (types.Handle r) none known = tt
+unkept g n (types.Key r) none known = no_key g (n r) none (known r)
+unkept g n (types.Struct s rs) none known = tt
+
+all_unkept : (g : Typing) (n : Lives) (ts : List Ty) → ((m : ℕ) → IsAmong m g.kept → ⊥) → ((r : Region') → IsKnownLife g (n r)) → AreKeyless (map (at n) ts)
+all_unkept g n [] none known = tt
+all_unkept g n (t ∷ ts) none known = (unkept g n t none known, all_unkept g n ts none known)
+
+lends_or_not : (m : Reading) → HasLoans m ⊎ (HasLoans m → ⊥)
+lends_or_not AsHeap = inr (λ h. h)
+lends_or_not (ByScope true) = inl refl
+lends_or_not (ByScope false) = inr (λ h. let z : false ≡ true = h in absurd (cc))
+
 -- ---- arrays
 
 abbrev repeated : ℕ → RunTy → List RunTy
 repeated zero t = []
 repeated (suc n) t = t ∷ repeated n t
+
+keyless_repeated : (n : ℕ) (t : RunTy) → IsKeyless t → AreKeyless (repeated n t)
+keyless_repeated zero t is = tt
+keyless_repeated (suc n) t is = (is, keyless_repeated n t is)
 
 repeated_at : (n : ℕ) (t : RunTy) (i : ℕ) → i < n → slice_get (repeated n t) i ≡ Some t
 repeated_at zero t i less = absurd (omega (arith, less))
@@ -175,7 +218,7 @@ module _ (p : Source) (g : Typing) (x : Exits) (bs : List InScope) (e : Environm
   -- what a live region stands for is open
   pub open_life : (r : Region') (k : List Entry) → AreOpen w.regions (ends_of k) → LiveIn k bs → IsThere bs r → IsOpenLife w.regions (lives_in bs r)
   open_life r k opens live alive = lasting_open w.regions (ends_of k) (lives_in bs r) opens typed.heap
-      (kept_open g w.regions w.objects (lives_in bs r) typed (region_known g bs r variables)) (there_lasting (ends_of k) bs r live.0 alive)
+      (kept_open g w.regions w.objects (lives_in bs r) typed (region_known g bs r variables) (there_open g bs r variables alive)) (there_lasting (ends_of k) bs r live.0 alive)
 
   -- ---- an object is made
 
@@ -198,7 +241,7 @@ module _ (p : Source) (g : Typing) (x : Exits) (bs : List InScope) (e : Environm
 
   -- the heap and dynamic regions are open there
   abbrev AreStill : List Region → Type 0
-  AreStill regions = (is_open (slice_get regions heap_number) ≡ true) × ((number : ℕ) → IsAmong number g.kept → IsDynamic (slice_get regions number))
+  AreStill regions = (is_open (slice_get regions heap_number) ≡ true) × ((number : ℕ) → IsAmong number g.kept → IsHeld (g.own number) → IsDynamic (slice_get regions number)) × (length w.regions ≤ length regions)
 
   made_there : (n : ℕ) (cells : List Cell) → is_open (slice_get w.regions n) ≡ true
       → (new : World) × (created_in w n (region_at w n) cells ≡ Found new) × (new.objects ≡ w.objects ++ record { owner = InRegion n; cells = cells } ∷ []) × AreStill new.regions
@@ -206,46 +249,46 @@ module _ (p : Source) (g : Typing) (x : Exits) (bs : List InScope) (e : Environm
       let (r, at, opens) = open_region (slice_get w.regions n) is in
       let found : region_at w n ≡ Found r = ap found_region at ∙ ap (λ (b : Bool). if b then Found r else Closed) opens in
       let new = made_in w n r cells in
-      let still : AreStill new.regions = (still_open w.regions n heap_number r _ at refl typed.heap, λ m among. still_dynamic w.regions n m r _ at refl refl (typed.kept m among)) in
+      let still : AreStill new.regions = (still_open w.regions n heap_number r _ at refl typed.heap, λ m among held. still_dynamic w.regions n m r _ at refl refl ((typed.kept m among).1 held), (let same : length new.regions ≡ length w.regions = length-set w.regions n _ in let few : length w.regions ≤ length new.regions = omega (arith, same) in few)) in
       (new, ap (λ a. created_in w n a cells) found, refl, still)
 
   -- the world with an object more, whose cells hold nothing yet
   created_there : (owner : Owner) (cells : List Cell) (l : Life) → IsOwner l owner → IsOpenLife w.regions l
       → (new : World) × (created w owner cells ≡ Found new) × (new.objects ≡ w.objects ++ record { owner = owner; cells = cells } ∷ []) × AreStill new.regions
-  created_there (InRegion n) cells (OfRegion region ns) owned opens' = made_there n cells (subst (λ i. is_open (slice_get w.regions i) ≡ true) owned opens')
+  created_there (InRegion n) cells (OfRegion region ns us) owned opens' = made_there n cells (subst (λ i. is_open (slice_get w.regions i) ≡ true) owned opens')
   created_there (InRegion n) cells (Kept region) owned opens' = made_there n cells (subst (λ i. is_open (slice_get w.regions i) ≡ true) owned opens')
-  created_there (Unique true) cells l owned opens = (made_unique w cells, refl, refl, (typed.heap, typed.kept))
-  created_there (Unique false) cells (OfRegion region ns) owned opens = absurd (let z : false ≡ true = owned.1 in cc)
+  created_there (Unique true) cells l owned opens = (made_unique w cells, refl, refl, (typed.heap, (λ n among. (typed.kept n among).1), (let few : length w.regions ≤ length w.regions = omega arith in few)))
+  created_there (Unique false) cells (OfRegion region ns us) owned opens = absurd (let z : false ≡ true = owned.1 in cc)
   created_there owner cells (OfObject o) owned opens = absurd opens
   created_there owner cells Never owned opens = absurd opens
   created_there (Unique false) cells (Kept region) owned opens = absurd owned
 
-  made_on : (owner : Owner) (l : Life) (new : World) (ts : List RunTy) (cells : List Cell) (focus : Focus) (k : List Entry) → LiveIn k bs → IsOwner l owner → IsKnownLife g l → ((h : Typing) → AreCells h ts cells 0)
+  made_on : (owner : Owner) (l : Life) (new : World) (ts : List RunTy) (cells : List Cell) (focus : Focus) (k : List Entry) → LiveIn k bs → IsOwner l owner → IsKnownLife g l → AreKeyless ts → ((h : Typing) → AreCells h ts cells 0)
       → new.objects ≡ w.objects ++ record { owner = owner; cells = cells } ∷ [] → AreStill new.regions
-      → (Grows g (with_object g (new_type ts l) 0) → slice_get (with_object g (new_type ts l) 0).objects (length w.objects) ≡ Some (new_type ts l) → IsFilled (with_object g (new_type ts l) 0) (length w.objects) 0
+      → (Stays g (with_object g (new_type ts l) 0) → slice_get (with_object g (new_type ts l) 0).objects (length w.objects) ≡ Some (new_type ts l) → IsFilled (with_object g (new_type ts l) 0) (length w.objects) 0
       → IsFocus p (with_object g (new_type ts l) 0) x bs focus k)
       → IsWell p (Running focus k e new)
-  made_on owner l new ts cells focus k live owned known blanks_are objects_are still goes =
+  made_on owner l new ts cells focus k live owned known keyless blanks_are objects_are still goes =
       let h = with_object g (new_type ts l) 0 in
-      let grows : Grows g h = object_grows g (new_type ts l) 0 in
+      let grows : Stays g h = object_stays g (new_type ts l) 0 in
       let made : Object = record { owner = owner; cells = cells } in
-      let is : IsObject h 0 (new_type ts l) made = record { owner = owned; known = life_grown g h grows l known; cells = blanks_are h } in
+      let is : IsObject h 0 (new_type ts l) made = record { owner = owned; known = life_grown g h grows.grows l known; keyless = λ shown. keyless; cells = blanks_are h } in
       let beside : IsTyped h w.regions new.objects = subst (λ os. IsTyped h w.regions os) (sym objects_are) (object_typed g w.regions w.objects (new_type ts l) 0 made typed is) in
       let there = subst (λ n. slice_get h.objects n ≡ Some (new_type ts l)) (sym typed.count) (slice_get-end g.objects (new_type ts l)) in
       let flag = subst (λ n. slice_get h.filled n ≡ Some 0) (sym typed.counts) (slice_get-end g.filled 0) in
-      running p h x bs e new (typed_beside h w.regions new.regions new.objects beside still.0 still.1) (globals_grown g h grows p (λ n ls. refl) globals) bound (variables_grown g h grows bs variables) focus k live
+      running p h x bs e new (typed_beside h w.regions new.regions new.objects beside still.0 still.1 still.2) (globals_grown g h grows.grows p (λ n ls. refl) globals.keys globals) bound (variables_grown g h grows bs variables) focus k live
       (goes grows there (0, flag, (let few : 0 ≤ 0 = omega arith in few)))
 
   pub makes_these : (owner : Owner) (ts : List RunTy) (vs : List Operand) (t : RunTy) (r : Region') (k : List Entry) (f : flow.State) → AreOpen w.regions (ends_of k) → LiveIn k bs → Holds g f bs → IsThere bs r
-      → IsOwner (lives_in bs r) owner → AreOperands g ts vs → IsWhole g (new_type ts (lives_in bs r)) t → IsStack p g x bs (Val (Value (Pointer marks.NonNull t (lives_in bs r))) f) k
+      → IsOwner (lives_in bs r) owner → AreKeyless ts → AreOperands g ts vs → IsWhole g (new_type ts (lives_in bs r)) t → IsStack p g x bs (Val (Value (Pointer marks.NonNull t (lives_in bs r))) f) k
       → IsWell p (makes_of owner vs k e w)
-  makes_these owner ts vs t r k f all_open live holds alive owned are whole stack =
+  makes_these owner ts vs t r k f all_open live holds alive owned keyless are whole stack =
       let l = lives_in bs r in
       let (new, found, objects_are, opens) = created_there owner (blanks_of vs) l owned (open_life r k all_open live alive) in
       let h = with_object g (new_type ts l) 0 in
       let handed : Operand = record { kind = kinds.NonNull; value = values.Thin (length w.objects) 0 } in
       subst (λ a. IsWell p (filled a (length w.objects) vs k e w)) (sym found)
-      (made_on owner l new ts (blanks_of vs) (Writing (writes_from (length w.objects) 0 vs) (Some handed)) k live owned (region_known g bs r variables) (λ h. blank_cells g h ts vs are) objects_are opens
+      (made_on owner l new ts (blanks_of vs) (Writing (writes_from (length w.objects) 0 vs) (Some handed)) k live owned (region_known g bs r variables) keyless (λ h. blank_cells g h ts vs are) objects_are opens
       (λ grows there none. (
         t,
         r,
@@ -263,8 +306,8 @@ module _ (p : Source) (g : Typing) (x : Exits) (bs : List InScope) (e : Environm
           shown = refl;
           life = refl;
           filled = none;
-          rest = operands_grown g h grows ts vs are;
-          whole = whole_grown g h grows (new_type ts l) t whole;
+          rest = operands_grown g h grows.grows ts vs are;
+          whole = whole_grown g h grows.grows (new_type ts l) t whole;
         },
         stack_grown p g h grows x bs (Val (Value (Pointer marks.NonNull t l)) f) k stack,
       )))
@@ -280,7 +323,7 @@ module _ (p : Source) (g : Typing) (x : Exits) (bs : List InScope) (e : Environm
       let ts = repeated count (read bs t) in
       let h = with_object g (new_type ts l) 0 in
       subst (λ a. IsWell p (begun a (length w.objects) count level kind element k e w)) (sym found)
-      (made_on owner l new ts (blanks count kind) (Repeating (length w.objects) count 0 level kind element) k live owned (region_known g bs r variables)
+      (made_on owner l new ts (blanks count kind) (Repeating (length w.objects) count 0 level kind element) k live owned (region_known g bs r variables) (keyless_repeated count (read bs t) (plain_keyless (lives_in bs) t repeats.plain))
       (λ h. blanks_typed h count kind (read bs t) (repeats.kind_is ∙ sym (kind_read (lives_in bs) t))) objects_are opens
       (λ grows there none. (
         c,
@@ -320,6 +363,7 @@ module _ (p : Source) (g : Typing) (x : Exits) (bs : List InScope) (e : Environm
             f,
             holds,
             (refl, array_whole (read bs t) (lives_in bs r) object count (open_life r k all_open live alive) (subst (λ n. IsArray g (read bs t) (lives_in bs r) object count n) (eqb-true index count same) array)),
+            tt,
             stack,
           )
       go false other =
@@ -388,6 +432,7 @@ module _ (p : Source) (g : Typing) (x : Exits) (bs : List InScope) (e : Environm
         f,
         holds,
         (refl, (y, there, shown, subst (λ m. Outlasts m (lives_in bs r)) (sym life) (alike (lives_in bs r)), whole_part g object y t whole all)),
+        tt,
         stack,
       )
   write_from object offset (v ∷ vs) y t r k f all_open live holds alive there shown life (m, flag, enough) rest whole stack =
@@ -412,8 +457,8 @@ module _ (p : Source) (g : Typing) (x : Exits) (bs : List InScope) (e : Environm
           shown = shown;
           life = life;
           filled = now;
-          rest = next_grown g h grows (suc offset) y.cells vs behind;
-          whole = whole_grown g h grows y t whole;
+          rest = next_grown g h grows.grows (suc offset) y.cells vs behind;
+          whole = whole_grown g h grows.grows y t whole;
         },
         stack_grown p g h grows x bs (Val (Value (Pointer marks.NonNull t (lives_in bs r))) f) k stack,
       ))
@@ -427,21 +472,21 @@ module _ (p : Source) (g : Typing) (x : Exits) (bs : List InScope) (e : Environm
 
   -- ---- all forms
 
-  pub plain_on : (owner : Owner) (kind : Kind) (v : Operand) (t : Ty) (r : Region') (k : List Entry) (f : flow.State) → AreOpen w.regions (ends_of k) → LiveIn k bs → Holds g f bs → IsThere bs r → IsOwner (lives_in bs r) owner → kind ≡ tests.kind_of t
+  pub plain_on : (owner : Owner) (kind : Kind) (v : Operand) (t : Ty) (r : Region') (k : List Entry) (f : flow.State) → is_key t ≡ false → AreOpen w.regions (ends_of k) → LiveIn k bs → Holds g f bs → IsThere bs r → IsOwner (lives_in bs r) owner → kind ≡ tests.kind_of t
       → IsResult g (Value (read bs t)) v → IsStack p g x bs (Val (Value (Pointer marks.NonNull (read bs t) (lives_in bs r))) f) k → IsWell p (makes_plain owner kind v k e w)
-  plain_on owner kind v t r k f all_open live holds alive owned kind_is is stack =
+  plain_on owner kind v t r k f plain all_open live holds alive owned kind_is is stack =
       subst (λ (b : Bool). IsWell p (if b then makes_of owner (v ∷ []) k e w else wrong w)) (sym (is_kind_same v.kind kind (is.0 ∙ kind_read (lives_in bs) t ∙ sym kind_is)))
-      (makes_these owner (read bs t ∷ []) (v ∷ []) (read bs t) r k f all_open live holds alive owned (is, tt) (whole_of g (lives_in bs r) (read bs t) v.value is.1) stack)
+      (makes_these owner (read bs t ∷ []) (v ∷ []) (read bs t) r k f all_open live holds alive owned (plain_keyless (lives_in bs) t plain, tt) (is, tt) (whole_of g (lives_in bs r) (read bs t) v.value is.1) stack)
 
   pub fields_on : (k : List Entry) (owner : Owner) (before : List Operand) (done : List RunTy) (as' : Arguments) (ts : List Ty) (c : Context) (n : ℕ) (ls : List Life) (r : Region') (f h : flow.State) (q : List ℕ)
       → AreOpen w.regions (ends_of k) → LiveIn k bs → IsContext p x bs c → Holds g f bs → IsThere bs r → IsOwner (lives_in bs r) owner → ArePassed c ts as' → Derives (rule_arguments q as' f) h → InArguments p.reading x.relied as' → AreOperands g done before
-      → AreFields p n ls (turned done (map (read bs) ts)) → IsStack p g x bs (Val (Value (Pointer marks.NonNull (Struct n ls) (lives_in bs r))) h) k → IsWell p (makes_fields owner before as' k e w)
-  fields_on k owner before done NoArguments [] c n ls r f h q all_open live stands holds alive owned passed (u, same) kept operands (s, at, count, fields) stack =
-      makes_these owner (turned done []) (reverse before) (Struct n ls) r k h all_open live (subst (λ z. Holds g z bs) (sym same) holds) alive owned (operands_reversed g done before operands)
+      → AreClaimed g.own (operands_in k) done → AreFields p n ls (turned done (map (read bs) ts)) → IsStack p g x bs (Val (Value (Pointer marks.NonNull (Struct n ls) (lives_in bs r))) h) k → IsWell p (makes_fields owner before as' k e w)
+  fields_on k owner before done NoArguments [] c n ls r f h q all_open live stands holds alive owned passed (u, same) kept operands claims (s, at, count, fields, keyless) stack =
+      makes_these owner (turned done []) (reverse before) (Struct n ls) r k h all_open live (subst (λ z. Holds g z bs) (sym same) holds) alive owned keyless (operands_reversed g done before operands)
       (globals.structs n s ls at count ∙ ap (λ us. Some us) (sym fields)) stack
-  fields_on k owner before done NoArguments (t ∷ ts) c n ls r f h q all_open live stands holds alive owned passed flows kept operands fields stack = absurd passed
-  fields_on k owner before done (MoreArguments d as') [] c n ls r f h q all_open live stands holds alive owned passed flows kept operands fields stack = absurd passed
-  fields_on k owner before done (MoreArguments (Convert from to a) as') (t ∷ ts) c n ls r f h q all_open live stands holds alive owned ((v, well, conv, from_is, to_is), passed) (f1, d, ds) (one, kept) operands fields stack =
+  fields_on k owner before done NoArguments (t ∷ ts) c n ls r f h q all_open live stands holds alive owned passed flows kept operands claims fields stack = absurd passed
+  fields_on k owner before done (MoreArguments d as') [] c n ls r f h q all_open live stands holds alive owned passed flows kept operands claims fields stack = absurd passed
+  fields_on k owner before done (MoreArguments (Convert from to a) as') (t ∷ ts) c n ls r f h q all_open live stands holds alive owned ((v, well, conv, from_is, to_is), passed) (f1, d, ds) (one, kept) operands claims fields stack =
       running p g x bs e w typed globals bound variables (Evaluating a) (Needs (ConvertTo from to (target_by a)) ∷ Needs (MakeFields owner before as') ∷ k) live (
         c,
         v,
@@ -461,7 +506,7 @@ module _ (p : Source) (g : Typing) (x : Exits) (bs : List InScope) (e : Environm
             bs,
             Val (Value (Pointer marks.NonNull (Struct n ls) (lives_in bs r))) h,
             stacks.makes_fields c done t ts n ls r f1 h alive owned stands (record { waiting = q; typed = passed; flows = ds; kept = kept }) fields,
-            operands,
+            keeps_fields g (operands_in k) owner before as' done operands claims,
             stack,
           ),
         ),
@@ -482,7 +527,7 @@ module _ (p : Source) (g : Typing) (x : Exits) (bs : List InScope) (e : Environm
           [],
           bs,
           Val (Value (Pointer marks.NonNull (read bs t) (lives_in bs r))) h,
-          stacks.makes_plain t r h alive owned kind_is,
+          stacks.makes_plain t r h keyless alive owned kind_is,
           tt,
           subst (λ z. IsStack p g x bs (Val (Value (Pointer z (read bs t) (lives_in bs r))) h) k) mark stack,
         ),
@@ -491,8 +536,13 @@ module _ (p : Source) (g : Typing) (x : Exits) (bs : List InScope) (e : Environm
       let there : slice_get p.program.structs n ≡ Some s = ap (λ ss. slice_get ss n) (sym stands.structs) ∙ at in
       let ls = map (lives_in bs) rs in
       let enough : length ls ≡ s.parameters = mapped_count (lives_in bs) rs ∙ count in
-      fields_on k owner [] [] as' (map (substituted_ty rs) s.fields) c n ls r f h q all_open live stands holds alive owned passed flows kept tt
-      (s, there, enough, fields_mean p x bs c stands rs s count (λ field u found. globals.fields n s there field u found))
+      let means = fields_mean p x bs c stands rs s count (λ field u found. globals.fields n s there field u found) in
+      let keyless : AreKeyless (map (read bs) (map (substituted_ty rs) s.fields)) = elim (lends_or_not p.reading) [
+        | inl lends ↦ subst (λ us. AreKeyless us) (sym means) (plain_each (lives_among ls) s.fields (globals.plain lends n s there))
+        | inr never ↦ all_unkept g (lives_in bs) (map (substituted_ty rs) s.fields) (λ m among. never (globals.keys m among)) (λ r. region_known g bs r variables)
+      ] in
+      fields_on k owner [] [] as' (map (substituted_ty rs) s.fields) c n ls r f h q all_open live stands holds alive owned passed flows kept tt tt
+      (s, there, enough, means, keyless)
       (subst (λ z. IsStack p g x bs (Val (Value (Pointer z (Struct n ls) (lives_in bs r))) h) k) mark (subst (λ z. IsStack p g x bs (Val (Value (Pointer m (read bs z) (lives_in bs r))) h) k) t_is stack))
   makes_on (Array place level count kind element) owner k c m t r f h q all_open live stands holds alive owned (level_is, well, each, keyless, kind_is, mark) (f1, d, (f2, de, (demands, known))) (kn, ke) stack =
       let repeats : Repeats p.reading x.relied c level kind element t f1 = record {
@@ -501,6 +551,7 @@ module _ (p : Source) (g : Typing) (x : Exits) (bs : List InScope) (e : Environm
         kind_is = kind_is;
         each = record { waiting = q; typed = inl each; flows = de; kept = ke };
         back = at_least_implies f2 f1 demands.0;
+        plain = keyless;
       } in
       running p g x bs e w typed globals bound variables (Evaluating count) (Needs (MakeArray owner level kind element) ∷ k) live (
         c,

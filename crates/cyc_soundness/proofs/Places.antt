@@ -12,6 +12,7 @@ use Rattle.cyc_types.specs.declared.typed.PointerOperator.{PointerOperator}
 use Rattle.cyc_types.specs.declared.typed.PointerOperator.TheVariants as operators
 use Rattle.cyc_types.specs.Types.{Ty, ValueType, substituted_ty}
 use Rattle.cyc_types.specs.Types as types
+use Rattle.cyc_types.specs.declared.region.Region.TheVariants as regions
 use Rattle.cyc_types.specs.TypedTrees.{Expression, Dereference, Target, Member, Element, peeked, StructType}
 use Rattle.cyc_types.specs.Rules.{Derives}
 use Rattle.cyc_types.specs.typing.Tests.{is_struct, is_thin_mark}
@@ -33,17 +34,18 @@ use Rattle.cyc_meaning.specs.Step.{tells, applies_pointer}
 use Rattle.cyc_soundness.specs.Lives.{Life, RunTy, RunValue, Value, Lives, at, value_at, kind_at}
 use Rattle.cyc_soundness.specs.Lives as lives
 use Rattle.cyc_soundness.specs.Worlds.{ObjectType, Typing, IsFilled, IsPart, IsTarget, HasType, IsResult, Fits, AreCells, IsObject, IsTyped}
-use Rattle.cyc_soundness.specs.Frames.{InScope, IsBound, AreVariables, IsLasting, LiveIn, lives_among, Holds, Exits, IsContext, KnowsProgram, lives_in, read, read_value, IsThere}
+use Rattle.cyc_soundness.specs.Frames.{InScope, IsBound, AreVariables, LiveIn, lives_among, Holds, Exits, IsContext, KnowsProgram, lives_in, read, read_value, IsThere}
 use Rattle.cyc_soundness.specs.Classes.{InPlace, Source}
 use Rattle.cyc_soundness.specs.Stacks.{Evaluates, Val, PlaceOf, null, WaitsPlace, of_cell, KeepsPlace, IsStack, IsFocus, IsWell}
 use Rattle.cyc_soundness.specs.Stacks as stacks
 use Rattle.cyc_soundness.proofs.Numbers.{some_same, inside, mapped, both}
 use Rattle.cyc_soundness.proofs.TypeLemmas.{target_typed, is_kind_same, mark_kinds, kind_meant}
 use Rattle.cyc_soundness.proofs.WorldLemmas.{holds_grown, result_grown, typed_cell}
-use Rattle.cyc_soundness.proofs.StackLemmas.{stack_grown}
-use Rattle.cyc_soundness.proofs.RegionLemmas.{agrees_of, there_lasting, there_of, mapped_count, field_means}
+use Rattle.cyc_soundness.proofs.StackLemmas.{stack_grown, IsPresent, there_present}
+use Rattle.cyc_soundness.proofs.RegionLemmas.{agrees_of, there_of, mapped_count, field_means}
 use Rattle.cyc_soundness.proofs.Swapping.{finds_right_on, both_on}
-use Rattle.cyc_soundness.proofs.Cells.{running, part_at, life_of, target_live, reads_target, writes_target}
+use Rattle.cyc_soundness.specs.Worlds.{Hand, ClaimsBy, IsKeyless}
+use Rattle.cyc_soundness.proofs.Cells.{keyless_claims, running, part_at, life_of, target_live, reads_target, writes_target}
 
 -- ---- pointers
 
@@ -107,6 +109,16 @@ takes n g left (fat_null k t r fat) is = is_kind_same left.kind kinds.Fat (is.0 
 takes n g left (fat_there k t r fat) is = is_kind_same left.kind kinds.Fat (is.0 ∙ fat_kind k fat)
 takes n g left (null_is k t r) is = ap is_thin is.0
 takes n g left (null_is_not k t r) is = ap is_thin is.0
+
+-- an assignment hands on no key
+pub moved_comes : (g : Typing) (i : ℕ) (bs : List InScope) (t : Ty) → ClaimsBy g.own (Hand i) (read_value bs (assigned_type t))
+moved_comes g i bs types.Int = tt
+moved_comes g i bs (types.Pointer k t regions.Heap) = tt
+moved_comes g i bs (types.Pointer k t regions.Unique) = tt
+moved_comes g i bs (types.Pointer k t (regions.Variable n)) = tt
+moved_comes g i bs (types.Handle r) = tt
+moved_comes g i bs (types.Key r) = tt
+moved_comes g i bs (types.Struct n rs) = tt
 
 -- ---- structs
 
@@ -183,11 +195,16 @@ module _ (p : Source) (g : Typing) (x : Exits) (bs : List InScope) (e : Environm
   on focus k live stands = running p g x bs e w typed globals bound variables focus k live stands
 
   -- what was computed
-  pub gives : (k : List Entry) (kind : Kind) (t : RunTy) (f : flow.State) (r : Result) → LiveIn k bs → Holds g f bs → kind ≡ kind_at t → Fits g t r → IsStack p g x bs (Val (Value t) f) k
+  pub gives_by : (k : List Entry) (kind : Kind) (t : RunTy) (f : flow.State) (r : Result) → LiveIn k bs → Holds g f bs → kind ≡ kind_at t → Fits g t r → stacks.Comes g (Value t) k → IsStack p g x bs (Val (Value t) f) k
       → IsWell p (computed kind r k e w)
-  gives k kind t f (Gives v) live holds same fits stack = on (Given (record { kind = kind; value = v })) k live (Value t, f, holds, (same, fits), stack)
-  gives k kind t f (Raises tag) live holds same fits stack = on (Throwing tag 0) k live (Val (Value t) f, stack)
-  gives k kind t f Misfits live holds same fits stack = absurd fits
+  gives_by k kind t f (Gives v) live holds same fits comes stack = on (Given (record { kind = kind; value = v })) k live (Value t, f, holds, (same, fits), comes, stack)
+  gives_by k kind t f (Raises tag) live holds same fits comes stack = on (Throwing tag 0) k live (Val (Value t) f, stack)
+  gives_by k kind t f Misfits live holds same fits comes stack = absurd fits
+
+  -- where it is no key
+  pub gives : (k : List Entry) (kind : Kind) (t : RunTy) (f : flow.State) (r : Result) → LiveIn k bs → Holds g f bs → IsKeyless t → kind ≡ kind_at t → Fits g t r → IsStack p g x bs (Val (Value t) f) k
+      → IsWell p (computed kind r k e w)
+  gives k kind t f r live holds plain same fits stack = gives_by k kind t f r live holds same fits (keyless_claims g.own (Hand (stacks.operands_in k)) t plain) stack
 
   -- ---- a place is found
 
@@ -276,7 +293,7 @@ module _ (p : Source) (g : Typing) (x : Exits) (bs : List InScope) (e : Environm
   -- ---- fields
 
   -- the field of an object that is a struct
-  field_found : (n : ℕ) (ls : List Life) (s : StructType) (t : Ty) (u : RunTy) (l : Life) (field object offset : ℕ) (k : List Entry) (f : flow.State) → AreOpen w.regions (ends_of k) → LiveIn k bs → IsLasting (ends_of k) l → Holds g f bs
+  field_found : (n : ℕ) (ls : List Life) (s : StructType) (t : Ty) (u : RunTy) (l : Life) (field object offset : ℕ) (k : List Entry) (f : flow.State) → AreOpen w.regions (ends_of k) → LiveIn k bs → IsPresent g (ends_of k) l → Holds g f bs
       → slice_get p.program.structs n ≡ Some s → slice_get s.fields field ≡ Some t → (length ls ≡ s.parameters → at (lives_among ls) t ≡ u) → IsTarget g (lives.Struct n ls) l object offset
       → IsStack p g x bs (PlaceOf u l f) k → IsWell p (arrives (member_of w (At object offset) (map values.kind_of s.fields) field) k e w)
   field_found n ls s t u l field object offset k f opens live lasting holds struct there means (y, at', shown, outlasts, (first, fields, (m, flag, full))) stack =
@@ -295,7 +312,7 @@ module _ (p : Source) (g : Typing) (x : Exits) (bs : List InScope) (e : Environm
       (on (GivenPlace (values.Thin object field)) k live (u, l, f, holds, (y, at', shown, outlasts, part_at g w typed object y u field at' found open' some), stack)))
 
   members : (m : PointerKind) (n : ℕ) (ls : List Life) (s : StructType) (t : Ty) (u : RunTy) (l : Life) (field : ℕ) (v : values.Value) (k : List Entry) (f : flow.State) → AreOpen w.regions (ends_of k) → LiveIn k bs
-      → IsLasting (ends_of k) l → Holds g f bs → slice_get p.program.structs n ≡ Some s → slice_get s.fields field ≡ Some t → (length ls ≡ s.parameters → at (lives_among ls) t ≡ u)
+      → IsPresent g (ends_of k) l → Holds g f bs → slice_get p.program.structs n ≡ Some s → slice_get s.fields field ≡ Some t → (length ls ≡ s.parameters → at (lives_among ls) t ≡ u)
       → HasType g (lives.Pointer m (lives.Struct n ls) l) v → IsStack p g x bs (PlaceOf u l f) k → IsWell p (arrives (member_of w (followed v) (map values.kind_of s.fields) field) k e w)
   members marks.Nullable n ls s t u l field values.Null k f opens live lasting holds struct there means has stack = on (Throwing null_exception 0) k live (PlaceOf u l f, stack)
   members marks.Nullable n ls s t u l field (values.Thin object offset) k f opens live lasting holds struct there means has stack =
@@ -311,7 +328,7 @@ module _ (p : Source) (g : Typing) (x : Exits) (bs : List InScope) (e : Environm
   members m n ls s t u l field v k f opens live lasting holds struct there means has stack = absurd has
 
   pub member_on : (m : PointerKind) (pk : Kind) (fields : List Kind) (n : ℕ) (ls : List Life) (s : StructType) (t : Ty) (u : RunTy) (l : Life) (field : ℕ) (v : Operand) (k : List Entry) (f : flow.State) → AreOpen w.regions (ends_of k)
-      → LiveIn k bs → IsLasting (ends_of k) l → Holds g f bs → pk ≡ tests.kind_of_mark m → fields ≡ map values.kind_of s.fields → slice_get p.program.structs n ≡ Some s → slice_get s.fields field ≡ Some t
+      → LiveIn k bs → IsPresent g (ends_of k) l → Holds g f bs → pk ≡ tests.kind_of_mark m → fields ≡ map values.kind_of s.fields → slice_get p.program.structs n ≡ Some s → slice_get s.fields field ≡ Some t
       → (length ls ≡ s.parameters → at (lives_among ls) t ≡ u) → IsResult g (Value (lives.Pointer m (lives.Struct n ls) l)) v → IsStack p g x bs (PlaceOf u l f) k → IsWell p (follows_member pk fields field v k e w)
   member_on m pk fields n ls s t u l field v k f opens live lasting holds kind fields_are struct there means is stack =
       subst (λ ks. IsWell p (follows_member pk ks field v k e w)) (sym fields_are)
@@ -325,24 +342,24 @@ module _ (p : Source) (g : Typing) (x : Exits) (bs : List InScope) (e : Environm
   index_on peek target index c t r base k f h live holds stands evaluates same alive is stack =
       subst (λ (b : Bool). IsWell p (if b then Running (Evaluating index) (Needs (Advance peek target base) ∷ k) e w else wrong w)) (sym (is_kind_same base.kind kinds.Fat is.0))
       (on (Evaluating index) (Needs (Advance peek target base) ∷ k) live
-      (c, types.Value types.Int, f, h, stands, holds, evaluates, (lives.Pointer marks.Fat (read bs t) (lives_in bs r) ∷ [], bs, PlaceOf (read bs t) (lives_in bs r) h, stacks.advances t r h same alive, (is, tt), stack)))
+      (c, types.Value types.Int, f, h, stands, holds, evaluates, (lives.Pointer marks.Fat (read bs t) (lives_in bs r) ∷ [], bs, PlaceOf (read bs t) (lives_in bs r) h, stacks.advances t r h same alive, ((is, tt), (tt, tt)), stack)))
 
   pub advance_on : (t : Ty) (r : Named) (target : Option Kind) (base index : Operand) (k : List Entry) (f : flow.State) → LiveIn k bs → Holds g f bs → target ≡ target_of t → IsThere bs r → IsResult g (Value (lives.Pointer marks.Fat (read bs t) (lives_in bs r))) base → IsResult g (Value lives.Int) index
       → IsStack p g x bs (PlaceOf (read bs t) (lives_in bs r) f) k → IsWell p (advances target base index k e w)
   advance_on t r target base index k f live holds same alive is int stack =
-      gives (Needs (Follow kinds.Fat target) ∷ k) kinds.Fat (lives.Pointer marks.Fat (read bs t) (lives_in bs r)) f (pointer_result operators.AddFat base.value index.value) live holds refl (added g (read bs t) (lives_in bs r) base.value index.value is.1 int.1)
+      gives (Needs (Follow kinds.Fat target) ∷ k) kinds.Fat (lives.Pointer marks.Fat (read bs t) (lives_in bs r)) f (pointer_result operators.AddFat base.value index.value) live holds tt refl (added g (read bs t) (lives_in bs r) base.value index.value is.1 int.1)
       ([], bs, PlaceOf (read bs t) (lives_in bs r) f, stacks.follows marks.Fat t r f refl same alive, tt, stack)
 
   pub count_on : (t : RunTy) (l : Life) (v : Operand) (k : List Entry) (f : flow.State) → LiveIn k bs → Holds g f bs → IsResult g (Value (lives.Pointer marks.Fat t l)) v → IsStack p g x bs (Val (Value lives.Int) f) k
       → IsWell p (computed kinds.Int (element_count v.value) k e w)
-  count_on t l v k f live holds is stack = gives k kinds.Int lives.Int f (element_count v.value) live holds refl (counted g t l v.value is.1) stack
+  count_on t l v k f live holds is stack = gives k kinds.Int lives.Int f (element_count v.value) live holds tt refl (counted g t l v.value is.1) stack
 
   -- ---- what waits for a place
 
   pub place_given : {a : AwaitingPlace} {t : RunTy} {l : Life} {f : flow.State} {next : stacks.Want} (place : values.Value) (k : List Entry) → AreOpen w.regions (ends_of k) → LiveIn k bs → Holds g f bs → HasType g (lives.Pointer marks.NonNull t l) place
       → WaitsPlace p x bs a t l f next → KeepsPlace p g bs a t f → IsStack p g x bs next k → IsWell p (placed a place k e w)
-  place_given (values.Thin object offset) k opens live holds has (stacks.loads_from {kind} t r f alive plain same) keeps stack = reads_target p g x bs e w typed globals bound variables k kind object offset (lives_in bs) t (lives_in bs r) f opens live (there_lasting (ends_of k) bs r live.0 alive) holds has plain (kind_meant (lives_in bs) t ∙ sym same) stack
-  place_given place k opens live holds has (stacks.takes_address t l f) keeps stack = on (Given (record { kind = kinds.NonNull; value = place })) k live (Value (lives.Pointer marks.NonNull t l), f, holds, (refl, has), stack)
+  place_given (values.Thin object offset) k opens live holds has (stacks.loads_from {kind} t r f alive plain same) keeps stack = reads_target p g x bs e w typed globals bound variables k kind object offset (lives_in bs) t (lives_in bs r) f opens live (there_present g (ends_of k) bs r live.0 variables alive) holds has plain (kind_meant (lives_in bs) t ∙ sym same) stack
+  place_given place k opens live holds has (stacks.takes_address t l f) keeps stack = on (Given (record { kind = kinds.NonNull; value = place })) k live (Value (lives.Pointer marks.NonNull t l), f, holds, (refl, has), tt, stack)
   place_given place k opens live holds has (stacks.stores_to {peek} {from} {to} {a} c v t r f h alive stands evaluates conv from_is to_is) keeps stack =
       on (Evaluating a) (Needs (ConvertTo from to (target_by a)) ∷ Needs (StoreCell peek place) ∷ k) live (
         c,
@@ -358,17 +375,17 @@ module _ (p : Source) (g : Typing) (x : Exits) (bs : List InScope) (e : Environm
           Val (Value (read bs t)) h,
           stacks.converts c v t h (agrees_of p x bs c stands) conv from_is to_is (target_typed c a v evaluates.typed),
           tt,
-          (lives.Pointer marks.NonNull (read bs t) (lives_in bs r) ∷ [], bs, Val (read_value bs (assigned_type t)) h, stacks.stores_cell t r h alive, ((refl, has), tt), stack),
+          (lives.Pointer marks.NonNull (read bs t) (lives_in bs r) ∷ [], bs, Val (read_value bs (assigned_type t)) h, stacks.stores_cell t r h alive, (((refl, has), tt), (tt, tt)), stack),
         ),
       )
   place_given place k opens live holds has (stacks.swaps_left {kind} {peek} {right} c t r f h alive stands kind_is plain finds) keeps stack =
-      finds_right_on p g x bs e w typed globals bound variables kind peek place right c t k f h finds.waiting live stands holds kind_is plain (λ i. of_cell place r alive has) finds.typed finds.flows finds.used finds.kept stack
-  place_given place k opens live holds has (stacks.swaps_right {kind} {peek} {left} t r f alive kind_is) (u, same, plain, spot) stack =
+      finds_right_on p g x bs e w typed globals bound variables kind peek true place right c t k f h finds.waiting live stands holds kind_is plain (λ i. of_cell place r alive has) finds.typed finds.flows finds.used finds.kept stack
+  place_given place k opens live holds has (stacks.swaps_right {kind} {peek} {is_cell} {left} t r f alive kind_is) (u, same, plain, spot) stack =
       both_on p g x bs e w typed globals bound variables kind left place u k f live holds (kind_is ∙ sym (kind_meant (lives_in bs) t) ∙ ap kind_at same ∙ kind_meant (lives_in bs) u) plain spot
       (of_cell place r alive (subst (λ z. HasType g (lives.Pointer marks.NonNull z (lives_in bs r)) place) same has)) stack
   place_given place k opens live holds has waits keeps stack = absurd has
 
-  pub cell_stored : (place : values.Value) (v : Operand) (t : Ty) (l : Life) (k : List Entry) (f : flow.State) → AreOpen w.regions (ends_of k) → LiveIn k bs → IsLasting (ends_of k) l → Holds g f bs → HasType g (lives.Pointer marks.NonNull (read bs t) l) place → IsResult g (Value (read bs t)) v
+  pub cell_stored : (place : values.Value) (v : Operand) (t : Ty) (l : Life) (k : List Entry) (f : flow.State) → AreOpen w.regions (ends_of k) → LiveIn k bs → IsPresent g (ends_of k) l → Holds g f bs → HasType g (lives.Pointer marks.NonNull (read bs t) l) place → IsResult g (Value (read bs t)) v
       → IsStack p g x bs (Val (read_value bs (assigned_type t)) f) k → IsWell p (stored_at place v (Given v) k e w)
   cell_stored (values.Thin object offset) v t l k f opens live lasting holds has is stack =
       writes_target p g x bs e w typed globals bound variables v k object offset (read bs t) l (Given v) opens live lasting has is
@@ -376,7 +393,8 @@ module _ (p : Source) (g : Typing) (x : Exits) (bs : List InScope) (e : Environm
         read_value bs (assigned_type t),
         f,
         holds_grown g h grows f bs holds,
-        handed h (tests.is_moved t) (result_grown g h grows (Value (read bs t)) v is),
+        handed h (tests.is_moved t) (result_grown g h grows.grows (Value (read bs t)) v is),
+        moved_comes h (stacks.operands_in k) bs t,
         stack_grown p g h grows x bs (Val (read_value bs (assigned_type t)) f) k stack,
       ))
     where
@@ -388,10 +406,10 @@ module _ (p : Source) (g : Typing) (x : Exits) (bs : List InScope) (e : Environm
   -- ---- operators
 
   told : (negated equal : Bool) (k : List Entry) (f : flow.State) → LiveIn k bs → Holds g f bs → IsStack p g x bs (Val (Value lives.Int) f) k → IsWell p (tells negated (Found equal) k e w)
-  told false equal k f live holds stack = on (Given (record { kind = kinds.Int; value = values.Int (truth equal) })) k live (Value lives.Int, f, holds, (refl, tt), stack)
-  told true equal k f live holds stack = on (Given (record { kind = kinds.Int; value = values.Int (if equal then 0 else 1) })) k live (Value lives.Int, f, holds, (refl, tt), stack)
+  told false equal k f live holds stack = on (Given (record { kind = kinds.Int; value = values.Int (truth equal) })) k live (Value lives.Int, f, holds, (refl, tt), tt, stack)
+  told true equal k f live holds stack = on (Given (record { kind = kinds.Int; value = values.Int (if equal then 0 else 1) })) k live (Value lives.Int, f, holds, (refl, tt), tt, stack)
 
-  compared_on : (negated : Bool) (t u : RunTy) (l m : Life) (left right : values.Value) (k : List Entry) (f : flow.State) → AreOpen w.regions (ends_of k) → LiveIn k bs → IsLasting (ends_of k) l → IsLasting (ends_of k) m
+  compared_on : (negated : Bool) (t u : RunTy) (l m : Life) (left right : values.Value) (k : List Entry) (f : flow.State) → AreOpen w.regions (ends_of k) → LiveIn k bs → IsPresent g (ends_of k) l → IsPresent g (ends_of k) m
       → Holds g f bs → IsThin g t l left → IsThin g u m right → IsStack p g x bs (Val (Value lives.Int) f) k → IsWell p (tells negated (compared w left right) k e w)
   compared_on negated t u l m left right k f opens live one two holds is_null is_null stack = told negated true k f live holds stack
   compared_on negated t u l m left right k f opens live one two holds is_null (leads object offset there) stack = told negated false k f live holds stack
@@ -403,14 +421,14 @@ module _ (p : Source) (g : Typing) (x : Exits) (bs : List InScope) (e : Environm
       subst (λ a. IsWell p (tells negated (both_found a (object_at w other) equal) k e w)) (sym found)
       (subst (λ a. IsWell p (tells negated (both_found (Found y) a equal) k e w)) (sym also) (told negated equal k f live holds stack))
 
-  lasts : (c : Context) (r : Named) (k : List Entry) → IsContext p x bs c → LiveIn k bs → IsLive c r → IsLasting (ends_of k) (lives_in bs r)
-  lasts c r k stands live alive = there_lasting (ends_of k) bs r live.0 (there_of p x bs c stands r alive)
+  lasts : (c : Context) (r : Named) (k : List Entry) → IsContext p x bs c → LiveIn k bs → IsLive c r → IsPresent g (ends_of k) (lives_in bs r)
+  lasts c r k stands live alive = there_present g (ends_of k) bs r live.0 variables (there_of p x bs c stands r alive)
 
   pub point_on : {c : Context} {o : PointerOperator} {t : Ty} {v u : ValueType} (left right : Operand) (k : List Entry) (f : flow.State) → AreOpen w.regions (ends_of k) → LiveIn k bs → Holds g f bs → IsContext p x bs c
       → PointerOperation c o (types.Value t) v u → IsResult g (Value (read bs t)) left → IsResult g (read_value bs v) right → IsStack p g x bs (Val (read_value bs u) f) k
       → IsWell p (applies_pointer o left.value right.value k e w)
-  point_on {c} left right k f opens live holds stands (adds t r other) is too stack = gives k kinds.Fat (lives.Pointer marks.Fat (read bs t) (lives_in bs r)) f (pointer_result operators.AddFat left.value right.value) live holds refl (added g (read bs t) (lives_in bs r) left.value right.value is.1 too.1) stack
-  point_on {c} left right k f opens live holds stands (subtracts t r other) is too stack = gives k kinds.Fat (lives.Pointer marks.Fat (read bs t) (lives_in bs r)) f (pointer_result operators.SubtractFat left.value right.value) live holds refl (subtracted g (read bs t) (lives_in bs r) left.value right.value is.1 too.1) stack
+  point_on {c} left right k f opens live holds stands (adds t r other) is too stack = gives k kinds.Fat (lives.Pointer marks.Fat (read bs t) (lives_in bs r)) f (pointer_result operators.AddFat left.value right.value) live holds tt refl (added g (read bs t) (lives_in bs r) left.value right.value is.1 too.1) stack
+  point_on {c} left right k f opens live holds stands (subtracts t r other) is too stack = gives k kinds.Fat (lives.Pointer marks.Fat (read bs t) (lives_in bs r)) f (pointer_result operators.SubtractFat left.value right.value) live holds tt refl (subtracted g (read bs t) (lives_in bs r) left.value right.value is.1 too.1) stack
   point_on {c} left right k f opens live holds stands (equals m l t r s one two here there) is too stack =
       compared_on false (read bs t) (read bs t) (lives_in bs r) (lives_in bs s) left.value right.value k f opens live (lasts c r k stands live here) (lasts c s k stands live there) holds
       (thin_value g m (read bs t) (lives_in bs r) left.value one is.1) (thin_value g l (read bs t) (lives_in bs s) right.value two too.1) stack
@@ -418,15 +436,15 @@ module _ (p : Source) (g : Typing) (x : Exits) (bs : List InScope) (e : Environm
       compared_on true (read bs t) (read bs t) (lives_in bs r) (lives_in bs s) left.value right.value k f opens live (lasts c r k stands live here) (lasts c s k stands live there) holds
       (thin_value g m (read bs t) (lives_in bs r) left.value one is.1) (thin_value g l (read bs t) (lives_in bs s) right.value two too.1) stack
   point_on {c} left right k f opens live holds stands (thin_null m t r thin) is too stack =
-      subst (λ z. IsWell p (applies_pointer operators.ThinIsNull left.value z k e w)) (sym too.1) (gives k kinds.Int lives.Int f (null_test false left.value) live holds refl (null_tested g false m (read bs t) (lives_in bs r) left.value is.1) stack)
+      subst (λ z. IsWell p (applies_pointer operators.ThinIsNull left.value z k e w)) (sym too.1) (gives k kinds.Int lives.Int f (null_test false left.value) live holds tt refl (null_tested g false m (read bs t) (lives_in bs r) left.value is.1) stack)
   point_on {c} left right k f opens live holds stands (thin_there m t r thin) is too stack =
-      subst (λ z. IsWell p (applies_pointer operators.ThinIsNotNull left.value z k e w)) (sym too.1) (gives k kinds.Int lives.Int f (null_test true left.value) live holds refl (null_tested g true m (read bs t) (lives_in bs r) left.value is.1) stack)
+      subst (λ z. IsWell p (applies_pointer operators.ThinIsNotNull left.value z k e w)) (sym too.1) (gives k kinds.Int lives.Int f (null_test true left.value) live holds tt refl (null_tested g true m (read bs t) (lives_in bs r) left.value is.1) stack)
   point_on {c} left right k f opens live holds stands (fat_null m t r fat) is too stack =
-      subst (λ z. IsWell p (applies_pointer operators.FatIsNull left.value z k e w)) (sym too.1) (gives k kinds.Int lives.Int f (null_test false left.value) live holds refl (null_tested g false m (read bs t) (lives_in bs r) left.value is.1) stack)
+      subst (λ z. IsWell p (applies_pointer operators.FatIsNull left.value z k e w)) (sym too.1) (gives k kinds.Int lives.Int f (null_test false left.value) live holds tt refl (null_tested g false m (read bs t) (lives_in bs r) left.value is.1) stack)
   point_on {c} left right k f opens live holds stands (fat_there m t r fat) is too stack =
-      subst (λ z. IsWell p (applies_pointer operators.FatIsNotNull left.value z k e w)) (sym too.1) (gives k kinds.Int lives.Int f (null_test true left.value) live holds refl (null_tested g true m (read bs t) (lives_in bs r) left.value is.1) stack)
+      subst (λ z. IsWell p (applies_pointer operators.FatIsNotNull left.value z k e w)) (sym too.1) (gives k kinds.Int lives.Int f (null_test true left.value) live holds tt refl (null_tested g true m (read bs t) (lives_in bs r) left.value is.1) stack)
 
   pub null_point_on : {c : Context} {o : PointerOperator} {v u : ValueType} (right : Operand) (k : List Entry) (f : flow.State) → LiveIn k bs → Holds g f bs
       → PointerOperation c o types.Null v u → IsResult g (read_value bs v) right → IsStack p g x bs (Val (read_value bs u) f) k → IsWell p (applies_pointer o values.Null right.value k e w)
-  null_point_on right k f live holds (null_is m t r) too stack = gives k kinds.Int lives.Int f (null_test false right.value) live holds refl (null_tested g false m (read bs t) (lives_in bs r) right.value too.1) stack
-  null_point_on right k f live holds (null_is_not m t r) too stack = gives k kinds.Int lives.Int f (null_test true right.value) live holds refl (null_tested g true m (read bs t) (lives_in bs r) right.value too.1) stack
+  null_point_on right k f live holds (null_is m t r) too stack = gives k kinds.Int lives.Int f (null_test false right.value) live holds tt refl (null_tested g false m (read bs t) (lives_in bs r) right.value too.1) stack
+  null_point_on right k f live holds (null_is_not m t r) too stack = gives k kinds.Int lives.Int f (null_test true right.value) live holds tt refl (null_tested g true m (read bs t) (lives_in bs r) right.value too.1) stack

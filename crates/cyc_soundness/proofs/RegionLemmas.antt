@@ -15,7 +15,7 @@ use Rattle.cyc_types.specs.Types as types
 use Rattle.cyc_types.specs.typing.Scopes.{with_scope}
 use Rattle.cyc_types.specs.typing.WellTyped.{LocalInScope, Context, IsLive, AreLive, AreOutliving, IsCell, body_context, parameters_in_scope, IsNamed, AreNamed as AreNamedRegions, IsNamedIn, AreNamedIn, IsNamedResult, AreConstraints, IsWellTypedFunction, in_block, with_local, with_region, with_opened, with_key_opened}
 use Rattle.cyc_soundness.specs.Lives.{Life, OfRegion, OfObject, Never, Kept, Lives, at, value_at, heap_life, lives_of, as_heap, Reading, AsHeap, ByScope, AllOf, AllIn, AllInValue, IsKnown, IsOther}
-use Rattle.cyc_soundness.specs.Worlds.{Typing, IsKnownLife, Outlasts, heap as for_ever, stays, encloses, whole, behind, AgreesWith, IsNumber}
+use Rattle.cyc_soundness.specs.Worlds.{Typing, IsKnownLife, IsOpenIn, lent_now, Outlasts, heap as for_ever, stays, encloses, whole, behind, AgreesWith, IsNumber}
 use Rattle.cyc_soundness.specs.Classes.{HasLoans, IsDeclarable, Source}
 use Rattle.cyc_soundness.specs.Frames.{later, InScope, Variable, Level, Names, Instance, Home, life_named, is_live_named, lives_in, read, read_value, home_of, AreVariables, lives_among, IsThereBy, IsThere, IsHomed, IsScope, IsLasting, IsLiveIn, AreLiveIn, Exits, AreNamed, StandBy, Stand, IsHome, AreKnownLocals, AreKnown, IsContext}
 use Rattle.cyc_soundness.specs.Stacks.{IsNew, regions_at_call, IsInstance}
@@ -37,8 +37,8 @@ contains_none y (n, less, same) = absurd (omega (arith, less))
 -- ---- what lasts
 
 pub lasting_more : (n : ℕ) (ns : List ℕ) (l : Life) → IsLasting ns l → IsLasting (n ∷ ns) l
-lasting_more n ns (OfRegion m ms) (inl heap) = inl heap
-lasting_more n ns (OfRegion m ms) (inr end) = inr (behind n ns end)
+lasting_more n ns (OfRegion m ms us) (inl heap) = inl heap
+lasting_more n ns (OfRegion m ms us) (inr end) = inr (behind n ns end)
 lasting_more n ns (OfObject o) is = is
 lasting_more n ns Never is = is
 lasting_more n ns (Kept region) is = is
@@ -75,8 +75,26 @@ name_known g [] k are = tt
 name_known g (Variable b ∷ bs) k (is, are) = name_known g bs k are
 name_known g (Level l ∷ bs) k (is, are) = name_known g bs k are
 name_known g (Home region ∷ bs) k (is, are) = name_known g bs k are
-name_known g (Instance these lives ∷ bs) k (is, are) = is k
-name_known g (Names number l alive ∷ bs) k (is, are) = named_both g (k == number) l (life_named bs k) is (name_known g bs k are)
+name_known g (Instance these lives ∷ bs) k (is, are) = (is k).0
+name_known g (Names number l alive ∷ bs) k (is, are) = named_both g (k == number) l (life_named bs k) is.0 (name_known g bs k are)
+
+open_either : (g : Typing) (b : Bool) (l m : Life) (first second : Bool) → (first ≡ true → IsOpenIn g l) → (second ≡ true → IsOpenIn g m) → (if b then first else second) ≡ true → IsOpenIn g (if b then l else m)
+open_either g true l m first second one two e = one e
+open_either g false l m first second one two e = two e
+
+name_open : (g : Typing) (bs : List InScope) (k : ℕ) → AreVariables g bs → is_live_named bs k ≡ true → IsOpenIn g (life_named bs k)
+name_open g [] k are live = λ r e. absurd (let z : false ≡ true = e in cc)
+name_open g (Variable b ∷ bs) k (is, are) live = name_open g bs k are live
+name_open g (Level l ∷ bs) k (is, are) live = name_open g bs k are live
+name_open g (Home region ∷ bs) k (is, are) live = name_open g bs k are live
+name_open g (Instance these lives ∷ bs) k (is, are) live = (is k).1 live
+name_open g (Names number l alive ∷ bs) k (is, are) live = open_either g (k == number) l (life_named bs k) alive (is_live_named bs k) is.1 (λ e. name_open g bs k are e) live
+
+-- what a live region stands for is open
+pub there_open : (g : Typing) (bs : List InScope) (r : Region) → AreVariables g bs → IsThere bs r → IsOpenIn g (lives_in bs r)
+there_open g bs regions.Heap are there = λ r e. absurd (let z : false ≡ true = e in cc)
+there_open g bs regions.Unique are there = λ r e. absurd (let z : false ≡ true = e in cc)
+there_open g bs (regions.Variable n) are there = name_open g bs n are there
 
 -- what a region stands for is known
 pub region_known : (g : Typing) (bs : List InScope) (r : Region) → AreVariables g bs → IsKnownLife g (lives_in bs r)
@@ -90,12 +108,12 @@ there_lasting ns bs regions.Heap are there = inl refl
 there_lasting ns bs regions.Unique are there = inl refl
 there_lasting ns bs (regions.Variable n) are there = named_lasting ns bs n are there
 
-pub lasts_around : (ns : List ℕ) (n : ℕ) (l : Life) → IsLasting ns l → Outlasts l (OfRegion n ns)
-lasts_around ns n (OfRegion m ms) (inl heap) = subst (λ l. Outlasts l (OfRegion n ns)) (sym heap) (for_ever (OfRegion n ns))
-lasts_around ns n (OfRegion m ms) (inr end) = encloses m n ms ns end
-lasts_around ns n (OfObject o) is = absurd is
-lasts_around ns n Never is = absurd is
-lasts_around ns n (Kept region) is = stays region (OfRegion n ns)
+pub lasts_around : (g : Typing) (ns : List ℕ) (n : ℕ) (l : Life) → IsLasting ns l → IsOpenIn g l → Outlasts l (OfRegion n ns (lent_now g))
+lasts_around g ns n (OfRegion m ms us) (inl heap) opens = subst (λ l. Outlasts l (OfRegion n ns (lent_now g))) (sym heap) (for_ever (OfRegion n ns (lent_now g)))
+lasts_around g ns n (OfRegion m ms us) (inr end) opens = encloses m n ms ns us (lent_now g) end opens
+lasts_around g ns n (OfObject o) is opens = absurd is
+lasts_around g ns n Never is opens = absurd is
+lasts_around g ns n (Kept region) is opens = stays region n ns (lent_now g) opens
 
 -- ---- names
 
@@ -139,10 +157,10 @@ at_opening live (s ∷ earlier) a b (inl (kind, same, plain, has)) =
 at_opening live (s ∷ earlier) a b (inr is) =
     let (one, two) = at_opening live earlier a b is in (contains_more s.region a (live_regions live earlier) one, contains_more s.region b (live_regions live earlier) two)
 
-module _ (kind : ScopeKind) (number region : ℕ) (ns : List ℕ) (c : RegionContext) (bs : List InScope) (outlived : is_outlived_by_live kind ≡ true) (live : AreLiveIn ns bs)
+module _ (g : Typing) (kind : ScopeKind) (number region : ℕ) (ns : List ℕ) (c : RegionContext) (bs : List InScope) (variables : AreVariables g bs) (outlived : is_outlived_by_live kind ≡ true) (live : AreLiveIn ns bs)
     (others : (r : Region) → Contains (live_regions c.live c.opened) r → IsOther number r) (pairs : (a b : Region) → Contains c.written (a, b) → IsOther number a × IsOther number b) where
   abbrev inner : List InScope
-  inner = Names number (OfRegion region ns) true ∷ bs
+  inner = Names number (OfRegion region ns (lent_now g)) true ∷ bs
 
   opened_named : AreNamed c (λ n. life_named bs n) (λ n. is_live_named bs n)
       → AreNamed (with_scope kind (regions.Variable number) c) (λ n. life_named inner n) (λ n. is_live_named inner n)
@@ -150,23 +168,23 @@ module _ (kind : ScopeKind) (number region : ℕ) (ns : List ℕ) (c : RegionCon
     where
       there : (r : Region) → Contains (regions.Variable number ∷ live_regions c.live c.opened) r → IsThere inner r
       there r has = elim (contains_later (regions.Variable number) r (live_regions c.live c.opened) has) [
-        | inl new ↦ opened_there number (OfRegion region ns) bs r new
-        | inr old ↦ other_there number (OfRegion region ns) true bs r (others r old) (names.there r old)
+        | inl new ↦ opened_there number (OfRegion region ns (lent_now g)) bs r new
+        | inr old ↦ other_there number (OfRegion region ns (lent_now g)) true bs r (others r old) (names.there r old)
       ]
 
       moved : (a b : Region) → IsOther number a → IsOther number b → Outlasts (lives_in bs a) (lives_in bs b) → Outlasts (lives_in inner a) (lives_in inner b)
       moved a b first second is =
-          subst (λ l. Outlasts l (lives_in inner b)) (other_life number (OfRegion region ns) true bs a first)
-          (subst (λ l. Outlasts (lives_in bs a) l) (other_life number (OfRegion region ns) true bs b second) is)
+          subst (λ l. Outlasts l (lives_in inner b)) (other_life number (OfRegion region ns (lent_now g)) true bs a first)
+          (subst (λ l. Outlasts (lives_in bs a) l) (other_life number (OfRegion region ns (lent_now g)) true bs b second) is)
 
       agrees : (a b : Region) → IsGiven (with_scope kind (regions.Variable number) c) a b → Outlasts (lives_in inner a) (lives_in inner b)
       agrees a b (inl (heap, plain)) = subst (λ z. Outlasts (lives_in inner z) (lives_in inner b)) (sym heap) (for_ever (lives_in inner b))
       agrees a b (inr (inl written)) = let (one, two) = pairs a b written in moved a b one two (names.agrees a b (inr (inl written)))
       agrees a b (inr (inr (inl (kind', new, plain, has)))) =
           subst (λ z. Outlasts (lives_in inner a) (lives_in inner z)) (sym new)
-          (subst (λ l. Outlasts (lives_in inner a) l) (sym (same_name number (OfRegion region ns) (life_named bs number)))
-          (subst (λ l. Outlasts l (OfRegion region ns)) (other_life number (OfRegion region ns) true bs a (others a has))
-          (lasts_around ns region (lives_in bs a) (there_lasting ns bs a live (names.there a has)))))
+          (subst (λ l. Outlasts (lives_in inner a) l) (sym (same_name number (OfRegion region ns (lent_now g)) (life_named bs number)))
+          (subst (λ l. Outlasts l (OfRegion region ns (lent_now g))) (other_life number (OfRegion region ns (lent_now g)) true bs a (others a has))
+          (lasts_around g ns region (lives_in bs a) (there_lasting ns bs a live (names.there a has)) (there_open g bs a variables (names.there a has)))))
       agrees a b (inr (inr (inr old))) =
           let (one, two) = at_opening c.live c.opened a b old in moved a b (others a one) (others b two) (names.agrees a b (inr (inr old)))
 
@@ -263,17 +281,17 @@ IsOtherBy AsHeap n r = Unit {0}
 IsOtherBy (ByScope lends) n r = IsOther n r
 
 -- the life of a region that is opened
-abbrev pub opened_life : Reading → (region : ℕ) → (around : List ℕ) → Life
-opened_life AsHeap region ns = heap_life
-opened_life (ByScope lends) region ns = OfRegion region ns
+abbrev pub opened_life : Reading → (region : ℕ) → (around : List ℕ) → (lent : ℕ → Bool) → Life
+opened_life AsHeap region ns us = heap_life
+opened_life (ByScope lends) region ns us = OfRegion region ns us
 
-opened_same : (m : Reading) (number region : ℕ) (ns : List ℕ) (c : RegionContext) (bs : List InScope) → Stand m c bs → (r : Region) → IsOtherBy m number r
-    → lives_in bs r ≡ lives_in (Names number (opened_life m region ns) true ∷ bs) r
-opened_same AsHeap number region ns c bs stand r other =
+opened_same : (m : Reading) (number region : ℕ) (ns : List ℕ) (us : ℕ → Bool) (c : RegionContext) (bs : List InScope) → Stand m c bs → (r : Region) → IsOtherBy m number r
+    → lives_in bs r ≡ lives_in (Names number (opened_life m region ns us) true ∷ bs) r
+opened_same AsHeap number region ns us c bs stand r other =
     let before = heap_lives (λ n. life_named bs n) (λ n. is_live_named bs n) stand r in
     let now = heap_lives (λ n. life_named (Names number heap_life true ∷ bs) n) (λ n. is_live_named (Names number heap_life true ∷ bs) n) (named_heap number (λ n. life_named bs n) (λ n. is_live_named bs n) stand) r in
     before ∙ sym now
-opened_same (ByScope lends) number region ns c bs stand r other = other_life number (OfRegion region ns) true bs r other
+opened_same (ByScope lends) number region ns us c bs stand r other = other_life number (OfRegion region ns us) true bs r other
 
 in_value : (P Q : Region → Type 0) → ((r : Region) → P r → Q r) → (v : ValueType) → AllInValue P v → AllInValue Q v
 in_value P Q so types.Void all = tt
@@ -365,11 +383,11 @@ known_local (ByScope lends) c b t known (declared, live) = record {
 
 -- ---- a region is opened in a context
 
-pub stand_opened : (m : Reading) (kind : ScopeKind) (number region : ℕ) (ns : List ℕ) (c : RegionContext) (bs : List InScope) → is_outlived_by_live kind ≡ true → AreLiveIn ns bs
+pub stand_opened : (g : Typing) (m : Reading) (kind : ScopeKind) (number region : ℕ) (ns : List ℕ) (c : RegionContext) (bs : List InScope) → AreVariables g bs → is_outlived_by_live kind ≡ true → AreLiveIn ns bs
     → ((r : Region) → Contains (live_regions c.live c.opened) r → IsOtherBy m number r) → ((a b : Region) → Contains c.written (a, b) → IsOtherBy m number a × IsOtherBy m number b)
-    → Stand m c bs → Stand m (with_scope kind (regions.Variable number) c) (Names number (opened_life m region ns) true ∷ bs)
-stand_opened AsHeap kind number region ns c bs outlived live others pairs stand = named_heap number (λ n. life_named bs n) (λ n. is_live_named bs n) stand
-stand_opened (ByScope lends) kind number region ns c bs outlived live others pairs stand = opened_named kind number region ns c bs outlived live others pairs stand
+    → Stand m c bs → Stand m (with_scope kind (regions.Variable number) c) (Names number (opened_life m region ns (lent_now g)) true ∷ bs)
+stand_opened g AsHeap kind number region ns c bs variables outlived live others pairs stand = named_heap number (λ n. life_named bs n) (λ n. is_live_named bs n) stand
+stand_opened g (ByScope lends) kind number region ns c bs variables outlived live others pairs stand = opened_named g kind number region ns c bs variables outlived live others pairs stand
 
 known_live : (m : Reading) (n : ℕ) (c : RegionContext) (vs : List LocalInScope) (result : Option Ty) → AreKnown m n c vs result → (r : Region) → Contains (live_regions c.live c.opened) r → IsOtherBy m n r
 known_live AsHeap n c vs result known r has = tt
@@ -379,26 +397,26 @@ known_pairs : (m : Reading) (n : ℕ) (c : RegionContext) (vs : List LocalInScop
 known_pairs AsHeap n c vs result known a b has = (tt, tt)
 known_pairs (ByScope lends) n c vs result known a b has = (known_other n a (known.pairs a b has).0, known_other n b (known.pairs a b has).1)
 
-pub opened_lasting : (m : Reading) (region : ℕ) (ns : List ℕ) → IsLasting (region ∷ ns) (opened_life m region ns)
-opened_lasting AsHeap region ns = inl refl
-opened_lasting (ByScope lends) region ns = inr whole
+pub opened_lasting : (m : Reading) (region : ℕ) (ns : List ℕ) (us : ℕ → Bool) → IsLasting (region ∷ ns) (opened_life m region ns us)
+opened_lasting AsHeap region ns us = inl refl
+opened_lasting (ByScope lends) region ns us = inr whole
 
-pub opened_known : (g : Typing) (m : Reading) (region : ℕ) (ns : List ℕ) → IsKnownLife g (opened_life m region ns)
-opened_known g AsHeap region ns = tt
-opened_known g (ByScope lends) region ns = tt
+pub opened_known : (g : Typing) (m : Reading) (region : ℕ) (ns : List ℕ) → IsKnownLife g (opened_life m region ns (lent_now g)) × (true ≡ true → IsOpenIn g (opened_life m region ns (lent_now g)))
+opened_known g AsHeap region ns = (tt, λ e r is. absurd (let z : false ≡ true = is in cc))
+opened_known g (ByScope lends) region ns = (tt, λ e r is. is)
 
-pub new_home : (m : Reading) (number region : ℕ) (ns : List ℕ) (bs : List InScope) → IsHome m number (Home region ∷ Names number (opened_life m region ns) true ∷ bs)
-new_home AsHeap number region ns bs = tt
-new_home (ByScope lends) number region ns bs =
-    (subst (λ l. IsNumber l region) (sym (same_name number (OfRegion region ns) (life_named bs number))) refl, same_name number true (is_live_named bs number))
+pub new_home : (m : Reading) (number region : ℕ) (ns : List ℕ) (us : ℕ → Bool) (bs : List InScope) → IsHome m number (Home region ∷ Names number (opened_life m region ns us) true ∷ bs)
+new_home AsHeap number region ns us bs = tt
+new_home (ByScope lends) number region ns us bs =
+    (subst (λ l. IsNumber l region) (sym (same_name number (OfRegion region ns us) (life_named bs number))) refl, same_name number true (is_live_named bs number))
 
-same_home : (m : Reading) (number region : ℕ) (ns : List ℕ) (c : Context) (bs : List InScope) → (AreKnown m c.next_region c.regions c.locals c.result) → number ≡ c.next_region → IsLive c (regions.Variable c.region)
-    → IsHome m c.region bs → IsHome m c.region (Names number (opened_life m region ns) true ∷ bs)
-same_home AsHeap number region ns c bs known same live is = tt
-same_home (ByScope lends) number region ns c bs known same live (at_home, there) =
+same_home : (m : Reading) (number region : ℕ) (ns : List ℕ) (us : ℕ → Bool) (c : Context) (bs : List InScope) → (AreKnown m c.next_region c.regions c.locals c.result) → number ≡ c.next_region → IsLive c (regions.Variable c.region)
+    → IsHome m c.region bs → IsHome m c.region (Names number (opened_life m region ns us) true ∷ bs)
+same_home AsHeap number region ns us c bs known same live is = tt
+same_home (ByScope lends) number region ns us c bs known same live (at_home, there) =
     let less : c.region < c.next_region = known.live (regions.Variable c.region) live in
     let apart : c.region ≢ number = (λ e. (let k : c.region ≡ number = e in absurd (omega (arith, less, k, same)))) in (
-      subst (λ l. IsNumber l (home_of bs)) (sym (other_name number c.region (OfRegion region ns) (life_named bs c.region) apart)) at_home,
+      subst (λ l. IsNumber l (home_of bs)) (sym (other_name number c.region (OfRegion region ns us) (life_named bs c.region) apart)) at_home,
       other_name number c.region true (is_live_named bs c.region) apart ∙ there,
     )
 
@@ -410,12 +428,12 @@ module _ (p : Source) (x : Exits) (bs : List InScope) (c : Context) (stands : Is
   pub agrees_of : AgreesWith c.regions (lives_in bs)
   agrees_of = agrees_by p.reading c.regions (λ n. life_named bs n) (λ n. is_live_named bs n) stands.regions
 
-  module _ (region : ℕ) (ns : List ℕ) (live : AreLiveIn ns bs) where
+  module _ (g : Typing) (variables : AreVariables g bs) (region : ℕ) (ns : List ℕ) (live : AreLiveIn ns bs) where
     abbrev here : List InScope
-    here = Names c.next_region (opened_life p.reading region ns) true ∷ bs
+    here = Names c.next_region (opened_life p.reading region ns (lent_now g)) true ∷ bs
 
     same_here : (r : Region) → IsOtherBy p.reading c.next_region r → lives_in bs r ≡ lives_in here r
-    same_here r other = opened_same p.reading c.next_region region ns c.regions bs stands.regions r other
+    same_here r other = opened_same p.reading c.next_region region ns (lent_now g) c.regions bs stands.regions r other
 
     gives_here : read_value here (result_type c.result) ≡ x.gives
     gives_here = sym (value_alike (lives_in bs) (lives_in here) (result_type c.result)
@@ -426,7 +444,7 @@ module _ (p : Source) (x : Exits) (bs : List InScope) (c : Context) (stands : Is
     scope_here = scope_kept p.reading c.next_region (lives_in bs) (lives_in here) c.locals bs same_here (others_locals p.reading c.next_region c.regions c.locals c.result stands.known) stands.scope
 
     stand_here : (kind : ScopeKind) → is_outlived_by_live kind ≡ true → Stand p.reading (with_scope kind (regions.Variable c.next_region) c.regions) here
-    stand_here kind outlived = stand_opened p.reading kind c.next_region region ns c.regions bs outlived live
+    stand_here kind outlived = stand_opened g p.reading kind c.next_region region ns c.regions bs variables outlived live
         (known_live p.reading c.next_region c.regions c.locals c.result stands.known) (known_pairs p.reading c.next_region c.regions c.locals c.result stands.known) stands.regions
 
     -- inside a block
@@ -440,10 +458,10 @@ module _ (p : Source) (x : Exits) (bs : List InScope) (c : Context) (stands : Is
       loop = stands.loop;
       scope = (c.locals, refl, (c.locals, refl, scope_here));
       below = (tt, (tt, stands.below));
-      counters = λ l less. later (Home region) here (later (Names c.next_region (opened_life p.reading region ns) true) bs (stands.counters l less));
+      counters = λ l less. later (Home region) here (later (Names c.next_region (opened_life p.reading region ns (lent_now g)) true) bs (stands.counters l less));
       known = known_opened p.reading c.next_region scopes.Block c.regions c.locals c.result stands.known;
       regions = stand_here scopes.Block refl;
-      home = new_home p.reading c.next_region region ns bs;
+      home = new_home p.reading c.next_region region ns (lent_now g) bs;
     }
 
     -- behind a lexical region
@@ -457,10 +475,10 @@ module _ (p : Source) (x : Exits) (bs : List InScope) (c : Context) (stands : Is
       loop = stands.loop;
       scope = (c.locals, refl, scope_here);
       below = (tt, stands.below);
-      counters = λ l less. later (Names c.next_region (opened_life p.reading region ns) true) bs (stands.counters l less);
+      counters = λ l less. later (Names c.next_region (opened_life p.reading region ns (lent_now g)) true) bs (stands.counters l less);
       known = known_opened p.reading c.next_region scopes.Lexical c.regions c.locals c.result stands.known;
       regions = stand_here scopes.Lexical refl;
-      home = same_home p.reading c.next_region region ns c bs stands.known refl alive stands.home;
+      home = same_home p.reading c.next_region region ns (lent_now g) c bs stands.known refl alive stands.home;
     }
 
 -- ---- what is lent
@@ -561,8 +579,8 @@ module _ (p : Source) (x : Exits) (bs : List InScope) (c : Context) (stands : Is
 -- ---- a function begins
 
 -- before its own region is open
-pub other_same : (m : Reading) (region : ℕ) (ns : List ℕ) (c : RegionContext) (bs : List InScope) → Stand m c bs → (r : Region) → IsOtherBy m 0 r → lives_in bs r ≡ lives_in (Names 0 (opened_life m region ns) true ∷ bs) r
-other_same m region ns c bs stand r other = opened_same m 0 region ns c bs stand r other
+pub other_same : (m : Reading) (region : ℕ) (ns : List ℕ) (us : ℕ → Bool) (c : RegionContext) (bs : List InScope) → Stand m c bs → (r : Region) → IsOtherBy m 0 r → lives_in bs r ≡ lives_in (Names 0 (opened_life m region ns us) true ∷ bs) r
+other_same m region ns us c bs stand r other = opened_same m 0 region ns us c bs stand r other
 
 named_other : (m : Reading) (k : ℕ) (r : Region) → IsNamed k r → IsOtherBy m 0 r
 named_other AsHeap k r named = tt

@@ -1,32 +1,36 @@
 -- The typing of stacks: it stays when the typing of the world grows, and what is found of the locals in scope.
-use Rattle.std.proofs.Common.{◌≡◌, ◌≢◌, inl, inr, ℕ, ◌≤◌, ◌<◌, Bool, true, false, List, [], ◌∷◌, Option, Some, None, slice_get, eqb, refl, sym, ap, subst, ◌∙◌, arith}
-use Rattle.std.specs.Prelude.{if◌then◌else◌}
+use Rattle.std.proofs.Common.{◌≡◌, ◌≢◌, inl, inr, ℕ, ◌≤◌, ◌<◌, ◌+◌, Bool, true, false, List, [], ◌∷◌, Option, Some, None, slice_get, eqb, refl, sym, ap, subst, ◌∙◌, arith}
+use Rattle.std.specs.Prelude.{if◌then◌else◌, nat_lt, ◌⊎◌, suc, length}
+use Rattle.std.proofs.lemmas.Bool.{ltb-true}
 use Rattle.std.proofs.lemmas.Bool.{eqb-true, eq-eqb, false_from_ne_true}
 use Rattle.cyc_syntax.specs.declared.tree.PointerKind.TheVariants as marks
 use Rattle.cyc_types.specs.declared.typed.PointerOperator.{PointerOperator}
+use Rattle.cyc_types.specs.declared.typed.Callee.{Callee}
+use Rattle.cyc_types.specs.declared.region.Region.{Region as Region'}
 use Rattle.cyc_types.specs.Types.{Ty, ValueType, result_type}
 use Rattle.cyc_types.specs.Types as types
-use Rattle.cyc_types.specs.TypedTrees.{Operations, NoOperations, ThenCompute, ThenTest, ThenPointer, ThenPointerPeek, Function}
+use Rattle.cyc_types.specs.TypedTrees.{Operations, NoOperations, ThenCompute, ThenTest, ThenPointer, ThenPointerPeek, Arguments, Function}
 use Rattle.cyc_types.specs.typing.Tests.{is_tested, is_moved}
 use Rattle.cyc_types.specs.typing.WellTyped.{LocalInScope, Context, HasLocal, HasPlace, Converts, PointerOperation, adds, subtracts, equals, differs, thin_null, thin_there, fat_null, fat_there, null_is, null_is_not, IsChain}
 use Rattle.cyc_types.specs.flow.States as flow
-use Rattle.cyc_types.specs.flow.States.{Full, with_fullness}
+use Rattle.cyc_types.specs.flow.States.{Unreached, Reached, Full, fullness, is_reached, with_fullness}
+use Rattle.cyc_meaning.specs.Values.{Operand}
 use Rattle.cyc_meaning.specs.Values as values
-use Rattle.cyc_meaning.specs.State.{Object, Region, Access, Found, Closed, Missing, found_region, is_open, heap_number, globals_number, World, FillElement, AwaitingPlace, SwapRight, Write, Environment, with_local, Awaiting, Entry, Needs, NeedsPlace, Discard, Rest, Join, Loop, CloseRegion, CloseLexical, EndLoan, Handler, Caller, Main}
+use Rattle.cyc_meaning.specs.State.{Object, Owner, Pass, MakeFields, Region, Access, Found, Closed, Missing, found_region, is_open, heap_number, globals_number, World, FillElement, AwaitingPlace, SwapRight, Write, Environment, with_local, Awaiting, Entry, Needs, NeedsPlace, Discard, Rest, Join, Loop, CloseRegion, CloseLexical, EndLoan, Handler, Caller, Main}
 use Rattle.cyc_meaning.specs.Nesting.{ends_of, IsFound, AreOpen, IsHome, IsNested}
 use Rattle.cyc_meaning.specs.Nesting as nesting
-use Rattle.cyc_soundness.specs.Lives.{Life, OfRegion, OfObject, Never, Kept, heap_life, RunTy, RunValue, Void, Null, Value, Lives, at, value_at, Reading}
+use Rattle.cyc_soundness.specs.Lives.{Life, OfRegion, OfObject, Never, Kept, heap_life, RunTy, RunValue, Void, Null, Value, Seen, Lives, at, value_at, Reading}
 use Rattle.cyc_soundness.specs.Lives as lives
-use Rattle.cyc_soundness.specs.Worlds.{ObjectType, Typing, IsKnownLife, IsTyped, IsFull, variable_type, IsEndOf, whole, behind, Outlasts, alike, heap as for_ever, globals as with_globals, stays, encloses, IsOpenLife, Grows}
-use Rattle.cyc_soundness.specs.Frames.{IsAmong, first, later, Bound, InScope, Variable, Level, Home, lives_in, read, home_of, IsHomed, IsScope, AreBelow, IsBound, AreVariables, IsLasting, AreLiveIn, home_in, LiveIn, IsInner, Within, itself, older, IsSet, AreSet, Holds, IsFullAt, AreFullAt, Exits}
-use Rattle.cyc_soundness.specs.Classes.{Relied, InOperations, Source}
-use Rattle.cyc_soundness.specs.Stacks.{IsAccepted, Want, Nothing, Val, PlaceOf, Go, held, Waits, IsArrayOf, Keeps, IsSpot, of_local, of_global, of_cell, KeepsPlace, AreSwapped, IsStack}
+use Rattle.cyc_soundness.specs.Worlds.{IsHeld, Holder, Nobody, Hand, In, Lent, Claims, ClaimsBy, giving, given, is_lent_by, Stays, IsOpenIn, AreOperands, ObjectType, Typing, IsKnownLife, IsTyped, IsFull, variable_type, IsEndOf, whole, behind, Outlasts, alike, heap as for_ever, globals as with_globals, stays, encloses, IsOpenLife, Grows}
+use Rattle.cyc_soundness.specs.Frames.{IsAmong, first, later, Bound, InScope, Variable, Level, Home, lives_in, read, IsThere, home_of, IsHomed, IsScope, AreBelow, IsBound, AreVariables, IsLasting, AreLiveIn, home_in, LiveIn, IsInner, Within, itself, older, IsSet, AreSet, IsFullIn, HoldsIts, Holds, IsFullAt, AreFullAt, Exits, relying}
+use Rattle.cyc_soundness.specs.Classes.{is_full, Relied, IsSparedBy, IsSpared, InOperations, Source}
+use Rattle.cyc_soundness.specs.Stacks.{IsAccepted, Want, Nothing, Val, PlaceOf, Go, held, Waits, IsArrayOf, AreClaimed, operands_in, Comes, Keeps, IsSpot, of_local, of_global, of_cell, KeepsPlace, AreSwapped, IsStack}
 use Rattle.cyc_soundness.specs.Stacks as stacks
-use Rattle.cyc_soundness.proofs.Numbers.{same_or_other}
-use Rattle.cyc_soundness.proofs.FlowLemmas.{other_set, reached_with}
+use Rattle.cyc_soundness.proofs.Numbers.{same_or_other, some_same}
+use Rattle.cyc_soundness.proofs.FlowLemmas.{other_set, other_full, full_put, reached_with}
 use Rattle.cyc_soundness.proofs.ValueLemmas.{ends_through}
-use Rattle.cyc_soundness.proofs.RegionLemmas.{lasting_more}
-use Rattle.cyc_soundness.proofs.WorldLemmas.{dynamic_open, type_grown, result_grown, operands_grown, variables_grown, holds_grown}
+use Rattle.cyc_soundness.proofs.RegionLemmas.{lasting_more, there_lasting, there_open}
+use Rattle.cyc_soundness.proofs.WorldLemmas.{dynamic_open, giving_grows, claims_stay, claims_other, given_now, variables_other, type_grown, result_grown, operands_grown, variables_grown, holds_grown}
 
 -- the functions of a program, each of which the rules accept
 abbrev pub AreAccepted : Source → Type 0
@@ -39,60 +43,335 @@ module _ (p : Source) (g h : Typing) (grows : Grows g h) where
   array_grown (lives.Pointer m t l ∷ []) object count index (less, (y, there, shown, life, cells, filled, few)) = (less, (y, grows.objects object y there, shown, life, cells, grows.filled object index filled, few))
   array_grown ts object count index is = absurd is
 
-  keeps_grown : (a : Awaiting) (ts : List RunTy) → Keeps g a ts → Keeps h a ts
-  keeps_grown (FillElement object count index level kind element) ts are = array_grown ts object count index are
-  keeps_grown a ts are = operands_grown g h grows ts (held a) are
-
   pub spot_grown : (bs : List InScope) (t : Ty) (f : flow.State) (v : values.Value) → IsSpot p g bs t f v → IsSpot p h bs t f v
   spot_grown bs t f v (of_local b among of_type is) = of_local b among of_type is
   spot_grown bs t f v (of_global number there same) = of_global number there same
   spot_grown bs t f v (of_cell place r alive has) = of_cell place r alive (type_grown g h grows (lives.Pointer marks.NonNull (read bs t) (lives_in bs r)) place has)
 
   keeps_place_grown : (bs : List InScope) (a : AwaitingPlace) (r : RunTy) (f : flow.State) → KeepsPlace p g bs a r f → KeepsPlace p h bs a r f
-  keeps_place_grown bs (SwapRight kind peek left) r f (t, same, plain, spot) = (t, same, plain, spot_grown bs t f left spot)
+  keeps_place_grown bs (SwapRight kind peek is_cell left) r f (t, same, plain, spot) = (t, same, plain, spot_grown bs t f left spot)
   keeps_place_grown bs a r f keeps = tt
 
   pub swapped_grown : (bs : List InScope) (f : flow.State) (ws : List Write) → AreSwapped p g bs f ws → AreSwapped p h bs f ws
   swapped_grown bs f [] are = tt
   swapped_grown bs f (w ∷ ws) ((t, plain, spot, is), are) = ((t, plain, spot_grown bs t f w.place spot, result_grown g h grows (Value (read bs t)) w.operand is), swapped_grown bs f ws are)
 
-  one_at_grown : (n : ℕ) (b : InScope) → IsFullAt g n b → IsFullAt h n b
-  one_at_grown n (Variable b) is = λ same. grows.filled b.object 1 (is same)
-  one_at_grown n b is = tt
+  one_at_grown : (n : ℕ) (t : RunTy) (b : InScope) → IsFullAt g n t b → IsFullAt h n t b
+  one_at_grown n t (Variable b) is = λ same. (grows.filled b.object 1 (is same).0, (is same).1)
+  one_at_grown n t b is = tt
 
-  full_at_grown : (n : ℕ) (bs : List InScope) → AreFullAt g n bs → AreFullAt h n bs
-  full_at_grown n [] are = tt
-  full_at_grown n (b ∷ bs) (is, are) = (one_at_grown n b is, full_at_grown n bs are)
+  pub full_at_grown : (n : ℕ) (t : RunTy) (bs : List InScope) → AreFullAt g n t bs → AreFullAt h n t bs
+  full_at_grown n t [] are = tt
+  full_at_grown n t (b ∷ bs) (is, are) = (one_at_grown n t b is, full_at_grown n t bs are)
 
-  pub stack_grown : (x : Exits) (bs : List InScope) (w : Want) (k : List Entry) → IsStack p g x bs w k → IsStack p h x bs w k
-  stack_grown x bs Nothing [] is = tt
-  stack_grown x bs (Val r f) (Needs a ∷ k) (ts, cs, next, waits, are, rest) = (ts, cs, next, waits, keeps_grown a ts are, stack_grown x cs next k rest)
-  stack_grown x bs (PlaceOf t l f) (NeedsPlace a ∷ k) (next, waits, keeps, rest) = (next, waits, keeps_place_grown bs a t f keeps, stack_grown x bs next k rest)
-  stack_grown x bs (Val r f) (Discard ∷ k) is = stack_grown x bs (Go f) k is
-  stack_grown x bs (Go f) (Discard ∷ k) is = stack_grown x bs (Go f) k is
-  stack_grown x bs (Go f) (Rest js ∷ k) (cs, c, end, within, stands, continues, rest) = (cs, c, end, within, stands, continues, stack_grown x cs (Go end) k rest)
-  stack_grown x bs (Go f) (Join ∷ k) (end, i, rest) = (end, i, stack_grown x bs (Go end) k rest)
-  stack_grown x bs (Go f) (Loop condition body ∷ k) (y, l, v, u, end, same, loop, i, rest) = (y, l, v, u, end, same, loop, i, stack_grown y bs (Go end) k rest)
-  stack_grown x bs (Go f) (CloseRegion region home ∷ k) (cs, number, l, alive, end, same, i, live, rest) = (cs, number, l, alive, end, same, i, live, stack_grown x cs (Go end) k rest)
-  stack_grown x bs (Go f) (CloseLexical region ∷ k) (end, i, live, rest) = (end, i, live, stack_grown x bs (Go end) k rest)
-  stack_grown x bs (Go f) (EndLoan lent ∷ k) (y, end, same, i, full, rest) = (y, end, same, i, full_at_grown lent bs full, stack_grown y bs (Go end) k rest)
-  stack_grown x bs (Go f) (Handler cs ∷ k) (y, c, start, end, same, stands, holds, catches, i, rest) =
-      (y, c, start, end, same, stands, holds_grown g h grows start bs holds, catches, i, stack_grown y bs (Go end) k rest)
-  stack_grown x bs (Go f) (Caller e ∷ k) (y, cs, end, loop, blocked, gives, bound, variables, live, holds, rest) = (
-    y,
-    cs,
-    end,
-    loop,
-    blocked,
-    gives,
-    bound,
-    variables_grown g h grows cs variables,
-    live,
-    holds_grown g h grows end cs holds,
-    stack_grown y cs (Val x.gives end) k rest,
+  -- what waits keeps its types, and whoever claims its keys
+  keeps_grown : (below : ℕ) (a : Awaiting) (ts : List RunTy) → (AreOperands g ts (held a) → AreClaimed g.own below ts → AreClaimed h.own below ts) → Keeps g below a ts → Keeps h below a ts
+  keeps_grown below (FillElement object count index level kind element) ts claimed are = array_grown ts object count index are
+  keeps_grown below a [] claimed are = operands_grown g h grows [] (held a) are
+  keeps_grown below a (t ∷ ts) claimed (are, claims) = (operands_grown g h grows (t ∷ ts) (held a) are, claimed are claims)
+
+claimed_stays : (g h : Typing) → Stays g h → (i : ℕ) (ts : List RunTy) → AreClaimed g.own i ts → AreClaimed h.own i ts
+claimed_stays g h same' i [] are = tt
+claimed_stays g h same' i (t ∷ ts) (is, are) = (claims_stay g h same' (Hand (i + length ts)) t is, claimed_stays g h same' i ts are)
+
+-- also behind a loan, and in a call around
+stays_behind : (g h : Typing) → Stays g h → (j : ℕ) → Stays (record g { loans = j }) (record h { loans = j })
+stays_behind g h same' j = record {
+  grows = record { objects = same'.grows.objects; filled = same'.grows.filled; fields = same'.grows.fields; kept = same'.grows.kept };
+  own = same'.own;
+  depth = same'.depth;
+  loans = refl;
+}
+
+stays_outside : (g h : Typing) → Stays g h → (d : ℕ) → Stays (record g { depth = d }) (record h { depth = d })
+stays_outside g h same' d = record {
+  grows = record { objects = same'.grows.objects; filled = same'.grows.filled; fields = same'.grows.fields; kept = same'.grows.kept };
+  own = same'.own;
+  depth = refl;
+  loans = same'.loans;
+}
+
+pub stack_grown : (p : Source) (g h : Typing) → Stays g h → (x : Exits) (bs : List InScope) (w : Want) (k : List Entry) → IsStack p g x bs w k → IsStack p h x bs w k
+stack_grown p g h same' x bs Nothing [] is = tt
+stack_grown p g h same' x bs (Val r f) (Needs a ∷ k) (ts, cs, next, waits, are, rest) =
+    (ts, cs, next, waits, keeps_grown p g h same'.grows (operands_in k) a ts (λ operands claims. claimed_stays g h same' (operands_in k) ts claims) are, stack_grown p g h same' x cs next k rest)
+stack_grown p g h same' x bs (PlaceOf t l f) (NeedsPlace a ∷ k) (next, waits, keeps, rest) = (next, waits, keeps_place_grown p g h same'.grows bs a t f keeps, stack_grown p g h same' x bs next k rest)
+stack_grown p g h same' x bs (Val r f) (Discard ∷ k) is = stack_grown p g h same' x bs (Go f) k is
+stack_grown p g h same' x bs (Go f) (Discard ∷ k) is = stack_grown p g h same' x bs (Go f) k is
+stack_grown p g h same' x bs (Go f) (Rest js ∷ k) (cs, c, end, within, stands, continues, rest) = (cs, c, end, within, stands, continues, stack_grown p g h same' x cs (Go end) k rest)
+stack_grown p g h same' x bs (Go f) (Join ∷ k) (end, i, rest) = (end, i, stack_grown p g h same' x bs (Go end) k rest)
+stack_grown p g h same' x bs (Go f) (Loop condition body ∷ k) (y, l, v, u, end, same, loop, i, rest) = (y, l, v, u, end, same, loop, i, stack_grown p g h same' y bs (Go end) k rest)
+stack_grown p g h same' x bs (Go f) (CloseRegion region home ∷ k) (cs, number, l, alive, end, same, i, live, rest) = (cs, number, l, alive, end, same, i, live, stack_grown p g h same' x cs (Go end) k rest)
+stack_grown p g h same' x bs (Go f) (CloseLexical region ∷ k) (end, i, live, rest) = (end, i, live, stack_grown p g h same' x bs (Go end) k rest)
+stack_grown p g h same' x bs (Go f) (EndLoan lent ∷ k) (y, end, j, t, same, loans, claims, i, full, variables, rest) = (
+  y,
+  end,
+  j,
+  t,
+  same,
+  same'.loans ∙ loans,
+  claims_stay g h same' (Lent j) t claims,
+  i,
+  full_at_grown p g h same'.grows lent t bs full,
+  variables_grown (record g { loans = j }) (record h { loans = j }) (stays_behind g h same' j) bs variables,
+  stack_grown p (record g { loans = j }) (record h { loans = j }) (stays_behind g h same' j) y bs (Go end) k rest,
+)
+stack_grown p g h same' x bs (Go f) (Handler cs ∷ k) (y, c, start, end, same, stands, holds, catches, i, rest) =
+    (y, c, start, end, same, stands, holds_grown g h same' start bs holds, catches, i, stack_grown p g h same' y bs (Go end) k rest)
+stack_grown p g h same' x bs (Go f) (Caller e ∷ k) (y, cs, end, d, depth, loop, blocked, gives, bound, variables, live, holds, rest) = (
+  y,
+  cs,
+  end,
+  d,
+  same'.depth ∙ depth,
+  loop,
+  blocked,
+  gives,
+  bound,
+  variables_grown (record g { depth = d }) (record h { depth = d }) (stays_outside g h same' d) cs variables,
+  live,
+  holds_grown (record g { depth = d }) (record h { depth = d }) (stays_outside g h same' d) end cs holds,
+  stack_grown p (record g { depth = d }) (record h { depth = d }) (stays_outside g h same' d) y cs (Val x.gives end) k rest,
+)
+stack_grown p g h same' x bs (Go f) (Main ∷ k) (loop, int, gives, blocked, rest) = (loop, int, gives, blocked, stack_grown p g h same' x bs Nothing k rest)
+stack_grown p g h same' x bs w k is = absurd is
+
+-- ---- a key changes hands
+
+-- nothing that waits on this stack claims a key by what had it
+abbrev pub IsAbove : Exits → Typing → List Entry → Holder → Type 0
+IsAbove x g k Nobody = Unit {0}
+IsAbove x g k (Hand i) = operands_in k ≤ i
+IsAbove x g k (In d n) = ((d ≡ g.depth) × IsSpared x.relied n) ⊎ (g.depth < d)
+IsAbove x g k (Lent j) = g.loans ≤ j
+
+pub hand_same : (i j : ℕ) → Hand i ≡ Hand j → i ≡ j
+hand_same i j e = let k : Hand i ≡ Hand j = e in cc
+
+in_same : (c d m n : ℕ) → In c m ≡ In d n → (c ≡ d) × (m ≡ n)
+in_same c d m n e = let k : In c m ≡ In d n = e in (cc, cc)
+
+lent_same : (i j : ℕ) → Lent i ≡ Lent j → i ≡ j
+lent_same i j e = let k : Lent i ≡ Lent j = e in cc
+
+hand_other : (x : Exits) (g : Typing) (k : List Entry) (i : ℕ) (old : Holder) → IsAbove x g k old → i < operands_in k → Hand i ≢ old
+hand_other x g k i Nobody above less = λ e. (let z : Hand i ≡ Nobody = e in absurd (cc))
+hand_other x g k i (Hand j) above less = λ e. (let same : i ≡ j = hand_same i j e in absurd (omega (arith, above, less, same)))
+hand_other x g k i (In d n) above less = λ e. (let z : Hand i ≡ In d n = e in absurd (cc))
+hand_other x g k i (Lent j) above less = λ e. (let z : Hand i ≡ Lent j = e in absurd (cc))
+
+lent_other : (x : Exits) (g : Typing) (k : List Entry) (i : ℕ) (old : Holder) → IsAbove x g k old → i < g.loans → Lent i ≢ old
+lent_other x g k i Nobody above less = λ e. (let z : Lent i ≡ Nobody = e in absurd (cc))
+lent_other x g k i (Hand j) above less = λ e. (let z : Lent i ≡ Hand j = e in absurd (cc))
+lent_other x g k i (In d n) above less = λ e. (let z : Lent i ≡ In d n = e in absurd (cc))
+lent_other x g k i (Lent j) above less = λ e. (let same : i ≡ j = lent_same i j e in absurd (omega (arith, above, less, same)))
+
+-- what is lent stays so
+pub none_lent : (x : Exits) (g : Typing) (k : List Entry) (old : Holder) → IsAbove x g k old → is_lent_by g.loans old ≡ false
+none_lent x g k Nobody above = refl
+none_lent x g k (Hand i) above = refl
+none_lent x g k (In d n) above = refl
+none_lent x g k (Lent j) above = not_below j g.loans above
+  where
+    not_below : (j n : ℕ) → n ≤ j → nat_lt j n ≡ false
+    not_below j n less = false_from_ne_true (nat_lt j n) (λ e. (let below : j < n = ltb-true j n e in absurd (omega (arith, below, less))))
+
+operands_long : (g : Typing) (ts : List RunTy) (vs : List Operand) → AreOperands g ts vs → length ts ≡ length vs
+operands_long g [] [] are = refl
+operands_long g [] (v ∷ vs) are = absurd are
+operands_long g (t ∷ ts) [] are = absurd are
+operands_long g (t ∷ ts) (v ∷ vs) (is, are) = ap suc (operands_long g ts vs are)
+
+-- what waits in an entry, and what it claims
+pub keeps_fields : (g : Typing) (i : ℕ) (owner : Owner) (before : List Operand) (rest : Arguments) (ts : List RunTy) → AreOperands g ts before → AreClaimed g.own i ts → Keeps g i (MakeFields owner before rest) ts
+keeps_fields g i owner before rest [] are claims = are
+keeps_fields g i owner before rest (t ∷ ts) are claims = (are, claims)
+
+pub fields_kept : (g : Typing) (i : ℕ) (owner : Owner) (before : List Operand) (rest : Arguments) (ts : List RunTy) → Keeps g i (MakeFields owner before rest) ts → AreOperands g ts before × AreClaimed g.own i ts
+fields_kept g i owner before rest [] are = (are, tt)
+fields_kept g i owner before rest (t ∷ ts) (are, claims) = (are, claims)
+
+pub keeps_passed : (g : Typing) (i : ℕ) (callee : Callee) (before : List Operand) (rest : Arguments) (ts : List RunTy) → AreOperands g ts before → AreClaimed g.own i ts → Keeps g i (Pass callee before rest) ts
+keeps_passed g i callee before rest [] are claims = are
+keeps_passed g i callee before rest (t ∷ ts) are claims = (are, claims)
+
+pub passed_kept : (g : Typing) (i : ℕ) (callee : Callee) (before : List Operand) (rest : Arguments) (ts : List RunTy) → Keeps g i (Pass callee before rest) ts → AreOperands g ts before × AreClaimed g.own i ts
+passed_kept g i callee before rest [] are = (are, tt)
+passed_kept g i callee before rest (t ∷ ts) (are, claims) = (are, claims)
+
+-- a value for an entry in which no operand waits
+pub comes_alone : (g : Typing) (k : List Entry) (r : RunValue) → ClaimsBy g.own (Hand (0 + operands_in k)) r → Comes g r k
+comes_alone g k r is = let same : 0 + operands_in k ≡ operands_in k = omega arith in subst (λ i. ClaimsBy g.own (Hand i) r) same is
+
+-- one more, above these
+pub claimed_next : (g : Typing) (i : ℕ) (t : RunTy) (ts : List RunTy) (vs : List Operand) → AreOperands g ts vs → Claims g.own (Hand (length vs + i)) t → Claims g.own (Hand (i + length ts)) t
+claimed_next g i t ts vs are is =
+    let long : length ts ≡ length vs = operands_long g ts vs are in
+    let same : length vs + i ≡ i + length ts = omega (arith, long) in
+    subst (λ j. Claims g.own (Hand j) t) same is
+
+above_needs : (x : Exits) (g : Typing) (a : Awaiting) (k : List Entry) (old : Holder) → IsAbove x g (Needs a ∷ k) old → IsAbove x g k old
+above_needs x g a k Nobody above = tt
+above_needs x g a k (Hand i) above = let few : operands_in k ≤ i = omega (arith, above) in few
+above_needs x g a k (In d n) above = above
+above_needs x g a k (Lent j) above = above
+
+above_same : (x : Exits) (g : Typing) (b : Entry) (k : List Entry) (old : Holder) → operands_in (b ∷ k) ≡ operands_in k → IsAbove x g (b ∷ k) old → IsAbove x g k old
+above_same x g b k Nobody same above = tt
+above_same x g b k (Hand i) same above = let few : operands_in k ≤ i = omega (arith, above, same) in few
+above_same x g b k (In d n) same above = above
+above_same x g b k (Lent j) same above = above
+
+above_from : (x y : Exits) (g : Typing) (k : List Entry) (old : Holder) → ((n : ℕ) → IsSpared x.relied n → IsSpared y.relied n) → IsAbove x g k old → IsAbove y g k old
+above_from x y g k Nobody less above = tt
+above_from x y g k (Hand i) less above = above
+above_from x y g k (In d n) less (inl (same, spared)) = inl (same, less n spared)
+above_from x y g k (In d n) less (inr deeper) = inr deeper
+above_from x y g k (Lent j) less above = above
+
+above_behind : (x : Exits) (g : Typing) (k : List Entry) (j : ℕ) (old : Holder) → g.loans ≡ suc j → IsAbove x g k old → IsAbove x (record g { loans = j }) k old
+above_behind x g k j Nobody same above = tt
+above_behind x g k j (Hand i) same above = above
+above_behind x g k j (In d n) same above = above
+above_behind x g k j (Lent i) same above = let few : j ≤ i = omega (arith, above, same) in few
+
+above_outside : (x y : Exits) (g : Typing) (k : List Entry) (d : ℕ) (old : Holder) → g.depth ≡ suc d → IsAbove x g k old → IsAbove y (record g { depth = d }) k old
+above_outside x y g k d Nobody same above = tt
+above_outside x y g k d (Hand i) same above = above
+above_outside x y g k d (In e n) same (inl (here, spared)) = inr (let less : d < e = omega (arith, here, same) in less)
+above_outside x y g k d (In e n) same (inr deeper) = inr (let less : d < e = omega (arith, deeper, same) in less)
+above_outside x y g k d (Lent j) same above = above
+
+-- a variable that clauses rely on is another one
+relied_other : (x y : Exits) (g : Typing) (k : List Entry) (f : flow.State) (old : Holder) (m : ℕ) → x ≡ relying y f → is_reached f ≡ true → IsAbove x g k old → IsFullIn f m → In g.depth m ≢ old
+relied_other x y g k f Nobody m same reached above full = λ e. (let z : In g.depth m ≡ Nobody = e in absurd (cc))
+relied_other x y g k f (Hand i) m same reached above full = λ e. (let z : In g.depth m ≡ Hand i = e in absurd (cc))
+relied_other x y g k f (Lent j) m same reached above full = λ e. (let z : In g.depth m ≡ Lent j = e in absurd (cc))
+relied_other x y g k f (In d n) m same reached (inr deeper) full = λ e. (let (here, number) = in_same g.depth d m n e in absurd (omega (arith, here, deeper)))
+relied_other x y g k f (In d n) m same reached (inl (here, spared)) full = λ e. (let (depth, number) = in_same g.depth d m n e in
+    let one : IsSparedBy f n = (subst (λ (z : Exits). IsSpared z.relied n) same spared).0 in
+    let z : true ≡ false = sym (subst (λ i. IsFullIn f i) number full) ∙ not_full f n reached one in absurd (cc))
+  where
+    not_full : (f : flow.State) (n : ℕ) → is_reached f ≡ true → IsSparedBy f n → is_full (fullness f n) ≡ false
+    not_full Unreached n reached one = absurd (let k : false ≡ true = reached in cc)
+    not_full (Reached as') n reached one = one
+
+outer_other : (x : Exits) (g : Typing) (k : List Entry) (d : ℕ) (old : Holder) (m : ℕ) → g.depth ≡ suc d → IsAbove x g k old → In d m ≢ old
+outer_other x g k d Nobody m same above = λ e. (let z : In d m ≡ Nobody = e in absurd (cc))
+outer_other x g k d (Hand i) m same above = λ e. (let z : In d m ≡ Hand i = e in absurd (cc))
+outer_other x g k d (Lent j) m same above = λ e. (let z : In d m ≡ Lent j = e in absurd (cc))
+outer_other x g k d (In e n) m same (inl (here, spared)) = λ q. (let (one, two) = in_same d e m n q in absurd (omega (arith, one, here, same)))
+outer_other x g k d (In e n) m same (inr deeper) = λ q. (let (one, two) = in_same d e m n q in absurd (omega (arith, one, deeper, same)))
+
+-- a local that is not full is another one than those that are
+pub emptied_other : (g : Typing) (a : flow.Fullness) (f : flow.State) (n m : ℕ) → is_full a ≡ false → is_reached f ≡ true → IsFullIn (with_fullness a f n) m → In g.depth m ≢ In g.depth n
+emptied_other g a f n m empty reached full e =
+    let (depth, same) = in_same g.depth g.depth m n e in
+    let k : false ≡ true = sym empty ∙ full_put a f n reached (subst (λ i. IsFullIn (with_fullness a f n) i) same full) in
+    absurd (cc)
+
+pub in_no_hand : (d m i : ℕ) → In d m ≢ Hand i
+in_no_hand d m i e = let k : In d m ≡ Hand i = e in absurd (cc)
+
+pub in_not_lent : (d m j : ℕ) → In d m ≢ Lent j
+in_not_lent d m j e = let k : In d m ≡ Lent j = e in absurd (cc)
+
+pub in_some : (d m : ℕ) → In d m ≢ Nobody
+in_some d m e = let k : In d m ≡ Nobody = e in absurd (cc)
+
+module _ (t : RunTy) (old new : Holder) where
+  one_holds_other : (g : Typing) (f : flow.State) (b : InScope) → Claims g.own old t → ((m : ℕ) → IsFullIn f m → In g.depth m ≢ old) → HoldsIts g f b → HoldsIts (giving g t new) f b
+  one_holds_other g f (Variable b) has other (set, full) = (set, λ s. claims_other g t old new (In g.depth b.number) b.of_type has (other b.number s) (full s))
+  one_holds_other g f b has other is = tt
+
+  set_other : (g : Typing) (f : flow.State) (bs : List InScope) → Claims g.own old t → ((m : ℕ) → IsFullIn f m → In g.depth m ≢ old) → AreSet g f bs → AreSet (giving g t new) f bs
+  set_other g f [] has other are = tt
+  set_other g f (b ∷ bs) has other (is, are) = (one_holds_other g f b has other is, set_other g f bs has other are)
+
+  -- what is known of locals stays so, where none of them had the key
+  pub holds_other : (g : Typing) (f : flow.State) (bs : List InScope) → Claims g.own old t → ((m : ℕ) → IsFullIn f m → In g.depth m ≢ old) → Holds g f bs → Holds (giving g t new) f bs
+  holds_other g f bs has other (reached, are) = (reached, set_other g f bs has other are)
+
+  claimed_other : (g : Typing) (i : ℕ) (ts : List RunTy) → Claims g.own old t → ((j : ℕ) → j < i + length ts → Hand j ≢ old) → AreClaimed g.own i ts → AreClaimed (given t new g.own) i ts
+  claimed_other g i [] has other are = tt
+  claimed_other g i (u ∷ ts) has other (is, are) = (
+    claims_other g t old new (Hand (i + length ts)) u has (other (i + length ts) (let less : i + length ts < i + suc (length ts) = omega arith in less)) is,
+    claimed_other g i ts has (λ j less. other j (let more : j < i + suc (length ts) = omega (arith, less) in more)) are,
   )
-  stack_grown x bs (Go f) (Main ∷ k) (loop, int, gives, blocked, rest) = (loop, int, gives, blocked, stack_grown x bs Nothing k rest)
-  stack_grown x bs w k is = absurd is
+
+  -- A stack stays typed while a key changes hands that nothing on it claims.
+  pub stack_other : (p : Source) (g : Typing) (x : Exits) (bs : List InScope) (w : Want) (k : List Entry) → Claims g.own old t → IsAbove x g k old → IsStack p g x bs w k → IsStack p (giving g t new) x bs w k
+  stack_other p g x bs Nothing [] has above is = tt
+  stack_other p g x bs (Val r f) (Needs a ∷ k) has above (ts, cs, next, waits, are, rest) = (
+    ts,
+    cs,
+    next,
+    waits,
+    keeps_grown p g (giving g t new) (giving_grows g t new) (operands_in k) a ts (λ operands claims. claimed_other g (operands_in k) ts has
+        (λ j less. hand_other x g (Needs a ∷ k) j old above (let long : length ts ≡ length (held a) = operands_long g ts (held a) operands in let few : j < length (held a) + operands_in k = omega (arith, less, long) in few)) claims) are,
+    stack_other p g x cs next k has (above_needs x g a k old above) rest,
+  )
+  stack_other p g x bs (PlaceOf u l f) (NeedsPlace a ∷ k) has above (next, waits, keeps, rest) = (next, waits, keeps_place_grown p g (giving g t new) (giving_grows g t new) bs a u f keeps, stack_other p g x bs next k has (above_same x g (NeedsPlace a) k old refl above) rest)
+  stack_other p g x bs (Val r f) (Discard ∷ k) has above is = stack_other p g x bs (Go f) k has (above_same x g Discard k old refl above) is
+  stack_other p g x bs (Go f) (Discard ∷ k) has above is = stack_other p g x bs (Go f) k has (above_same x g Discard k old refl above) is
+  stack_other p g x bs (Go f) (Rest js ∷ k) has above (cs, c, end, within, stands, continues, rest) =
+      (cs, c, end, within, stands, continues, stack_other p g x cs (Go end) k has (above_same x g (Rest js) k old refl above) rest)
+  stack_other p g x bs (Go f) (Join ∷ k) has above (end, i, rest) = (end, i, stack_other p g x bs (Go end) k has (above_same x g Join k old refl above) rest)
+  stack_other p g x bs (Go f) (Loop condition body ∷ k) has above (y, l, v, u, end, same, loop, i, rest) =
+      let inner = above_from x y g k old (λ n spared. subst (λ (z : Exits). IsSpared z.relied n) same spared) (above_same x g (Loop condition body) k old refl above) in
+      (y, l, v, u, end, same, loop, i, stack_other p g y bs (Go end) k has inner rest)
+  stack_other p g x bs (Go f) (CloseRegion region home ∷ k) has above (cs, number, l, alive, end, same, i, live, rest) =
+      (cs, number, l, alive, end, same, i, live, stack_other p g x cs (Go end) k has (above_same x g (CloseRegion region home) k old refl above) rest)
+  stack_other p g x bs (Go f) (CloseLexical region ∷ k) has above (end, i, live, rest) = (end, i, live, stack_other p g x bs (Go end) k has (above_same x g (CloseLexical region) k old refl above) rest)
+  stack_other p g x bs (Go f) (EndLoan lent ∷ k) has above (y, end, j, u, same, loans, claims, i, full, variables, rest) =
+      let here = above_same x g (EndLoan lent) k old refl above in
+      let inner = above_from x y g k old (λ n spared. subst (λ (z : Exits). IsSpared z.relied n) same spared) here in
+      let behind' = above_behind y g k j old loans inner in (
+        y,
+        end,
+        j,
+        u,
+        same,
+        loans,
+        claims_other g t old new (Lent j) u has (lent_other x g (EndLoan lent ∷ k) j old above (let less : j < g.loans = omega (arith, loans) in less)) claims,
+        i,
+        full_at_grown p g (giving g t new) (giving_grows g t new) lent u bs full,
+        variables_other (record g { loans = j }) t old new bs has (none_lent y (record g { loans = j }) k old behind') variables,
+        stack_other p (record g { loans = j }) y bs (Go end) k has behind' rest,
+      )
+  stack_other p g x bs (Go f) (Handler cs ∷ k) has above (y, c, start, end, same, stands, holds, catches, i, rest) =
+      let here = above_same x g (Handler cs) k old refl above in
+      let inner = above_from x y g k old (λ n spared. (subst (λ (z : Exits). IsSpared z.relied n) same spared).1) here in (
+        y,
+        c,
+        start,
+        end,
+        same,
+        stands,
+        holds_other g start bs has (λ m full. relied_other x y g k start old m same holds.0 here full) holds,
+        catches,
+        i,
+        stack_other p g y bs (Go end) k has inner rest,
+      )
+  stack_other p g x bs (Go f) (Caller e ∷ k) has above (y, cs, end, d, depth, loop, blocked, gives, bound, variables, live, holds, rest) =
+      let here = above_same x g (Caller e) k old refl above in
+      let outer = above_outside x y g k d old depth here in (
+        y,
+        cs,
+        end,
+        d,
+        depth,
+        loop,
+        blocked,
+        gives,
+        bound,
+        variables_other (record g { depth = d }) t old new cs has (none_lent y (record g { depth = d }) k old outer) variables,
+        live,
+        holds_other (record g { depth = d }) end cs has (λ m full. outer_other x g k d old m depth here) holds,
+        stack_other p (record g { depth = d }) y cs (Val x.gives end) k has outer rest,
+      )
+  stack_other p g x bs (Go f) (Main ∷ k) has above (loop, int, gives, blocked, rest) = (loop, int, gives, blocked, stack_other p g x bs Nothing k has (above_same x g Main k old refl above) rest)
+  stack_other p g x bs w k has above is = absurd is
 
 -- ---- what has no value is only dropped
 
@@ -123,6 +402,9 @@ pointer_left (null_is_not k t r) e = let z : types.Null ≡ types.Void = e in ab
 
 value_void : {t : RunTy} → Value t ≡ Void → ⊥
 value_void {t} e = let k : Value t ≡ Void = e in absurd (cc)
+
+seen_void : {t : RunTy} → Seen t ≡ Void → ⊥
+seen_void {t} e = let k : Seen t ≡ Void = e in absurd (cc)
 
 null_void : Null ≡ Void → ⊥
 null_void e = cc
@@ -168,7 +450,7 @@ void_waits (stacks.indexes c t r f h stands evaluates target alive) e = value_vo
 void_waits (stacks.advances t r f target alive) e = value_void e
 void_waits (stacks.counts_elements t l f) e = value_void e
 void_waits (stacks.places_by c m t r f h stands makes alive) e = value_void e
-void_waits (stacks.makes_plain t r f alive owner kind) e = value_void e
+void_waits (stacks.makes_plain t r f plain alive owner kind) e = value_void e
 void_waits (stacks.makes_fields c done t ts n ls r f h alive owner stands passes fields) e = value_void e
 void_waits (stacks.makes_array c t r f alive owner stands repeats) e = value_void e
 void_waits (stacks.fills cs c t r f h same alive stands repeats i) e = value_void e
@@ -177,9 +459,10 @@ void_waits (stacks.initialises cs c t f h within stands new number kind continue
 void_waits {bs = bs} (stacks.chooses c d v f g h i tested first_stands second_stands one two j k) e = void_tested (lives_in bs) v e tested
 void_waits {bs = bs} (stacks.tests l v f h loop) e = void_tested (lives_in bs) v e loop.tested
 void_waits (stacks.returns t u f h result gives) e = value_void e
+void_waits (stacks.closes_by_key r f) e = value_void e
 void_waits (stacks.throws f h) e = value_void e
-void_waits (stacks.opens_by cs c b r f h i loans within stands among number set less alive next continues again) e = value_void e
-void_waits (stacks.aliases cs c b u t f h i loans within stands among number set unique known of_type alive next continues again) e = value_void e
+void_waits (stacks.opens_by cs c b r f h i loans within stands among number of_type set spared full less alive next continues again) e = seen_void e
+void_waits (stacks.aliases cs c b u t f h i loans within stands among number set spared full unique known of_type alive next continues again) e = seen_void e
 
 pub void_goes : (p : Source) (g : Typing) (x : Exits) (bs : List InScope) (f : flow.State) (r : RunValue) (k : List Entry) → r ≡ Void → IsStack p g x bs (Val r f) k → IsStack p g x bs (Go f) k
 void_goes p g x bs f r (Needs a ∷ k) e (ts, cs, next, waits, are, rest) = absurd (void_waits waits e)
@@ -229,16 +512,25 @@ among_bound e (first cs) (is, are) = is
 among_bound e (later c cs among) (is, are) = among_bound e among are
 
 pub among_variable : {b : Bound} {bs : List InScope} (g : Typing) → IsAmong (Variable b) bs → AreVariables g bs → slice_get g.objects b.object ≡ Some (variable_type b.of_type b.life b.is_hidden)
-among_variable g (first cs) (is, are) = is
+among_variable g (first cs) (is, are) = is.0
 among_variable g (later c cs among) (is, are) = among_variable g among are
+
+pub among_open : {b : Bound} {bs : List InScope} (g : Typing) → IsAmong (Variable b) bs → AreVariables g bs → IsOpenIn g b.life
+among_open g (first cs) (is, are) = is.1
+among_open g (later c cs among) (is, are) = among_open g among are
 
 pub among_live : {b : Bound} {bs : List InScope} (regions : List ℕ) → IsAmong (Variable b) bs → AreLiveIn regions bs → IsLasting regions b.life
 among_live regions (first cs) (is, are) = is
 among_live regions (later c cs among) (is, are) = among_live regions among are
 
 pub among_set : {b : Bound} {bs : List InScope} (g : Typing) (f : flow.State) → IsAmong (Variable b) bs → AreSet g f bs → IsSet f b.number → IsFull g b.object
-among_set g f (first cs) (is, are) s = is s
+among_set g f (first cs) (is, are) s = is.0 s
 among_set g f (later c cs among) (is, are) s = among_set g f among are s
+
+-- it has what it holds
+pub among_own : {b : Bound} {bs : List InScope} (g : Typing) (f : flow.State) → IsAmong (Variable b) bs → AreSet g f bs → IsFullIn f b.number → Claims g.own (In g.depth b.number) b.of_type
+among_own g f (first cs) (is, are) s = is.1 s
+among_own g f (later c cs among) (is, are) s = among_own g f among are s
 
 pub among_level : {l : ℕ} {bs : List InScope} (e : Environment) → IsAmong (Level l) bs → IsBound e.locals e.counters bs → (index : ℕ) × (e.counters l ≡ Some index)
 among_level e (first cs) (is, are) = is
@@ -297,21 +589,45 @@ bound_more e number object (b ∷ bs) (less, below) (is, are) = (is, bound_more 
 
 pub set_more : (g : Typing) (a : flow.Fullness) (f : flow.State) (number : ℕ) (bs : List InScope) → AreBelow number bs → AreSet g f bs → AreSet g (with_fullness a f number) bs
 set_more g a f number [] below are = tt
-set_more g a f number (Variable b ∷ bs) (less, below) (is, are) =
-    (λ s. is (other_set a f number b.number (λ e. (let k : b.number ≡ number = e in absurd (omega (arith, less, k)))) s), set_more g a f number bs below are)
+set_more g a f number (Variable b ∷ bs) (less, below) ((set, full), are) =
+    let apart : b.number ≢ number = (λ e. (let k : b.number ≡ number = e in absurd (omega (arith, less, k)))) in
+    ((λ s. set (other_set a f number b.number apart s), λ s. full (other_full a f number b.number apart s)), set_more g a f number bs below are)
 set_more g a f number (b ∷ bs) (less, below) (is, are) = (tt, set_more g a f number bs below are)
 
--- two numbers that are one lead to one object
-pub set_stored : (g : Typing) (e : Environment) (a : flow.Fullness) (f : flow.State) (number object : ℕ) (bs : List InScope) → IsBound e.locals e.counters bs → e.locals number ≡ Some object → IsFull g object → AreSet g f bs → AreSet g (with_fullness a f number) bs
-set_stored g e a f number object [] bound there full are = tt
-set_stored g e a f number object (Variable b ∷ bs) (here, bound) there full (is, are) = (go, set_stored g e a f number object bs bound there full are)
+-- the locals of one number have one object, and one type
+pub record OneLocal (g : Typing) (e : Environment) (bs : List InScope) (number object : ℕ) (t : RunTy) : Type 0 where
+  pub there : e.locals number ≡ Some object
+  pub life : Life
+  pub hidden : Bool
+  pub of_type : slice_get g.objects object ≡ Some (variable_type t life hidden)
+
+one_type : (g : Typing) (e : Environment) (bs : List InScope) (number object : ℕ) (t : RunTy) (b : Bound) → OneLocal g e bs number object t → e.locals b.number ≡ Some b.object
+    → slice_get g.objects b.object ≡ Some (variable_type b.of_type b.life b.is_hidden) → b.number ≡ number → (object ≡ b.object) × (b.of_type ≡ t)
+one_type g e bs number object t b one here of same =
+    let k : Some object ≡ Some b.object = sym one.there ∙ ap e.locals (sym same) ∙ here in
+    let object_is : object ≡ b.object = cc in
+    let types : Some (variable_type t one.life one.hidden) ≡ Some (variable_type b.of_type b.life b.is_hidden) = sym one.of_type ∙ ap (λ i. slice_get g.objects i) object_is ∙ of in
+    let cells : t ∷ [] ≡ b.of_type ∷ [] = ap (λ (z : ObjectType). z.cells) (some_same (variable_type t one.life one.hidden) (variable_type b.of_type b.life b.is_hidden) types) in
+    (object_is, (let z : t ≡ b.of_type = cc in sym z))
+
+pub set_stored : (g : Typing) (e : Environment) (a : flow.Fullness) (f : flow.State) (number object : ℕ) (t : RunTy) (bs cs : List InScope) → IsBound e.locals e.counters bs → AreVariables g bs → OneLocal g e cs number object t
+    → IsFull g object → is_reached f ≡ true → (is_full a ≡ true → Claims g.own (In g.depth number) t) → AreSet g f bs → AreSet g (with_fullness a f number) bs
+set_stored g e a f number object t [] cs bound variables one full reached own are = tt
+set_stored g e a f number object t (Variable b ∷ bs) cs (here, bound) ((of, opens), variables) one full reached own ((set, has), are) = ((go, goes), set_stored g e a f number object t bs cs bound variables one full reached own are)
   where
     go : IsSet (with_fullness a f number) b.number → IsFull g b.object
     go s = elim (same_or_other b.number number) [
-      | inl same ↦ (let k : Some object ≡ Some b.object = sym there ∙ ap e.locals (sym same) ∙ here in let one : object ≡ b.object = cc in subst (λ o. IsFull g o) one full)
-      | inr apart ↦ is (other_set a f number b.number apart s)
+      | inl same ↦ subst (λ i. IsFull g i) (one_type g e cs number object t b one here of same).0 full
+      | inr apart ↦ set (other_set a f number b.number apart s)
     ]
-set_stored g e a f number object (b ∷ bs) (here, bound) there full (is, are) = (tt, set_stored g e a f number object bs bound there full are)
+
+    goes : IsFullIn (with_fullness a f number) b.number → Claims g.own (In g.depth b.number) b.of_type
+    goes s = elim (same_or_other b.number number) [
+      | inl same ↦ subst (λ i. Claims g.own (In g.depth i) b.of_type) (sym same) (subst (λ u. Claims g.own (In g.depth number) u) (sym (one_type g e cs number object t b one here of same).1)
+          (own (full_put a f number reached (subst (λ i. IsFullIn (with_fullness a f number) i) same s))))
+      | inr apart ↦ has (other_full a f number b.number apart s)
+    ]
+set_stored g e a f number object t (b ∷ bs) cs (here, bound) (of, variables) one full reached own (is, are) = (tt, set_stored g e a f number object t bs cs bound variables one full reached own are)
 
 -- ---- what is lent
 
@@ -319,27 +635,35 @@ pub none_among : {A B : Type 0} {a : A} → IsAmong a [] → B
 none_among among = elim among [ ]
 
 -- what this local has is in one object
-pub full_here : (g : Typing) (e : Environment) (n object : ℕ) (bs : List InScope) → IsBound e.locals e.counters bs → e.locals n ≡ Some object → IsFull g object → AreFullAt g n bs
-full_here g e n object [] bound there full = tt
-full_here g e n object (Variable b ∷ bs) (here, bound) there full =
-    ((λ same. (let k : Some object ≡ Some b.object = sym there ∙ ap e.locals (sym same) ∙ here in let one : object ≡ b.object = cc in subst (λ o. IsFull g o) one full)), full_here g e n object bs bound there full)
-full_here g e n object (b ∷ bs) (here, bound) there full = (tt, full_here g e n object bs bound there full)
+pub full_here : (g : Typing) (e : Environment) (n object : ℕ) (t : RunTy) (bs cs : List InScope) → IsBound e.locals e.counters bs → AreVariables g bs → OneLocal g e cs n object t → IsFull g object → AreFullAt g n t bs
+full_here g e n object t [] cs bound variables one full = tt
+full_here g e n object t (Variable b ∷ bs) cs (here, bound) ((of, opens), variables) one full =
+    ((λ same. (subst (λ i. IsFull g i) (one_type g e cs n object t b one here of same).0 full, (one_type g e cs n object t b one here of same).1)), full_here g e n object t bs cs bound variables one full)
+full_here g e n object t (b ∷ bs) cs (here, bound) (of, variables) one full = (tt, full_here g e n object t bs cs bound variables one full)
 
-pub within_full_at : (g : Typing) (n : ℕ) (cs bs : List InScope) → Within cs bs → AreFullAt g n bs → AreFullAt g n cs
-within_full_at g n cs bs (itself _) are = are
-within_full_at g n cs bs (older b _ ds inner within) (is, are) = within_full_at g n cs ds within are
+pub within_full_at : (g : Typing) (n : ℕ) (t : RunTy) (cs bs : List InScope) → Within cs bs → AreFullAt g n t bs → AreFullAt g n t cs
+within_full_at g n t cs bs (itself _) are = are
+within_full_at g n t cs bs (older b _ ds inner within) (is, are) = within_full_at g n t cs ds within are
 
-refilled_set : (g : Typing) (f : flow.State) (n : ℕ) (bs : List InScope) → AreFullAt g n bs → AreSet g f bs → AreSet g (with_fullness Full f n) bs
-refilled_set g f n [] at are = tt
-refilled_set g f n (Variable b ∷ bs) (here, at) (is, are) = (go, refilled_set g f n bs at are)
+refilled_set : (g : Typing) (f : flow.State) (n : ℕ) (t : RunTy) (old : Holder) (bs : List InScope) → Claims g.own old t → ((m : ℕ) → In g.depth m ≢ old) → AreFullAt g n t bs → AreSet g f bs
+    → AreSet (giving g t (In g.depth n)) (with_fullness Full f n) bs
+refilled_set g f n t old [] has other at are = tt
+refilled_set g f n t old (Variable b ∷ bs) has other (here, at) ((set, full), are) = ((go, goes), refilled_set g f n t old bs has other at are)
   where
     go : IsSet (with_fullness Full f n) b.number → IsFull g b.object
-    go s = elim (same_or_other b.number n) [ inl same ↦ here same | inr apart ↦ is (other_set Full f n b.number apart s) ]
-refilled_set g f n (b ∷ bs) (here, at) (is, are) = (tt, refilled_set g f n bs at are)
+    go s = elim (same_or_other b.number n) [ inl same ↦ (here same).0 | inr apart ↦ set (other_set Full f n b.number apart s) ]
+
+    goes : IsFullIn (with_fullness Full f n) b.number → Claims (given t (In g.depth n) g.own) (In g.depth b.number) b.of_type
+    goes s = elim (same_or_other b.number n) [
+      | inl same ↦ subst (λ i. Claims (given t (In g.depth n) g.own) (In g.depth i) b.of_type) (sym same) (subst (λ u. Claims (given t (In g.depth n) g.own) (In g.depth n) u) (sym (here same).1) (given_now g t (In g.depth n)))
+      | inr apart ↦ claims_other g t old (In g.depth n) (In g.depth b.number) b.of_type has (other b.number) (full (other_full Full f n b.number apart s))
+    ]
+refilled_set g f n t old (b ∷ bs) has other (here, at) (is, are) = (tt, refilled_set g f n t old bs has other at are)
 
 -- what was lent is full where it is given back
-pub given_back : (g : Typing) (f : flow.State) (n : ℕ) (bs : List InScope) → AreFullAt g n bs → Holds g f bs → Holds g (with_fullness Full f n) bs
-given_back g f n bs at (reached, are) = (reached_with Full f n reached, refilled_set g f n bs at are)
+pub given_back : (g : Typing) (f : flow.State) (n : ℕ) (t : RunTy) (old : Holder) (bs : List InScope) → Claims g.own old t → ((m : ℕ) → In g.depth m ≢ old) → AreFullAt g n t bs → Holds g f bs
+    → Holds (giving g t (In g.depth n)) (with_fullness Full f n) bs
+given_back g f n t old bs has other at (reached, are) = (reached_with Full f n reached, refilled_set g f n t old bs has other at are)
 
 -- ---- regions that will end
 
@@ -362,7 +686,7 @@ globals_among (CloseLexical region ∷ k) = later region (ends_of k) (globals_am
 globals_among (entry ∷ k) = globals_among k
 
 -- the heap is none of them
-above_globals : (bound : ℕ) (k : List Entry) → nesting.AreBelow bound (ends_of k) → globals_number < bound
+pub above_globals : (bound : ℕ) (k : List Entry) → nesting.AreBelow bound (ends_of k) → globals_number < bound
 above_globals bound [] (less, are) = less
 above_globals bound (CloseRegion region home ∷ k) (less, are) = let past : globals_number < region = above_globals region k are in omega (arith, less, past)
 above_globals bound (CloseLexical region ∷ k) (less, are) = let past : globals_number < region = above_globals region k are in omega (arith, less, past)
@@ -388,10 +712,10 @@ globals_end (CloseLexical region ∷ k) = behind region (ends_of k) (globals_end
 globals_end (entry ∷ k) = globals_end k
 
 -- it will end
-pub home_lasting : (k : List Entry) → (ns : List ℕ) × IsLasting (ends_of k) (OfRegion (home_in k) ns)
+pub home_lasting : (k : List Entry) → (ns : List ℕ) × IsLasting (ends_of k) (OfRegion (home_in k) ns (λ number. false))
 home_lasting [] = ([], inr whole)
 home_lasting (CloseRegion region outer ∷ k) = (ends_of k, inr whole)
-home_lasting (CloseLexical region ∷ k) = let (ns, is) = home_lasting k in (ns, lasting_more region (ends_of k) (OfRegion (home_in k) ns) is)
+home_lasting (CloseLexical region ∷ k) = let (ns, is) = home_lasting k in (ns, lasting_more region (ends_of k) (OfRegion (home_in k) ns (λ number. false)) is)
 home_lasting (Caller outer ∷ k) = ([], inr (globals_end k))
 home_lasting (entry ∷ k) = home_lasting k
 
@@ -405,24 +729,49 @@ abbrev pub IsKeptOpen : List Region → Life → Type 0
 IsKeptOpen regions (Kept number) = is_open (slice_get regions number) ≡ true
 IsKeptOpen regions l = Unit {0}
 
-pub kept_open : (g : Typing) (regions : List Region) (objects : List Object) (l : Life) → IsTyped g regions objects → IsKnownLife g l → IsKeptOpen regions l
-kept_open g regions objects (Kept number) typed known = dynamic_open (slice_get regions number) (typed.kept number known)
-kept_open g regions objects (OfRegion number ns) typed known = tt
-kept_open g regions objects (OfObject object) typed known = tt
-kept_open g regions objects Never typed known = tt
+pub kept_open : (g : Typing) (regions : List Region) (objects : List Object) (l : Life) → IsTyped g regions objects → IsKnownLife g l → IsOpenIn g l → IsKeptOpen regions l
+kept_open g regions objects (Kept number) typed known opens = dynamic_open (slice_get regions number) ((typed.kept number known).1 (lent_held g.loans (g.own number) opens))
+  where
+    lent_held : (count : ℕ) (h : Holder) → is_lent_by count h ≡ true → IsHeld h
+    lent_held count Nobody e = absurd (let k : false ≡ true = e in cc)
+    lent_held count (Hand i) e = tt
+    lent_held count (In d n) e = tt
+    lent_held count (Lent j) e = tt
+kept_open g regions objects (OfRegion number ns us) typed known opens = tt
+kept_open g regions objects (OfObject object) typed known opens = tt
+kept_open g regions objects Never typed known opens = tt
+
+-- what has this life has not ended
+abbrev pub IsPresent : Typing → List ℕ → Life → Type 0
+IsPresent g ns l = IsLasting ns l × IsOpenIn g l
+
+pub there_present : (g : Typing) (ns : List ℕ) (bs : List InScope) (r : Region') → AreLiveIn ns bs → AreVariables g bs → IsThere bs r → IsPresent g ns (lives_in bs r)
+there_present g ns bs r live variables there = (there_lasting ns bs r live there, there_open g bs r variables there)
 
 pub object_known : (g : Typing) (regions : List Region) (objects : List Object) (number : ℕ) (t : ObjectType) → IsTyped g regions objects → slice_get g.objects number ≡ Some t → IsKnownLife g t.life
 object_known g regions objects number t typed there = let (x, m, at, flag, is) = typed.each number t there in is.known
 
 pub lasting_open : (regions : List Region) (ns : List ℕ) (l : Life) → AreOpen regions ns → is_open (slice_get regions heap_number) ≡ true → IsKeptOpen regions l → IsLasting ns l → IsOpenLife regions l
-lasting_open regions ns (OfRegion m ms) opens heap kept (inl is_heap) = subst (λ l. IsOpenLife regions l) (sym is_heap) heap
-lasting_open regions ns (OfRegion m ms) opens heap kept (inr end) = open_of regions (end_among m ms ns end) opens
+lasting_open regions ns (OfRegion m ms us) opens heap kept (inl is_heap) = subst (λ l. IsOpenLife regions l) (sym is_heap) heap
+lasting_open regions ns (OfRegion m ms us) opens heap kept (inr end) = open_of regions (end_among m ms ns end) opens
 lasting_open regions ns (OfObject o) opens heap kept is = is
 lasting_open regions ns Never opens heap kept is = is
 lasting_open regions ns (Kept number) opens heap kept is = kept
 
-around_heap : (n : ℕ) (ns : List ℕ) → OfRegion n ns ≡ heap_life → ns ≡ []
-around_heap n ns e = let k : OfRegion n ns ≡ OfRegion 0 [] = e in cc
+around_heap : (n : ℕ) (ns : List ℕ) (us : ℕ → Bool) → OfRegion n ns us ≡ heap_life → ns ≡ []
+around_heap n ns us e = ap around_of e
+  where
+    around_of : Life → List ℕ
+    around_of (OfRegion n ns us) = ns
+    around_of l = []
+
+-- what outlasts what is open is open
+pub open_outlasting : (g : Typing) (l m : Life) → Outlasts l m → IsOpenIn g m → IsOpenIn g l
+open_outlasting g l m (alike _) opens = opens
+open_outlasting g l m (for_ever _) opens = λ r e. absurd (let k : false ≡ true = e in cc)
+open_outlasting g l m (with_globals _) opens = λ r e. absurd (let k : false ≡ true = e in cc)
+open_outlasting g l m (stays r n ns us has) opens = opens r has
+open_outlasting g l m (encloses a b as' bs us vs end more) opens = λ r e. opens r (more r e)
 
 -- what lasts as long as what has not ended is there
 pub outlasting_open : (regions : List Region) (ns : List ℕ) (l m : Life) → AreOpen regions ns → is_open (slice_get regions heap_number) ≡ true → is_open (slice_get regions globals_number) ≡ true → IsKeptOpen regions l → Outlasts l m
@@ -430,9 +779,9 @@ pub outlasting_open : (regions : List Region) (ns : List ℕ) (l m : Life) → A
 outlasting_open regions ns l m opens heap globals kept (alike _) is = lasting_open regions ns l opens heap kept is
 outlasting_open regions ns l m opens heap globals kept (for_ever _) is = heap
 outlasting_open regions ns l m opens heap globals kept (with_globals _) is = globals
-outlasting_open regions ns l m opens heap globals kept (stays number _) is = kept
-outlasting_open regions ns l m opens heap globals kept (encloses a b as' bs end) (inl heap_is) = elim (subst (λ z. IsEndOf (a ∷ as') z) (around_heap b bs heap_is) end) [ ]
-outlasting_open regions ns l m opens heap globals kept (encloses a b as' bs end) (inr later') = open_of regions (end_among a as' ns (ends_through (a ∷ as') bs b ns end later')) opens
+outlasting_open regions ns l m opens heap globals kept (stays r n os us has) is = kept
+outlasting_open regions ns l m opens heap globals kept (encloses a b as' bs us vs end more) (inl heap_is) = elim (subst (λ z. IsEndOf (a ∷ as') z) (around_heap b bs vs heap_is) end) [ ]
+outlasting_open regions ns l m opens heap globals kept (encloses a b as' bs us vs end more) (inr later') = open_of regions (end_among a as' ns (ends_through (a ∷ as') bs b ns end later')) opens
 
 pub found_is : (a : Access Region) → IsFound a → (r : Region) × (a ≡ Found r)
 found_is (Found r) h = (r, refl)
@@ -458,7 +807,7 @@ waits_within {bs = bs} (stacks.indexes c t r f h stands evaluates target alive) 
 waits_within {bs = bs} (stacks.advances t r f target alive) = itself bs
 waits_within {bs = bs} (stacks.counts_elements t l f) = itself bs
 waits_within {bs = bs} (stacks.places_by c m t r f h stands makes alive) = itself bs
-waits_within {bs = bs} (stacks.makes_plain t r f alive owner kind) = itself bs
+waits_within {bs = bs} (stacks.makes_plain t r f plain alive owner kind) = itself bs
 waits_within {bs = bs} (stacks.makes_fields c done t ts n ls r f h alive owner stands passes fields) = itself bs
 waits_within {bs = bs} (stacks.makes_array c t r f alive owner stands repeats) = itself bs
 waits_within (stacks.fills {level = level} cs c t r f h same alive stands repeats i) = subst (λ z. Within cs z) (sym same) (older (Level level) cs cs tt (itself cs))
@@ -467,6 +816,7 @@ waits_within (stacks.initialises cs c t f h within stands new number kind contin
 waits_within {bs = bs} (stacks.chooses c d v f g h i tested first_stands second_stands one two j k) = itself bs
 waits_within {bs = bs} (stacks.tests l v f h loop) = itself bs
 waits_within {bs = bs} (stacks.returns t u f h result gives) = itself bs
+waits_within {bs = bs} (stacks.closes_by_key r f) = itself bs
 waits_within {bs = bs} (stacks.throws f h) = itself bs
-waits_within (stacks.opens_by cs c b r f h i loans within stands among number set less alive next continues again) = within
-waits_within (stacks.aliases cs c b u t f h i loans within stands among number set unique known of_type alive next continues again) = within
+waits_within (stacks.opens_by cs c b r f h i loans within stands among number of_type set spared full less alive next continues again) = within
+waits_within (stacks.aliases cs c b u t f h i loans within stands among number set spared full unique known of_type alive next continues again) = within

@@ -9,6 +9,7 @@ use Rattle.cyc_syntax.specs.declared.tree.PointerKind.TheVariants as marks
 use Rattle.cyc_types.specs.typing.Tests.{is_moved}
 use Rattle.cyc_types.specs.declared.typed.Kind.TheVariants as kinds
 use Rattle.cyc_types.specs.Types.{Ty, ValueType}
+use Rattle.cyc_types.specs.Types as types
 use Rattle.cyc_types.specs.TypedTrees.{Expression, Initial, Statement, Items}
 use Rattle.cyc_types.specs.Rules.{Derives}
 use Rattle.cyc_types.specs.typing.WellTyped.{Context, IsMade, with_local, in_body}
@@ -20,7 +21,7 @@ use Rattle.cyc_meaning.specs.Values as values
 use Rattle.cyc_meaning.specs.Operators.{unary_result, binary_result}
 use Rattle.cyc_types.specs.declared.typed.UnaryOperator.TheVariants as unary
 use Rattle.cyc_meaning.specs.Allocation.{makes_by, fills_element}
-use Rattle.cyc_meaning.specs.State.{InRegion, World, region_at, variable, made, Environment, Awaiting, Entry, Rest, Join, Loop, Focus, Executing, Proceeding, Returning, Throwing, State, Running}
+use Rattle.cyc_meaning.specs.State.{InRegion, World, region_at, variable, made, Environment, Awaiting, Entry, Needs, Rest, Join, Loop, Focus, Executing, Proceeding, Returning, Throwing, State, Running}
 use Rattle.cyc_meaning.specs.State as state
 use Rattle.cyc_meaning.specs.Parts.{wrong, declared}
 use Rattle.cyc_meaning.specs.Exceptions.{throws_value}
@@ -29,21 +30,21 @@ use Rattle.cyc_meaning.specs.Nesting as nesting
 use Rattle.cyc_meaning.specs.Step.{chosen, looped, supplied}
 use Rattle.cyc_meaning.proofs.ListLemmas.{slice_get-end}
 use Rattle.cyc_meaning.proofs.NestingLemmas.{home_found}
-use Rattle.cyc_soundness.specs.Lives.{Life, OfRegion, OfObject, Never, Kept, Reading, AsHeap, ByScope, RunTy, RunValue, Value, kind_at}
+use Rattle.cyc_soundness.specs.Lives.{Life, OfRegion, OfObject, Never, Kept, Reading, Lives, at, AsHeap, ByScope, RunTy, RunValue, Value, kind_at}
 use Rattle.cyc_soundness.specs.Lives as lives
-use Rattle.cyc_soundness.specs.Worlds.{ObjectType, IsKnownLife, IsNumber, IsOwner, Typing, IsFilled, variable_type, HasType, IsResult, AreCells, IsObject, IsTyped, Grows}
-use Rattle.cyc_soundness.specs.Frames.{later, Bound, InScope, Variable, Level, life_named, lives_in, read, IsThere, IsHomed, AreBelow, IsBound, AreVariables, IsLasting, home_in, LiveIn, Within, itself, older, Holds, Implies, LoopExit, Exits, IsHome, IsContext, KnowsProgram}
-use Rattle.cyc_soundness.specs.Stacks.{Executes, Continues, IsLoop, Repeats, IsArray, IsNew, Want, Val, Go, held, Keeps, inside, Waits, IsReturn, IsStack, IsFocus, IsWell}
+use Rattle.cyc_soundness.specs.Worlds.{Hand, In, ClaimsBy, giving, Stays, AreKeyless, IsOpenIn, ObjectType, IsKnownLife, IsNumber, IsOwner, Typing, IsFilled, variable_type, HasType, IsResult, AreCells, IsObject, IsTyped, Grows}
+use Rattle.cyc_soundness.specs.Frames.{later, Bound, InScope, Variable, Level, life_named, lives_in, read, read_value, IsThere, IsHomed, AreBelow, IsBound, AreVariables, IsLasting, home_in, LiveIn, Within, itself, older, Holds, Implies, LoopExit, Exits, IsHome, IsContext, KnowsProgram}
+use Rattle.cyc_soundness.specs.Stacks.{Executes, Continues, IsLoop, Repeats, IsArray, IsNew, Want, Val, Go, operands_in, Comes, Keeps, inside, Waits, IsReturn, IsStack, IsFocus, IsWell}
 use Rattle.cyc_soundness.specs.Stacks as stacks
 use Rattle.cyc_soundness.proofs.TypeLemmas.{is_kind_same, kind_read}
-use Rattle.cyc_soundness.proofs.FlowLemmas.{holds_implied, reached_with, vacant_now}
-use Rattle.cyc_soundness.proofs.WorldLemmas.{life_grown, type_grown, with_object, object_grows, object_typed, globals_grown, variables_grown, set_grown}
-use Rattle.cyc_soundness.proofs.StackLemmas.{stack_grown, below_more, local_new, bound_more, set_more, home_is, home_lasting, found_is, within_bound, within_variables, within_live, within_holds}
-use Rattle.cyc_soundness.proofs.RegionLemmas.{region_known, there_lasting, known_local}
+use Rattle.cyc_soundness.proofs.FlowLemmas.{holds_implied, reached_with, full_put, vacant_now}
+use Rattle.cyc_soundness.proofs.WorldLemmas.{life_grown, open_stays, type_grown, with_object, object_stays, object_typed, globals_grown, variables_grown, set_grown, giving_grows, given_now, given_typed, given_globals, variables_other}
+use Rattle.cyc_soundness.proofs.StackLemmas.{stack_grown, stack_other, holds_other, in_no_hand, there_present, fields_kept, passed_kept, comes_alone, claimed_next, below_more, local_new, bound_more, set_more, home_is, home_lasting, found_is, within_bound, within_variables, within_live, within_holds}
+use Rattle.cyc_soundness.proofs.RegionLemmas.{region_known, there_open, there_lasting, known_local}
 use Rattle.cyc_soundness.proofs.ValueLemmas.{negated, complemented, combined, zero_is}
 use Rattle.cyc_soundness.specs.Classes.{InInitial, Source}
 use Rattle.cyc_soundness.proofs.Cells.{running}
-use Rattle.cyc_soundness.proofs.Loans.{opens_on, aliases_on}
+use Rattle.cyc_soundness.proofs.Loans.{opens_on, aliases_on, closes_on}
 use Rattle.cyc_soundness.proofs.Objects.{plain_on, fields_on, array_on, fill_on, makes_on}
 use Rattle.cyc_soundness.proofs.Places.{gives, follow_on, member_on, index_on, advance_on, count_on, cell_stored, point_on, null_point_on}
 use Rattle.cyc_soundness.proofs.Evaluation.{pass_on, chain_on, converted_on, denied_on, decided_on, writes_local, writes_global}
@@ -72,80 +73,97 @@ pub record NewLife (m : Reading) (bs : List InScope) (region home : ℕ) (k : Li
   pub number : IsNumber life home
   pub lasting : IsLasting (ends_of k) life
   pub homed : IsHomed m (lives_in bs) region life
-  pub known : (g : Typing) → AreVariables g bs → IsKnownLife g life
+  pub known : (g : Typing) → AreVariables g bs → IsKnownLife g life × IsOpenIn g life
 
 pub new_life : (m : Reading) (bs : List InScope) (region home : ℕ) (k : List Entry) → LiveIn k bs → IsHome m region bs → nesting.IsHome home k → NewLife m bs region home k
 new_life AsHeap bs region home k live is at_home =
     let (ns, lasting) = home_lasting k in
-    record { life = OfRegion (home_in k) ns; number = sym (home_is home k at_home); lasting = lasting; homed = tt; known = λ g are. tt }
+    record { life = OfRegion (home_in k) ns (λ number. false); number = sym (home_is home k at_home); lasting = lasting; homed = tt; known = λ g are. (tt, λ r e. let z : false ≡ true = e in absurd (cc)) }
 new_life (ByScope lends) bs region home k live (number, there) at_home = record {
   life = life_named bs region;
   number = subst (λ n. IsNumber (life_named bs region) n) (live.1 ∙ sym (home_is home k at_home)) number;
   lasting = there_lasting (ends_of k) bs (regions.Variable region) live.0 there;
   homed = refl;
-  known = λ g are. region_known g bs (regions.Variable region) are;
+  known = λ g are. (region_known g bs (regions.Variable region) are, there_open g bs (regions.Variable region) are there);
 }
 
 pub owner_is : (l : Life) (region : ℕ) → IsNumber l region → IsOwner l (InRegion region)
-owner_is (OfRegion number ns) region is = is
+owner_is (OfRegion number ns us) region is = is
 owner_is (OfObject object) region is = absurd is
 owner_is Never region is = absurd is
 owner_is (Kept number) region is = is
+
+-- no pointer leads to a local that is moved, and no other is a key
+copied_keyless : (n : Lives) (t : Ty) → is_moved t ≡ false → AreKeyless (at n t ∷ [])
+copied_keyless n types.Int plain = (tt, tt)
+copied_keyless n (types.Pointer k t r) plain = (tt, tt)
+copied_keyless n (types.Handle r) plain = (tt, tt)
+copied_keyless n (types.Key r) plain = absurd (let k : true ≡ false = plain in cc)
+copied_keyless n (types.Struct s rs) plain = (tt, tt)
+
+-- ---- a local is declared
+
+-- the local, with its new object
+abbrev new_local : World → List InScope → (number : ℕ) → Ty → Life → Bound
+new_local w bs number t l = record { number = number; object = length w.objects; of_type = read bs t; life = l; is_hidden = is_moved t }
+
+abbrev new_type : List InScope → Ty → Life → ObjectType
+new_type bs t l = variable_type (read bs t) l (is_moved t)
+
+abbrev new_typing : Typing → List InScope → Ty → Life → (filled : ℕ) → Typing
+new_typing g bs t l n = with_object g (new_type bs t l) n
+
+module _ (p : Source) (g : Typing) (x : Exits) (bs : List InScope) (e : Environment) (w : World) (typed : IsTyped g w.regions w.objects) (globals : KnowsProgram g p) (bound : IsBound e.locals e.counters bs) (variables : AreVariables g bs) where
+  pub declares : (number : ℕ) (kind : Kind) (t : Ty) (content : Option values.Value) (n : ℕ) (l : Life) (focus : Focus) (stack : List Entry) → IsNested stack e w → LiveIn stack bs → AreBelow number bs
+      → IsNumber l e.home → IsLasting (ends_of stack) l → IsKnownLife g l × IsOpenIn g l → (Grows g (new_typing g bs t l n) → AreCells (new_typing g bs t l n) (read bs t ∷ []) (record { kind = kind; content = content } ∷ []) n)
+      → (Stays g (new_typing g bs t l n) → IsFilled (new_typing g bs t l n) (length w.objects) n → IsFocus p (new_typing g bs t l n) x (Variable (new_local w bs number t l) ∷ bs) focus stack)
+      → IsWell p (declared (region_at w e.home) focus number kind content stack e w)
+  declares number kind t content n l focus stack nests live below numbered lasting (known, opens) cells goes =
+      let h = new_typing g bs t l n in
+      let stays : Stays g h = object_stays g (new_type bs t l) n in
+      let is : IsObject h n (new_type bs t l) (variable e.home kind content) =
+      record { owner = owner_is l e.home numbered; known = life_grown g h stays.grows l known; keyless = copied_keyless (lives_in bs) t; cells = cells stays.grows } in
+      let (r, found) = found_is (region_at w e.home) (home_found w.regions e.home stack nests.2 nests.0) in
+      let there = subst (λ i. slice_get h.objects i ≡ Some (new_type bs t l)) (sym typed.count) (slice_get-end g.objects (new_type bs t l)) in
+      let flag = subst (λ i. slice_get h.filled i ≡ Some n) (sym typed.counts) (slice_get-end g.filled n) in
+      subst (λ a. IsWell p (declared a focus number kind content stack e w)) (sym found)
+      (running p h x (Variable (new_local w bs number t l) ∷ bs) (state.with_local e number (length w.objects)) (made w (variable e.home kind content))
+      (object_typed g w.regions w.objects (new_type bs t l) n (variable e.home kind content) typed is) (globals_grown g h stays.grows p (λ n ls. refl) globals.keys globals)
+      (local_new e number (length w.objects), bound_more e number (length w.objects) bs below bound) ((there, open_stays g h stays l opens), variables_grown g h stays bs variables)
+      focus stack ((lasting, live.0), live.1)
+      (goes stays (n, flag, (let most : n ≤ n = omega arith in most))))
 
 module _ (p : Source) (g : Typing) (x : Exits) (bs : List InScope) (e : Environment) (w : World) (typed : IsTyped g w.regions w.objects) (globals : KnowsProgram g p) (bound : IsBound e.locals e.counters bs) (variables : AreVariables g bs) where
   on : (focus : Focus) (k : List Entry) → LiveIn k bs → IsFocus p g x bs focus k → IsWell p (Running focus k e w)
   on focus k live stands = running p g x bs e w typed globals bound variables focus k live stands
 
-  -- ---- a local is declared
-
-  -- the local, with its new object
-  abbrev new_local : (number : ℕ) → Ty → Life → Bound
-  new_local number t l = record { number = number; object = length w.objects; of_type = read bs t; life = l; is_hidden = is_moved t }
-
-  abbrev new_type : Ty → Life → ObjectType
-  new_type t l = variable_type (read bs t) l (is_moved t)
-
-  abbrev new_typing : Ty → Life → (filled : ℕ) → Typing
-  new_typing t l n = with_object g (new_type t l) n
-
-  pub declares : (number : ℕ) (kind : Kind) (t : Ty) (content : Option values.Value) (n : ℕ) (l : Life) (focus : Focus) (stack : List Entry) → IsNested stack e w → LiveIn stack bs → AreBelow number bs
-      → IsNumber l e.home → IsLasting (ends_of stack) l → IsKnownLife g l → (Grows g (new_typing t l n) → AreCells (new_typing t l n) (read bs t ∷ []) (record { kind = kind; content = content } ∷ []) n)
-      → (Grows g (new_typing t l n) → IsFilled (new_typing t l n) (length w.objects) n → IsFocus p (new_typing t l n) x (Variable (new_local number t l) ∷ bs) focus stack)
-      → IsWell p (declared (region_at w e.home) focus number kind content stack e w)
-  declares number kind t content n l focus stack nests live below numbered lasting known cells goes =
-      let h = new_typing t l n in
-      let grows : Grows g h = object_grows g (new_type t l) n in
-      let is : IsObject h n (new_type t l) (variable e.home kind content) = record { owner = owner_is l e.home numbered; known = life_grown g h grows l known; cells = cells grows } in
-      let (r, found) = found_is (region_at w e.home) (home_found w.regions e.home stack nests.2 nests.0) in
-      let there = subst (λ i. slice_get h.objects i ≡ Some (new_type t l)) (sym typed.count) (slice_get-end g.objects (new_type t l)) in
-      let flag = subst (λ i. slice_get h.filled i ≡ Some n) (sym typed.counts) (slice_get-end g.filled n) in
-      subst (λ a. IsWell p (declared a focus number kind content stack e w)) (sym found)
-      (running p h x (Variable (new_local number t l) ∷ bs) (state.with_local e number (length w.objects)) (made w (variable e.home kind content))
-      (object_typed g w.regions w.objects (new_type t l) n (variable e.home kind content) typed is) (globals_grown g h grows p (λ n ls. refl) globals)
-      (local_new e number (length w.objects), bound_more e number (length w.objects) bs below bound) (there, variables_grown g h grows bs variables)
-      focus stack ((lasting, live.0), live.1)
-      (goes grows (n, flag, (let most : n ≤ n = omega arith in most))))
-
   -- with a value, and the rest of its block goes on
   pub declares_full : (number : ℕ) (kind : Kind) (v : values.Value) (is_place : Bool) (t : Ty) (js : Items) (cs : List InScope) (c : Context) (f h : flow.State) (k : List Entry) → IsNested k e w → LiveIn k bs
-      → Within cs bs → IsContext p x bs c → Holds g f bs → IsNew p.reading c t → number ≡ c.next_local → kind ≡ kind_at (read bs t) → HasType g (read bs t) v
+      → Within cs bs → IsContext p x bs c → Holds g f bs → IsNew p.reading c t → number ≡ c.next_local → kind ≡ kind_at (read bs t) → HasType g (read bs t) v → Comes g (Value (read bs t)) k
       → Continues p.reading x (with_local is_place t c) js (with_fullness Full f number) h → IsStack p g x cs (Go h) k → IsWell p (declared (region_at w e.home) Proceeding number kind (Some v) (Rest js ∷ k) e w)
-  declares_full number kind v is_place t js cs c f h k nests live within stands (reached, are) new number_is kind_is has continues stack =
+  declares_full number kind v is_place t js cs c f h k nests live within stands holds new number_is kind_is has comes continues stack =
       let below : AreBelow number bs = subst (λ n. AreBelow n bs) (sym number_is) stands.below in
       let l = new_life p.reading bs c.region e.home k live stands.home nests.2 in
-      let h1 = new_typing t l.life 1 in
-      declares number kind t (Some v) 1 l.life Proceeding (Rest js ∷ k) nests live below l.number l.lasting (l.known g variables) (λ grows. ((kind_is, type_grown g h1 grows (read bs t) v has), tt))
+      let u = read bs t in
+      let hand = Hand (operands_in k) in
+      let its = In g.depth number in
+      let o = giving g u its in
+      let scope : AreVariables o bs = variables_other g u hand its bs comes refl variables in
+      let (reached, are) = holds_other u hand its g f bs comes (λ m s. in_no_hand g.depth m (operands_in k)) holds in
+      let h1 = new_typing o bs t l.life 1 in
+      declares p o x bs e w (given_typed g u hand its w.regions w.objects comes tt typed) (given_globals p g u its globals) bound scope number kind t (Some v) 1 l.life Proceeding (Rest js ∷ k) nests live below l.number l.lasting (l.known o scope)
+      (λ grows. ((kind_is, type_grown o h1 grows u v (type_grown g o (giving_grows g u its) u v has)), tt))
       (λ grows full. (
         with_fullness Full f number,
-        (reached_with Full f number reached, (λ s. full, set_more h1 Full f number bs below (set_grown g h1 grows f bs are))),
+        (reached_with Full f number reached, ((λ s. full, λ s. given_now g u its), set_more h1 Full f number bs below (set_grown o h1 grows f bs are))),
         (
           cs,
           with_local is_place t c,
           h,
-          older (Variable (new_local number t l.life)) cs bs tt within,
-          context_more p x bs c is_place t (new_local number t l.life) stands new number_is refl refl l.homed,
+          older (Variable (new_local w bs number t l.life)) cs bs tt within,
+          context_more p x bs c is_place t (new_local w bs number t l.life) stands new number_is refl refl l.homed,
           continues,
-          stack_grown p g h1 grows x cs (Go h) k stack,
+          stack_grown p o h1 grows x cs (Go h) k (stack_other u hand its p g x cs (Go h) k comes (let le : operands_in k ≤ operands_in k = omega arith in le) stack),
         ),
       ))
 
@@ -156,17 +174,23 @@ module _ (p : Source) (g : Typing) (x : Exits) (bs : List InScope) (e : Environm
   declares_blank number kind t js cs c f h k nests live within stands (reached, are) new number_is kind_is continues stack =
       let below : AreBelow number bs = subst (λ n. AreBelow n bs) (sym number_is) stands.below in
       let l = new_life p.reading bs c.region e.home k live stands.home nests.2 in
-      let h0 = new_typing t l.life 0 in
-      declares number kind t None 0 l.life Proceeding (Rest js ∷ k) nests live below l.number l.lasting (l.known g variables) (λ grows. ((kind_is, refl), tt))
+      let h0 = new_typing g bs t l.life 0 in
+      declares p g x bs e w typed globals bound variables number kind t None 0 l.life Proceeding (Rest js ∷ k) nests live below l.number l.lasting (l.known g variables) (λ grows. ((kind_is, refl), tt))
       (λ grows full. (
         with_fullness Vacant f number,
-        (reached_with Vacant f number reached, (λ s. absurd (vacant_now f number reached s), set_more h0 Vacant f number bs below (set_grown g h0 grows f bs are))),
+        (
+          reached_with Vacant f number reached,
+          (
+            (λ s. absurd (vacant_now f number reached s), λ s. let z : false ≡ true = full_put Vacant f number reached s in absurd (cc)),
+            set_more h0 Vacant f number bs below (set_grown g h0 grows f bs are),
+          ),
+        ),
         (
           cs,
           with_local true t c,
           h,
-          older (Variable (new_local number t l.life)) cs bs tt within,
-          context_more p x bs c true t (new_local number t l.life) stands new number_is refl refl l.homed,
+          older (Variable (new_local w bs number t l.life)) cs bs tt within,
+          context_more p x bs c true t (new_local w bs number t l.life) stands new number_is refl refl l.homed,
           continues,
           stack_grown p g h0 grows x cs (Go h) k stack,
         ),
@@ -231,59 +255,62 @@ module _ (p : Source) (g : Typing) (x : Exits) (bs : List InScope) (e : Environm
   -- ---- all that waits
 
   pub given : {a : Awaiting} {ts : List RunTy} {r : RunValue} {f : flow.State} {cs : List InScope} {next : Want} (v : Operand) (k : List Entry) → IsNested k e w → LiveIn k bs → Holds g f bs → IsResult g r v
-      → Waits p x bs a ts r f cs next → Keeps g a ts → IsStack p g x cs next k → IsWell p (supplied a v k e w)
-  given v k nests live holds is (stacks.converts {from} {to} {target} c s t f agrees conv from_is to_is same) are stack =
-      converted_on p g x bs e w typed globals bound variables from to target v k c s t f live agrees holds is conv from_is to_is same stack
-  given v k nests live holds is (stacks.negates f) are stack =
-      gives p g x bs e w typed globals bound variables k kinds.Int lives.Int f (unary_result unary.Negate v.value) live holds refl (negated g v.value is.1) stack
-  given v k nests live holds is (stacks.complements f) are stack =
-      gives p g x bs e w typed globals bound variables k kinds.Int lives.Int f (unary_result unary.Complement v.value) live holds refl (complemented g v.value is.1) stack
-  given v k nests live holds is (stacks.denies s f tested) are stack = denied_on p g x bs e w typed globals bound variables v k s f live holds tested is stack
-  given v k nests live holds is (stacks.chains {os} c s t f h stands computes) are stack =
-      chain_on p g x bs e w typed globals bound variables os v k c s t f h computes.waiting live stands holds is computes.typed computes.flows computes.kept stack
-  given v k nests live holds is (stacks.applies {o} {left} f) (left_is, unit) stack =
-      gives p g x bs e w typed globals bound variables k kinds.Int lives.Int f (binary_result o left.value v.value) live holds refl (combined g o left.value v.value left_is.1 is.1) stack
-  given v k nests live holds is (stacks.decides s f h tested i) are stack = decided_on p g x bs e w typed globals bound variables v k s f h live holds tested i is stack
-  given v k nests live holds is (stacks.stores_local b t f among same) are stack =
-      writes_local p g x bs e w typed globals bound variables v k b t f nests.0 live among same holds is stack
-  given v k nests live holds is (stacks.stores_global number t f there means) are stack =
+      → Comes g r (Needs a ∷ k) → Waits p x bs a ts r f cs next → Keeps g (operands_in k) a ts → IsStack p g x cs next k → IsWell p (supplied a v k e w)
+  given v k nests live holds is comes (stacks.converts {from} {to} {target} c s t f agrees conv from_is to_is same) are stack =
+      converted_on p g x bs e w typed globals bound variables from to target v k c s t f live agrees holds is (comes_alone g k (read_value bs s) comes) conv from_is to_is same stack
+  given v k nests live holds is comes (stacks.negates f) are stack =
+      gives p g x bs e w typed globals bound variables k kinds.Int lives.Int f (unary_result unary.Negate v.value) live holds tt refl (negated g v.value is.1) stack
+  given v k nests live holds is comes (stacks.complements f) are stack =
+      gives p g x bs e w typed globals bound variables k kinds.Int lives.Int f (unary_result unary.Complement v.value) live holds tt refl (complemented g v.value is.1) stack
+  given v k nests live holds is comes (stacks.denies s f tested) are stack = denied_on p g x bs e w typed globals bound variables v k s f live holds tested is stack
+  given v k nests live holds is comes (stacks.chains {os} c s t f h stands computes) are stack =
+      chain_on p g x bs e w typed globals bound variables os v k c s t f h computes.waiting live stands holds is (comes_alone g k (read_value bs s) comes) computes.typed computes.flows computes.kept stack
+  given v k nests live holds is comes (stacks.applies {o} {left} f) ((left_is, unit), claims) stack =
+      gives p g x bs e w typed globals bound variables k kinds.Int lives.Int f (binary_result o left.value v.value) live holds tt refl (combined g o left.value v.value left_is.1 is.1) stack
+  given v k nests live holds is comes (stacks.decides s f h tested i) are stack = decided_on p g x bs e w typed globals bound variables v k s f h live holds tested i is stack
+  given v k nests live holds is comes (stacks.stores_local b t f among same) are stack =
+      writes_local p g x bs e w typed globals bound variables v k b t f nests.0 live among same holds is (comes_alone g k (Value (read bs t)) comes) stack
+  given v k nests live holds is comes (stacks.stores_global number t f there means) are stack =
       writes_global p g x bs e w typed globals bound variables v k number t f nests.0 live there means holds is stack
-  given v k nests live holds is (stacks.points {peek} {o} {left} c t s u f stands op) (left_is, unit) stack =
+  given v k nests live holds is comes (stacks.points {peek} {o} {left} c t s u f stands op) ((left_is, unit), claims) stack =
       point_on p g x bs e w typed globals bound variables left v k f nests.0 live holds stands op left_is is stack
-  given v k nests live holds is (stacks.null_points c s u f op) are stack = null_point_on p g x bs e w typed globals bound variables v k f live holds op is stack
-  given v k nests live holds is (stacks.stores_cell {peek} {place} t r f alive) ((kind, to), unit) stack =
-      cell_stored p g x bs e w typed globals bound variables place v t (lives_in bs r) k f nests.0 live (there_lasting (ends_of k) bs r live.0 alive) holds to is stack
-  given v k nests live holds is (stacks.follows {k = pk} {target} m t r f kind same alive) are stack = follow_on p g x bs e w typed globals bound variables m pk target t (lives_in bs r) v k f live holds kind same is stack
-  given v k nests live holds is (stacks.follows_member {k = pk} {fields} {field} m n ls s t u r f kind struct fields_are there means alive) are stack =
-      member_on p g x bs e w typed globals bound variables m pk fields n ls s t u (lives_in bs r) field v k f nests.0 live (there_lasting (ends_of k) bs r live.0 alive) holds kind fields_are struct there means is stack
-  given v k nests live holds is (stacks.indexes {peek} {target} {index} c t r f h stands evaluates same alive) are stack =
+  given v k nests live holds is comes (stacks.null_points c s u f op) are stack = null_point_on p g x bs e w typed globals bound variables v k f live holds op is stack
+  given v k nests live holds is comes (stacks.stores_cell {peek} {place} t r f alive) (((kind, to), unit), claims) stack =
+      cell_stored p g x bs e w typed globals bound variables place v t (lives_in bs r) k f nests.0 live (there_present g (ends_of k) bs r live.0 variables alive) holds to is stack
+  given v k nests live holds is comes (stacks.follows {k = pk} {target} m t r f kind same alive) are stack = follow_on p g x bs e w typed globals bound variables m pk target t (lives_in bs r) v k f live holds kind same is stack
+  given v k nests live holds is comes (stacks.follows_member {k = pk} {fields} {field} m n ls s t u r f kind struct fields_are there means alive) are stack =
+      member_on p g x bs e w typed globals bound variables m pk fields n ls s t u (lives_in bs r) field v k f nests.0 live (there_present g (ends_of k) bs r live.0 variables alive) holds kind fields_are struct there means is stack
+  given v k nests live holds is comes (stacks.indexes {peek} {target} {index} c t r f h stands evaluates same alive) are stack =
       index_on p g x bs e w typed globals bound variables peek target index c t r v k f h live holds stands evaluates same alive is stack
-  given v k nests live holds is (stacks.advances {peek} {target} {base} t r f same alive) (base_is, unit) stack = advance_on p g x bs e w typed globals bound variables t r target base v k f live holds same alive base_is is stack
-  given v k nests live holds is (stacks.counts_elements t l f) are stack = count_on p g x bs e w typed globals bound variables t l v k f live holds is stack
-  given v k nests live holds is (stacks.places_by {i} c m t r f h stands makes alive) are stack = placed_by i v.value k c m t r f h makes.waiting nests.0 live stands holds alive makes.typed makes.flows makes.kept is.1 stack
-  given v k nests live holds is (stacks.makes_plain {owner} {kind} t r f alive owned kind_is) are stack = plain_on p g x bs e w typed globals bound variables owner kind v t r k f nests.0 live holds alive owned kind_is is stack
-  given v k nests live holds is (stacks.makes_fields {owner} {before} {rest} c done t ts n ls r f h alive owned stands passes fields) are stack =
-      fields_on p g x bs e w typed globals bound variables k owner (v ∷ before) (read bs t ∷ done) rest ts c n ls r f h passes.waiting nests.0 live stands holds alive owned passes.typed passes.flows passes.kept (is, are) fields stack
-  given v k nests live holds is (stacks.makes_array {owner} {level} {kind} {element} c t r f alive owned stands repeats) are stack =
+  given v k nests live holds is comes (stacks.advances {peek} {target} {base} t r f same alive) ((base_is, unit), claims) stack = advance_on p g x bs e w typed globals bound variables t r target base v k f live holds same alive base_is is stack
+  given v k nests live holds is comes (stacks.counts_elements t l f) are stack = count_on p g x bs e w typed globals bound variables t l v k f live holds is stack
+  given v k nests live holds is comes (stacks.places_by {i} c m t r f h stands makes alive) are stack = placed_by i v.value k c m t r f h makes.waiting nests.0 live stands holds alive makes.typed makes.flows makes.kept is.1 stack
+  given v k nests live holds is comes (stacks.makes_plain {owner} {kind} t r f plain alive owned kind_is) are stack = plain_on p g x bs e w typed globals bound variables owner kind v t r k f plain nests.0 live holds alive owned kind_is is stack
+  given v k nests live holds is comes (stacks.makes_fields {owner} {before} {rest} c done t ts n ls r f h alive owned stands passes fields) are stack =
+      let (operands, claims) = fields_kept g (operands_in k) owner before rest done are in
+      fields_on p g x bs e w typed globals bound variables k owner (v ∷ before) (read bs t ∷ done) rest ts c n ls r f h passes.waiting nests.0 live stands holds alive owned passes.typed passes.flows passes.kept (is, operands) (claimed_next g (operands_in k) (read bs t) done before operands comes, claims) fields stack
+  given v k nests live holds is comes (stacks.makes_array {owner} {level} {kind} {element} c t r f alive owned stands repeats) are stack =
       array_on p g x bs e w typed globals bound variables owner level kind element v.value k c t r f live stands holds alive owned repeats is.1 stack
-  given v k nests live holds is (stacks.fills {object} {count} {index} {level} {kind} {element} cs c t r f h same alive stands repeats back) (less, array) stack =
+  given v k nests live holds is comes (stacks.fills {object} {count} {index} {level} {kind} {element} cs c t r f h same alive stands repeats back) (less, array) stack =
       filled_on object count index level kind element v k cs c t r f h same nests.0 live alive stands holds repeats back less array is stack
-  given v k nests live holds is (stacks.passes {callee} {before} {rest} c done t ts r f h stands passes called) are stack =
-      pass_on p g x bs e w typed globals bound variables k callee (v ∷ before) (read bs t ∷ done) rest ts c r f h passes.waiting live stands holds passes.typed passes.flows passes.kept (is, are) called stack
-  given v k nests live holds is (stacks.initialises {number} {kind} {js} cs c t f h within stands new number_is kind_is continues) are stack =
+  given v k nests live holds is comes (stacks.passes {callee} {before} {rest} c done t ts r f h stands passes called) are stack =
+      let (operands, claims) = passed_kept g (operands_in k) callee before rest done are in
+      pass_on p g x bs e w typed globals bound variables k callee (v ∷ before) (read bs t ∷ done) rest ts c r f h passes.waiting live stands holds passes.typed passes.flows passes.kept (is, operands) (claimed_next g (operands_in k) (read bs t) done before operands comes, claims) called stack
+  given v k nests live holds is comes (stacks.initialises {number} {kind} {js} cs c t f h within stands new number_is kind_is continues) are stack =
       let same : v.kind ≡ kind = is.0 ∙ kind_read (lives_in bs) t ∙ sym kind_is in
       subst (λ (b : Bool). IsWell p (if b then declared (region_at w e.home) Proceeding number kind (Some v.value) (Rest js ∷ k) e w else wrong w)) (sym (is_kind_same v.kind kind same))
-      (declares_full number kind v.value true t js cs c f h k nests live within stands holds new number_is (kind_is ∙ sym (kind_read (lives_in bs) t)) is.1 continues stack)
-  given v k nests live holds is (stacks.chooses {first} {second} c d s f i j l tested stands others one two m n) are stack =
+      (declares_full number kind v.value true t js cs c f h k nests live within stands holds new number_is (kind_is ∙ sym (kind_read (lives_in bs) t)) is.1 (comes_alone g k (Value (read bs t)) comes) continues stack)
+  given v k nests live holds is comes (stacks.chooses {first} {second} c d s f i j l tested stands others one two m n) are stack =
       let (b, at_zero) = zero_is g (lives_in bs) s v tested is in
       subst (λ z. IsWell p (chosen z first second k e w)) (sym at_zero) (chosen_on b first second k c d f i j l live holds stands others one two m n stack)
-  given v k nests live holds is (stacks.tests {condition} {body} l s f h loop) are stack =
+  given v k nests live holds is comes (stacks.tests {condition} {body} l s f h loop) are stack =
       let (b, at_zero) = zero_is g (lives_in bs) s v loop.tested is in
       subst (λ z. IsWell p (looped z condition body k e w)) (sym at_zero) (looped_on b condition body k l s f h live holds loop stack)
-  given v k nests live holds is (stacks.returns t u f h result gives) are stack =
-      on (Returning (Some v)) k live (h, subst (λ z. IsReturn g z x.gives (Some v)) (sym result) (subst (λ z. IsResult g z v) gives is), stack)
-  given v k nests live holds is (stacks.throws {tag} f h) are stack = thrown_on tag v.value k h live is.1 stack
-  given v k nests live holds is (stacks.opens_by {number} {lent} {js} cs c b r f h i loans within stands among number_of set less alive number_is continues again) are stack =
-      opens_on p g x bs e w typed globals bound variables number lent js v.value k cs c b r f h i live holds loans within stands among number_of set less alive number_is continues again is.1 stack
-  given v k nests live holds is (stacks.aliases {number} {lent} {js} cs c b u t f h i loans within stands among number_of set unique known of_type alive number_is continues again) are stack =
-      aliases_on p g x bs e w typed globals bound variables number lent js v k cs c b u t f h i live holds loans within stands among number_of set unique known of_type alive number_is continues again is stack
+  given v k nests live holds is comes (stacks.returns t u f h result gives_so) are stack =
+      on (Returning (Some v)) k live (h, subst (λ z. IsReturn g (operands_in k) z x.gives (Some v)) (sym result) (subst (λ z. IsResult g z v) gives_so is, subst (λ z. ClaimsBy g.own (Hand (operands_in k)) z) gives_so (comes_alone g k (Value u) comes)), stack)
+  given v k nests live holds is comes (stacks.closes_by_key r f) are stack = closes_on p g x bs e w typed globals bound variables v.value k r f live holds is.1 (comes_alone g k (Value (lives.Key (lives_in bs r))) comes) stack
+  given v k nests live holds is comes (stacks.throws {tag} f h) are stack = thrown_on tag v.value k h live is.1 stack
+  given v k nests live holds is comes (stacks.opens_by {number} {lent} {js} cs c b r f h i loans within stands among number_of of_type set spared full less alive number_is continues again) are stack =
+      opens_on p g x bs e w typed globals bound variables number lent js v.value k cs c b r f h i live holds loans within stands among number_of of_type spared full less alive number_is continues again is.1 stack
+  given v k nests live holds is comes (stacks.aliases {number} {lent} {js} cs c b u t f h i loans within stands among number_of set spared full unique known of_type alive number_is continues again) are stack =
+      aliases_on p g x bs e w typed globals bound variables number lent js v k cs c b u t f h i live holds loans within stands among number_of spared full unique known of_type alive number_is continues again is stack

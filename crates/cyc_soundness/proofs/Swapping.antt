@@ -20,7 +20,7 @@ use Rattle.cyc_meaning.specs.Nesting.{ends_of, AreOpen}
 use Rattle.cyc_soundness.specs.Lives.{Life, RunTy, as_heap}
 use Rattle.cyc_soundness.specs.Lives as lives
 use Rattle.cyc_soundness.specs.Worlds.{ObjectType, Typing, variable_type, global_type, IsFilled, HasType, IsTyped, IsOpenLife}
-use Rattle.cyc_soundness.specs.Frames.{InScope, IsBound, AreVariables, IsLasting, LiveIn, IsSet, Holds, Exits, IsContext, KnowsProgram, lives_in, read}
+use Rattle.cyc_soundness.specs.Frames.{InScope, IsBound, AreVariables, LiveIn, IsSet, Holds, Exits, IsContext, KnowsProgram, lives_in, read}
 use Rattle.cyc_soundness.specs.Classes.{InSide, Source}
 use Rattle.cyc_soundness.specs.Stacks.{Finds, Go, IsSpot, of_local, of_global, of_cell, IsRead, AreSwapped, IsStack, IsWell}
 use Rattle.cyc_soundness.specs.Stacks as stacks
@@ -28,8 +28,8 @@ use Rattle.cyc_soundness.proofs.Numbers.{some_same}
 use Rattle.cyc_soundness.proofs.TypeLemmas.{is_kind_same, kind_meant, place_type}
 use Rattle.cyc_soundness.proofs.FlowLemmas.{not_vacant}
 use Rattle.cyc_soundness.proofs.WorldLemmas.{cell_there, holds_grown}
-use Rattle.cyc_soundness.proofs.StackLemmas.{stack_grown, swapped_grown, bound_of, place_local, among_bound, among_variable, among_live, among_set, open_of, globals_among, lasting_open, kept_open, object_known}
-use Rattle.cyc_soundness.proofs.RegionLemmas.{there_lasting, there_of, cell_live, global_means}
+use Rattle.cyc_soundness.proofs.StackLemmas.{stack_grown, swapped_grown, bound_of, place_local, among_bound, among_variable, among_live, among_set, open_of, globals_among, lasting_open, kept_open, object_known, among_open, IsPresent, there_present}
+use Rattle.cyc_soundness.proofs.RegionLemmas.{there_of, cell_live, global_means}
 use Rattle.cyc_soundness.proofs.Cells.{running, life_of, value_part, writes}
 
 pub kept_both : (ds es : List Demand) → AllKept (ds ++ es) → AllKept ds × AllKept es
@@ -48,7 +48,7 @@ pub record SpotAt (g : Typing) (w : World) (t : RunTy) (v : values.Value) : Type
   pub full : IsFilled g number (suc offset)
 
 module _ (p : Source) (g : Typing) (x : Exits) (bs : List InScope) (e : Environment) (w : World) (typed : IsTyped g w.regions w.objects) (globals : KnowsProgram g p) (bound : IsBound e.locals e.counters bs) (variables : AreVariables g bs) where
-  cell_spot : (t : Ty) (l : Life) (place : values.Value) (k : List Entry) → AreOpen w.regions (ends_of k) → IsLasting (ends_of k) l → is_struct t ≡ false → HasType g (lives.Pointer marks.NonNull (read bs t) l) place
+  cell_spot : (t : Ty) (l : Life) (place : values.Value) (k : List Entry) → AreOpen w.regions (ends_of k) → IsPresent g (ends_of k) l → is_struct t ≡ false → HasType g (lives.Pointer marks.NonNull (read bs t) l) place
       → SpotAt g w (read bs t) place
   cell_spot t l (values.Thin object offset) k opens lasting plain (y, there, shown, outlasts, part) =
       let open' = life_of g w typed k object y l there opens outlasts lasting in
@@ -65,7 +65,7 @@ module _ (p : Source) (g : Typing) (x : Exits) (bs : List InScope) (e : Environm
     there = among_variable g among variables;
     cell = ap (λ u. Some u) of_type;
     opens = lasting_open w.regions (ends_of k) b.life opens typed.heap
-        (kept_open g w.regions w.objects b.life typed (object_known g w.regions w.objects b.object (variable_type b.of_type b.life b.is_hidden) typed (among_variable g among variables))) (among_live (ends_of k) among live.0);
+        (kept_open g w.regions w.objects b.life typed (object_known g w.regions w.objects b.object (variable_type b.of_type b.life b.is_hidden) typed (among_variable g among variables)) (among_open g among variables)) (among_live (ends_of k) among live.0);
     full = among_set g f among holds.1 set;
   }
   spot_at t f v k opens live holds plain (of_global number there same) =
@@ -80,7 +80,7 @@ module _ (p : Source) (g : Typing) (x : Exits) (bs : List InScope) (e : Environm
         opens = open_of w.regions (globals_among k) opens;
         full = full;
       }
-  spot_at t f v k opens live holds plain (of_cell place r alive has) = cell_spot t (lives_in bs r) place k opens (there_lasting (ends_of k) bs r live.0 alive) plain has
+  spot_at t f v k opens live holds plain (of_cell place r alive has) = cell_spot t (lives_in bs r) place k opens (there_present g (ends_of k) bs r live.0 variables alive) plain has
 
   -- ---- both places are found
 
@@ -95,20 +95,20 @@ module _ (p : Source) (g : Typing) (x : Exits) (bs : List InScope) (e : Environm
       let (at, full, closed) = globals.globals n t found in
       of_global n found (global_means p.reading c.regions bs t stands.regions closed)
 
-  pub finds_right_on : (kind : Kind) (peek : Option ℕ) (left : values.Value) (right : Side) (c : Context) (t : Ty) (k : List Entry) (f h : flow.State) (q : List ℕ) → LiveIn k bs → IsContext p x bs c → Holds g f bs
+  pub finds_right_on : (kind : Kind) (peek : Option ℕ) (is_cell : Bool) (left : values.Value) (right : Side) (c : Context) (t : Ty) (k : List Entry) (f h : flow.State) (q : List ℕ) → LiveIn k bs → IsContext p x bs c → Holds g f bs
       → kind ≡ values.kind_of t → is_struct t ≡ false → (Unit {0} → IsSpot p g bs t h left) → IsSide c right t → Derives (rule_side q right f) h → AllKept (side_demanded q right h) → InSide p.reading x.relied right
-      → IsStack p g x bs (Go h) k → IsWell p (finds_right kind peek left right k e w)
-  finds_right_on kind peek left (VariableSide (Local place n) u) c t k f h q live stands holds kind_is plain here (r, (m, has, region, there), same) (unit, known) used kept stack =
+      → IsStack p g x bs (Go h) k → IsWell p (finds_right kind peek is_cell left right k e w)
+  finds_right_on kind peek is_cell left (VariableSide (Local place n) u) c t k f h q live stands holds kind_is plain here (r, (m, has, region, there), same) (unit, known) used kept stack =
       let (b, among, number, of_type) = bound_of p.reading (lives_in bs) c.locals bs n u m stands.scope (place_local c.locals n u m has) in
       let at : e.locals n ≡ Some b.object = ap e.locals (sym number) ∙ among_bound e among bound in
       let set : IsSet h b.number = subst (λ i. IsSet h i) (sym number) (not_vacant (is_vacant (fullness h n)) used.0) in
       subst (λ o. IsWell p (finds_right_object kind left o k e w)) (sym at)
       (both_on kind left (values.Thin b.object 0) t k h live (subst (λ z. Holds g z bs) (sym known) holds) kind_is plain (here tt) (of_local b among (of_type ∙ ap (read bs) (sym same)) set) stack)
-  finds_right_on kind peek left (VariableSide (Global n) u) c t k f h q live stands holds kind_is plain here (r, (region, there), same) (unit, known) used kept stack =
+  finds_right_on kind peek is_cell left (VariableSide (Global n) u) c t k f h q live stands holds kind_is plain here (r, (region, there), same) (unit, known) used kept stack =
       both_on kind left (values.Thin n 0) t k h live (subst (λ z. Holds g z bs) (sym known) holds) kind_is plain (here tt)
       (global_spot n u t c h stands same there) stack
-  finds_right_on kind peek left (CellSide d) c t k f h q live stands holds kind_is plain here (r, cell) flows used kept stack =
-      running p g x bs e w typed globals bound variables (Locating d) (NeedsPlace (SwapRight kind peek left) ∷ k) live (
+  finds_right_on kind peek is_cell left (CellSide d) c t k f h q live stands holds kind_is plain here (r, cell) flows used kept stack =
+      running p g x bs e w typed globals bound variables (Locating d) (NeedsPlace (SwapRight kind peek is_cell left) ∷ k) live (
         c,
         t,
         r,
@@ -127,10 +127,10 @@ module _ (p : Source) (g : Typing) (x : Exits) (bs : List InScope) (e : Environm
       let at : e.locals n ≡ Some b.object = ap e.locals (sym number) ∙ among_bound e among bound in
       let set : IsSet h b.number = subst (λ i. IsSet h i) (sym number) (not_vacant (is_vacant (fullness h n)) used.0) in
       subst (λ o. IsWell p (finds_left_object (values.kind_of u) o z k e w)) (sym at)
-      (finds_right_on (values.kind_of u) None (values.Thin b.object 0) z c t k f1 h finds.waiting live stands (subst (λ i. Holds g i bs) (sym known) holds) (ap values.kind_of (sym same)) plain
+      (finds_right_on (values.kind_of u) None false (values.Thin b.object 0) z c t k f1 h finds.waiting live stands (subst (λ i. Holds g i bs) (sym known) holds) (ap values.kind_of (sym same)) plain
       (λ i. of_local b among (of_type ∙ ap (read bs) (sym same)) set) finds.typed finds.flows finds.used finds.kept stack)
   swap_on (VariableSide (Global n) u) z c t k f f1 h q live stands holds plain (r, (region, there), same) (unit, known) used kept finds stack =
-      finds_right_on (values.kind_of u) None (values.Thin n 0) z c t k f1 h finds.waiting live stands (subst (λ i. Holds g i bs) (sym known) holds) (ap values.kind_of (sym same)) plain
+      finds_right_on (values.kind_of u) None false (values.Thin n 0) z c t k f1 h finds.waiting live stands (subst (λ i. Holds g i bs) (sym known) holds) (ap values.kind_of (sym same)) plain
       (λ i. global_spot n u t c h stands same there) finds.typed finds.flows finds.used finds.kept stack
   swap_on (CellSide d) z c t k f f1 h q live stands holds plain (r, cell) flows used kept finds stack =
       running p g x bs e w typed globals bound variables (Locating d) (NeedsPlace (SwapLeft (values.kind_of (type_of_place d)) (peeked d) z) ∷ k) live (
@@ -194,4 +194,4 @@ module _ (p : Source) (g : Typing) (x : Exits) (bs : List InScope) (e : Environm
       subst (λ v. IsWell p (stored_at v one.operand (Writing ws None) k e w)) (sym s.is)
       (writes p g x bs e w typed globals bound variables one.operand (Writing ws None) k s.number s.offset m (read bs t) s.of_type live s.there s.cell s.opens flag
       (let few : s.offset ≤ m = omega (arith, enough) in few) is
-      (λ grows now. (f, holds_grown g _ grows f bs holds, swapped_grown p g _ grows bs f ws are, stack_grown p g _ grows x bs (Go f) k stack)))
+      (λ grows now. (f, holds_grown g _ grows f bs holds, swapped_grown p g _ grows.grows bs f ws are, stack_grown p g _ grows x bs (Go f) k stack)))

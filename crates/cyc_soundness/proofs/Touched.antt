@@ -149,7 +149,7 @@ module _ (m : Reading) (q : Relied) (f : flow.State) where
     relied_expression (AddressOfCell d t) ns spared kept = relied_place d ns spared kept
     relied_expression (NumberOfElements a) ns spared kept = relied_expression a ns spared kept
     relied_expression (FreeUnique a) ns spared kept = absurd kept
-    relied_expression (FreeKey a) ns spared kept = absurd kept
+    relied_expression (FreeKey a) ns spared (loans, kept) = (loans, relied_expression a ns spared kept)
     relied_expression (Call g as' t) ns spared kept = relied_arguments as' ns spared kept
     relied_expression (Unary o a) ns spared kept = relied_expression a ns spared kept
     relied_expression (Binary a os t) ns spared (one, kept) =

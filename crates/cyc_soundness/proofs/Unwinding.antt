@@ -1,5 +1,5 @@
 -- THE CONTROL STACK is left entry by entry: normally, by `break`, `continue` and `return`, and by an exception.
-use Rattle.std.proofs.Common.{◌≡◌, ℕ, Bool, true, false, List, [], ◌∷◌, Option, Some, None, refl, sym, ap, subst, ◌∙◌}
+use Rattle.std.proofs.Common.{◌≡◌, ◌≤◌, ℕ, arith, Bool, true, false, List, [], ◌∷◌, Option, Some, None, refl, sym, ap, subst, ◌∙◌}
 use Rattle.cyc_types.specs.Types.{Ty, ValueType, result_type}
 use Rattle.cyc_types.specs.Types as types
 use Rattle.cyc_types.specs.TypedTrees.{Expression, Statement}
@@ -12,16 +12,16 @@ use Rattle.cyc_meaning.specs.Parts.{closing}
 use Rattle.cyc_meaning.specs.Regions.{closing_lexical}
 use Rattle.cyc_meaning.specs.Nesting.{IsNested}
 use Rattle.cyc_meaning.specs.Step.{step_proceeding, step_breaking, step_continuing, returned, main_returned, step_returning, step_throwing}
-use Rattle.cyc_soundness.specs.Lives.{Life, Value}
+use Rattle.cyc_soundness.specs.Lives.{Life, RunTy, RunValue, Value}
 use Rattle.cyc_soundness.specs.Lives as lives
-use Rattle.cyc_soundness.specs.Worlds.{Typing, HasType, IsTyped}
-use Rattle.cyc_soundness.specs.Frames.{InScope, Names, Home, IsBound, AreVariables, LiveIn, Holds, Implies, LoopExit, Exits, HasResult, is_loop, KnowsProgram}
-use Rattle.cyc_soundness.specs.Stacks.{IsLoop, Want, Nothing, Val, PlaceOf, Go, IsBlocked, IsReturn, IsStack, IsFocus, IsWell}
+use Rattle.cyc_soundness.specs.Worlds.{Hand, In, Lent, Claims, giving, Typing, HasType, IsTyped}
+use Rattle.cyc_soundness.specs.Frames.{InScope, Names, Home, IsBound, AreVariables, AreFullAt, LiveIn, Holds, Implies, LoopExit, Exits, HasResult, is_loop, KnowsProgram}
+use Rattle.cyc_soundness.specs.Stacks.{IsLoop, Want, Nothing, Val, PlaceOf, Go, operands_in, IsBlocked, IsReturn, IsStack, IsFocus, IsWell}
 use Rattle.cyc_soundness.specs.Stacks as stacks
 use Rattle.cyc_soundness.proofs.Numbers.{some_same}
 use Rattle.cyc_soundness.proofs.FlowLemmas.{holds_implied, full_added}
-use Rattle.cyc_soundness.proofs.StackLemmas.{void_goes, given_back, not_heap, lexical_not_heap, within_bound, within_variables, within_live, within_holds, found_is, waits_within}
-use Rattle.cyc_soundness.proofs.WorldLemmas.{closed_typed}
+use Rattle.cyc_soundness.proofs.StackLemmas.{void_goes, given_back, stack_other, none_lent, in_not_lent, full_at_grown, not_heap, lexical_not_heap, within_bound, within_variables, within_live, within_holds, found_is, waits_within}
+use Rattle.cyc_soundness.proofs.WorldLemmas.{closed_typed, result_grown, claims_by_other, given_typed, given_globals, variables_other, moment_grows, moment_typed, moment_globals, holds_lent}
 use Rattle.cyc_soundness.proofs.Cells.{running}
 use Rattle.cyc_soundness.proofs.Execution.{continue_with}
 use Rattle.cyc_soundness.specs.Classes.{Source}
@@ -60,6 +60,46 @@ module _ (p : Source) (g : Typing) (e : Environment) (w : World) (typed : IsType
         running p g y bs e w typed globals bound variables (Evaluating condition) (Needs (Test condition body) ∷ k) live
         (loop.context, v, l.head, u, loop.stands, holds, loop.first, ([], bs, Go h, stacks.tests l v u h loop, tt, stack))
 
+    -- ---- a loan ends
+
+    -- what was lent is its local's again
+    abbrev ended_typing : (lent j : ℕ) → RunTy → Typing
+    ended_typing lent j t = giving (record g { loans = j }) t (In g.depth lent)
+
+    record HasEnded (lent j : ℕ) (t : RunTy) (y : Exits) (h : flow.State) (k : List Entry) : Type 0 where
+      objects : IsTyped (ended_typing lent j t) w.regions w.objects
+      knows : KnowsProgram (ended_typing lent j t) p
+      scope : AreVariables (ended_typing lent j t) bs
+      stack : IsStack p (ended_typing lent j t) y bs (Go h) k
+
+    ends : (lent j : ℕ) (t : RunTy) (y : Exits) (h : flow.State) (k : List Entry) → Claims g.own (Lent j) t → AreVariables (record g { loans = j }) bs → IsStack p (record g { loans = j }) y bs (Go h) k → HasEnded lent j t y h k
+    ends lent j t y h k claims scope stack =
+        let m = record g { loans = j } in
+        let its = In g.depth lent in
+        let le : j ≤ j = omega arith in
+        record {
+          objects = given_typed m t (Lent j) its w.regions w.objects claims tt (moment_typed g g.depth j w.regions w.objects typed);
+          knows = given_globals p m t its (moment_globals p g g.depth j globals);
+          scope = variables_other m t (Lent j) its bs claims (none_lent y m k (Lent j) le) scope;
+          stack = stack_other t (Lent j) its p m y bs (Go h) k claims le stack;
+        }
+
+    -- and it is full
+    ended_holds : (f : flow.State) (lent j : ℕ) (t : RunTy) → Claims g.own (Lent j) t → AreFullAt g lent t bs → Holds g f bs → Holds (ended_typing lent j t) (with_fullness Full f lent) bs
+    ended_holds f lent j t claims full holds =
+        let m = record g { loans = j } in
+        given_back m f lent t (Lent j) bs claims (λ i. in_not_lent g.depth i j) (full_at_grown p g m (moment_grows g g.depth j) lent t bs full) (holds_lent g j f bs holds)
+
+    -- a value that is returned is still who has it
+    return_other : (i lent j : ℕ) (t : RunTy) (o : Option Ty) (r : RunValue) (v : Option Operand) → Claims g.own (Lent j) t → IsReturn g i o r v → IsReturn (ended_typing lent j t) i o r v
+    return_other i lent j t None r None claims is = tt
+    return_other i lent j t None r (Some v) claims is = absurd is
+    return_other i lent j t (Some u) r None claims is = absurd is
+    return_other i lent j t (Some u) r (Some v) claims (is, has) = (
+      result_grown g (ended_typing lent j t) (record { objects = λ n u is. is; filled = λ n count is. is; fields = λ n ls ts is. is; kept = λ n is. is }) r v is,
+      claims_by_other g t (Lent j) (In g.depth lent) (Hand i) r claims (λ e. let z : Hand i ≡ Lent j = e in absurd (cc)) has,
+    )
+
     -- ---- to the end of a call
 
     pub proceed : (k : List Entry) (f : flow.State) → IsNested k e w → LiveIn k bs → Holds g f bs → IsStack p g x bs (Go f) k → IsWell p (step_proceeding k e w)
@@ -71,15 +111,17 @@ module _ (p : Source) (g : Typing) (e : Environment) (w : World) (typed : IsType
     proceed (CloseRegion region home ∷ k) f nests live holds (cs, number, l, alive, h, same, i, outer, stack) =
         closes Proceeding region home number l alive k cs same nests outer (h, holds_implied g f h cs i (outside_holds f region number l alive cs same holds), stack)
     proceed (CloseLexical region ∷ k) f nests live holds (h, i, outer, stack) = closes_lexical Proceeding region k nests outer (h, holds_implied g f h bs i holds, stack)
-    proceed (EndLoan lent ∷ k) f nests live holds (y, h, same, i, full, stack) =
-        running p g y bs e w typed globals bound variables Proceeding k live (h, holds_implied g (with_fullness Full f lent) h bs i (given_back g f lent bs full holds), stack)
+    proceed (EndLoan lent ∷ k) f nests live holds (y, h, j, t, same, loans, claims, i, full, scope, stack) =
+        let z = ends lent j t y h k claims scope stack in
+        running p (ended_typing lent j t) y bs e w z.objects z.knows bound z.scope Proceeding k live
+        (h, holds_implied (ended_typing lent j t) (with_fullness Full f lent) h bs i (ended_holds f lent j t claims full holds), z.stack)
     proceed (Handler cs ∷ k) f nests live holds (y, c, start, h, same, stands, known, catches, i, stack) =
         running p g y bs e w typed globals bound variables Proceeding k live (h, holds_implied g f h bs i holds, stack)
-    proceed (Caller outer ∷ k) f nests live holds (y, cs, h, loop, blocked, gives, bound', variables', live', holds', stack) = go x.result refl
+    proceed (Caller outer ∷ k) f nests live holds (y, cs, h, d, depth, loop, blocked, gives, bound', variables', live', holds', stack) = go x.result refl
       where
         go : (o : Option Ty) → x.result ≡ o → IsWell p (Running Proceeding k outer w)
-        go None same = running p g y cs outer w typed globals bound' variables' Proceeding k live'
-            (h, holds', void_goes p g y cs h x.gives k (subst (λ z. HasResult z x.gives) same gives) stack)
+        go None same = running p (record g { depth = d }) y cs outer w (moment_typed g d g.loans w.regions w.objects typed) (moment_globals p g d g.loans globals) bound' variables' Proceeding k live'
+            (h, holds', void_goes p (record g { depth = d }) y cs h x.gives k (subst (λ z. HasResult z x.gives) same gives) stack)
         go (Some t) same = let blocked_is : is_reached f ≡ false = subst (λ z. IsBlocked z f) same blocked in let z : true ≡ false = sym holds.0 ∙ blocked_is in absurd (cc)
     proceed (Main ∷ k) f nests live holds (loop, int, gives, blocked, stack) = let z : true ≡ false = sym holds.0 ∙ blocked in absurd (cc)
     proceed k f nests live holds stack = absurd stack
@@ -100,14 +142,15 @@ module _ (p : Source) (g : Typing) (e : Environment) (w : World) (typed : IsType
     breaks (CloseRegion region home ∷ k) l f h nests live same holds left (cs, number, m, alive, i, bs_are, implies, outer, stack) =
         closes Breaking region home number m alive k cs bs_are nests outer (l, f, i, same, outside_holds f region number m alive cs bs_are holds, left, stack)
     breaks (CloseLexical region ∷ k) l f h nests live same holds left (i, implies, outer, stack) = closes_lexical Breaking region k nests outer (l, f, i, same, holds, left, stack)
-    breaks (EndLoan lent ∷ k) l f h nests live same holds left (y, i, lent_is, implies, full, stack) =
+    breaks (EndLoan lent ∷ k) l f h nests live same holds left (y, i, j, t, lent_is, loans, claims, implies, full, scope, stack) =
+        let z = ends lent j t y i k claims scope stack in
         let locks : with_each Full x.locks f ≡ with_each Full y.locks (with_fullness Full f lent) = ap (λ (z : Exits). with_each Full z.locks f) lent_is ∙ full_added lent y.locks f in
-        running p g y bs e w typed globals bound variables Breaking k live
-        (l, with_fullness Full f lent, i, sym (ap (λ (z : Exits). z.loop) lent_is) ∙ same, given_back g f lent bs full holds, subst (λ z. Implies z l.breaks) locks left, stack)
+        running p (ended_typing lent j t) y bs e w z.objects z.knows bound z.scope Breaking k live
+        (l, with_fullness Full f lent, i, sym (ap (λ (z : Exits). z.loop) lent_is) ∙ same, ended_holds f lent j t claims full holds, subst (λ z. Implies z l.breaks) locks left, z.stack)
     breaks (Handler cs ∷ k) l f h nests live same holds left (y, c, start, i, relies, stands, known, catches, implies, stack) =
         running p g y bs e w typed globals bound variables Breaking k live
         (l, f, i, sym (ap (λ (z : Exits). z.loop) relies) ∙ same, holds, subst (λ ns. Implies (with_each Full ns f) l.breaks) (ap (λ (z : Exits). z.locks) relies) left, stack)
-    breaks (Caller outer ∷ k) l f h nests live same holds left (y, cs, i, loop, blocked, gives, bound', variables', live', holds', stack) = absurd (never_loop x.loop l loop same)
+    breaks (Caller outer ∷ k) l f h nests live same holds left (y, cs, i, d, depth, loop, blocked, gives, bound', variables', live', holds', stack) = absurd (never_loop x.loop l loop same)
     breaks (Main ∷ k) l f h nests live same holds left (loop, int, gives, blocked, stack) = absurd (never_loop x.loop l loop same)
     breaks k l f h nests live same holds left stack = absurd stack
 
@@ -125,50 +168,54 @@ module _ (p : Source) (g : Typing) (e : Environment) (w : World) (typed : IsType
     continues (CloseRegion region home ∷ k) l f h nests live same holds left (cs, number, m, alive, i, bs_are, implies, outer, stack) =
         closes Continuing region home number m alive k cs bs_are nests outer (l, f, i, same, outside_holds f region number m alive cs bs_are holds, left, stack)
     continues (CloseLexical region ∷ k) l f h nests live same holds left (i, implies, outer, stack) = closes_lexical Continuing region k nests outer (l, f, i, same, holds, left, stack)
-    continues (EndLoan lent ∷ k) l f h nests live same holds left (y, i, lent_is, implies, full, stack) =
+    continues (EndLoan lent ∷ k) l f h nests live same holds left (y, i, j, t, lent_is, loans, claims, implies, full, scope, stack) =
+        let z = ends lent j t y i k claims scope stack in
         let locks : with_each Full x.locks f ≡ with_each Full y.locks (with_fullness Full f lent) = ap (λ (z : Exits). with_each Full z.locks f) lent_is ∙ full_added lent y.locks f in
-        running p g y bs e w typed globals bound variables Continuing k live
-        (l, with_fullness Full f lent, i, sym (ap (λ (z : Exits). z.loop) lent_is) ∙ same, given_back g f lent bs full holds, subst (λ z. Implies z l.head) locks left, stack)
+        running p (ended_typing lent j t) y bs e w z.objects z.knows bound z.scope Continuing k live
+        (l, with_fullness Full f lent, i, sym (ap (λ (z : Exits). z.loop) lent_is) ∙ same, ended_holds f lent j t claims full holds, subst (λ z. Implies z l.head) locks left, z.stack)
     continues (Handler cs ∷ k) l f h nests live same holds left (y, c, start, i, relies, stands, known, catches, implies, stack) =
         running p g y bs e w typed globals bound variables Continuing k live
         (l, f, i, sym (ap (λ (z : Exits). z.loop) relies) ∙ same, holds, subst (λ ns. Implies (with_each Full ns f) l.head) (ap (λ (z : Exits). z.locks) relies) left, stack)
-    continues (Caller outer ∷ k) l f h nests live same holds left (y, cs, i, loop, blocked, gives, bound', variables', live', holds', stack) = absurd (never_loop x.loop l loop same)
+    continues (Caller outer ∷ k) l f h nests live same holds left (y, cs, i, d, depth, loop, blocked, gives, bound', variables', live', holds', stack) = absurd (never_loop x.loop l loop same)
     continues (Main ∷ k) l f h nests live same holds left (loop, int, gives, blocked, stack) = absurd (never_loop x.loop l loop same)
     continues k l f h nests live same holds left stack = absurd stack
 
     -- ---- to the caller
 
-    main_on : (v : Option Operand) → IsReturn g (Some types.Int) (Value lives.Int) v → IsWell p (main_returned v w)
-    main_on None is = absurd is
-    main_on (Some v) is = go v.value is.1
+    main_on : (i : ℕ) (v : Option Operand) → IsReturn g i (Some types.Int) (Value lives.Int) v → IsWell p (main_returned v w)
+    main_on i None is = absurd is
+    main_on i (Some v) is = go v.value is.0.1
       where
         go : (value : values.Value) → HasType g lives.Int value → IsWell p (main_returned (Some (record v { value = value })) w)
         go (values.Int word) has = tt
         go value has = absurd has
 
-    pub returns_on : (k : List Entry) (v : Option Operand) (f : flow.State) → IsNested k e w → LiveIn k bs → IsReturn g x.result x.gives v → IsStack p g x bs (Go f) k → IsWell p (step_returning v k e w)
+    pub returns_on : (k : List Entry) (v : Option Operand) (f : flow.State) → IsNested k e w → LiveIn k bs → IsReturn g (operands_in k) x.result x.gives v → IsStack p g x bs (Go f) k → IsWell p (step_returning v k e w)
     returns_on (Discard ∷ k) v f nests live is stack = on (Returning v) k live (f, is, stack)
     returns_on (Rest js ∷ k) v f nests live is (cs, c, h, within, stands, rest, stack) =
         running p g x cs e w typed globals (within_bound e cs bs within bound) (within_variables g cs bs within variables) (Returning v) k (within_live k cs bs within live) (h, is, stack)
     returns_on (Join ∷ k) v f nests live is (h, i, stack) = on (Returning v) k live (h, is, stack)
     returns_on (Loop condition body ∷ k) v f nests live is (y, m, t, u, h, around_is, loop, i, stack) =
-        running p g y bs e w typed globals bound variables (Returning v) k live (h, subst (λ (z : Exits). IsReturn g z.result z.gives v) around_is is, stack)
+        running p g y bs e w typed globals bound variables (Returning v) k live (h, subst (λ (z : Exits). IsReturn g (operands_in k) z.result z.gives v) around_is is, stack)
     returns_on (CloseRegion region home ∷ k) v f nests live is (cs, number, l, alive, h, same, i, outer, stack) = closes (Returning v) region home number l alive k cs same nests outer (h, is, stack)
     returns_on (CloseLexical region ∷ k) v f nests live is (h, i, outer, stack) = closes_lexical (Returning v) region k nests outer (h, is, stack)
-    returns_on (EndLoan lent ∷ k) v f nests live is (y, h, lent_is, i, full, stack) =
-        running p g y bs e w typed globals bound variables (Returning v) k live (h, subst (λ (z : Exits). IsReturn g z.result z.gives v) lent_is is, stack)
+    returns_on (EndLoan lent ∷ k) v f nests live is (y, h, j, t, lent_is, loans, claims, i, full, scope, stack) =
+        let z = ends lent j t y h k claims scope stack in
+        running p (ended_typing lent j t) y bs e w z.objects z.knows bound z.scope (Returning v) k live
+        (h, return_other (operands_in k) lent j t y.result y.gives v claims (subst (λ (z : Exits). IsReturn g (operands_in k) z.result z.gives v) lent_is is), z.stack)
     returns_on (Handler cs ∷ k) v f nests live is (y, c, start, h, relies, stands, known, catches, i, stack) =
-        running p g y bs e w typed globals bound variables (Returning v) k live (h, subst (λ (z : Exits). IsReturn g z.result z.gives v) relies is, stack)
-    returns_on (Caller outer ∷ k) v f nests live is (y, cs, h, loop, blocked, gives, bound', variables', live', holds', stack) = go x.result v refl is
+        running p g y bs e w typed globals bound variables (Returning v) k live (h, subst (λ (z : Exits). IsReturn g (operands_in k) z.result z.gives v) relies is, stack)
+    returns_on (Caller outer ∷ k) v f nests live is (y, cs, h, d, depth, loop, blocked, gives, bound', variables', live', holds', stack) = go x.result v refl is
       where
-        go : (o : Option Ty) (v : Option Operand) → x.result ≡ o → IsReturn g o x.gives v → IsWell p (returned v k outer w)
-        go None None same is = running p g y cs outer w typed globals bound' variables' Proceeding k live'
-            (h, holds', void_goes p g y cs h x.gives k (subst (λ z. HasResult z x.gives) same gives) stack)
+        back : (focus : Focus) → IsFocus p (record g { depth = d }) y cs focus k → IsWell p (Running focus k outer w)
+        back focus stands = running p (record g { depth = d }) y cs outer w (moment_typed g d g.loans w.regions w.objects typed) (moment_globals p g d g.loans globals) bound' variables' focus k live' stands
+
+        go : (o : Option Ty) (v : Option Operand) → x.result ≡ o → IsReturn g (operands_in k) o x.gives v → IsWell p (returned v k outer w)
+        go None None same is = back Proceeding (h, holds', void_goes p (record g { depth = d }) y cs h x.gives k (subst (λ z. HasResult z x.gives) same gives) stack)
         go None (Some v) same is = absurd is
         go (Some t) None same is = absurd is
-        go (Some t) (Some v) same is = running p g y cs outer w typed globals bound' variables' (Given v) k live'
-            (x.gives, h, holds', is, stack)
-    returns_on (Main ∷ k) v f nests live is (loop, int, gives, blocked, stack) = main_on v (subst (λ z. IsReturn g (Some types.Int) z v) gives (subst (λ z. IsReturn g z x.gives v) int is))
+        go (Some t) (Some v) same (is, comes) = back (Given v) (x.gives, h, holds', result_grown g (record g { depth = d }) (moment_grows g d g.loans) x.gives v is, comes, stack)
+    returns_on (Main ∷ k) v f nests live is (loop, int, gives, blocked, stack) = main_on (operands_in k) v (subst (λ z. IsReturn g (operands_in k) (Some types.Int) z v) gives (subst (λ z. IsReturn g (operands_in k) z x.gives v) int is))
     returns_on k v f nests live is stack = absurd stack
 
     -- ---- to a `try`
@@ -188,11 +235,13 @@ module _ (p : Source) (g : Typing) (e : Environment) (w : World) (typed : IsType
         running p g y bs e w typed globals bound variables (Throwing tag value) k live (Go h, stack)
     throws_on (CloseRegion region home ∷ k) tag value (Go f) nests live (cs, number, l, alive, h, same, i, outer, stack) = closes (Throwing tag value) region home number l alive k cs same nests outer (Go h, stack)
     throws_on (CloseLexical region ∷ k) tag value (Go f) nests live (h, i, outer, stack) = closes_lexical (Throwing tag value) region k nests outer (Go h, stack)
-    throws_on (EndLoan lent ∷ k) tag value (Go f) nests live (y, h, lent_is, i, full, stack) = running p g y bs e w typed globals bound variables (Throwing tag value) k live (Go h, stack)
+    throws_on (EndLoan lent ∷ k) tag value (Go f) nests live (y, h, j, t, lent_is, loans, claims, i, full, scope, stack) =
+        let z = ends lent j t y h k claims scope stack in
+        running p (ended_typing lent j t) y bs e w z.objects z.knows bound z.scope (Throwing tag value) k live (Go h, z.stack)
     throws_on (Handler cs ∷ k) tag value (Go f) nests live (y, c, start, h, relies, stands, known, catches, i, stack) =
         running p g y bs e w typed globals bound variables (Catching tag value cs) k live (c, start, f, h, stands, known, catches, stack)
-    throws_on (Caller outer ∷ k) tag value (Go f) nests live (y, cs, h, loop, blocked, gives, bound', variables', live', holds', stack) =
-        running p g y cs outer w typed globals bound' variables' (Throwing tag value) k live' (Val x.gives h, stack)
+    throws_on (Caller outer ∷ k) tag value (Go f) nests live (y, cs, h, d, depth, loop, blocked, gives, bound', variables', live', holds', stack) =
+        running p (record g { depth = d }) y cs outer w (moment_typed g d g.loans w.regions w.objects typed) (moment_globals p g d g.loans globals) bound' variables' (Throwing tag value) k live' (Val x.gives h, stack)
     throws_on (Main ∷ k) tag value (Go f) nests live (loop, int, gives, blocked, stack) = on (Throwing tag value) k live (Nothing, stack)
     throws_on k tag value Nothing nests live stack = absurd stack
     throws_on k tag value (Val r f) nests live stack = absurd stack

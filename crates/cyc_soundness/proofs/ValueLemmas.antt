@@ -32,11 +32,14 @@ pub outlasts_through : (a b c : Life) → Outlasts a b → Outlasts b c → Outl
 outlasts_through a b c (alike _) second = second
 outlasts_through a b c (for_ever _) second = for_ever c
 outlasts_through a b c (with_globals _) second = with_globals c
-outlasts_through a b c (stays region _) second = stays region c
-outlasts_through a b c (encloses l m ls ms end) (alike _) = encloses l m ls ms end
-outlasts_through a b c (encloses l m ls ms end) (for_ever _) = elim end [ ]
-outlasts_through a b c (encloses l m ls ms end) (with_globals _) = elim end [ ]
-outlasts_through a b c (encloses l m ls ms end) (encloses _ n _ ns later) = encloses l n ls ns (ends_through (l ∷ ls) ms m ns end later)
+outlasts_through a b c (stays r n ns us has) (alike _) = stays r n ns us has
+outlasts_through a b c (stays r n ns us has) (for_ever _) = absurd (let k : false ≡ true = has in cc)
+outlasts_through a b c (stays r n ns us has) (with_globals _) = absurd (let k : false ≡ true = has in cc)
+outlasts_through a b c (stays r n ns us has) (encloses _ m _ ms _ vs end more) = stays r m ms vs (more r has)
+outlasts_through a b c (encloses l m ls ms us vs end more) (alike _) = encloses l m ls ms us vs end more
+outlasts_through a b c (encloses l m ls ms us vs end more) (for_ever _) = elim end [ ]
+outlasts_through a b c (encloses l m ls ms us vs end more) (with_globals _) = elim end [ ]
+outlasts_through a b c (encloses l m ls ms us vs end more) (encloses _ n _ ns _ ws next too) = encloses l n ls ns us ws (ends_through (l ∷ ls) ms m ns end next) (λ r is. too r (more r is))
 
 -- Where what is given agrees, so does all that follows from it.
 pub given_agree : (c : RegionContext) (n : Lives) → ((a b : Region) → IsGiven c a b → Outlasts (n a) (n b)) → AgreesWith c n

@@ -13,9 +13,8 @@ use Rattle.cyc_types.specs.Types as types
 use Rattle.cyc_types.specs.TypedTrees.{StructType, GlobalVariable, Signature, Function, Program}
 use Rattle.cyc_types.specs.Rules.{AllKept, Derives}
 use Rattle.cyc_types.specs.typing.Scopes.{signature_of_ints}
-use Rattle.cyc_types.specs.typing.Tests.{is_non_null}
+use Rattle.cyc_types.specs.typing.Tests.{is_non_null, is_key}
 use Rattle.cyc_types.specs.typing.WellTyped.{signature_of, IsWellTypedProgram, AreWellTypedFunctions, IsWellTypedGlobal, AreWellTypedGlobals}
-use Rattle.cyc_types.specs.Built.{is_built}
 use Rattle.cyc_types.specs.flow.States as flow
 use Rattle.cyc_types.specs.flow.States.{is_reached}
 use Rattle.cyc_types.specs.flow.Programs.{end_demanded, rule_functions, IsAllowedProgram}
@@ -29,14 +28,13 @@ use Rattle.cyc_meaning.specs.Run.{start, steps, run}
 use Rattle.cyc_meaning.proofs.Nested.{nests_step, nests_start}
 use Rattle.cyc_soundness.specs.Lives.{Life, RunTy, RunValue, at, heap_life, lives_of, as_heap, Reading, AsHeap, ByScope}
 use Rattle.cyc_soundness.specs.Lives as lives
-use Rattle.cyc_soundness.specs.Worlds.{ObjectType, Typing, Outlasts, heap as for_ever, global_type, HasType, IsResult, AreOperands, IsObject, IsTyped}
+use Rattle.cyc_soundness.specs.Worlds.{Nobody, AreKeyless, ObjectType, Typing, Outlasts, heap as for_ever, global_type, HasType, IsResult, AreOperands, IsObject, IsTyped}
 use Rattle.cyc_soundness.specs.Frames.{InScope, Instance, read, read_value, IsThereBy, IsBound, AreVariables, LiveIn, Holds, Exits, StandBy, lives_among, KnowsProgram}
-use Rattle.cyc_soundness.specs.Classes.{IsDeclarable, InFunctions, InGlobals, InFields, InStructs, IsOfTheHeap, IsOfScopes, FreesNothing, Source, IsInClass}
-use Rattle.cyc_soundness.specs.Stacks.{IsAccepted, Val, PlaceOf, regions_at_call, IsStack, IsFocus, IsWell}
+use Rattle.cyc_soundness.specs.Classes.{IsDeclarable, InFunctions, InGlobals, InFields, InStructs, IsOfTheHeap, IsOfScopes, FreesNoObject, HasLoans, Source, IsInClass}
+use Rattle.cyc_soundness.specs.Stacks.{IsAccepted, Comes, AreGiven, Val, PlaceOf, regions_at_call, IsStack, IsFocus, IsWell}
 use Rattle.cyc_soundness.specs.Sound.{IsSound}
 use Rattle.cyc_soundness.proofs.Numbers.{some_same}
 use Rattle.cyc_soundness.proofs.TypeLemmas.{kind_meant}
-use Rattle.cyc_soundness.proofs.BuiltLemmas.{built_kept}
 use Rattle.cyc_soundness.proofs.StackLemmas.{AreAccepted, none_among}
 use Rattle.cyc_soundness.proofs.Cells.{running}
 use Rattle.cyc_soundness.proofs.Objects.{begin_array, repeat_on, write_on}
@@ -51,10 +49,10 @@ use Rattle.cyc_soundness.proofs.Unwinding.{proceed, breaks, continues, returns_o
 -- ---- a step
 
 module _ (p : Source) (accepted : AreAccepted p) (e : Environment) (w : World) (g : Typing) (x : Exits) (bs : List InScope) (objects : IsTyped g w.regions w.objects) (globals : KnowsProgram g p) (bound : IsBound e.locals e.counters bs) (variables : AreVariables g bs) where
-  given_on : (v : values.Operand) (k : List Entry) (r : RunValue) (f : flow.State) → IsNested k e w → LiveIn k bs → Holds g f bs → IsResult g r v → IsStack p g x bs (Val r f) k → IsWell p (step_given v k e w)
-  given_on v (Needs a ∷ k) r f nests live holds is (ts, cs, next, waits, are, stack) = given p g x bs e w objects globals bound variables v k nests live holds is waits are stack
-  given_on v (Discard ∷ k) r f nests live holds is stack = running p g x bs e w objects globals bound variables Proceeding k live (f, holds, stack)
-  given_on v k r f nests live holds is stack = absurd stack
+  given_on : (v : values.Operand) (k : List Entry) (r : RunValue) (f : flow.State) → IsNested k e w → LiveIn k bs → Holds g f bs → IsResult g r v → Comes g r k → IsStack p g x bs (Val r f) k → IsWell p (step_given v k e w)
+  given_on v (Needs a ∷ k) r f nests live holds is comes (ts, cs, next, waits, are, stack) = given p g x bs e w objects globals bound variables v k nests live holds is comes waits are stack
+  given_on v (Discard ∷ k) r f nests live holds is comes stack = running p g x bs e w objects globals bound variables Proceeding k live (f, holds, stack)
+  given_on v k r f nests live holds is comes stack = absurd stack
 
   place_on : (place : values.Value) (k : List Entry) (t : RunTy) (l : Life) (f : flow.State) → IsNested k e w → LiveIn k bs → Holds g f bs → HasType g (lives.Pointer marks.NonNull t l) place → IsStack p g x bs (PlaceOf t l f) k
       → IsWell p (step_given_place place k e w)
@@ -64,17 +62,17 @@ module _ (p : Source) (accepted : AreAccepted p) (e : Environment) (w : World) (
   step_well : (focus : Focus) (k : List Entry) → IsNested k e w → LiveIn k bs → IsFocus p g x bs focus k → IsWell p (stepped p.program focus k e w)
   step_well (Evaluating a) k nests live (c, t, f, h, stands, holds, evaluates, stack) =
       evaluate p g x bs e w objects globals bound variables a k c t f h evaluates.waiting nests.0 live stands holds evaluates.typed evaluates.flows evaluates.kept stack
-  step_well (Given v) k nests live (r, f, holds, is, stack) = given_on v k r f nests live holds is stack
+  step_well (Given v) k nests live (r, f, holds, is, comes, stack) = given_on v k r f nests live holds is comes stack
   step_well (Executing s) k nests live (c, f, h, stands, holds, executes, stack) =
       execute p g x bs e w objects globals bound variables s k c f h executes.before executes.behind live stands holds executes.typed executes.flows executes.breaks executes.kept stack
   step_well Proceeding k nests live (f, holds, stack) = proceed p g e w objects globals x bs bound variables k f nests live holds stack
-  step_well (Calling callee arguments) k nests live (ts, r, f, holds, is, are, stack) = call p accepted g x bs e w objects globals bound variables callee arguments k ts r f live holds is are stack
-  step_well (Entering h arguments) k nests live (end, these, alive, ok, body, these_are, stand, are, stack) =
-      enter p accepted g x bs e w objects globals bound variables h arguments k end these alive live ok body these_are stand are stack
-  step_well (Binding number ts arguments js) k nests live (h, end, vs, cs, within, ok, body, body_is, scope_is, count, are, scope, below, full, stand, at_home, stack) =
-      bind p accepted g x bs e w objects globals bound variables number ts arguments js k h end vs cs nests live within ok body body_is scope_is count are scope below full stand at_home stack
-  step_well (Naming number v js) k nests live (c, is_place, t, cs, f, h, within, stands, holds, new, number_is, is, continues', stack) =
-      declares_full p g x bs e w objects globals bound variables number v.kind v.value is_place t js cs c f h k nests live within stands holds new number_is is.0 is.1 continues' stack
+  step_well (Calling callee arguments) k nests live (ts, r, f, holds, is, are, claims, stack) = call p accepted g x bs e w objects globals bound variables callee arguments k ts r f live holds is are claims stack
+  step_well (Entering h arguments) k nests live (end, these, alive, ok, body, these_are, stand, are, claims, stack) =
+      enter p accepted g x bs e w objects globals bound variables h arguments k end these alive live ok body these_are stand are claims stack
+  step_well (Binding number ts arguments js) k nests live (h, end, vs, cs, within, ok, body, body_is, scope_is, count, are, scope, below, full, stand, at_home, claims, own, stack) =
+      bind p accepted g x bs e w objects globals bound variables number ts arguments js k h end vs cs nests live within ok body body_is scope_is count are scope below full stand at_home claims own stack
+  step_well (Naming number v js) k nests live (c, is_place, t, cs, f, h, within, stands, holds, new, number_is, is, comes, continues', stack) =
+      declares_full p g x bs e w objects globals bound variables number v.kind v.value is_place t js cs c f h k nests live within stands holds new number_is is.0 is.1 comes continues' stack
   step_well (Locating d) k nests live (c, t, r, f, h, stands, holds, locates, stack) =
       locate p g x bs e w objects globals bound variables d k c t f h locates.waiting r live stands holds locates.typed locates.flows locates.kept stack
   step_well (GivenPlace place) k nests live (t, l, f, holds, has, stack) = place_on place k t l f nests live holds has stack
@@ -141,7 +139,7 @@ found_cells ls None = None
 found_cells ls (Some s) = cells_of ls s
 
 abbrev globals_typed : List StructType → List GlobalVariable → Typing
-globals_typed ss vs = record { objects = map global_of vs; filled = ones vs; fields = λ n ls. found_cells ls (slice_get ss n); kept = [] }
+globals_typed ss vs = record { objects = map global_of vs; filled = ones vs; fields = λ n ls. found_cells ls (slice_get ss n); kept = []; own = λ n. Nobody; depth = 0; loans = 0 }
 
 null_typed : (g : Typing) (k : PointerKind) (t : Ty) (r : Region) → is_non_null (types.Pointer k t r) ≡ false → HasType g (at as_heap (types.Pointer k t r)) values.Null
 null_typed g marks.Nullable t r is = tt
@@ -155,8 +153,16 @@ value_typed g v (inr (k, t, r, pointer, null, is)) =
     subst (λ z. HasType g (at as_heap v.of_type) (constant_value z)) (sym is)
     (subst (λ u. HasType g (at as_heap u) values.Null) (sym pointer) (null_typed g k t r (subst (λ u. is_non_null u ≡ false) pointer null)))
 
+-- the key of the heap is none
+global_keyless : (t : Ty) → AreKeyless (at as_heap t ∷ [])
+global_keyless types.Int = (tt, tt)
+global_keyless (types.Pointer k t r) = (tt, tt)
+global_keyless (types.Handle r) = (tt, tt)
+global_keyless (types.Key r) = (tt, tt)
+global_keyless (types.Struct n rs) = (tt, tt)
+
 global_is : (g : Typing) (v : GlobalVariable) → IsWellTypedGlobal v → IsObject g 1 (global_of v) (global_object v)
-global_is g v has = record { owner = refl; known = tt; cells = ((sym (kind_meant as_heap v.of_type), value_typed g v has), tt) }
+global_is g v has = record { owner = refl; known = tt; keyless = λ shown. global_keyless v.of_type; cells = ((sym (kind_meant as_heap v.of_type), value_typed g v has), tt) }
 
 mapped_length : {A B C : Type 0} (f : A → B) (h : A → C) (xs : List A) → length (map f xs) ≡ length (map h xs)
 mapped_length f h [] = refl
@@ -180,8 +186,16 @@ all_globals m (v ∷ vs) (one, kept) (suc n) t found = all_globals m vs kept n t
 
 all_fields : (m : Reading) (n : ℕ) (ts : List Ty) → InFields m n ts → (field : ℕ) (t : Ty) → slice_get ts field ≡ Some t → IsDeclarable m n t
 all_fields m n [] kept field t found = absurd (let z : None ≡ Some t = found in cc)
-all_fields m n (u ∷ ts) (one, kept) zero t found = subst (λ z. IsDeclarable m n z) (some_same u t found) one
-all_fields m n (u ∷ ts) (one, kept) (suc field) t found = all_fields m n ts kept field t found
+all_fields m n (u ∷ ts) (one, usual, kept) zero t found = subst (λ z. IsDeclarable m n z) (some_same u t found) one
+all_fields m n (u ∷ ts) (one, usual, kept) (suc field) t found = all_fields m n ts kept field t found
+
+-- where things are lent, none is a key
+all_usual : (m : Reading) (n : ℕ) (ts : List Ty) → HasLoans m → InFields m n ts → (field : ℕ) (t : Ty) → slice_get ts field ≡ Some t → is_key t ≡ false
+all_usual AsHeap n ts loans kept field t found = absurd loans
+all_usual (ByScope false) n ts loans kept field t found = absurd (let z : false ≡ true = loans in cc)
+all_usual (ByScope true) n [] loans kept field t found = absurd (let z : None ≡ Some t = found in cc)
+all_usual (ByScope true) n (u ∷ ts) loans (one, usual, kept) zero t found = subst (λ z. is_key z ≡ false) (some_same u t found) usual
+all_usual (ByScope true) n (u ∷ ts) loans (one, usual, kept) (suc field) t found = all_usual (ByScope true) n ts loans kept field t found
 
 all_structs : (m : Reading) (ss : List StructType) → InStructs m ss → (n : ℕ) (s : StructType) → slice_get ss n ≡ Some s → InFields m s.parameters s.fields
 all_structs m [] kept n s found = absurd (let z : None ≡ Some s = found in cc)
@@ -229,17 +243,20 @@ well_start p input accepted well (in_functions, in_globals, in_structs) =
       each = globals_each g p.program.globals well.globals;
       heap = refl;
       kept = λ n is. none_among is;
+      fresh = λ n less. refl;
     } in
     let knows : KnowsProgram g p = record {
       globals = λ n t there. (let (object, flag, closed) = all_globals p.reading p.program.globals in_globals n t there in (object, (1, flag, (let one : 1 ≤ 1 = omega arith in one)), closed));
       structs = λ n s ls there count. ap (found_cells ls) there ∙ counted_cells ls s count;
       counts = λ n s ls ts there is. cells_counted ls s ts (sym (ap (found_cells ls) there) ∙ is);
+      keys = λ n is. none_among is;
+      plain = λ loans n s there. all_usual p.reading s.parameters s.fields loans (all_structs p.reading p.program.structs in_structs n s there);
       fields = λ n s there. all_fields p.reading s.parameters s.fields (all_structs p.reading p.program.structs in_structs n s there);
     } in
     let count : 0 ≡ length h.parameters = sym (ap length none) in
     subst (λ o. IsWell p (called o [] (Main ∷ []) w)) (sym found)
     (subst (λ (b : Bool). IsWell p (if b then Running (Entering h []) (Main ∷ []) no_locals w else wrong w)) (sym (eq-eqb 0 (length h.parameters) count))
-    (running p g x bs no_locals w objects knows (tt, tt) ((λ n. tt), tt) (Entering h []) (Main ∷ []) (((λ n is. inl refl), tt), refl) (
+    (running p g x bs no_locals w objects knows (tt, tt) ((λ n. (tt, λ e r is. let z : false ≡ true = is in absurd (cc))), tt) (Entering h []) (Main ∷ []) (((λ n is. inl refl), tt), refl) (
       end,
       (λ n. heap_life),
       (λ n. true),
@@ -248,6 +265,7 @@ well_start p input accepted well (in_functions, in_globals, in_structs) =
       refl,
       stand_first p.reading (regions_at_call h),
       subst (λ ts. AreOperands g (map (read bs) ts) []) (sym none) tt,
+      subst (λ ts. AreGiven g.own 0 (map (read bs) ts)) (sym none) tt,
       (refl, int, ap (λ o. read_value bs (result_type o)) int, ok.ends types.Int int, tt),
     )))
 
@@ -258,8 +276,8 @@ sound_by p well allowed kept input count =
     let accepted : AreAccepted p = accepted_among p p.program.functions well.functions allowed kept.0 in
     well_alive p (run p.program input count) (well_steps p count (start p.program input) accepted (nests_start p.program input) (well_start p input accepted well kept))
 
--- programs in which nothing ends but with a scope
-pub lending_sound : (p : Program) → IsWellTypedProgram p → IsAllowedProgram p → FreesNothing p → IsSound p
+-- programs that give no object back
+pub lending_sound : (p : Program) → IsWellTypedProgram p → IsAllowedProgram p → FreesNoObject p → IsSound p
 lending_sound p well allowed kept = sound_by (record { program = p; reading = ByScope true }) well allowed kept
 
 -- programs that are read by scope
@@ -272,7 +290,7 @@ globals_as_heap (v ∷ vs) = (tt, globals_as_heap vs)
 
 fields_as_heap : (n : ℕ) (ts : List Ty) → InFields AsHeap n ts
 fields_as_heap n [] = tt
-fields_as_heap n (t ∷ ts) = (tt, fields_as_heap n ts)
+fields_as_heap n (t ∷ ts) = (tt, tt, fields_as_heap n ts)
 
 structs_as_heap : (ss : List StructType) → InStructs AsHeap ss
 structs_as_heap [] = tt
@@ -281,7 +299,3 @@ structs_as_heap (s ∷ ss) = (fields_as_heap s.parameters s.fields, structs_as_h
 -- and those that are read as the heap
 pub heap_sound : (p : Program) → IsWellTypedProgram p → IsAllowedProgram p → IsOfTheHeap p → IsSound p
 heap_sound p well allowed kept = sound_by (record { program = p; reading = AsHeap }) well allowed (kept, globals_as_heap p.globals, structs_as_heap p.structs)
-
--- what is built stands in this class
-pub built_sound : (p : Program) → IsWellTypedProgram p → IsAllowedProgram p → is_built p ≡ true → IsSound p
-built_sound p well allowed built = heap_sound p well allowed (built_kept p built)

@@ -2,7 +2,8 @@
 use Rattle.std.specs.Prelude.{◌≡◌, ℕ, suc, ◌+◌, Bool, true, false, List, [], ◌∷◌, Option, Some, None, get_or}
 use Rattle.cyc_types.specs.Types.{Ty}
 use Rattle.cyc_types.specs.Declarations.{declared_regions, item_regions}
-use Rattle.cyc_types.specs.TypedTrees.{Local, Global, Expression, Number, NullPointer, HeapRegion, Counter, Copy, Move, Peek, Load, AddressOf, AddressOfCell, NumberOfElements, Call, Unary, Binary, Assign, Store, New, Dereference, Target, Member, Element, Placement, OnHeap, AsUnique, ByHandle, Initial, Plain, Fields, Array, Converted, Convert, Arguments, NoArguments, MoreArguments, Operations, NoOperations, ThenCompute, ThenTest, ThenPointer, ThenPointerPeek, Side, VariableSide, CellSide, Statement, Block, Empty, Evaluate, Swap, If, While, Return, Break, Continue, Throw, Try, Items, NoItems, MoreItems, Execute, Declare, DeclareRegion, OpenRegion, DeclareAlias, DeclareKey, Clauses, NoClauses, Default, Case, StructType, GlobalVariable, Function, Program}
+use Rattle.cyc_types.specs.TypedTrees.{Local, Global, Expression, Number, NullPointer, HeapRegion, Counter, Copy, Move, Peek, Load, AddressOf, AddressOfCell, NumberOfElements, FreeKey, Call, Unary, Binary, Assign, Store, New, Dereference, Target, Member, Element, Placement, OnHeap, AsUnique, ByHandle, Initial, Plain, Fields, Array, Converted, Convert, Arguments, NoArguments, MoreArguments, Operations, NoOperations, ThenCompute, ThenTest, ThenPointer, ThenPointerPeek, Side, VariableSide, CellSide, Statement, Block, Empty, Evaluate, Swap, If, While, Return, Break, Continue, Throw, Try, Items, NoItems, MoreItems, Execute, Declare, DeclareRegion, OpenRegion, DeclareAlias, DeclareKey, Clauses, NoClauses, Default, Case, StructType, GlobalVariable, Function, Program}
+use Rattle.cyc_types.specs.typing.Tests.{is_key}
 use Rattle.cyc_types.specs.flow.States as flow
 use Rattle.cyc_types.specs.flow.States.{Fullness, Vacant, Locked, Full, Unreached, Reached}
 use Rattle.cyc_soundness.specs.Lives.{Reading, AsHeap, ByScope, AllIn, IsKnown}
@@ -40,7 +41,7 @@ abbrev pub IsSpared : Relied → ℕ → Type 0
 IsSpared [] n = Unit {0}
 IsSpared (f ∷ q) n = IsSparedBy f n × IsSpared q n
 
--- Programs that give nothing back. All else is there: all types, objects in the heap, unique ones and those of regions, places behind
+-- Programs that give no object back. All else is there: all types, objects in the heap, unique ones and those of regions, places behind
 -- pointers, swaps, functions with regions, conversions between all marks, loops and exceptions. Only where things are lent do they have
 -- dynamic regions, keys and aliases. Read as the heap, they have no lexical regions, and take the address of no local. What is consumed
 -- or lent is nothing that the clauses around rely on: at the start of a function there are none, and of the body of a `try` that is shown.
@@ -58,6 +59,7 @@ abbrev mutual
   InExpression m q (AddressOf (Local p n) t) = HasScopes m
   InExpression m q (AddressOfCell d t) = InPlace m q d
   InExpression m q (NumberOfElements a) = InExpression m q a
+  InExpression m q (FreeKey a) = HasLoans m × InExpression m q a
   InExpression m q (Call f as' t) = InArguments m q as'
   InExpression m q (Unary o a) = InExpression m q a
   InExpression m q (Binary a os t) = InExpression m q a × InOperations m q os
@@ -145,10 +147,16 @@ abbrev pub InGlobals : Reading → List GlobalVariable → Type 0
 InGlobals m [] = Unit {0}
 InGlobals m (v ∷ vs) = IsDeclarable m 0 v.of_type × InGlobals m vs
 
+-- where things are lent, no field is a key
+abbrev pub IsUsual : Reading → Ty → Type 0
+IsUsual AsHeap t = Unit {0}
+IsUsual (ByScope false) t = Unit {0}
+IsUsual (ByScope true) t = is_key t ≡ false
+
 -- the types of fields name only the parameters of their struct
 abbrev pub InFields : Reading → ℕ → List Ty → Type 0
 InFields m n [] = Unit {0}
-InFields m n (t ∷ ts) = IsDeclarable m n t × InFields m n ts
+InFields m n (t ∷ ts) = IsDeclarable m n t × IsUsual m t × InFields m n ts
 
 abbrev pub InStructs : Reading → List StructType → Type 0
 InStructs m [] = Unit {0}
@@ -162,9 +170,9 @@ IsOfTheHeap p = InFunctions AsHeap p.functions
 abbrev pub IsOfScopes : Program → Type 0
 IsOfScopes p = InFunctions (ByScope false) p.functions × InGlobals (ByScope false) p.globals × InStructs (ByScope false) p.structs
 
--- programs in which nothing ends but with a scope
-abbrev pub FreesNothing : Program → Type 0
-FreesNothing p = InFunctions (ByScope true) p.functions × InGlobals (ByScope true) p.globals × InStructs (ByScope true) p.structs
+-- programs that give no object back
+abbrev pub FreesNoObject : Program → Type 0
+FreesNoObject p = InFunctions (ByScope true) p.functions × InGlobals (ByScope true) p.globals × InStructs (ByScope true) p.structs
 
 -- a program, and how its regions are read
 pub record Source : Type 0 where

@@ -6,7 +6,7 @@ use Rattle.cyc_types.specs.declared.region.Region.TheVariants as regions
 use Rattle.cyc_types.specs.Types.{Ty, ValueType, result_type}
 use Rattle.cyc_types.specs.TypedTrees.{StructType, GlobalVariable}
 use Rattle.cyc_types.specs.Outlives.{RegionContext, live_regions, IsGiven}
-use Rattle.cyc_types.specs.typing.Tests.{is_moved}
+use Rattle.cyc_types.specs.typing.Tests.{is_moved, is_key}
 use Rattle.cyc_types.specs.typing.WellTyped.{LocalInScope, Context, signature_of}
 use Rattle.cyc_types.specs.flow.States as flow
 use Rattle.cyc_types.specs.flow.States.{fullness, is_vacant, is_reached}
@@ -15,8 +15,8 @@ use Rattle.cyc_meaning.specs.State.{globals_number, Entry, CloseRegion, Caller}
 use Rattle.cyc_meaning.specs.Nesting.{ends_of}
 use Rattle.cyc_soundness.specs.Lives.{Life, OfRegion, Kept, RunTy, RunValue, Void, Lives, at, value_at, heap_life, lives_of, as_heap, Reading, AsHeap, ByScope, AllIn, AllInValue, IsKnown}
 pub use Rattle.cyc_soundness.specs.Worlds.{IsAmong, first, later}
-use Rattle.cyc_soundness.specs.Worlds.{Typing, IsKnownLife, IsFull, variable_type, global_type, IsEndOf, Outlasts, IsNumber}
-use Rattle.cyc_soundness.specs.Classes.{is_full, Relied, IsDeclarable, Source}
+use Rattle.cyc_soundness.specs.Worlds.{In, Typing, Claims, IsOpenIn, IsKnownLife, IsFull, variable_type, global_type, IsEndOf, Outlasts, IsNumber}
+use Rattle.cyc_soundness.specs.Classes.{is_full, Relied, HasLoans, IsDeclarable, Source}
 
 -- a local in scope, with its object and how long this is there
 pub record Bound : Type 0 where
@@ -122,11 +122,11 @@ abbrev pub IsBound : (locals counters : ℕ → Option ℕ) → List InScope →
 IsBound locals counters [] = Unit {0}
 IsBound locals counters (b ∷ bs) = HasMeaning locals counters b × IsBound locals counters bs
 
--- the objects of locals are variables of their types, and what regions stand for is known
+-- the objects of locals are variables of their types, and what regions stand for is known; what is live is open
 abbrev pub IsOfVariable : Typing → InScope → Type 0
-IsOfVariable g (Variable b) = slice_get g.objects b.object ≡ Some (variable_type b.of_type b.life b.is_hidden)
-IsOfVariable g (Names number life live) = IsKnownLife g life
-IsOfVariable g (Instance these live) = (n : ℕ) → IsKnownLife g (these n)
+IsOfVariable g (Variable b) = (slice_get g.objects b.object ≡ Some (variable_type b.of_type b.life b.is_hidden)) × IsOpenIn g b.life
+IsOfVariable g (Names number life live) = IsKnownLife g life × (live ≡ true → IsOpenIn g life)
+IsOfVariable g (Instance these live) = (n : ℕ) → IsKnownLife g (these n) × (live n ≡ true → IsOpenIn g (these n))
 IsOfVariable g b = Unit {0}
 
 abbrev pub AreVariables : Typing → List InScope → Type 0
@@ -135,7 +135,7 @@ AreVariables g (b ∷ bs) = IsOfVariable g b × AreVariables g bs
 
 -- there to the end of one of these regions, of those that will end, or for ever
 abbrev pub IsLasting : List ℕ → Life → Type 0
-IsLasting regions (OfRegion number around) = (OfRegion number around ≡ heap_life) ⊎ IsEndOf (number ∷ around) regions
+IsLasting regions (OfRegion number around lent) = (OfRegion number around lent ≡ heap_life) ⊎ IsEndOf (number ∷ around) regions
 IsLasting regions (Kept number) = Unit {0}
 IsLasting regions l = ⊥
 
@@ -177,8 +177,12 @@ pub data Within : (outer inner : List InScope) → Type 0 where
 abbrev pub IsSet : flow.State → ℕ → Type 0
 IsSet f n = is_vacant (fullness f n) ≡ false
 
+-- and is not lent
+abbrev pub IsFullIn : flow.State → ℕ → Type 0
+IsFullIn f n = is_full (fullness f n) ≡ true
+
 abbrev pub HoldsIts : Typing → flow.State → InScope → Type 0
-HoldsIts g f (Variable b) = IsSet f b.number → IsFull g b.object
+HoldsIts g f (Variable b) = (IsSet f b.number → IsFull g b.object) × (IsFullIn f b.number → Claims g.own (In g.depth b.number) b.of_type)
 HoldsIts g f b = Unit {0}
 
 abbrev pub AreSet : Typing → flow.State → List InScope → Type 0
@@ -188,10 +192,6 @@ AreSet g f (b ∷ bs) = HoldsIts g f b × AreSet g f bs
 -- what is known here holds, and so code that is never run is not reached
 abbrev pub Holds : Typing → flow.State → List InScope → Type 0
 Holds g f bs = (is_reached f ≡ true) × AreSet g f bs
-
--- and is not lent
-abbrev pub IsFullIn : flow.State → ℕ → Type 0
-IsFullIn f n = is_full (fullness f n) ≡ true
 
 -- where the first holds, so does the second
 pub record Implies (f h : flow.State) : Type 0 where
@@ -238,14 +238,14 @@ lending x n = record x { locks = x.locks ++ n ∷ [] }
 abbrev pub relying : Exits → flow.State → Exits
 relying x f = record x { relied = f ∷ x.relied }
 
--- a local of this number holds something
-abbrev pub IsFullAt : Typing → ℕ → InScope → Type 0
-IsFullAt g n (Variable b) = b.number ≡ n → IsFull g b.object
-IsFullAt g n b = Unit {0}
+-- a local of this number has this type and holds something
+abbrev pub IsFullAt : Typing → ℕ → RunTy → InScope → Type 0
+IsFullAt g n t (Variable b) = b.number ≡ n → IsFull g b.object × (b.of_type ≡ t)
+IsFullAt g n t b = Unit {0}
 
-abbrev pub AreFullAt : Typing → ℕ → List InScope → Type 0
-AreFullAt g n [] = Unit {0}
-AreFullAt g n (b ∷ bs) = IsFullAt g n b × AreFullAt g n bs
+abbrev pub AreFullAt : Typing → ℕ → RunTy → List InScope → Type 0
+AreFullAt g n t [] = Unit {0}
+AreFullAt g n t (b ∷ bs) = IsFullAt g n t b × AreFullAt g n t bs
 
 -- what is known at breaks so far holds behind the loop
 abbrev pub AreBreaks : Option LoopExit → flow.State → Type 0
@@ -323,5 +323,8 @@ pub record KnowsProgram (g : Typing) (p : Source) : Type 0 where
       → g.fields number ls ≡ Some (map (at (lives_among ls)) s.fields)
   -- a struct has so many parameters
   pub counts : (number : ℕ) (s : StructType) (ls : List Life) (ts : List RunTy) → slice_get p.program.structs number ≡ Some s → g.fields number ls ≡ Some ts → length ls ≡ s.parameters
+  -- there are dynamic regions only where things are lent, and then no field is a key
+  pub keys : (number : ℕ) → IsAmong number g.kept → HasLoans p.reading
+  pub plain : HasLoans p.reading → (number : ℕ) (s : StructType) → slice_get p.program.structs number ≡ Some s → (field : ℕ) (t : Ty) → slice_get s.fields field ≡ Some t → is_key t ≡ false
   -- its fields speak of no others
   pub fields : (number : ℕ) (s : StructType) → slice_get p.program.structs number ≡ Some s → (field : ℕ) (t : Ty) → slice_get s.fields field ≡ Some t → IsDeclarable p.reading s.parameters t

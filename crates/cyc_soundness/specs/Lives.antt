@@ -1,7 +1,7 @@
 -- TYPES AS A RUN READS THEM. Trees name regions, which mean something in their function alone. States speak of lives: the region of a
 -- number, or a unique object. A type of a tree becomes one of a state by what each region of its function stands for. (One language of
 -- types in two readings is this project's own choice.)
-use Rattle.std.specs.Prelude.{◌≢◌, ℕ, ◌<◌, Bool, List, [], ◌∷◌, map}
+use Rattle.std.specs.Prelude.{◌≢◌, ℕ, ◌<◌, Bool, false, List, [], ◌∷◌, map}
 use Rattle.cyc_syntax.specs.declared.tree.PointerKind.{PointerKind}
 use Rattle.cyc_types.specs.declared.region.Region.{Region}
 use Rattle.cyc_types.specs.declared.region.Region.TheVariants as regions
@@ -12,10 +12,10 @@ use Rattle.cyc_types.specs.Types as types
 use Rattle.cyc_meaning.specs.Values.{kind_of_mark}
 
 -- How long something is there: to the end of a region, or until it is given back; nothing is there that is null for good. With a region
--- that a scope ends come those that were open around that scope, the innermost first: they last as long. A dynamic region is kept: no
--- scope ends it.
+-- that a scope ends come those that were open around that scope, the innermost first, and the dynamic regions that were lent then: they
+-- last as long. A dynamic region is kept: no scope ends it.
 pub data Life : Type 0 where
-  OfRegion : (region : ℕ) → (around : List ℕ) → Life
+  OfRegion : (region : ℕ) → (around : List ℕ) → (lent : ℕ → Bool) → Life
   OfObject : (object : ℕ) → Life
   Never : Life
   Kept : (region : ℕ) → Life
@@ -33,6 +33,8 @@ pub data RunValue : Type 0 where
   Void : RunValue
   Null : RunValue
   Value : RunTy → RunValue
+  -- of this type, and looked at only
+  Seen : RunTy → RunValue
 
 -- what the regions of a function stand for
 abbrev pub Lives : Type 0
@@ -62,7 +64,7 @@ kind_at (Struct n ls) = kinds.Int
 
 -- the heap is there for ever
 abbrev pub heap_life : Life
-heap_life = OfRegion 0 []
+heap_life = OfRegion 0 [] (λ number. false)
 
 -- region variables stand for these
 abbrev pub lives_of : (ℕ → Life) → Lives

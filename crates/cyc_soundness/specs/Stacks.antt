@@ -17,7 +17,7 @@ use Rattle.cyc_types.specs.Types as types
 use Rattle.cyc_types.specs.TypedTrees.{Expression, Dereference, Initial, Convert, Arguments, Operations, Side, Statement, Items, Clauses, StructType, GlobalVariable, Function}
 use Rattle.cyc_types.specs.Outlives.{RegionContext}
 use Rattle.cyc_types.specs.Rules.{AllKept, Derives}
-use Rattle.cyc_types.specs.typing.Tests.{is_struct, is_unique, is_tested, kind_of_mark, kind_of, kind_of_value}
+use Rattle.cyc_types.specs.typing.Tests.{is_struct, is_key, is_unique, is_tested, kind_of_mark, kind_of, kind_of_value}
 use Rattle.cyc_types.specs.typing.Expressions.{assigned_type}
 use Rattle.cyc_types.specs.typing.Statements.{with_region_of}
 use Rattle.cyc_types.specs.declared.scope.ScopeKind.TheVariants as scopes
@@ -29,14 +29,14 @@ use Rattle.cyc_types.specs.flow.Statements.{rule_side, side_demanded, locks_of, 
 use Rattle.cyc_types.specs.flow.Programs.{start_of, in_function}
 use Rattle.cyc_meaning.specs.Values.{Operand}
 use Rattle.cyc_meaning.specs.Values as values
-use Rattle.cyc_meaning.specs.State.{Owner, Awaiting, ConvertTo, Operate, Chain, Apply, ApplyPointer, Decide, Store, StoreCell, Pass, Follow, FollowMember, Index, Advance, CountElements, PlaceBy, MakePlain, MakeFields, MakeArray, FillElement, Initialise, Choose, Test, Return, ThrowWith, OpenBy, AliasOf, AwaitingPlace, LoadFrom, TakeAddress, StoreTo, SwapLeft, SwapRight, Write, Entry, Needs, NeedsPlace, Discard, Rest, Join, Loop, CloseRegion, CloseLexical, EndLoan, Handler, Caller, Main, Environment, World, Focus, Evaluating, Locating, Given, GivenPlace, Executing, Proceeding, Calling, Entering, Binding, Naming, Writing, Swapping, Beginning, Repeating, Breaking, Continuing, Returning, Throwing, Catching, State, Running, Ended, Dead, Wrong}
+use Rattle.cyc_meaning.specs.State.{Owner, Awaiting, ConvertTo, Operate, Chain, Apply, ApplyPointer, Decide, Store, StoreCell, Pass, Follow, FollowMember, Index, Advance, CountElements, PlaceBy, MakePlain, MakeFields, MakeArray, FillElement, Initialise, Choose, Test, Return, ThrowWith, CloseByKey, OpenBy, AliasOf, AwaitingPlace, LoadFrom, TakeAddress, StoreTo, SwapLeft, SwapRight, Write, Entry, Needs, NeedsPlace, Discard, Rest, Join, Loop, CloseRegion, CloseLexical, EndLoan, Handler, Caller, Main, Environment, World, Focus, Evaluating, Locating, Given, GivenPlace, Executing, Proceeding, Calling, Entering, Binding, Naming, Writing, Swapping, Beginning, Repeating, Breaking, Continuing, Returning, Throwing, Catching, State, Running, Ended, Dead, Wrong}
 use Rattle.cyc_meaning.specs.Allocation.{writes_from}
 use Rattle.cyc_meaning.specs.Parts.{target_of, target_of_value}
-use Rattle.cyc_soundness.specs.Lives.{Life, RunTy, RunValue, Value, at, value_at, heap_life, lives_of, as_heap, Reading, AllIn, IsKnown}
+use Rattle.cyc_soundness.specs.Lives.{Life, RunTy, RunValue, Value, Seen, at, value_at, heap_life, lives_of, as_heap, Reading, AllIn, IsKnown}
 use Rattle.cyc_soundness.specs.Lives as lives
-use Rattle.cyc_soundness.specs.Worlds.{ObjectType, Typing, AgreesWith, IsFilled, IsFull, HasType, IsResult, AreOperands, IsOwner, IsTyped}
-use Rattle.cyc_soundness.specs.Classes.{Relied, HasLoans, InExpression, InPlace, InSide, InInitial, InArguments, InOperations, InStatement, InItems, InClauses, IsDeclarable, Source}
-use Rattle.cyc_soundness.specs.Frames.{IsAmong, Bound, InScope, Variable, Level, Names, Instance, Home, life_named, lives_in, read, read_value, IsThere, IsScope, AreBelow, IsBound, AreVariables, LiveIn, Within, IsSet, Holds, Implies, LoopExit, Exits, HasResult, around, lending, relying, AreFullAt, AreBreaks, is_loop, Stand, IsHome, IsContext, lives_among, KnowsProgram}
+use Rattle.cyc_soundness.specs.Worlds.{Holder, Hand, In, Lent, Claims, ClaimsBy, ObjectType, Typing, AgreesWith, IsFilled, IsFull, HasType, IsResult, AreOperands, IsOwner, AreKeyless, IsTyped}
+use Rattle.cyc_soundness.specs.Classes.{Relied, IsSpared, HasLoans, InExpression, InPlace, InSide, InInitial, InArguments, InOperations, InStatement, InItems, InClauses, IsDeclarable, Source}
+use Rattle.cyc_soundness.specs.Frames.{IsAmong, Bound, InScope, Variable, Level, Names, Instance, Home, life_named, lives_in, read, read_value, IsThere, IsScope, AreBelow, IsBound, AreVariables, LiveIn, Within, IsSet, IsFullIn, Holds, Implies, LoopExit, Exits, HasResult, around, lending, relying, AreFullAt, AreBreaks, is_loop, Stand, IsHome, IsContext, lives_among, KnowsProgram}
 
 -- ---- trees, with what is known before and behind them
 
@@ -163,9 +163,9 @@ IsCalled p bs (callees.Function number) ts r =
     (h : Function) × (these : ℕ → Life) × (live : ℕ → Bool) × (slice_get p.program.functions number ≡ Some h) × IsInstance p bs h these live
     × (ts ≡ map (at (lives_of these)) h.parameters) × (r ≡ value_at (lives_of these) (result_type h.result))
 
--- these are the types of the fields of a struct whose parameters stand for this
+-- these are the types of the fields of a struct whose parameters stand for this, and no key is among them
 abbrev pub AreFields : Source → (struct : ℕ) → List Life → List RunTy → Type 0
-AreFields p n ls ts = (s : StructType) × (slice_get p.program.structs n ≡ Some s) × (length ls ≡ s.parameters) × (ts ≡ map (at (lives_among ls)) s.fields)
+AreFields p n ls ts = (s : StructType) × (slice_get p.program.structs n ≡ Some s) × (length ls ≡ s.parameters) × (ts ≡ map (at (lives_among ls)) s.fields) × AreKeyless ts
 
 -- a local of this type may be declared next
 abbrev pub IsNew : Reading → Context → Ty → Type 0
@@ -197,6 +197,7 @@ pub record Repeats (m : Reading) (q : Relied) (c : Context) (level : ℕ) (kind 
   pub kind_is : kind ≡ kind_of t
   pub each : Evaluates m q (with_counter c) element f (types.Value t) now
   pub back : Implies now f
+  pub plain : is_key t ≡ false
 
 -- What waits for a value: with the types of the operands that wait in it, what it awaits, and what goes on then, in which scope.
 pub data Waits (p : Source) (x : Exits) (bs : List InScope) : Awaiting → List RunTy → RunValue → flow.State → List InScope → Want → Type 0 where
@@ -231,7 +232,7 @@ pub data Waits (p : Source) (x : Exits) (bs : List InScope) : Awaiting → List 
   counts_elements : (t : RunTy) (l : Life) (f : flow.State) → Waits p x bs CountElements [] (Value (lives.Pointer marks.Fat t l)) f bs (Val (Value lives.Int) f)
   places_by : {i : Initial} (c : Context) (m : PointerKind) (t : Ty) (r : Region) (f h : flow.State) → IsContext p x bs c → Makes p.reading x.relied c i m t f h → IsThere bs r
       → Waits p x bs (PlaceBy i) [] (Value (lives.Handle (lives_in bs r))) f bs (Val (Value (lives.Pointer m (read bs t) (lives_in bs r))) h)
-  makes_plain : {owner : Owner} {kind : Kind} (t : Ty) (r : Region) (f : flow.State) → IsThere bs r → IsOwner (lives_in bs r) owner → kind ≡ kind_of t
+  makes_plain : {owner : Owner} {kind : Kind} (t : Ty) (r : Region) (f : flow.State) → is_key t ≡ false → IsThere bs r → IsOwner (lives_in bs r) owner → kind ≡ kind_of t
       → Waits p x bs (MakePlain owner kind) [] (Value (read bs t)) f bs (Val (Value (lives.Pointer marks.NonNull (read bs t) (lives_in bs r))) f)
   makes_fields : {owner : Owner} {before : List Operand} {rest : Arguments} (c : Context) (done : List RunTy) (t : Ty) (ts : List Ty) (n : ℕ) (ls : List Life) (r : Region) (f h : flow.State)
       → IsThere bs r → IsOwner (lives_in bs r) owner → IsContext p x bs c → Passes p.reading x.relied c ts rest f h → AreFields p n ls (turned (read bs t ∷ done) (map (read bs) ts))
@@ -252,15 +253,16 @@ pub data Waits (p : Source) (x : Exits) (bs : List InScope) : Awaiting → List 
   tests : {condition : Expression} {body : Statement} (l : LoopExit) (v : ValueType) (f h : flow.State) → IsLoop p x bs l condition body v f h
       → Waits p x bs (Test condition body) [] (read_value bs v) f bs (Go h)
   returns : (t : Ty) (u : RunTy) (f h : flow.State) → x.result ≡ Some t → Value u ≡ x.gives → Waits p x bs Return [] (Value u) f bs (Go h)
+  closes_by_key : (r : Region) (f : flow.State) → Waits p x bs CloseByKey [] (Value (lives.Key (lives_in bs r))) f bs (Go f)
   throws : {tag : ℕ} (f h : flow.State) → Waits p x bs (ThrowWith tag) [] (Value lives.Int) f bs (Go h)
-  opens_by : {number lent : ℕ} {js : Items} (cs : List InScope) (c : Context) (b : Bound) (r : ℕ) (f h i : flow.State) → HasLoans p.reading → Within cs bs → IsContext p x bs c → IsAmong (Variable b) bs → b.number ≡ lent → IsSet f lent
-      → r < c.next_region → IsLive c (regions.Variable c.region) → number ≡ c.next_local
+  opens_by : {number lent : ℕ} {js : Items} (cs : List InScope) (c : Context) (b : Bound) (r : ℕ) (f h i : flow.State) → HasLoans p.reading → Within cs bs → IsContext p x bs c → IsAmong (Variable b) bs → b.number ≡ lent → b.of_type ≡ lives.Key (life_named bs r) → IsSet f lent
+      → IsSpared x.relied lent → IsFullIn f lent → r < c.next_region → IsLive c (regions.Variable c.region) → number ≡ c.next_local
       → Continues p.reading (lending x lent) (with_local false (types.Handle (regions.Variable r)) (with_key_opened r c)) js (with_fullness Full (with_fullness Locked f lent) number) h
-      → Implies (with_fullness Full h lent) i → Waits p x bs (OpenBy number lent js) [] (Value (lives.Key (life_named bs r))) f cs (Go i)
+      → Implies (with_fullness Full h lent) i → Waits p x bs (OpenBy number lent js) [] (Seen (lives.Key (life_named bs r))) f cs (Go i)
   aliases : {number lent : ℕ} {js : Items} (cs : List InScope) (c : Context) (b : Bound) (u t : Ty) (f h i : flow.State) → HasLoans p.reading → Within cs bs → IsContext p x bs c → IsAmong (Variable b) bs → b.number ≡ lent → IsSet f lent
-      → is_unique u ≡ true → AllIn (IsKnown c.next_region) u → t ≡ with_region_of (regions.Variable c.next_region) u → IsLive c (regions.Variable c.region) → number ≡ c.next_local
+      → IsSpared x.relied lent → IsFullIn f lent → is_unique u ≡ true → AllIn (IsKnown c.next_region) u → t ≡ with_region_of (regions.Variable c.next_region) u → IsLive c (regions.Variable c.region) → number ≡ c.next_local
       → Continues p.reading (lending x lent) (with_local true t (with_opened scopes.Alias c)) js (with_fullness Full (with_fullness Locked f lent) number) h
-      → Implies (with_fullness Full h lent) i → Waits p x bs (AliasOf number lent js) [] (Value (read bs u)) f cs (Go i)
+      → Implies (with_fullness Full h lent) i → Waits p x bs (AliasOf number lent js) [] (Seen (read bs u)) f cs (Go i)
 
 -- what waits for a place, of this type and there so long, and what goes on then
 pub data WaitsPlace (p : Source) (x : Exits) (bs : List InScope) : AwaitingPlace → RunTy → Life → flow.State → Want → Type 0 where
@@ -271,8 +273,8 @@ pub data WaitsPlace (p : Source) (x : Exits) (bs : List InScope) : AwaitingPlace
       → Converts c v t → from ≡ kind_of_value v → to ≡ kind_of t → WaitsPlace p x bs (StoreTo peek (Convert from to a)) (read bs t) (lives_in bs r) f (Val (read_value bs (assigned_type t)) h)
   swaps_left : {kind : Kind} {peek : Option ℕ} {right : Side} (c : Context) (t : Ty) (r : Region) (f h : flow.State) → IsThere bs r → IsContext p x bs c → kind ≡ values.kind_of t → is_struct t ≡ false
       → Finds p.reading x.relied c right f t h → WaitsPlace p x bs (SwapLeft kind peek right) (read bs t) (lives_in bs r) f (Go h)
-  swaps_right : {kind : Kind} {peek : Option ℕ} {left : values.Value} (t : Ty) (r : Region) (f : flow.State) → IsThere bs r → kind ≡ values.kind_of t
-      → WaitsPlace p x bs (SwapRight kind peek left) (read bs t) (lives_in bs r) f (Go f)
+  swaps_right : {kind : Kind} {peek : Option ℕ} {is_cell : Bool} {left : values.Value} (t : Ty) (r : Region) (f : flow.State) → IsThere bs r → kind ≡ values.kind_of t
+      → WaitsPlace p x bs (SwapRight kind peek is_cell left) (read bs t) (lives_in bs r) f (Go f)
 
 -- ---- arrays
 
@@ -287,10 +289,32 @@ abbrev pub IsArrayOf : Typing → List RunTy → (object count index : ℕ) → 
 IsArrayOf g (lives.Pointer m t l ∷ []) object count index = (index < count) × IsArray g t l object count index
 IsArrayOf g ts object count index = ⊥
 
--- the operands that wait in an entry are of these types, and this is the type of the pointer to an array that is being made
-abbrev pub Keeps : Typing → Awaiting → List RunTy → Type 0
-Keeps g (FillElement object count index level kind element) ts = IsArrayOf g ts object count index
-Keeps g a ts = AreOperands g ts (held a)
+-- operands on the stack, the newest first, above so many others
+abbrev pub AreClaimed : (own : ℕ → Holder) → (below : ℕ) → List RunTy → Type 0
+AreClaimed own i [] = Unit {0}
+AreClaimed own i (t ∷ ts) = Claims own (Hand (i + length ts)) t × AreClaimed own i ts
+
+-- and in order, from this one on
+abbrev pub AreGiven : (own : ℕ → Holder) → (place : ℕ) → List RunTy → Type 0
+AreGiven own i [] = Unit {0}
+AreGiven own i (t ∷ ts) = Claims own (Hand i) t × AreGiven own (suc i) ts
+
+-- how many operands wait on a stack
+abbrev pub operands_in : List Entry → ℕ
+operands_in [] = 0
+operands_in (Needs a ∷ stack) = length (held a) + operands_in stack
+operands_in (entry ∷ stack) = operands_in stack
+
+-- a value that comes to this stack
+abbrev pub Comes : Typing → RunValue → List Entry → Type 0
+Comes g r stack = ClaimsBy g.own (Hand (operands_in stack)) r
+
+-- The operands that wait in an entry, above so many others, are of these types, and this is the type of the pointer to an array that is
+-- being made.
+abbrev pub Keeps : Typing → (below : ℕ) → Awaiting → List RunTy → Type 0
+Keeps g i (FillElement object count index level kind element) ts = IsArrayOf g ts object count index
+Keeps g i a [] = AreOperands g [] (held a)
+Keeps g i a (t ∷ ts) = AreOperands g (t ∷ ts) (held a) × AreClaimed g.own i (t ∷ ts)
 
 -- ---- swaps
 
@@ -303,7 +327,7 @@ pub data IsSpot (p : Source) (g : Typing) (bs : List InScope) (t : Ty) (f : flow
 
 -- the left place of a swap that waits for the right one, of this type
 abbrev pub KeepsPlace : Source → Typing → List InScope → AwaitingPlace → RunTy → flow.State → Type 0
-KeepsPlace p g bs (SwapRight kind peek left) r f = (t : Ty) × (r ≡ read bs t) × (is_struct t ≡ false) × IsSpot p g bs t f left
+KeepsPlace p g bs (SwapRight kind peek is_cell left) r f = (t : Ty) × (r ≡ read bs t) × (is_struct t ≡ false) × IsSpot p g bs t f left
 KeepsPlace p g bs a r f = Unit {0}
 
 -- what was read of the left side
@@ -327,7 +351,7 @@ IsBlocked (Some t) f = is_reached f ≡ false
 abbrev pub IsStack : Source → Typing → Exits → List InScope → Want → List Entry → Type 0
 IsStack p g x bs Nothing [] = Unit {0}
 IsStack p g x bs (Val r f) (Needs a ∷ k) =
-    (ts : List RunTy) × (cs : List InScope) × (next : Want) × Waits p x bs a ts r f cs next × Keeps g a ts × IsStack p g x cs next k
+    (ts : List RunTy) × (cs : List InScope) × (next : Want) × Waits p x bs a ts r f cs next × Keeps g (operands_in k) a ts × IsStack p g x cs next k
 IsStack p g x bs (PlaceOf t l f) (NeedsPlace a ∷ k) = (next : Want) × WaitsPlace p x bs a t l f next × KeepsPlace p g bs a t f × IsStack p g x bs next k
 IsStack p g x bs (Val r f) (Discard ∷ k) = IsStack p g x bs (Go f) k
 IsStack p g x bs (Go f) (Discard ∷ k) = IsStack p g x bs (Go f) k
@@ -343,13 +367,14 @@ IsStack p g x bs (Go f) (CloseRegion region home ∷ k) =
 IsStack p g x bs (Go f) (CloseLexical region ∷ k) = (h : flow.State) × Implies f h × LiveIn k bs × IsStack p g x bs (Go h) k
 -- what was lent is not so any more
 IsStack p g x bs (Go f) (EndLoan lent ∷ k) =
-    (y : Exits) × (h : flow.State) × (x ≡ lending y lent) × Implies (with_fullness Full f lent) h × AreFullAt g lent bs × IsStack p g y bs (Go h) k
+    (y : Exits) × (h : flow.State) × (j : ℕ) × (t : RunTy) × (x ≡ lending y lent) × (g.loans ≡ suc j) × Claims g.own (Lent j) t × Implies (with_fullness Full f lent) h × AreFullAt g lent t bs × AreVariables (record g { loans = j }) bs
+    × IsStack p (record g { loans = j }) y bs (Go h) k
 IsStack p g x bs (Go f) (Handler cs ∷ k) =
     (y : Exits) × (c : Context) × (start h : flow.State) × (x ≡ relying y start) × IsContext p y bs c × Holds g start bs × Catches p.reading y c start cs f h × Implies f h × IsStack p g y bs (Go h) k
 -- the caller's locals are as they were, and hold what they held
 IsStack p g x bs (Go f) (Caller e ∷ k) =
-    (y : Exits) × (cs : List InScope) × (h : flow.State) × (is_loop x.loop ≡ false) × IsBlocked x.result f × HasResult x.result x.gives × IsBound e.locals e.counters cs × AreVariables g cs × LiveIn k cs × Holds g h cs
-    × IsStack p g y cs (Val x.gives h) k
+    (y : Exits) × (cs : List InScope) × (h : flow.State) × (d : ℕ) × (g.depth ≡ suc d) × (is_loop x.loop ≡ false) × IsBlocked x.result f × HasResult x.result x.gives × IsBound e.locals e.counters cs
+    × AreVariables (record g { depth = d }) cs × LiveIn k cs × Holds (record g { depth = d }) h cs × IsStack p (record g { depth = d }) y cs (Val x.gives h) k
 IsStack p g x bs (Go f) (Main ∷ k) = (is_loop x.loop ≡ false) × (x.result ≡ Some types.Int) × (x.gives ≡ Value lives.Int) × (is_reached f ≡ false) × IsStack p g x bs Nothing k
 IsStack p g x bs w k = ⊥
 
@@ -384,10 +409,10 @@ pub record IsMaking (g : Typing) (writes : List Write) (v : Operand) (t : RunTy)
 -- ---- states
 
 -- a function with a result returns a value of this type, and one without returns none
-abbrev pub IsReturn : Typing → Option Ty → RunValue → Option Operand → Type 0
-IsReturn g None r None = Unit {0}
-IsReturn g (Some t) r (Some v) = IsResult g r v
-IsReturn g result r v = ⊥
+abbrev pub IsReturn : Typing → (below : ℕ) → Option Ty → RunValue → Option Operand → Type 0
+IsReturn g i None r None = Unit {0}
+IsReturn g i (Some t) r (Some v) = IsResult g r v × ClaimsBy g.own (Hand i) r
+IsReturn g i result r v = ⊥
 
 -- these locals all hold something
 abbrev pub IsFilledIn : Typing → InScope → Type 0
@@ -397,6 +422,15 @@ IsFilledIn g b = Unit {0}
 abbrev pub AreFull : Typing → List InScope → Type 0
 AreFull g [] = Unit {0}
 AreFull g (b ∷ bs) = IsFilledIn g b × AreFull g bs
+
+-- and have what they hold
+abbrev pub IsOwnIn : Typing → InScope → Type 0
+IsOwnIn g (Variable b) = Claims g.own (In g.depth b.number) b.of_type
+IsOwnIn g b = Unit {0}
+
+abbrev pub AreOwn : Typing → List InScope → Type 0
+AreOwn g [] = Unit {0}
+AreOwn g (b ∷ bs) = IsOwnIn g b × AreOwn g bs
 
 -- in a function's body, outside of loops
 abbrev pub IsBody : Exits → List InScope → Function → Type 0
@@ -420,25 +454,25 @@ IsFocus p g x bs (Beginning owner count level kind element) k =
 IsFocus p g x bs (Repeating object count index level kind element) k =
     (c : Context) × (t : Ty) × (r : Region) × (f : flow.State) × IsContext p x bs c × Holds g f bs × IsThere bs r × Repeats p.reading x.relied c level kind element t f
     × IsArray g (read bs t) (lives_in bs r) object count index × IsStack p g x bs (Val (Value (lives.Pointer marks.Fat (read bs t) (lives_in bs r))) f) k
-IsFocus p g x bs (Given v) k = (r : RunValue) × (f : flow.State) × Holds g f bs × IsResult g r v × IsStack p g x bs (Val r f) k
+IsFocus p g x bs (Given v) k = (r : RunValue) × (f : flow.State) × Holds g f bs × IsResult g r v × Comes g r k × IsStack p g x bs (Val r f) k
 IsFocus p g x bs (Executing s) k =
     (c : Context) × (f h : flow.State) × IsContext p x bs c × Holds g f bs × Executes p.reading x c s f h × IsStack p g x bs (Go h) k
 IsFocus p g x bs Proceeding k = (f : flow.State) × Holds g f bs × IsStack p g x bs (Go f) k
 IsFocus p g x bs (Calling callee arguments) k =
-    (ts : List RunTy) × (r : RunValue) × (f : flow.State) × Holds g f bs × IsCalled p bs callee (turned ts []) r × AreOperands g ts arguments × IsStack p g x bs (Val r f) k
+    (ts : List RunTy) × (r : RunValue) × (f : flow.State) × Holds g f bs × IsCalled p bs callee (turned ts []) r × AreOperands g ts arguments × AreClaimed g.own (operands_in k) ts × IsStack p g x bs (Val r f) k
 IsFocus p g x bs (Entering h arguments) k =
     (end : flow.State) × (these : ℕ → Life) × (live : ℕ → Bool) × IsAccepted p h end × IsBody x bs h × (bs ≡ Instance these live ∷ []) × Stand p.reading (regions_at_call h) bs
-    × AreOperands g (map (read bs) h.parameters) arguments × IsStack p g x bs (Go end) k
+    × AreOperands g (map (read bs) h.parameters) arguments × AreGiven g.own (operands_in k) (map (read bs) h.parameters) × IsStack p g x bs (Go end) k
 IsFocus p g x bs (Binding number ts arguments body) k =
     (h : Function) × (end : flow.State) × (vs : List LocalInScope) × (cs : List InScope) × Within cs bs × IsAccepted p h end × IsBody x bs h × (body ≡ h.body) × (parameters_in_scope ts number vs ≡ parameters_in_scope h.parameters 0 [])
     × (number + length ts ≡ length h.parameters) × AreOperands g (map (read bs) ts) arguments × IsScope p.reading (lives_in bs) vs bs × AreBelow number bs × AreFull g bs
-    × Stand p.reading (body_context p.program h).regions bs × IsHome p.reading 0 bs × IsStack p g x cs (Go end) k
+    × Stand p.reading (body_context p.program h).regions bs × IsHome p.reading 0 bs × ((i : ℕ) × (operands_in k ≤ i) × AreGiven g.own i (map (read bs) ts)) × AreOwn g bs × IsStack p g x cs (Go end) k
 IsFocus p g x bs (Naming number v js) k =
     (c : Context) × (is_place : Bool) × (t : Ty) × (cs : List InScope) × (f h : flow.State) × Within cs bs × IsContext p x bs c × Holds g f bs × IsNew p.reading c t × (number ≡ c.next_local)
-    × IsResult g (Value (read bs t)) v × Continues p.reading x (with_local is_place t c) js (with_fullness Full f number) h × IsStack p g x cs (Go h) k
+    × IsResult g (Value (read bs t)) v × Comes g (Value (read bs t)) k × Continues p.reading x (with_local is_place t c) js (with_fullness Full f number) h × IsStack p g x cs (Go h) k
 IsFocus p g x bs Breaking k = (l : LoopExit) × (f h : flow.State) × (x.loop ≡ Some l) × Holds g f bs × Implies (with_each Full x.locks f) l.breaks × IsStack p g x bs (Go h) k
 IsFocus p g x bs Continuing k = (l : LoopExit) × (f h : flow.State) × (x.loop ≡ Some l) × Holds g f bs × Implies (with_each Full x.locks f) l.head × IsStack p g x bs (Go h) k
-IsFocus p g x bs (Returning v) k = (f : flow.State) × IsReturn g x.result x.gives v × IsStack p g x bs (Go f) k
+IsFocus p g x bs (Returning v) k = (f : flow.State) × IsReturn g (operands_in k) x.result x.gives v × IsStack p g x bs (Go f) k
 IsFocus p g x bs (Throwing tag value) k = (w : Want) × IsStack p g x bs w k
 IsFocus p g x bs (Catching tag value cs) k =
     (c : Context) × (start f h : flow.State) × IsContext p x bs c × Holds g start bs × Catches p.reading x c start cs f h × IsStack p g x bs (Go h) k

@@ -1,6 +1,6 @@
 -- THE TYPING OF A WORLD: what is known of each object that was ever made, which nothing takes back. Values are typed against it, and never
 -- against what is open: a pointer keeps its type when its region closes, and that it may be followed is shown where it is followed.
-use Rattle.std.specs.Prelude.{◌≡◌, ℕ, zero, suc, ◌+◌, ◌<◌, ◌≤◌, Bool, true, false, List, [], ◌∷◌, length, Option, Some, None, slice_get}
+use Rattle.std.specs.Prelude.{◌≡◌, ℕ, zero, suc, ◌+◌, ◌<◌, ◌≤◌, Bool, true, false, List, [], ◌∷◌, length, Option, Some, None, slice_get, ◌==◌, nat_lt, if◌then◌else◌}
 use Rattle.cyc_syntax.specs.declared.tree.PointerKind.TheVariants as marks
 use Rattle.cyc_types.specs.declared.region.Region.{Region as NamedRegion}
 use Rattle.cyc_types.specs.declared.typed.Kind.TheVariants as kinds
@@ -9,7 +9,7 @@ use Rattle.cyc_meaning.specs.Values.{Operand, Cell}
 use Rattle.cyc_meaning.specs.Values as values
 use Rattle.cyc_meaning.specs.Operators.{Result, Gives, Raises, Misfits}
 use Rattle.cyc_meaning.specs.State.{Dynamic, Region, Owner, InRegion, Unique, Object, heap_number, globals_number, is_open}
-use Rattle.cyc_soundness.specs.Lives.{Life, OfRegion, OfObject, Kept, heap_life, RunTy, Int, Pointer, Handle, Key, Struct, RunValue, Void, Null, Value, Lives, kind_at}
+use Rattle.cyc_soundness.specs.Lives.{Life, OfRegion, OfObject, Kept, heap_life, RunTy, Int, Pointer, Handle, Key, Struct, RunValue, Void, Null, Value, Seen, Lives, kind_at}
 
 pub data IsAmong {A : Type 0} (a : A) : List A → Type 0 where
   first : (as' : List A) → IsAmong a (a ∷ as')
@@ -21,6 +21,17 @@ pub record ObjectType : Type 0 where
   -- no pointer leads to it
   pub is_hidden : Bool
 
+-- who has the key of a dynamic region
+pub data Holder : Type 0 where
+  -- nobody who may use it
+  Nobody : Holder
+  -- an operand, above so many others on the stack
+  Hand : ℕ → Holder
+  -- the local of this number, in a call with so many others around
+  In : (depth number : ℕ) → Holder
+  -- it is lent, behind so many other loans
+  Lent : ℕ → Holder
+
 pub record Typing : Type 0 where
   -- by number
   pub objects : List ObjectType
@@ -28,8 +39,12 @@ pub record Typing : Type 0 where
   pub filled : List ℕ
   -- the types of a struct's cells, by its number and what its regions stand for
   pub fields : ℕ → List Life → Option (List RunTy)
-  -- the dynamic regions, which are open for good
+  -- the dynamic regions
   pub kept : List ℕ
+  -- AT THIS MOMENT: who has the key of each, how many calls are around the running one, and how many loans there are
+  pub own : ℕ → Holder
+  pub depth : ℕ
+  pub loans : ℕ
 
 -- a dynamic region is one of this world
 abbrev pub IsKnownLife : Typing → Life → Type 0
@@ -49,7 +64,7 @@ abbrev pub variable_type : RunTy → Life → (is_hidden : Bool) → ObjectType
 variable_type t life hidden = record { cells = t ∷ []; life = life; is_hidden = hidden }
 
 abbrev pub global_life : Life
-global_life = OfRegion globals_number []
+global_life = OfRegion globals_number [] (λ number. false)
 
 abbrev pub global_type : RunTy → ObjectType
 global_type t = variable_type t global_life false
@@ -60,13 +75,13 @@ pub data IsEndOf (ms : List ℕ) : List ℕ → Type 0 where
   behind : (n : ℕ) (ns : List ℕ) → IsEndOf ms ns → IsEndOf ms (n ∷ ns)
 
 -- What is there as long as the first is there as long as the second: the heap and the globals are for ever, and a region that was open
--- around a scope is open to its end. So are dynamic regions.
+-- around a scope is open to its end, as is what was lent then.
 pub data Outlasts : Life → Life → Type 0 where
   alike : (l : Life) → Outlasts l l
   heap : (l : Life) → Outlasts heap_life l
   globals : (l : Life) → Outlasts global_life l
-  stays : (region : ℕ) (l : Life) → Outlasts (Kept region) l
-  encloses : (m n : ℕ) (ms ns : List ℕ) → IsEndOf (m ∷ ms) ns → Outlasts (OfRegion m ms) (OfRegion n ns)
+  stays : (region n : ℕ) (ns : List ℕ) (lent : ℕ → Bool) → lent region ≡ true → Outlasts (Kept region) (OfRegion n ns lent)
+  encloses : (m n : ℕ) (ms ns : List ℕ) (us vs : ℕ → Bool) → IsEndOf (m ∷ ms) ns → ((r : ℕ) → us r ≡ true → vs r ≡ true) → Outlasts (OfRegion m ms us) (OfRegion n ns vs)
 
 -- regions stand for lives of which those last as long that are known here to outlive the others
 abbrev pub AgreesWith : RegionContext → Lives → Type 0
@@ -86,7 +101,7 @@ IsTarget g t l object offset =
 
 -- the region of this number has this life
 abbrev pub IsNumber : Life → (region : ℕ) → Type 0
-IsNumber (OfRegion number around) region = number ≡ region
+IsNumber (OfRegion number around lent) region = number ≡ region
 IsNumber (Kept number) region = number ≡ region
 IsNumber l region = ⊥
 
@@ -112,6 +127,7 @@ abbrev pub IsResult : Typing → RunValue → Operand → Type 0
 IsResult g Void v = Unit {0}
 IsResult g Null v = (v.kind ≡ kinds.Nullable) × (v.value ≡ values.Null)
 IsResult g (Value t) v = (v.kind ≡ kind_at t) × HasType g t v.value
+IsResult g (Seen t) v = (v.kind ≡ kind_at t) × HasType g t v.value
 
 -- what was computed: a value of this type, or an exception
 abbrev pub Fits : Typing → RunTy → Result → Type 0
@@ -146,15 +162,25 @@ AreCells g (t ∷ ts) (c ∷ cs) (suc n) = IsCell g true t c × AreCells g ts cs
 
 -- where nothing is given back, a unique object is there as long as the heap
 abbrev pub IsOwner : Life → Owner → Type 0
-IsOwner (OfRegion region around) (InRegion number) = region ≡ number
-IsOwner (OfRegion region around) (Unique live) = (region ≡ heap_number) × (live ≡ true)
+IsOwner (OfRegion region around lent) (InRegion number) = region ≡ number
+IsOwner (OfRegion region around lent) (Unique live) = (region ≡ heap_number) × (live ≡ true)
 IsOwner (OfObject object) (Unique live) = Unit {0}
 IsOwner (Kept region) (InRegion number) = region ≡ number
 IsOwner l o = ⊥
 
+-- no cell that a pointer may lead to has a key
+abbrev pub IsKeyless : RunTy → Type 0
+IsKeyless (Key (Kept region)) = ⊥
+IsKeyless t = Unit {0}
+
+abbrev pub AreKeyless : List RunTy → Type 0
+AreKeyless [] = Unit {0}
+AreKeyless (t ∷ ts) = IsKeyless t × AreKeyless ts
+
 pub record IsObject (g : Typing) (filled : ℕ) (t : ObjectType) (x : Object) : Type 0 where
   pub owner : IsOwner t.life x.owner
   pub known : IsKnownLife g t.life
+  pub keyless : t.is_hidden ≡ false → AreKeyless t.cells
   pub cells : AreCells g t.cells x.cells filled
 
 -- a dynamic region that is open
@@ -162,20 +188,67 @@ abbrev pub IsDynamic : Option Region → Type 0
 IsDynamic None = ⊥
 IsDynamic (Some r) = (r.sort ≡ Dynamic) × (r.is_open ≡ true)
 
--- each object has its type, and there are no others; the heap is open, and so are dynamic regions
+-- somebody has its key
+abbrev pub IsHeld : Holder → Type 0
+IsHeld Nobody = ⊥
+IsHeld h = Unit {0}
+
+-- Each object has its type, and there are no others. The heap is open, and so are dynamic regions whose key somebody has.
 pub record IsTyped (g : Typing) (regions : List Region) (objects : List Object) : Type 0 where
   pub count : length objects ≡ length g.objects
   pub counts : length objects ≡ length g.filled
   pub each : (number : ℕ) (t : ObjectType) → slice_get g.objects number ≡ Some t
       → (x : Object) × (filled : ℕ) × (slice_get objects number ≡ Some x) × (slice_get g.filled number ≡ Some filled) × IsObject g filled t x
   pub heap : is_open (slice_get regions heap_number) ≡ true
-  pub kept : (number : ℕ) → IsAmong number g.kept → IsDynamic (slice_get regions number)
+  pub kept : (number : ℕ) → IsAmong number g.kept → (1 < number) × (IsHeld (g.own number) → IsDynamic (slice_get regions number))
+  pub fresh : (number : ℕ) → length regions ≤ number → g.own number ≡ Nobody
 
 -- what has this life is there, by which regions are open
 abbrev pub IsOpenLife : List Region → Life → Type 0
-IsOpenLife regions (OfRegion number around) = is_open (slice_get regions number) ≡ true
+IsOpenLife regions (OfRegion number around lent) = is_open (slice_get regions number) ≡ true
 IsOpenLife regions (Kept number) = is_open (slice_get regions number) ≡ true
 IsOpenLife regions l = ⊥
+
+-- ---- keys
+
+-- a value of this type, that may be used, is there
+abbrev pub ClaimsLife : (own : ℕ → Holder) → Holder → Life → Type 0
+ClaimsLife own h (Kept region) = own region ≡ h
+ClaimsLife own h l = Unit {0}
+
+abbrev pub Claims : (own : ℕ → Holder) → Holder → RunTy → Type 0
+Claims own h (Key l) = ClaimsLife own h l
+Claims own h t = Unit {0}
+
+abbrev pub ClaimsBy : (own : ℕ → Holder) → Holder → RunValue → Type 0
+ClaimsBy own h (Value t) = Claims own h t
+ClaimsBy own h r = Unit {0}
+
+-- and is there from now on
+abbrev pub given_life : Life → Holder → (ℕ → Holder) → ℕ → Holder
+given_life (Kept region) h own = λ n. if n == region then h else own n
+given_life l h own = own
+
+abbrev pub given : RunTy → Holder → (ℕ → Holder) → ℕ → Holder
+given (Key l) h own = given_life l h own
+given t h own = own
+
+abbrev pub giving : Typing → RunTy → Holder → Typing
+giving g t h = record g { own = given t h g.own }
+
+-- whether a key is lent by one of so many loans, the first ones
+abbrev pub is_lent_by : ℕ → Holder → Bool
+is_lent_by count (Lent before) = nat_lt before count
+is_lent_by count h = false
+
+abbrev pub lent_now : Typing → ℕ → Bool
+lent_now g region = is_lent_by g.loans (g.own region)
+
+-- what has this life and is dynamic, or lasts as long, is open
+abbrev pub IsOpenIn : Typing → Life → Type 0
+IsOpenIn g (Kept region) = lent_now g region ≡ true
+IsOpenIn g (OfRegion number around lent) = (region : ℕ) → lent region ≡ true → lent_now g region ≡ true
+IsOpenIn g l = Unit {0}
 
 -- ---- growth
 
@@ -185,3 +258,10 @@ pub record Grows (g h : Typing) : Type 0 where
   pub filled : (number count : ℕ) → IsFilled g number count → IsFilled h number count
   pub fields : (struct : ℕ) (ls : List Life) (ts : List RunTy) → g.fields struct ls ≡ Some ts → h.fields struct ls ≡ Some ts
   pub kept : (number : ℕ) → IsAmong number g.kept → IsAmong number h.kept
+
+-- and nothing changes hands
+pub record Stays (g h : Typing) : Type 0 where
+  pub grows : Grows g h
+  pub own : h.own ≡ g.own
+  pub depth : h.depth ≡ g.depth
+  pub loans : h.loans ≡ g.loans

@@ -1,10 +1,9 @@
 //! Laws of the definitions in `specs/`. Each function does nothing: its contract is the law, and so it is proved with
 //! the crate.
 
-ghost use Rattle.std.specs.Prelude.{◌≡◌, true, List};
+ghost use Rattle.std.specs.Prelude.{List};
 ghost use Rattle.cyc_types.specs.Types.{Ty, ValueType};
 ghost use Rattle.cyc_types.specs.TypedTrees.{Program};
-ghost use Rattle.cyc_types.specs.Built.{is_built};
 ghost use Rattle.cyc_types.specs.typing.Tests.{kind_of};
 ghost use Rattle.cyc_types.specs.typing.WellTyped.{Context, Converts, IsWellTypedProgram};
 ghost use Rattle.cyc_types.specs.flow.Programs.{IsAllowedProgram};
@@ -12,17 +11,17 @@ ghost use Rattle.cyc_meaning.specs.Values.{Value, Operand};
 ghost use Rattle.cyc_meaning.specs.Conversion.{conversion};
 ghost use Rattle.cyc_meaning.specs.State.{Entry};
 ghost use Rattle.cyc_soundness.specs.Lives.{RunTy, Lives, at, value_at};
-ghost use Rattle.cyc_soundness.specs.Worlds.{Typing, AgreesWith, HasType, IsResult, Fits, Grows};
+ghost use Rattle.cyc_soundness.specs.Worlds.{Typing, AgreesWith, HasType, IsResult, Fits, Grows, Stays};
 ghost use Rattle.cyc_soundness.specs.Frames.{InScope, Exits};
 ghost use Rattle.cyc_soundness.specs.Stacks.{Want, IsStack};
-ghost use Rattle.cyc_soundness.specs.Classes.{IsOfTheHeap, IsOfScopes, FreesNothing, Source};
+ghost use Rattle.cyc_soundness.specs.Classes.{IsOfTheHeap, IsOfScopes, FreesNoObject, Source};
 ghost use Rattle.cyc_soundness.specs.Sound.{IsSound};
 
-/// What is known of a world only grows, and what was typed stays so: a value keeps its type for good, and so does a
-/// control stack.
+/// What is known of a world only grows, and what was typed stays so: a value keeps its type for good, and a control stack
+/// keeps it where no key changes hands.
 pub fn typings_stay()
     ensures values { (g h : Typing) → Grows g h → (t : RunTy) (v : Value) → HasType g t v → HasType h t v }
-    ensures stacks { (p : Source) (g h : Typing) → Grows g h → (x : Exits) (locals : List InScope) (want : Want) (stack : List Entry)
+    ensures stacks { (p : Source) (g h : Typing) → Stays g h → (x : Exits) (locals : List InScope) (want : Want) (stack : List Entry)
         → IsStack p g x locals want stack → IsStack p h x locals want stack }
 {}
 
@@ -46,14 +45,9 @@ pub fn scoped_programs_are_sound()
     ensures { (p : Program) → IsWellTypedProgram p → IsAllowedProgram p → IsOfScopes p → IsSound p }
 {}
 
-/// No run of a program that gives nothing back is ever dead or wrong, where the typing rules and the flow rules accept it: all
-/// that ends there does so with a scope, and a dynamic region never does. Regions are opened by their keys, and aliases
-/// share what unique pointers lead to, to the end of a block.
-pub fn programs_that_free_nothing_are_sound()
-    ensures { (p : Program) → IsWellTypedProgram p → IsAllowedProgram p → FreesNothing p → IsSound p }
-{}
-
-/// No run of a program that is built and that both sets of rules accept is ever dead or wrong.
-pub fn built_programs_are_sound()
-    ensures { (p : Program) → IsWellTypedProgram p → IsAllowedProgram p → is_built p ≡ true → IsSound p }
+/// No run of a program that gives no object back is ever dead or wrong, where the typing rules and the flow rules accept it.
+/// Dynamic regions are opened by their keys, to the end of a block, and are closed for good where their keys are given back;
+/// aliases share what unique pointers lead to, to the end of a block.
+pub fn programs_that_free_no_object_are_sound()
+    ensures { (p : Program) → IsWellTypedProgram p → IsAllowedProgram p → FreesNoObject p → IsSound p }
 {}

@@ -43,20 +43,20 @@ pub record IsText (s : SegmentContents) : Type 0 where
   pub flags : s.flags ≡ READ_AND_EXECUTE
   pub stored : length s.bytes ≡ s.size
 
--- A segment of data begins where the data range does, is to be read and written, and has a word for each of so many globals.
+-- A segment of data begins where the data range does, is to be read and written, and has so many words, those of globals.
 pub record IsData (globals : ℕ) (s : SegmentContents) : Type 0 where
   pub address : s.vaddr ≡ DATA_BASE
   pub flags : s.flags ≡ READ_AND_WRITE
   pub stored : length s.bytes ≡ s.size
   pub size : s.size ≡ 4 * globals
 
--- of a program with so many globals there is one segment of text, and one of data where there are globals, and nothing else
+-- of a program whose globals have so many words there is one segment of text, and one of data where there are globals, and nothing else
 abbrev pub AreOfProgram : (globals : ℕ) → List SegmentContents → Type 0
 AreOfProgram zero (text ∷ []) = IsText text
 AreOfProgram (suc globals) (text ∷ variables ∷ []) = IsText text × IsData (suc globals) variables
 AreOfProgram globals segments = ⊥
 
--- the form of the image of a program with so many globals, which is entered where its text begins
+-- the form of the image of a program whose globals have so many words, which is entered where its text begins
 pub record HasForm (globals : ℕ) (image : ImageContents) : Type 0 where
   pub entry : image.entry ≡ TEXT_BASE
   pub segments : AreOfProgram globals image.segments

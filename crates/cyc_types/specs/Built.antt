@@ -1,21 +1,18 @@
 -- WHICH TYPED PROGRAMS ARE BUILT: those that what stands behind the flow check handles so far. In such a program each value and cell is
--- an int or a thin pointer that is not unique: one word. Its objects are made in the heap, and its expressions and statements have the
--- forms that these and exceptions need. (What is built first is this project's own choice.)
+-- an int or a pointer. Its objects are unique or made in the heap, and its expressions and statements have the forms that these and
+-- exceptions need. (What is built first is this project's own choice.)
 --
 -- What a pointer leads to is looked at where it is followed, and not in its type.
-use Rattle.std.specs.Prelude.{ℕ, nat_le, Bool, true, false, not, ◌&&◌, Option, None, Some}
+use Rattle.std.specs.Prelude.{ℕ, nat_le, Bool, true, false, ◌&&◌, Option, None, Some}
 use Rattle.std.specs.List.{list_all}
 use Rattle.cyc_words.specs.declared.fault.Code.TheVariants as codes
 use Rattle.cyc_words.specs.declared.fault.Fault.{Fault}
-use Rattle.cyc_types.specs.declared.region.Region.TheVariants as regions
 use Rattle.cyc_types.specs.declared.typed.Kind.{Kind}
 use Rattle.cyc_types.specs.declared.typed.Kind.TheVariants as kinds
 use Rattle.cyc_types.specs.declared.typed.PointerOperator.{PointerOperator}
 use Rattle.cyc_types.specs.declared.typed.PointerOperator.TheVariants as pointers
-use Rattle.cyc_types.specs.Regions.{region_eq}
 use Rattle.cyc_types.specs.Types.{Ty, Int, Pointer, Struct, ValueType, Void, Value}
-use Rattle.cyc_types.specs.TypedTrees.{Expression, Number, NullPointer, Copy, Load, AddressOfCell, Call, Unary, Binary, Assign, Store, New, Dereference, Target, Member, Placement, OnHeap, Initial, Plain, Fields, Converted, Convert, Arguments, NoArguments, MoreArguments, Operations, NoOperations, ThenCompute, ThenTest, ThenPointer, Statement, Block, Empty, Evaluate, If, While, Return, Break, Continue, Throw, Try, Items, NoItems, MoreItems, Execute, Declare, Clauses, NoClauses, Default, Case, StructType, GlobalVariable, Function, Program}
-use Rattle.cyc_types.specs.typing.Tests.{is_thin_mark}
+use Rattle.cyc_types.specs.TypedTrees.{Expression, Number, NullPointer, Copy, Move, Peek, Load, AddressOfCell, Call, Unary, Binary, Assign, Store, New, FreeUnique, Dereference, Target, Member, Placement, OnHeap, AsUnique, Initial, Plain, Fields, Converted, Convert, Arguments, NoArguments, MoreArguments, Operations, NoOperations, ThenCompute, ThenTest, ThenPointer, ThenPointerPeek, Side, VariableSide, CellSide, Swap, Statement, Block, Empty, Evaluate, If, While, Return, Break, Continue, Throw, Try, Items, NoItems, MoreItems, Execute, Declare, Clauses, NoClauses, Default, Case, StructType, GlobalVariable, Function, Program, Counter, NumberOfElements, Element, Array}
 use Rattle.cyc_types.specs.Numbered.{argument_count}
 
 -- ---- types
@@ -23,7 +20,7 @@ use Rattle.cyc_types.specs.Numbered.{argument_count}
 -- A struct has no value: it is only what a pointer leads to.
 abbrev pub is_built_type : Ty → Bool
 is_built_type Int = true
-is_built_type (Pointer k t r) = is_thin_mark k && not (region_eq r regions.Unique)
+is_built_type (Pointer k t r) = true
 is_built_type (Struct n rs) = true
 is_built_type t = false
 
@@ -38,57 +35,60 @@ is_built_value_type Void = true
 is_built_value_type (Value t) = is_built_type t
 is_built_value_type t = false
 
--- what has this kind is one word, and neither a handle nor a key
+-- what has this kind is neither a handle nor a key
 abbrev pub is_built_kind : Kind → Bool
-is_built_kind kinds.Int = true
-is_built_kind kinds.Nullable = true
-is_built_kind kinds.NonNull = true
-is_built_kind k = false
+is_built_kind kinds.Handle = false
+is_built_kind kinds.Key = false
+is_built_kind k = true
 
 -- ---- expressions
 
--- it works on thin pointers
-abbrev pub is_built_operator : PointerOperator → Bool
-is_built_operator pointers.EqualThin = true
-is_built_operator pointers.NotEqualThin = true
-is_built_operator pointers.ThinIsNull = true
-is_built_operator pointers.ThinIsNotNull = true
-is_built_operator pointers.NullIs = true
-is_built_operator pointers.NullIsNot = true
-is_built_operator o = false
+-- A sum of a pointer and an int stands in a chain of sums alone, whose value is a pointer. (So it is in a text, where `+` binds more
+-- closely than what compares pointers.)
+abbrev pub is_built_operator : Ty → PointerOperator → Bool
+is_built_operator (Pointer k t r) o = true
+is_built_operator t pointers.AddFat = false
+is_built_operator t pointers.SubtractFat = false
+is_built_operator t o = true
 
 abbrev pub is_built_placement : Placement → Bool
 is_built_placement OnHeap = true
+is_built_placement AsUnique = true
 is_built_placement w = false
 
--- An object has a word at least, and a block of the store has room for it. (So it is in a text, where a struct has from 1 to 64 fields.)
+-- An object has a word at least, and a block of the store has room for it. (In a text a struct has from 1 to 64 fields.)
 abbrev pub is_built_size : ℕ → Bool
-is_built_size n = nat_le 1 n && nat_le n 1000
+is_built_size n = nat_le 1 n && nat_le n 64
 
 abbrev mutual
   pub is_built_expression : Expression → Bool
   is_built_expression (Number n) = true
   is_built_expression NullPointer = true
+  is_built_expression (Counter l) = true
   is_built_expression (Copy l t) = is_built_type t
+  is_built_expression (Move p n t) = is_built_type t
+  is_built_expression (Peek p n t) = is_built_type t
   is_built_expression (Load d) = is_built_place d
   is_built_expression (AddressOfCell d t) = is_built_place d && is_built_type t
+  is_built_expression (NumberOfElements a) = is_built_expression a
   is_built_expression (Call f cs t) = are_built_arguments cs && is_built_value_type t
   is_built_expression (Unary o a) = is_built_expression a
-  is_built_expression (Binary a os t) = is_built_expression a && (are_built_operations os && is_built_type t)
+  is_built_expression (Binary a os t) = is_built_expression a && (are_built_operations t os && is_built_type t)
   is_built_expression (Assign l c t) = is_built_converted c && is_built_value_type t
   is_built_expression (Store d c t) = is_built_place d && (is_built_converted c && is_built_value_type t)
+  is_built_expression (FreeUnique a) = is_built_expression a
   is_built_expression (New w i t) = is_built_placement w && (is_built_initial i && is_built_type t)
   is_built_expression a = false
 
   pub is_built_place : Dereference → Bool
   is_built_place (Target k a t) = is_built_expression a && (is_built_kind k && is_built_type t)
   is_built_place (Member k a s f t) = is_built_expression a && (is_built_kind k && is_built_type t)
-  is_built_place d = false
+  is_built_place (Element a i t) = is_built_expression a && (is_built_expression i && is_built_type t)
 
   pub is_built_initial : Initial → Bool
   is_built_initial (Plain k a) = is_built_expression a && is_built_kind k
   is_built_initial (Fields cs) = is_built_size (argument_count cs) && are_built_arguments cs
-  is_built_initial i = false
+  is_built_initial (Array p l n k a) = is_built_expression n && (is_built_expression a && is_built_kind k)
 
   pub is_built_converted : Converted → Bool
   is_built_converted (Convert from to a) = is_built_expression a && (is_built_kind from && is_built_kind to)
@@ -97,12 +97,13 @@ abbrev mutual
   are_built_arguments NoArguments = true
   are_built_arguments (MoreArguments c cs) = is_built_converted c && are_built_arguments cs
 
-  pub are_built_operations : Operations → Bool
-  are_built_operations NoOperations = true
-  are_built_operations (ThenCompute o a os) = is_built_expression a && are_built_operations os
-  are_built_operations (ThenTest o a os) = is_built_expression a && are_built_operations os
-  are_built_operations (ThenPointer o a os) = is_built_operator o && (is_built_expression a && are_built_operations os)
-  are_built_operations os = false
+  -- of a chain whose value has this type
+  pub are_built_operations : Ty → Operations → Bool
+  are_built_operations t NoOperations = true
+  are_built_operations t (ThenCompute o a os) = is_built_expression a && are_built_operations t os
+  are_built_operations t (ThenTest o a os) = is_built_expression a && are_built_operations t os
+  are_built_operations t (ThenPointer o a os) = is_built_operator t o && (is_built_expression a && are_built_operations t os)
+  are_built_operations t (ThenPointerPeek n o a os) = is_built_operator t o && (is_built_expression a && are_built_operations t os)
 
 -- a value that may be left out
 abbrev pub is_built_value : Option Converted → Bool
@@ -115,6 +116,11 @@ is_built_value (Some c) = is_built_converted c
 abbrev pub is_built_tag : ℕ → Bool
 is_built_tag n = nat_le n 4294967295
 
+-- a side of a swap
+abbrev pub is_built_side : Side → Bool
+is_built_side (VariableSide l t) = is_built_type t
+is_built_side (CellSide d) = is_built_place d
+
 -- what is thrown with an exception, if it has an int
 abbrev pub is_built_thrown : Option Expression → Bool
 is_built_thrown None = true
@@ -125,6 +131,7 @@ abbrev mutual
   is_built_statement (Block r js) = are_built_items js
   is_built_statement Empty = true
   is_built_statement (Evaluate a) = is_built_expression a
+  is_built_statement (Swap x y) = is_built_side x && is_built_side y
   is_built_statement (If a s t) = is_built_expression a && (is_built_statement s && is_built_statement t)
   is_built_statement (While p a s) = is_built_expression a && is_built_statement s
   is_built_statement (Return v) = is_built_value v
@@ -132,7 +139,6 @@ abbrev mutual
   is_built_statement Continue = true
   is_built_statement (Throw n v) = is_built_tag n && is_built_thrown v
   is_built_statement (Try s cs) = is_built_statement s && are_built_clauses cs
-  is_built_statement s = false
 
   pub are_built_items : Items → Bool
   are_built_items NoItems = true

@@ -4,43 +4,36 @@ ghost use Rattle.std.specs.Result.{is_ok};
 ghost use Rattle.std.specs.List.{list_all};
 ghost use Rattle.cyc_types.specs.TypeView.{view_ty, view_value_type};
 ghost use Rattle.cyc_types.specs.TypedTrees.{NoClauses};
-ghost use Rattle.cyc_types.specs.TypedTreeView.{view_expression, view_dereference, view_placement, view_initial, view_converted, arguments_of, operations_of, view_statement, items_of, clauses_of, default_of, view_struct, view_global, view_function, view_program};
-ghost use Rattle.cyc_types.specs.Built.{is_built_type, is_built_result, is_built_value_type, is_built_kind, is_built_operator, is_built_placement, is_built_size, is_built_expression, is_built_place, is_built_initial, is_built_converted, are_built_arguments, are_built_operations, is_built_value, is_built_tag, is_built_thrown, is_built_statement, are_built_items, are_built_clauses, is_built_struct, is_built_global, is_built_function, is_built};
+ghost use Rattle.cyc_types.specs.TypedTreeView.{view_expression, view_dereference, view_placement, view_initial, view_converted, arguments_of, operations_of, view_side, view_statement, items_of, clauses_of, default_of, view_struct, view_global, view_function, view_program};
+ghost use Rattle.cyc_types.specs.Built.{is_built_type, is_built_result, is_built_value_type, is_built_kind, is_built_operator, is_built_placement, is_built_size, is_built_expression, is_built_place, is_built_initial, is_built_converted, are_built_arguments, are_built_operations, is_built_value, is_built_side, is_built_tag, is_built_thrown, is_built_statement, are_built_items, are_built_clauses, is_built_struct, is_built_global, is_built_function, is_built};
 
+use crate::Ty;
 use crate::typed::{
     Body, Clause, Converted, Dereference, Expr, Function, Global, Initial, Item, Kind, Operation,
-    Placement, PointerOperator, Stmt, StructType, TypedTree, ValueType,
+    Placement, PointerOperator, Side, Stmt, StructType, TypedTree, ValueType,
 };
-use crate::{Region, Ty};
-use cyc_syntax::PointerKind;
 use cyc_words::{Code, Fault, Span};
 
 /// What a program may have that is not built yet.
 #[derive(Clone, Copy, Debug, PartialEq, Eq)]
 pub enum Construct {
-    /// Without fields, or with more than a thousand.
+    /// Without fields, or with more than 64.
     Struct,
     /// With a number that is no word.
     Exception,
-    FatPointer,
-    UniquePointer,
+    /// `NULL` where no pointer is wanted.
+    Null,
+    /// A sum of a pointer and an int, as an operand beside one that compares pointers.
+    Sum,
     /// The handle of a region.
     Handle,
     Key,
     /// `&` of a variable.
     AddressOf,
-    /// `numelts`
-    NumberOfElements,
-    /// `ufree`
-    FreeUnique,
     /// `free_ukey`
     FreeKey,
-    /// `rnew`
+    /// `rnew` with a handle.
     RegionNew,
-    /// `new {for ..}`
-    Array,
-    /// `:=:`
-    Swap,
     /// A region, opened or new, or an alias.
     Region,
 }
@@ -78,14 +71,6 @@ fn check_type(of_type: &Ty, span: Option<Span>) -> Result<(), Unbuilt>
     ensures { is_ok result ≡ is_built_type (view_ty of_type.now) }
 {
     let construct = match of_type {
-        Ty::Pointer {
-            kind: PointerKind::Fat,
-            ..
-        } => Construct::FatPointer,
-        Ty::Pointer {
-            region: Region::Unique,
-            ..
-        } => Construct::UniquePointer,
         Ty::Handle { .. } => Construct::Handle,
         Ty::Key { .. } => Construct::Key,
         Ty::Int | Ty::Pointer { .. } | Ty::Struct { .. } => return Ok(()),
@@ -116,7 +101,7 @@ fn check_value_type(of_type: &ValueType, name: Span) -> Result<(), Unbuilt>
 {
     match of_type {
         ValueType::Void => Ok(()),
-        ValueType::Null => stop(Construct::UniquePointer, name),
+        ValueType::Null => stop(Construct::Null, name),
         ValueType::Value { of_type } => check_type(of_type, Some(name)),
     }
 }
@@ -125,27 +110,22 @@ fn check_kind(kind: Kind, name: Span) -> Result<(), Unbuilt>
     ensures { is_ok result ≡ is_built_kind kind }
 {
     match kind {
-        Kind::Int | Kind::Nullable | Kind::NonNull => Ok(()),
-        Kind::Fat => stop(Construct::FatPointer, name),
+        Kind::Int | Kind::Nullable | Kind::NonNull | Kind::Fat => Ok(()),
         Kind::Handle => stop(Construct::Handle, name),
         Kind::Key => stop(Construct::Key, name),
     }
 }
 
-fn check_operator(operator: PointerOperator, name: Span) -> Result<(), Unbuilt>
-    ensures { is_ok result ≡ is_built_operator operator }
+/// In a chain whose value has this type.
+fn check_operator(operator: PointerOperator, of_type: &Ty, name: Span) -> Result<(), Unbuilt>
+    ensures { is_ok result ≡ is_built_operator (view_ty of_type.now) operator }
 {
-    match operator {
-        PointerOperator::EqualThin
-        | PointerOperator::NotEqualThin
-        | PointerOperator::ThinIsNull
-        | PointerOperator::ThinIsNotNull
-        | PointerOperator::NullIs
-        | PointerOperator::NullIsNot => Ok(()),
-        PointerOperator::AddFat
-        | PointerOperator::SubtractFat
-        | PointerOperator::FatIsNull
-        | PointerOperator::FatIsNotNull => stop(Construct::FatPointer, name),
+    match of_type {
+        Ty::Pointer { .. } => Ok(()),
+        Ty::Int | Ty::Struct { .. } | Ty::Handle { .. } | Ty::Key { .. } => match operator {
+            PointerOperator::AddFat | PointerOperator::SubtractFat => stop(Construct::Sum, name),
+            _ => Ok(()),
+        },
     }
 }
 
@@ -153,8 +133,8 @@ fn check_placement(placement: &Placement, name: Span) -> Result<(), Unbuilt>
     ensures { is_ok result ≡ is_built_placement (view_placement placement.now) }
 {
     match placement {
-        Placement::OnHeap => Ok(()),
-        Placement::AsUnique | Placement::ByHandle { .. } => stop(Construct::RegionNew, name),
+        Placement::OnHeap | Placement::AsUnique => Ok(()),
+        Placement::ByHandle { .. } => stop(Construct::RegionNew, name),
     }
 }
 
@@ -162,7 +142,7 @@ fn check_placement(placement: &Placement, name: Span) -> Result<(), Unbuilt>
 fn check_size(values: &[Converted], name: Span) -> Result<(), Unbuilt>
     ensures { is_ok result ≡ is_built_size (length values.now) }
 {
-    if 1 <= values.len() && values.len() <= 1000 {
+    if 1 <= values.len() && values.len() <= 64 {
         Ok(())
     } else {
         stop(Construct::Struct, name)
@@ -173,12 +153,8 @@ fn check_size(values: &[Converted], name: Span) -> Result<(), Unbuilt>
 fn form_of(expression: &Expr) -> Construct {
     match expression {
         Expr::HeapRegion => Construct::Handle,
-        Expr::Counter { .. } => Construct::Array,
-        Expr::AddressOf { .. } => Construct::AddressOf,
-        Expr::NumberOfElements { .. } => Construct::NumberOfElements,
-        Expr::FreeUnique { .. } => Construct::FreeUnique,
         Expr::FreeKey { .. } => Construct::FreeKey,
-        _ => Construct::UniquePointer,
+        _ => Construct::AddressOf,
     }
 }
 
@@ -187,12 +163,17 @@ fn check_expression(expression: &Expr, name: Span) -> Result<(), Unbuilt>
     ensures { is_ok result ≡ is_built_expression (view_expression expression.now) }
 {
     match expression {
-        Expr::Number { .. } | Expr::NullPointer => Ok(()),
-        Expr::Copy { of_type, .. } => check_type(of_type, Some(name)),
+        Expr::Number { .. } | Expr::NullPointer | Expr::Counter { .. } => Ok(()),
+        Expr::Copy { of_type, .. } | Expr::Move { of_type, .. } | Expr::Peek { of_type, .. } => {
+            check_type(of_type, Some(name))
+        }
         Expr::Load { source } => check_place(source, name),
         Expr::AddressOfCell { place, of_type } => {
             check_place(place, name)?;
             check_type(of_type, Some(name))
+        }
+        Expr::NumberOfElements { pointer } | Expr::FreeUnique { pointer } => {
+            check_expression(pointer, name)
         }
         Expr::Call {
             arguments,
@@ -209,7 +190,7 @@ fn check_expression(expression: &Expr, name: Span) -> Result<(), Unbuilt>
             of_type,
         } => {
             check_expression(first, name)?;
-            check_operations(rest, name)?;
+            check_operations(rest, of_type, name)?;
             check_type(of_type, Some(name))
         }
         Expr::Assign { value, result, .. } => {
@@ -234,14 +215,9 @@ fn check_expression(expression: &Expr, name: Span) -> Result<(), Unbuilt>
             check_initial(initial, name)?;
             check_type(of_type, Some(name))
         }
-        Expr::HeapRegion
-        | Expr::Counter { .. }
-        | Expr::Move { .. }
-        | Expr::Peek { .. }
-        | Expr::AddressOf { .. }
-        | Expr::NumberOfElements { .. }
-        | Expr::FreeUnique { .. }
-        | Expr::FreeKey { .. } => stop(form_of(expression), name),
+        Expr::HeapRegion | Expr::AddressOf { .. } | Expr::FreeKey { .. } => {
+            stop(form_of(expression), name)
+        }
     }
 }
 
@@ -265,7 +241,15 @@ fn check_place(place: &Dereference, name: Span) -> Result<(), Unbuilt>
             check_kind(*kind, name)?;
             check_type(of_type, Some(name))
         }
-        Dereference::Element { .. } => stop(Construct::FatPointer, name),
+        Dereference::Element {
+            pointer,
+            index,
+            of_type,
+        } => {
+            check_expression(pointer, name)?;
+            check_expression(index, name)?;
+            check_type(of_type, Some(name))
+        }
     }
 }
 
@@ -282,7 +266,16 @@ fn check_initial(initial: &Initial, name: Span) -> Result<(), Unbuilt>
             check_size(values, name)?;
             check_arguments(values, name)
         }
-        Initial::Array { .. } => stop(Construct::Array, name),
+        Initial::Array {
+            length,
+            kind,
+            element,
+            ..
+        } => {
+            check_expression(length, name)?;
+            check_expression(element, name)?;
+            check_kind(*kind, name)
+        }
     }
 }
 
@@ -306,19 +299,23 @@ fn check_arguments(arguments: &[Converted], name: Span) -> Result<(), Unbuilt>
 }
 
 #[cycle(expression)]
-fn check_operations(operations: &[Operation], name: Span) -> Result<(), Unbuilt>
-    ensures { is_ok result ≡ are_built_operations (operations_of operations.now) }
+fn check_operations(operations: &[Operation], of_type: &Ty, name: Span) -> Result<(), Unbuilt>
+    ensures { is_ok result ≡ are_built_operations (view_ty of_type.now) (operations_of operations.now) }
 {
     for operation in operations {
         match operation {
             Operation::Compute { operand, .. } | Operation::Test { operand, .. } => {
                 check_expression(operand, name)?;
             }
-            Operation::Pointer { operator, operand } => {
-                check_operator(*operator, name)?;
+            Operation::Pointer { operator, operand }
+            | Operation::PointerPeek {
+                operator,
+                operand,
+                ..
+            } => {
+                check_operator(*operator, of_type, name)?;
                 check_expression(operand, name)?;
             }
-            Operation::PointerPeek { .. } => return stop(Construct::UniquePointer, name),
         }
     }
     Ok(())
@@ -330,6 +327,16 @@ fn check_value(value: &Option<Converted>, name: Span) -> Result<(), Unbuilt>
     match value {
         Some(value) => check_converted(value, name),
         None => Ok(()),
+    }
+}
+
+/// A side of a swap.
+fn check_side(side: &Side, name: Span) -> Result<(), Unbuilt>
+    ensures { is_ok result ≡ is_built_side (view_side side.now) }
+{
+    match side {
+        Side::Variable { of_type, .. } => check_type(of_type, Some(name)),
+        Side::Cell { place } => check_place(place, name),
     }
 }
 
@@ -378,7 +385,10 @@ fn check_statement(statement: &Stmt, name: Span) -> Result<(), Unbuilt>
             check_statement(body, name)
         }
         Stmt::Return { value } => check_value(value, name),
-        Stmt::Swap { .. } => stop(Construct::Swap, name),
+        Stmt::Swap { left, right } => {
+            check_side(left, name)?;
+            check_side(right, name)
+        }
         Stmt::Throw { tag, value } => {
             check_tag(*tag, name)?;
             check_thrown(value, name)

@@ -75,7 +75,7 @@ pub fn hint(code: Code) -> &'static str {
         Code::TooManyFunctions => "merge some functions",
         Code::FrameTooLarge => "move some of its variables or expressions to another function",
         Code::NotBuiltYet =>
-            "write it with ints, thin pointers, structs and exceptions: so far programs over these are compiled",
+            "write it with ints, pointers, structs and exceptions: so far programs over these are compiled",
     }
 }
 

@@ -60,7 +60,7 @@ const COMPILE_HELP: &str = "Example:
   cyclone compile hello.cyc -o hello.elf
 
 Where the program is refused, no file is written: a message says what is wrong, and where. So
-far programs over ints, thin pointers, structs and exceptions are compiled; one that uses more
+far programs over ints, pointers, structs and exceptions are compiled; one that uses more
 of the language is refused with fault 60, not supported yet.";
 
 const RUN_HELP: &str = "Example:

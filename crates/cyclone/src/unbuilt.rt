@@ -15,17 +15,13 @@ pub fn name_of(construct: Construct) -> &'static str {
     match construct {
         Construct::Struct => "a struct of this size",
         Construct::Exception => "an exception with this number",
-        Construct::FatPointer => "a fat pointer",
-        Construct::UniquePointer => "a unique pointer",
+        Construct::Sum => "a sum of a pointer that is compared at once",
+        Construct::Null => "NULL where no pointer is wanted",
         Construct::Handle => "the handle of a region",
         Construct::Key => "the key of a region",
         Construct::AddressOf => "& of a variable",
-        Construct::NumberOfElements => "numelts",
-        Construct::FreeUnique => "ufree",
         Construct::FreeKey => "free_ukey",
-        Construct::RegionNew => "rnew",
-        Construct::Array => "an array",
-        Construct::Swap => ":=:",
+        Construct::RegionNew => "rnew with the handle of a region",
         Construct::Region => "a region or an alias",
     }
 }

@@ -29,7 +29,7 @@ use Rattle.cyc_types.specs.typing.Formation.{Naming, base_written, pointers_writ
 use Rattle.cyc_types.specs.typing.Tests.{kind_of, kind_of_value}
 use Rattle.cyc_types.specs.typing.Expressions.{converted, instantiated, passed, variable_read, variable_looked, read, looked, rule_looked, Found, place_meant, assigned_type, assignment, is_looking, is_looking_first, operand, Joined, peeked_local, then_added, ints_joined, tests_joined, sums_joined, int_test, then_compared, equality_joined, joined, instance_of, called, rule, rule_all, rule_chain, rule_place}
 use Rattle.cyc_types.specs.typing.Statements.{rule_condition, returned, rule_returned, rule_initial, declared_type, behind_item, rule_statement, rule_body, rule_items}
-use Rattle.cyc_types.specs.typing.Heads.{Known, members_of, structs_of, exceptions_of, parameter_naming, result_written, signature_of, declared_from}
+use Rattle.cyc_types.specs.typing.Heads.{Known, members_of, structs_of, parameter_naming, result_written, signature_of, declared_from}
 use Rattle.cyc_types.specs.typing.Programs.{declared_before, Program, program_known, parameter_locals, body_scope, rule_functions, globals_of, struct_types, IsTypedProgram}
 
 both : (a b : Bool) → a ≡ true → b ≡ true → a && b ≡ true
@@ -245,17 +245,17 @@ called_ints g (Routine f s) p es as' (parameters, result) i a (kept, eq) =
 
 -- what an operation puts in front of its chain is built, and its result is an int
 abbrev IsIntJoined : Joined → Type 0
-IsIntJoined j = ((os : typed.Operations) → are_built_operations os ≡ true → are_built_operations (j.0 os) ≡ true) × (j.1 ≡ Int)
+IsIntJoined j = ((os : typed.Operations) → are_built_operations Int os ≡ true → are_built_operations Int (j.0 os) ≡ true) × (j.1 ≡ Int)
 
 module _ (g : Scope) (p : Place) (k : Option ℕ) (q : Place) (a : typed.Expression) (is : is_built_expression a ≡ true) where
   computed : (o : Operator) → IsIntJoined (typed.ThenCompute o a, Int)
-  computed o = (λ os h. both (is_built_expression a) (are_built_operations os) is h, refl)
+  computed o = (λ os h. both (is_built_expression a) (are_built_operations Int os) is h, refl)
 
   ints_int : (left : ValueType) (o : Operator) (j : Joined) → Derives (ints_joined p left o q a) j → IsIntJoined j
   ints_int left o j (kept, eq) = subst IsIntJoined (sym eq) (computed o)
 
   tests_int : (left : ValueType) (o : LogicalOperator) (j : Joined) → Derives (tests_joined p left o q a) j → IsIntJoined j
-  tests_int left o j (kept, eq) = subst IsIntJoined (sym eq) (λ os h. both (is_built_expression a) (are_built_operations os) is h, refl)
+  tests_int left o j (kept, eq) = subst IsIntJoined (sym eq) (λ os h. both (is_built_expression a) (are_built_operations Int os) is h, refl)
 
   sums_int : (left : ValueType) (o : Operator) (fat : PointerOperator) (j : Joined) → IsIntValue left → Derives (sums_joined p left o fat q a) j → IsIntJoined j
   sums_int types.Void o fat j i ((l, rest), eq) = absurd (cc)
@@ -333,8 +333,11 @@ mutual
       let (one, rest) = and_parts (is_int_expression e) (are_int_operations os) i in
       let (first, value) = operand_ints g k (is_looking_first os) e (λ c d. expression_int g k e one c d) b kb in
       let (chain, type_int) = chain_int g k (place_of e) (peeked_local b) (type_of b) os bs rest value ks in
-      subst IsInt (sym eq)
-      (both (is_built_expression b) (are_built_operations bs.0 && is_built_type bs.1) first (both (are_built_operations bs.0) (is_built_type bs.1) chain (ap is_built_type type_int)), type_int)
+      subst IsInt (sym eq) (
+        both (is_built_expression b) (are_built_operations bs.1 bs.0 && is_built_type bs.1) first
+            (both (are_built_operations bs.1 bs.0) (is_built_type bs.1) (subst (λ t. are_built_operations t bs.0 ≡ true) (sym type_int) chain) (ap is_built_type type_int)),
+        type_int,
+      )
   expression_int g k (Assign e v) i a (x, kx, (b, kb, (kept, eq))) =
       let (place, value) = and_parts (is_int_expression e) (is_int_expression v) i in
       subst IsInt (sym eq) (assignment_int x.side b (found_int g k (place_of e) e x place kx) (expression_int g k v value b kb))
@@ -347,16 +350,16 @@ mutual
       subst AreIntValues (sym eq) (expression_int g k e one a h, expressions_int g k es bs rest hs)
 
   chain_int : (g : Scope) → AreInts g → (p : Place) (n : Option ℕ) (left : ValueType) (os : Operations) (bs : typed.Operations × Ty) → are_int_operations os ≡ true → IsIntValue left → Derives (rule_chain g p n left os) bs
-      → (are_built_operations bs.0 ≡ true) × (bs.1 ≡ Int)
+      → (are_built_operations Int bs.0 ≡ true) × (bs.1 ≡ Int)
   chain_int g k p n types.Void NoOperations bs i v ((l, u), eq) = absurd (cc)
   chain_int g k p n types.Null NoOperations bs i v d = absurd v
-  chain_int g k p n (Value t) NoOperations bs i v (kept, eq) = subst (λ (z : typed.Operations × Ty). (are_built_operations z.0 ≡ true) × (z.1 ≡ Int)) (sym eq) (refl, v)
+  chain_int g k p n (Value t) NoOperations bs i v (kept, eq) = subst (λ (z : typed.Operations × Ty). (are_built_operations Int z.0 ≡ true) × (z.1 ≡ Int)) (sym eq) (refl, v)
   chain_int g k p n left (ThenOperation o q e os) bs i v (put, (b, kb, d), (cs, ks, (u, eq))) =
       let (one, rest) = and_parts (is_int_expression e) (are_int_operations os) i in
       let (first, value) = operand_ints g k (is_looking o) e (λ c h. expression_int g k e one c h) b kb in
       let (adds, type_int) = joined_int g p n (place_of e) b first left o put v d in
       let (chain, whole) = chain_int g k p None (Value put.1) os cs rest type_int ks in
-      subst (λ (z : typed.Operations × Ty). (are_built_operations z.0 ≡ true) × (z.1 ≡ Int)) (sym eq) (adds cs.0 chain, whole)
+      subst (λ (z : typed.Operations × Ty). (are_built_operations Int z.0 ≡ true) × (z.1 ≡ Int)) (sym eq) (adds cs.0 chain, whole)
 
 -- ---- statements
 

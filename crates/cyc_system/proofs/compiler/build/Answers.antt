@@ -7,21 +7,21 @@ use Rattle.cyc_lower.specs.declared.limits.TheConstants.{MOST_FUNCTIONS}
 use Rattle.cyc_lower.specs.Lowered.{IsLowered}
 use Rattle.cyc_frame.specs.Layout as frames
 use Rattle.cyc_frame.specs.Layout.{HasSmallFrames}
-use Rattle.cyc_system.specs.FullPreservation.{IsImageOf}
+use Rattle.cyc_system.specs.FullPreservation.{IsImageOfSound}
 use Rattle.cyc_system.proofs.Refusals.{lowering_refuses, layout_refuses, image_answers}
 use Rattle.cyc_system.proofs.compiler.build.Goals as goal
 
 pub returns-in_err-plain : goal.returns-in_err-plain
 returns-in_err-plain c =
     let e = err_from_is_err_and c.from_residual.result c.from_residual.ensures.1 in
-    rw (e.1, e.2) (lowering_refuses (λ p file. IsImageOf p file.items) (view_program c.args.program.now.tree) _ c.in_err-plain.field-0.0 c.in_err-plain.ensures)
+    rw (e.1, e.2) (lowering_refuses (λ p file. IsImageOfSound p file.items) (view_program c.args.program.now.tree) _ c.in_err-plain.field-0.0 c.in_err-plain.ensures)
 
 pub returns-in_err-framed : goal.returns-in_err-framed
 returns-in_err-framed c =
     let p = view_program c.args.program.now.tree in
     let (a, (same, few), is) = c.in_ok-plain.ensures.accepted in
     let e = err_from_is_err_and c.from_residual-in_err-framed.result c.from_residual-in_err-framed.ensures.1 in
-    rw (e.1, e.2) (layout_refuses (λ q file. IsImageOf q file.items) p c.in_ok-plain.plain
+    rw (e.1, e.2) (layout_refuses (λ q file. IsImageOfSound q file.items) p c.in_ok-plain.plain
     (subst (λ (q : Program). IsLowered q c.in_ok-plain.plain) same is) (subst (λ (q : Program). length q.functions ≤ MOST_FUNCTIONS) same few)
     c.in_ok-plain.ensures.refuses _ c.in_err-framed.field-0.0 c.in_err-framed.ensures)
 
@@ -31,7 +31,7 @@ returns c =
     let (a, (one, few), is) = c.in_ok-plain.ensures.accepted in
     let (l, (same, small), (of, are)) = c.in_ok-framed.ensures.accepted in
     let there = sym (of ∙ same) in
-    image_answers (λ q file. IsImageOf q file.items) p c.in_ok-framed.framed.program
+    image_answers (λ q file. IsImageOfSound q file.items) p c.in_ok-framed.framed.program
     (subst (IsLowered p) there (subst (λ (q : Program). IsLowered q c.in_ok-plain.plain) one is)) (subst (λ (q : Program). length q.functions ≤ MOST_FUNCTIONS) one few)
-    c.in_ok-plain.ensures.refuses c.requires.sound (subst HasSmallFrames (sym of) small) (λ f large. c.in_ok-framed.ensures.refuses f (subst (λ (r : PlainProgram). frames.IsTooLarge r f) (of ∙ same) large))
+    c.in_ok-plain.ensures.refuses (subst HasSmallFrames (sym of) small) (λ f large. c.in_ok-framed.ensures.refuses f (subst (λ (r : PlainProgram). frames.IsTooLarge r f) (of ∙ same) large))
     c.compile_plain.result c.compile_plain.ensures.image c.compile_plain.ensures.refused

@@ -3,10 +3,9 @@ use Rattle.std.proofs.lemmas.Result.{err_from_is_err_and}
 use Rattle.cyc_types.specs.TypedTreeView.{view_program}
 use Rattle.cyc_types.specs.Built.{is_built}
 use Rattle.cyc_types.proofs.typing.ProgramLemmas.{program_well}
-use Rattle.cyc_soundness.proofs.Whole.{built_sound}
 use Rattle.cyc_lower.proofs.Accepted.{accepted_can_be_lowered}
 use Rattle.cyc_system.specs.Front.{names_in, IsAcceptedText}
-use Rattle.cyc_system.specs.FullPreservation.{IsImageOf}
+use Rattle.cyc_system.specs.FullPreservation.{IsImageOfSound}
 use Rattle.cyc_system.proofs.Amounts.{accepted_light}
 use Rattle.cyc_system.proofs.Refusals.{behind_answers, unbuilt_answers, front_answers}
 use Rattle.cyc_system.proofs.compiler.compile.Goals as goal
@@ -14,7 +13,7 @@ use Rattle.cyc_system.proofs.compiler.compile.Goals as goal
 pub returns-in_err-program : goal.returns-in_err-program
 returns-in_err-program c =
     let e = err_from_is_err_and c.from_residual.result c.from_residual.ensures.1 in
-    record { decides = rw (e.1, e.2) (front_answers (λ p file. IsImageOf p file.items) c.args.text.now (λ p v. view_program v.tree ≡ p) c.in_err-program.field-0.0 c.in_err-program.ensures.decides) }
+    record { decides = rw (e.1, e.2) (front_answers (λ p file. IsImageOfSound p file.items) c.args.text.now (λ p v. view_program v.tree ≡ p) c.in_err-program.field-0.0 c.in_err-program.ensures.decides) }
 
 pub returns-in_err-check_built : goal.returns-in_err-check_built
 returns-in_err-check_built c =
@@ -24,20 +23,13 @@ returns-in_err-check_built c =
     let (p, is, same) = d.accepted in
     let unbuilt : is_built tree ≡ false = sym c.in_err-check_built.ensures in
     let e = err_from_is_err_and c.from_residual-in_err-check_built.result c.from_residual-in_err-check_built.ensures.1 in
-    record { decides = rw (e.1, e.2) (unbuilt_answers (λ p file. IsImageOf p file.items) text tree (subst (IsAcceptedText text) (sym same) is) d.accepts d.refuses unbuilt) }
+    record { decides = rw (e.1, e.2) (unbuilt_answers (λ p file. IsImageOfSound p file.items) text tree (subst (IsAcceptedText text) (sym same) is) d.accepts d.refuses unbuilt) }
 
 pub build-requires-clause-well_typed : goal.build-requires-clause-well_typed
 build-requires-clause-well_typed c =
     let (p, is, same) = c.in_ok-program.ensures.decides.accepted in
     let a = subst (IsAcceptedText c.args.text.now) (sym same) is in
     program_well (names_in a.tokens) a.tree (view_program c.in_ok-program.program.tree) a.typed
-
-pub build-requires-clause-sound : goal.build-requires-clause-sound
-build-requires-clause-sound c =
-    let (p, is, same) = c.in_ok-program.ensures.decides.accepted in
-    let a = subst (IsAcceptedText c.args.text.now) (sym same) is in
-    let tree = view_program c.in_ok-program.program.tree in
-    built_sound tree (program_well (names_in a.tokens) a.tree tree a.typed) a.allowed (sym c.in_ok-check_built.ensures)
 
 pub build-requires-clause-small : goal.build-requires-clause-small
 build-requires-clause-small c =
@@ -58,6 +50,6 @@ returns c =
     let (p, is, same) = d.accepted in
     record {
       decides =
-          behind_answers (λ p file. IsImageOf p file.items) text (view_program c.in_ok-program.program.tree) (subst (IsAcceptedText text) (sym same) is) d.accepts d.refuses
+          behind_answers (λ p file. IsImageOfSound p file.items) text (view_program c.in_ok-program.program.tree) (subst (IsAcceptedText text) (sym same) is) d.accepts d.refuses
           (sym c.in_ok-check_built.ensures) c.build.result c.build.ensures;
     }

@@ -27,10 +27,10 @@ call_built e f v t cs b is same answer =
 
 -- a chain is built where its first operand and its operations are, as these say, and its type is
 chain_built : (e : Expr) (x : Box Expr Heap) (v : Vec Operation Heap) (t : TyCode) (a : Expr) (os : List Operation) (b : Bool) → e ≡ expr.Binary x v t → a ≡ x.value → os ≡ v.items
-    → true ≡ is_built_expression (view_expression a) → b ≡ are_built_operations (operations_of os) → (b && is_built_type (view_ty t)) ≡ is_built_expression (view_expression e)
+    → true ≡ is_built_expression (view_expression a) → b ≡ are_built_operations (view_ty t) (operations_of os) → (b && is_built_type (view_ty t)) ≡ is_built_expression (view_expression e)
 chain_built e x v t a os b is first rest built answer =
-    ap (λ y. y && is_built_type (view_ty t)) (answer ∙ ap (λ qs. are_built_operations (operations_of qs)) rest)
-    ∙ ap (λ y. y && (are_built_operations (operations_of v.items) && is_built_type (view_ty t))) (built ∙ ap (λ c. is_built_expression (view_expression c)) first)
+    ap (λ y. y && is_built_type (view_ty t)) (answer ∙ ap (λ qs. are_built_operations (view_ty t) (operations_of qs)) rest)
+    ∙ ap (λ y. y && (are_built_operations (view_ty t) (operations_of v.items) && is_built_type (view_ty t))) (built ∙ ap (λ c. is_built_expression (view_expression c)) first)
     ∙ sym (ap is_built_expression (ap view_expression is ∙ view_binary x v t))
 
 refused : {T E : Type 0} (r : Result T E) → IsErr r → is_ok r ≡ false

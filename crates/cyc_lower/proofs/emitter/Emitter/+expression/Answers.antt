@@ -11,7 +11,7 @@ use Rattle.cyc_plain.specs.declared.instruction.Operand.{Operand}
 use Rattle.cyc_plain.specs.declared.instruction.Operand.TheVariants as operands
 use Rattle.cyc_plain.specs.declared.instruction.Instruction.TheVariants as instructions
 use Rattle.cyc_plain.specs.declared.instruction.Instruction.{Instruction}
-use Rattle.cyc_lower.specs.Lowering.{value_operand, copy_code, expression_code, conversion_code, test_jump, next_slot}
+use Rattle.cyc_lower.specs.Lowering.{value_operand, copy_code, expression_code, conversion_code, test_jump, next_slot, span_of}
 use Rattle.cyc_lower.specs.Emission.{Gives, left_code, HasRoom, operation_code, view_starts}
 use Rattle.cyc_lower.proofs.Emitting.{Remains, all_arguments, one_argument, next_argument, arguments_lower, all_operations, one_operation, next_operation, operations_lower, goes_on, joined, passed_on, made_putchar, made_call, made_called, made_fields, made_binary, room_behind, made_left_alone, made_left_first, made_compute, made_test, room_after, slot_by_count, made_print, made_assigned, room_for_right, made_stored, made_elements, made_left_operand}
 use Rattle.cyc_lower.proofs.emitter.Emitter.+expression.Goals.{lower_left-then-is_empty, lower_left-else-is_empty, lower_operations-then-behind-eq0, lower_operations-else-behind-eq0}
@@ -27,7 +27,7 @@ lower_arguments-loop-argument-preserved t c =
     let i = c.loop-argument.argument-index in
     let x = c.argument-item.result in
     let words = passed_on c.args.arguments.now i slot c.args.first x c.loop-argument-test.true c.argument-item.is c.loop-argument.invariant.2 in
-    let added = joined code (expression_code (view_starts c.args.starts.now) (view_expression x.value) (length code) slot slot) (λ (p : ℕ). conversion_code (view_starts c.args.starts.now) x.to (operands.Slot slot) p) made new c.in_ok-lower_expression.ensures c.in_ok-convert.ensures in
+    let added = joined code (expression_code (view_starts c.args.starts.now) (view_expression x.value) (length code) slot slot) (λ (p : ℕ). conversion_code (view_starts c.args.starts.now) x.from x.to (span_of (view_expression x.value)) (operands.Slot slot) p) made new c.in_ok-lower_expression.ensures c.in_ok-convert.ensures in
     let next = c.in_ok-slot.ensures in (
       subst (λ (n : ℕ). Remains (all_arguments (view_starts c.args.starts.now)) old c.args.arguments.now c.args.first (i + 1) new n) (sym next.0)
           (goes_on (all_arguments (view_starts c.args.starts.now)) (one_argument (view_starts c.args.starts.now)) (next_argument (view_starts c.args.starts.now)) (arguments_lower (view_starts c.args.starts.now)) old c.args.arguments.now c.args.first i code new slot x c.loop-argument-test.true c.argument-item.is added c.loop-argument.invariant.0),
@@ -138,11 +138,11 @@ lower_expression-returns-in_ok-assigned-in-Assign t c =
     (e ∙ ap (λ (z : ConvertedCode). c.lower_assignment.new.self.code.items ++ copy_code (words_of_kind z.to) c.in_ok-assigned-in-Assign.assigned c.args.slot) same))
     c.copy.ensures
 
-pub lower_object-returns-in_ok-lower_arguments-in-Fields : goal.lower_object-returns-in_ok-lower_arguments-in-Fields
-lower_object-returns-in_ok-lower_arguments-in-Fields t c =
+pub lower_object-returns-in_ok-words-in-Fields : goal.lower_object-returns-in_ok-words-in-Fields
+lower_object-returns-in_ok-words-in-Fields t c =
     on_ok_weaker c.make_object-in-Fields.result
-    (made_fields (view_starts c.args.starts.now) c.args.initial.now c.in-Fields.values c.deref.result.now c.args.self.now.code.items c.lower_arguments.new.self.code.items c.make_object-in-Fields.new.self.code.items c.args.handle c.len.result c.args.slot c.args.free
-    c.in-Fields.is c.deref.ensures.value (omega (arith, c.len.ensures, c.in-Fields.values.ok.0)) c.in_ok-lower_arguments-in-Fields.ensures.1)
+    (made_fields (view_starts c.args.starts.now) c.args.initial.now c.in-Fields.values c.deref.result.now c.args.self.now.code.items c.lower_arguments.new.self.code.items c.make_object-in-Fields.new.self.code.items c.args.handle c.in_ok-words-in-Fields.words c.args.slot c.args.free
+    c.in-Fields.is c.deref.ensures.value c.in_ok-words-in-Fields.ensures.0 c.in_ok-words-in-Fields.ensures.1)
     c.make_object-in-Fields.ensures
 
 pub lower_expression-store-requires : goal.lower_expression-store-requires
@@ -164,7 +164,7 @@ pub lower_elements-returns : goal.lower_elements-returns
 lower_elements-returns t c =
     on_ok_weaker c.end_array.result
     (made_elements (view_starts c.args.starts.now) c.deref.result.now (view_expression c.args.element.now) c.args.self.now.code.items c.reserve.new.self.code.items c.lower_expression.new.self.code.items c.write_element.new.self.code.items c.jump_here_if_failing.new.self.code.items c.end_array.new.self.code.items
-    (instructions.Jump 0) c.last_element.result c.in_ok-head.head c.in_ok-behind.behind c.args.slot c.args.free c.in_ok-behind.ensures.0 (c.deref.ensures.value ∙ c.in_ok-counters.ensures) c.in_ok-head.ensures.0 c.in_ok-head.ensures.1
+    (instructions.Jump 0) c.last_element.result (words_of_kind c.args.kind) c.in_ok-head.head c.in_ok-behind.behind c.args.slot c.args.free c.in_ok-behind.ensures.0 (c.deref.ensures.value ∙ c.in_ok-counters.ensures) c.in_ok-head.ensures.0 c.in_ok-head.ensures.1
     c.in_ok-lower_expression.ensures c.in_ok-write_element.ensures c.last_element.ensures c.jump_here_if_failing.ensures)
     c.end_array.ensures
 

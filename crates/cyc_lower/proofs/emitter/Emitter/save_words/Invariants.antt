@@ -1,0 +1,6 @@
+use Rattle.cyc_lower.specs.Lowering.{store_word}
+use Rattle.cyc_lower.proofs.Emitting.{WordsLeft}
+use Rattle.cyc_lower.proofs.emitter.Emitter.save_words.Given as goal
+
+abbrev pub invariant-loop-index : goal.invariant-loop-index
+invariant-loop-index l = WordsLeft store_word l.fn.self.code.items l.self.code.items l.words l.first l.slot l.index

@@ -1,0 +1,5 @@
+use Rattle.cyc_lower.proofs.GlobalWords.{WordsLeft}
+use Rattle.cyc_lower.proofs.globals.words_of_globals.Given as goal
+
+abbrev pub invariant-loop-global : goal.invariant-loop-global
+invariant-loop-global l = WordsLeft l.globals l.global-index l.words.items

@@ -1,0 +1,290 @@
+//! The code of accesses by pointers, which stand in operands: their cells are reached, and read or written. A fat pointer has its address,
+//! its length and its index in slots one behind the other.
+ghost use Rattle.std.specs.Prelude.{◌≡◌, ◌+◌, ◌≤◌, ◌∷◌, length};
+ghost use Rattle.cyc_meaning.specs.Values.{is_thin, words_of_kind};
+ghost use Rattle.cyc_lower.specs.Lowering.{bounded_code, count_code, past_bounded, thinned_code, followed_code, followed_operand, loaded_code, reached_code, reached_operand, saved_code, stepped_code, widened_code};
+ghost use Rattle.cyc_types.specs.declared.typed.Kind.TheVariants as kinds;
+ghost use Rattle.cyc_plain.specs.declared.instruction.BinaryOperator.TheVariants as plain_binary;
+ghost use Rattle.cyc_plain.specs.declared.instruction.Instruction.TheVariants as instructions;
+ghost use Rattle.cyc_plain.specs.declared.instruction.Operand.TheVariants as operands;
+ghost use Rattle.cyc_lower.specs.Emission.{Appends, Gives, view_starts};
+
+use crate::checks::{ARRAY_BOUNDS, NULL_EXCEPTION};
+use crate::emitter::Emitter;
+use crate::frame_count::words_of_kind;
+use crate::operands::{is_thin, reached_operand, slot_behind};
+use crate::operators::{jump_if_zero, scale_of};
+use crate::starts::Starts;
+use cyc_plain::{BinaryOperator, Comparison, Instruction, Operand};
+use cyc_types::typed::Kind;
+use std::alloc::AllocError;
+
+/// How long a jump is over the comparison of an index, and over what computes the address of the cell at it.
+fn past_bounded(span: Option<usize>) -> usize
+    ensures same { result ≡ past_bounded span }
+    ensures few { result ≤ 4 }
+{
+    match span {
+        None => 2,
+        Some(_) => 4,
+    }
+}
+
+impl Emitter {
+    /// A thin pointer gets the length and the index of a fat one that leads to one cell. Of null the first word tells.
+    pub(crate) fn widen(&mut self, pointer: Operand) -> Result<(), AllocError>
+        ensures { Appends result self.old self.new (widened_code pointer) }
+    {
+        if let Operand::Slot { number } = pointer {
+            let behind = slot_behind(number, Kind::Fat)?;
+            self.emit(Instruction::Move {
+                destination: behind - 2,
+                source: Operand::Word { word: 1 },
+            })?;
+            self.emit(Instruction::Move {
+                destination: behind - 1,
+                source: Operand::Word { word: 0 },
+            })?;
+        }
+        Ok(())
+    }
+
+    /// The address of the cell at an index comes to a slot, where there are cells of so many words.
+    fn step(
+        &mut self,
+        span: Option<usize>,
+        first: usize,
+        index: usize,
+        slot: usize,
+    ) -> Result<(), AllocError>
+        ensures { Appends result self.old self.new (stepped_code span first index slot) }
+    {
+        match span {
+            None => Ok(()),
+            Some(words) => {
+                let bytes = slot_behind(slot, Kind::Fat)? - 1;
+                self.emit(scale_of(words, bytes, index))?;
+                self.emit(Instruction::Binary {
+                    operator: BinaryOperator::Add,
+                    destination: slot,
+                    left: Operand::Slot { number: first },
+                    right: Operand::Slot { number: bytes },
+                })
+            }
+        }
+    }
+
+    /// An index is compared with the length of a fat pointer, and the address of the cell at the index is computed.
+    fn reach_inside(
+        &mut self,
+        starts: &Starts,
+        span: Option<usize>,
+        first: usize,
+        index: usize,
+        slot: usize,
+    ) -> Result<(), AllocError>
+        ensures { Appends result self.old self.new (bounded_code (view_starts starts.now) span first index slot) }
+    {
+        let bound = slot_behind(first, Kind::Fat)? - 2;
+        self.guard(
+            starts,
+            ARRAY_BOUNDS,
+            Comparison::GreaterOrEqualUnsigned,
+            Operand::Slot { number: index },
+            Operand::Slot { number: bound },
+        )?;
+        self.step(span, first, index, slot)
+    }
+
+    /// An access by a fat pointer: it is tested, and its cell reached.
+    pub(crate) fn reach(
+        &mut self,
+        starts: &Starts,
+        span: Option<usize>,
+        first: usize,
+        index: usize,
+        slot: usize,
+    ) -> Result<(), AllocError>
+        ensures { Appends result self.old self.new (reached_code (view_starts starts.now) span first index slot) }
+    {
+        self.check(starts, NULL_EXCEPTION, Operand::Slot { number: first })?;
+        self.reach_inside(starts, span, first, index, slot)
+    }
+
+    /// An access to an element of a fat pointer, which moves by an index before it: where the address stands then. Only the third word of
+    /// the pointer is another, in a temporary.
+    pub(crate) fn reach_element(
+        &mut self,
+        starts: &Starts,
+        span: Option<usize>,
+        first: usize,
+        index: Operand,
+        free: usize,
+    ) -> Result<Operand, AllocError>
+        ensures { Gives (reached_operand span first free) result self.old self.new (instructions.Binary plain_binary.Add (free + 2) (operands.Slot (first + 2)) index ∷ reached_code (view_starts starts.now) span first (free + 2) free) }
+    {
+        let past = slot_behind(first, Kind::Fat)?;
+        let behind = slot_behind(free, Kind::Fat)?;
+        self.emit(Instruction::Binary {
+            operator: BinaryOperator::Add,
+            destination: behind - 1,
+            left: Operand::Slot { number: past - 1 },
+            right: index,
+        })?;
+        self.reach(starts, span, first, behind - 1, free)?;
+        Ok(reached_operand(span, first, free))
+    }
+
+    /// A fat pointer in a slot and those behind it becomes a thin one that may be null: where it is, its cell is not looked for.
+    fn thin_nullable(
+        &mut self,
+        starts: &Starts,
+        span: Option<usize>,
+        first: usize,
+    ) -> Result<(), AllocError>
+        ensures { Appends result self.old self.new (thinned_code (view_starts starts.now) kinds.Nullable span (operands.Slot first) (length self.old.code.items)) }
+    {
+        let index = slot_behind(first, Kind::Fat)? - 1;
+        let end = self.place() + past_bounded(span);
+        self.emit(jump_if_zero(Operand::Slot { number: first }, end))?;
+        self.reach_inside(starts, span, first, index, first)
+    }
+
+    /// A fat pointer in slots becomes a thin one in the first of them, to the cell at its index.
+    pub(crate) fn thin(
+        &mut self,
+        starts: &Starts,
+        to: Kind,
+        span: Option<usize>,
+        pointer: Operand,
+    ) -> Result<(), AllocError>
+        ensures { Appends result self.old self.new (thinned_code (view_starts starts.now) to span pointer (length self.old.code.items)) }
+    {
+        if let Operand::Slot { number } = pointer {
+            match to {
+                Kind::NonNull => {
+                    let index = slot_behind(number, Kind::Fat)? - 1;
+                    return self.reach(starts, span, number, index, number);
+                }
+                Kind::Nullable => return self.thin_nullable(starts, span, number),
+                Kind::Int | Kind::Fat | Kind::Handle | Kind::Key => {}
+            }
+        }
+        Ok(())
+    }
+
+    /// An access by a pointer in an operand, which is thin or fat: where the address stands then.
+    pub(crate) fn follow(
+        &mut self,
+        starts: &Starts,
+        kind: Kind,
+        span: Option<usize>,
+        pointer: Operand,
+        free: usize,
+    ) -> Result<Operand, AllocError>
+        ensures { Gives (followed_operand (is_thin kind) span pointer free) result self.old self.new (followed_code (view_starts starts.now) (is_thin kind) span pointer free) }
+    {
+        if !is_thin(kind) {
+            if let Operand::Slot { number } = pointer {
+                let index = slot_behind(number, Kind::Fat)? - 1;
+                self.reach(starts, span, number, index, free)?;
+                return Ok(match span {
+                    Some(_) => Operand::Slot { number: free },
+                    None => pointer,
+                });
+            }
+        }
+        self.check(starts, NULL_EXCEPTION, pointer)?;
+        Ok(pointer)
+    }
+
+    /// A cell of so many words comes to a slot and those behind it, whose address stands in an operand but for so many bytes. Where
+    /// there are more words the address comes to the slot of the first, which is loaded last.
+    pub(crate) fn load_cell(
+        &mut self,
+        words: usize,
+        address: Operand,
+        offset: u32,
+        slot: usize,
+    ) -> Result<(), AllocError>
+        ensures { Appends result self.old self.new (loaded_code words address offset slot) }
+    {
+        if words == 1 {
+            return self.emit(Instruction::Load {
+                destination: slot,
+                address,
+                offset,
+            });
+        }
+        let behind = slot_behind(slot, Kind::Fat)?;
+        let first = Operand::Slot { number: slot };
+        self.bring_address(address, offset, slot)?;
+        self.emit(Instruction::Load {
+            destination: behind - 1,
+            address: first,
+            offset: 8,
+        })?;
+        self.emit(Instruction::Load {
+            destination: behind - 2,
+            address: first,
+            offset: 4,
+        })?;
+        self.emit(Instruction::Load {
+            destination: slot,
+            address: first,
+            offset: 0,
+        })
+    }
+
+    /// A value of a kind comes to the cell whose address is in a slot. Of null the first word tells.
+    pub(crate) fn save(
+        &mut self,
+        kind: Kind,
+        address: usize,
+        value: Operand,
+    ) -> Result<(), AllocError>
+        ensures { Appends result self.old self.new (saved_code (words_of_kind kind) address value) }
+    {
+        match value {
+            Operand::Slot { number } => {
+                slot_behind(number, kind)?;
+                self.store_words(words_of_kind(kind) as u32, address, number)
+            }
+            Operand::Word { .. } => self.emit(Instruction::Store {
+                address: Operand::Slot { number: address },
+                offset: 0,
+                source: value,
+            }),
+        }
+    }
+
+    /// How many elements a fat pointer has from its index on: none where it is null, or its index is past its length.
+    pub(crate) fn count_elements(&mut self, pointer: Operand, slot: usize) -> Result<(), AllocError>
+        ensures { Appends result self.old self.new (count_code pointer (length self.old.code.items) slot) }
+    {
+        if let Operand::Slot { number } = pointer {
+            let behind = slot_behind(number, Kind::Fat)?;
+            let length = Operand::Slot { number: behind - 2 };
+            let index = Operand::Slot { number: behind - 1 };
+            let none = self.place() + 4;
+            self.emit(jump_if_zero(pointer, none))?;
+            self.emit(Instruction::Branch {
+                comparison: Comparison::LessUnsigned,
+                left: length,
+                right: index,
+                target: none,
+            })?;
+            self.emit(Instruction::Binary {
+                operator: BinaryOperator::Subtract,
+                destination: slot,
+                left: length,
+                right: index,
+            })?;
+            self.emit(Instruction::Jump { target: none + 1 })?;
+        }
+        self.emit(Instruction::Move {
+            destination: slot,
+            source: Operand::Word { word: 0 },
+        })
+    }
+}
