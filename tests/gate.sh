@@ -1,13 +1,14 @@
 #!/usr/bin/env bash
 # The gate: every proof, must-fail edit and test of the crates (rt ci), then the command-line suite, the examples and random
 # programs on the program that this has just proved and built. Before the last line stands what it cost, by crate and part, which
-# is in out/gate.md too, as far as it came also where the gate is stopped. (rt ci says which edits were refused at its end alone.)
-# The last line is `N passed, M failed` over all of it.
+# is in out/gate.md too, as far as it came also where the gate is stopped, and then what failed, in short: who sees only the end of
+# a long log sees that. (rt ci says which edits were refused at its end alone.) The last line is `N passed, M failed` over all of it.
 set -u
 cd "$(dirname "$0")/.."
 log=$(mktemp)
 costs=$(mktemp)
-trap 'rm -f "$log" "$costs"' EXIT
+faults=$(mktemp)
+trap 'rm -f "$log" "$costs" "$faults"' EXIT
 passed=0
 failed=0
 
@@ -33,6 +34,15 @@ add() {
   fi
   passed=$((passed + good))
   failed=$((failed + bad))
+  if [ "$bad" -ne 0 ]; then
+    faults_in "$log" | cut -c 1-300 | sed "s/^/$name: /" >>"$faults"
+  fi
+}
+
+# The lines of a log that say what failed, and those before a crate that is not proved, which say why: at most 24.
+faults_in() {
+  grep -E -B 6 '^rt: [a-z_]+(: its tests are)? NOT PROVED$' "$1" | grep -v ': proved$' | head -n 14
+  grep -E '^FAILED |^rt: FAILED|^rt: must-fail .*: (NOT REFUSED|BAD EDIT)|^there is no program' "$1" | head -n 10
 }
 
 sh tests/tools.sh || echo "tests/tools.sh: a tool of the suite could not be installed"
@@ -48,5 +58,9 @@ add "random programs" python3 tests/differential.py
 echo "== costs"
 mkdir -p out
 python3 tests/gate_table.py show "$costs" | tee out/gate.md
+if [ -s "$faults" ]; then
+  echo "== what failed"
+  cat "$faults"
+fi
 echo "$passed passed, $failed failed"
 [ "$failed" -eq 0 ]
