@@ -197,10 +197,10 @@ freed_in_a_clause : EndsIn FreesObjects (check_of texts (
     main (
     MoreItems (Local (into 6) (named 2 5) (Some (RegionNew (at 6) (UniqueRegion (at 7)) (Plain (Number (at 8) 5)))))
     (MoreItems (Execute (Try (at 9)
-        (Return (at 10) (Some (Binary (Number (at 11) 1) (ThenOperation operators.Divide (at 12) (Binary (Prefixed (at 13) prefixes.Dereference (Variable (named 2 14))) (ThenOperation operators.Subtract (at 15) (Number (at 16) 5) NoOperations)) NoOperations))))
-        (Default (
-        MoreItems (Execute (If (at 17) (Prefixed (at 18) prefixes.Dereference (Variable (named 2 19))) (Evaluate (FreeUnique (at 20) (Variable (named 2 21))))))
-        (MoreItems (Execute (Return (at 22) (Some (Number (at 23) 9)))) NoItems)))))
+    (Return (at 10) (Some (Binary (Number (at 11) 1) (ThenOperation operators.Divide (at 12) (Binary (Prefixed (at 13) prefixes.Dereference (Variable (named 2 14))) (ThenOperation operators.Subtract (at 15) (Number (at 16) 5) NoOperations)) NoOperations))))
+    (Default (
+    MoreItems (Execute (If (at 17) (Prefixed (at 18) prefixes.Dereference (Variable (named 2 19))) (Evaluate (FreeUnique (at 20) (Variable (named 2 21))))))
+    (MoreItems (Execute (Return (at 22) (Some (Number (at 23) 9)))) NoItems)))))
     NoItems))
     ∷ [])) (HasEnded (Returned (pos 9)))
 freed_in_a_clause = (refl, (refl, refl), refl)
