@@ -1,5 +1,4 @@
-use Rattle.cyc_types.specs.TypedTrees.{Program}
-use Rattle.cyc_system.specs.Front.{names_in, IsAcceptedText}
+use Rattle.cyc_system.specs.Front.{names_in}
 use Rattle.cyc_system.proofs.laws.programs_that_free_no_object_are_sound.Goals as goal
 
 pub returns-clause-heap : goal.returns-clause-heap
