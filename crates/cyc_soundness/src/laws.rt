@@ -55,8 +55,8 @@ pub fn programs_that_free_no_object_are_sound()
 {}
 
 /// No run of a program that is built and gives no object back is ever dead or wrong, where the typing rules and the flow rules
-/// accept it. Both are computed, and nothing is asked of its types: what is built has no region that ends and takes the address
-/// of no local, so with no `ufree` nothing ends that a pointer may lead to.
+/// accept it. Both are computed, and nothing is asked of its types: what is built makes objects in the heap and unique ones
+/// alone, and takes the address of no local, so with no `ufree` nothing ends that a pointer may lead to.
 pub fn built_programs_that_free_no_object_are_sound()
     ensures { (p : Program) → IsWellTypedProgram p → IsAllowedProgram p → is_built p ≡ true → frees_no_object p ≡ true → IsSound p }
 {}
