@@ -1,6 +1,6 @@
 -- Texts of which the theorem speaks: both sets of rules accept them, they stand in the class, and their runs end as is said. Each is
 -- proved by computation, so that the theorem is not about nothing.
-use Rattle.std.proofs.Common.{◌≡◌, ℕ, suc, List, [], ◌∷◌, ◌<◌, Some, None, Ok, Err, pos, refl, arith}
+use Rattle.std.proofs.Common.{◌≡◌, ℕ, suc, true, false, List, [], ◌∷◌, ◌<◌, Some, None, Ok, Err, pos, refl, arith}
 use Rattle.std.specs.Prelude.{codes}
 use Rattle.cyc_words.specs.Word.{slt_of}
 use Rattle.cyc_words.specs.Ending.{Returned}
@@ -9,8 +9,9 @@ use Rattle.cyc_syntax.specs.declared.tree.PointerKind.TheVariants as marks
 use Rattle.cyc_syntax.specs.declared.tree.PrefixOperator.TheVariants as prefixes
 use Rattle.cyc_syntax.specs.declared.tree.BinaryOperator.TheVariants as operators
 use Rattle.cyc_syntax.specs.Symbols.{Place}
-use Rattle.cyc_syntax.specs.Trees.{Named, BaseType, Int, Struct, Handle, Key, WrittenType, Expression, Number, Null, HeapRegion, UniqueRegion, Variable, Call, NumberOfElements, FreeKey, Chained, Prefixed, New, RegionNew, Binary, Assign, Plain, Fields, Array, NoExpressions, MoreExpressions, NoPostfixes, ThenIndex, ThenField, NoOperations, ThenOperation, Block, Labelled, Evaluate, Swap, While, Return, Break, Try, Braces, Items, NoItems, MoreItems, Execute, Local, Region, Alias, DynamicRegion, Default, Listed, Declaration, StructType, Global, Function}
+use Rattle.cyc_syntax.specs.Trees.{Named, BaseType, Int, Struct, Handle, Key, WrittenType, Expression, Number, Null, HeapRegion, UniqueRegion, Variable, Call, NumberOfElements, FreeUnique, FreeKey, Chained, Prefixed, New, RegionNew, Binary, Assign, Plain, Fields, Array, NoExpressions, MoreExpressions, NoPostfixes, ThenIndex, ThenField, NoOperations, ThenOperation, Block, Labelled, Evaluate, Swap, If, While, Return, Break, Try, Braces, Items, NoItems, MoreItems, Execute, Local, Region, Alias, DynamicRegion, Default, Listed, Declaration, StructType, Global, Function}
 use Rattle.cyc_types.specs.TypedTrees as typed
+use Rattle.cyc_types.specs.Built.{is_built}
 use Rattle.cyc_types.specs.Rules.{Checked}
 use Rattle.cyc_types.specs.typing.Programs.{rule_program, check_of, IsTypedProgram}
 use Rattle.cyc_types.specs.typing.WellTyped.{IsWellTypedProgram}
@@ -21,8 +22,10 @@ use Rattle.cyc_types.proofs.typing.ProgramLemmas.{program_well}
 use Rattle.cyc_meaning.specs.State.{Status, HasEnded, status_of}
 use Rattle.cyc_meaning.specs.Run.{run}
 use Rattle.cyc_soundness.specs.Classes.{IsOfTheHeap, IsOfScopes, FreesNoObject}
+use Rattle.cyc_soundness.specs.Frees.{frees_no_object}
 use Rattle.cyc_soundness.specs.Sound.{IsSound}
 use Rattle.cyc_soundness.proofs.Whole.{heap_sound, lending_sound, scopes_sound}
+use Rattle.cyc_soundness.proofs.BuiltLemmas.{built_sound}
 
 -- ---- what is said of a text
 
@@ -155,6 +158,52 @@ by_handle : Ends (check_of texts (
     ∷ main (MoreItems (Execute (Return (at 13) (Some (Call (named 7 14) (MoreExpressions (HeapRegion (at 15)) NoExpressions))))) NoItems)
     ∷ [])) (HasEnded (Returned (pos 6)))
 by_handle = (refl, ((tt, (tt, tt), (tt, tt)), (((tt, tt), tt), tt)), refl)
+
+-- ---- texts that are built
+
+-- what is built and gives no object back, and what is built and has an `ufree`
+abbrev KeepsObjects : typed.Program → Type 0
+KeepsObjects p = (is_built p ≡ true) × (frees_no_object p ≡ true)
+
+abbrev FreesObjects : typed.Program → Type 0
+FreesObjects p = (is_built p ≡ true) × (frees_no_object p ≡ false)
+
+pub never_dead_built : (texts : List (List ℕ)) (tree : List Declaration) (s : Status) → EndsIn KeepsObjects (check_of texts tree) s
+    → (p : typed.Program) × IsTypedProgram texts tree p × IsSound p × (status_of (run p [] 200) ≡ s)
+never_dead_built texts tree s ends = never_dead_in KeepsObjects (λ p well allowed kept. built_sound p well allowed kept.0 kept.1) texts tree s ends
+
+-- int main(){ int @`U p = rnew(unique_region) 5; int ?n = new {for i < 3 : i * i}; *p :=: n[2]; return *p + numelts(n); }
+objects_kept : EndsIn KeepsObjects (check_of texts (
+    main (
+    MoreItems (Local (into 6) (named 2 5) (Some (RegionNew (at 6) (UniqueRegion (at 7)) (Plain (Number (at 8) 5)))))
+    (MoreItems (Local (written Int (marks.Fat ∷ [])) (named 4 9) (Some (New (at 10) (Array (at 11) (named 5 12) (Number (at 13) 3) (Binary (Variable (named 5 14)) (ThenOperation operators.Multiply (at 15) (Variable (named 5 16)) NoOperations))))))
+    (MoreItems (Execute (Swap (Prefixed (at 17) prefixes.Dereference (Variable (named 2 18))) (Chained (Variable (named 4 19)) (ThenIndex (Number (at 20) 2) NoPostfixes))))
+    (MoreItems (Execute (Return (at 21) (Some (plus (Prefixed (at 22) prefixes.Dereference (Variable (named 2 23))) (NumberOfElements (at 24) (Variable (named 4 25))))))) NoItems))))
+    ∷ [])) (HasEnded (Returned (pos 7)))
+objects_kept = (refl, (refl, refl), refl)
+
+-- int main(){ int @`U p = rnew(unique_region) 5; int x = *p; ufree(p); return x; }
+object_freed : EndsIn FreesObjects (check_of texts (
+    main (
+    MoreItems (Local (into 6) (named 2 5) (Some (RegionNew (at 6) (UniqueRegion (at 7)) (Plain (Number (at 8) 5)))))
+    (MoreItems (Local (written Int []) (named 3 9) (Some (Prefixed (at 10) prefixes.Dereference (Variable (named 2 11)))))
+    (MoreItems (Execute (Evaluate (FreeUnique (at 12) (Variable (named 2 13)))))
+    (MoreItems (Execute (Return (at 14) (Some (Variable (named 3 15))))) NoItems))))
+    ∷ [])) (HasEnded (Returned (pos 5)))
+object_freed = (refl, (refl, refl), refl)
+
+-- int main(){ int @`U p = rnew(unique_region) 5; try return 1 / (*p - 5); catch { default: if (*p) ufree(p); return 9; } }
+freed_in_a_clause : EndsIn FreesObjects (check_of texts (
+    main (
+    MoreItems (Local (into 6) (named 2 5) (Some (RegionNew (at 6) (UniqueRegion (at 7)) (Plain (Number (at 8) 5)))))
+    (MoreItems (Execute (Try (at 9)
+    (Return (at 10) (Some (Binary (Number (at 11) 1) (ThenOperation operators.Divide (at 12) (Binary (Prefixed (at 13) prefixes.Dereference (Variable (named 2 14))) (ThenOperation operators.Subtract (at 15) (Number (at 16) 5) NoOperations)) NoOperations))))
+    (Default (
+    MoreItems (Execute (If (at 17) (Prefixed (at 18) prefixes.Dereference (Variable (named 2 19))) (Evaluate (FreeUnique (at 20) (Variable (named 2 21))))))
+    (MoreItems (Execute (Return (at 22) (Some (Number (at 23) 9)))) NoItems)))))
+    NoItems))
+    ∷ [])) (HasEnded (Returned (pos 9)))
+freed_in_a_clause = (refl, (refl, refl), refl)
 
 -- ---- texts of the class by scope
 

@@ -1,7 +1,7 @@
 //! Laws of the definitions in `specs/`. Each function does nothing: its contract is the law, and so it is proved with the
 //! crate.
 
-ghost use Rattle.std.specs.Prelude.{◌≡◌, ◌<◌, Bool, List, ℕ, Some, Ok, Result};
+ghost use Rattle.std.specs.Prelude.{◌≡◌, ◌<◌, Bool, true, List, ℕ, Some, Ok, Result};
 ghost use Rattle.std.specs.List.{AllByRecursion};
 ghost use Rattle.cyc_elf.specs.Image.{ImageContents};
 ghost use Rattle.cyc_elf.specs.Reading.{reading};
@@ -10,7 +10,9 @@ ghost use Rattle.cyc_store.specs.New.{IsNew};
 ghost use Rattle.cyc_machine.specs.Bounds.{Bounds, AreAllowed};
 ghost use Rattle.cyc_words.specs.declared.fault.Fault.{Fault};
 ghost use Rattle.cyc_types.specs.TypedTrees.{Program};
+ghost use Rattle.cyc_types.specs.Built.{is_built};
 ghost use Rattle.cyc_soundness.specs.Classes.{IsOfTheHeap, FreesNoObject};
+ghost use Rattle.cyc_soundness.specs.Frees.{frees_no_object};
 ghost use Rattle.cyc_soundness.specs.Sound.{IsSound};
 ghost use Rattle.cyc_system.specs.Front.{IsAcceptedText, IsRefusedText};
 ghost use Rattle.cyc_system.specs.Compiled.{IsCompiledText};
@@ -35,14 +37,16 @@ pub fn accepted_or_refused()
 
 /// No run of the program of an accepted text is ever dead or wrong, if the program frees no object: so what `compile` answers for it
 /// is its image. Where nothing ends that a pointer may lead to, nothing else is asked; else that types name regions which are declared
-/// before them, and that no field is a key.
+/// before them, and that no field is a key. What `compile` takes is of the first sort where it has no `ufree`.
 pub fn programs_that_free_no_object_are_sound()
     ensures heap { (text : List ℕ) (p : Program) → IsAcceptedText text p → IsOfTheHeap p → IsSound p }
     ensures scopes { (text : List ℕ) (p : Program) → IsAcceptedText text p → FreesNoObject p → IsSound p }
+    ensures built { (text : List ℕ) (p : Program) → IsAcceptedText text p → is_built p ≡ true → frees_no_object p ≡ true → IsSound p }
 {
     cyc_types::laws::typed_trees_are_well_typed();
     cyc_soundness::laws::heap_programs_are_sound();
     cyc_soundness::laws::programs_that_free_no_object_are_sound();
+    cyc_soundness::laws::built_programs_that_free_no_object_are_sound();
 }
 
 /// What `compile` answers is read as an image, and the machine never answers that it has no place for it.

@@ -1,5 +1,4 @@
-use Rattle.cyc_types.specs.TypedTrees.{Program}
-use Rattle.cyc_system.specs.Front.{names_in, IsAcceptedText}
+use Rattle.cyc_system.specs.Front.{names_in}
 use Rattle.cyc_system.proofs.laws.programs_that_free_no_object_are_sound.Goals as goal
 
 pub returns-clause-heap : goal.returns-clause-heap
@@ -7,3 +6,6 @@ returns-clause-heap c = λ text p a kept. c.heap_programs_are_sound.ensures p (c
 
 pub returns-clause-scopes : goal.returns-clause-scopes
 returns-clause-scopes c = λ text p a kept. c.programs_that_free_no_object_are_sound.ensures p (c.typed_trees_are_well_typed.ensures (names_in a.tokens) a.tree p a.typed) a.allowed kept
+
+pub returns-clause-built : goal.returns-clause-built
+returns-clause-built c = λ text p a built frees. c.built_programs_that_free_no_object_are_sound.ensures p (c.typed_trees_are_well_typed.ensures (names_in a.tokens) a.tree p a.typed) a.allowed built frees
