@@ -8,6 +8,7 @@ pub mod RegionLemmas
 pub mod ClosureLemmas
 pub mod TableLemmas
 pub mod SearchLemmas
+pub mod OpeningLemmas
 pub mod NameLemmas
 pub mod StructLemmas
 pub mod FormationLemmas

@@ -15,6 +15,7 @@ pub mod Weight
 pub mod Outlives
 -- what the functions inside these crates promise each other: the rules as functions, and the table of constraints
 pub mod Closure
+pub mod Openings
 pub mod Names
 pub mod StructTables
 pub mod WrittenMarks

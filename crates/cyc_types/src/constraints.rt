@@ -71,7 +71,7 @@ impl Constraint {
 }
 
 /// The entry that says what the region outlives, if a constraint begins with it.
-fn entry_of(constraints: &[Constraint], region: Region) -> Option<&Constraint>
+pub(crate) fn entry_of(constraints: &[Constraint], region: Region) -> Option<&Constraint>
     ensures entry { MatchOption result ((b : Region) → table_leads constraints.now region b ≡ region_eq region b) (λ c. (b : Region) → table_leads constraints.now region b ≡ entry_leads c.now b) }
     ensures longer { IfSome result (λ c. c.now.longer ≡ region) }
 {

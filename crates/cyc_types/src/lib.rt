@@ -20,6 +20,7 @@ mod known;
 pub mod laws;
 mod name_set;
 mod names;
+mod openings;
 mod outlives;
 pub mod parameters;
 mod region;

@@ -9,6 +9,7 @@ ghost use Rattle.cyc_types.specs.Closure.{HasNoUnique, IsClosed, above, above_on
 
 use crate::Region;
 use crate::constraints::{Constraint, closed, is_region_among, table_leads};
+use crate::openings::{is_live_before, leads_in_order, opens_in_order};
 use crate::scope::{Scope, ScopeKind, is_outlived_by_live};
 use std::alloc::{AllocError, Global};
 use std::marker::Model;
@@ -24,17 +25,22 @@ pub struct Outlives {
     live: Vec<Region>,
     /// Oldest first.
     scopes: Vec<Scope>,
+    /// For each region variable that scopes have the place of the oldest; what it says of others does not count.
+    openings: Vec<usize>,
+    /// How many of the oldest scopes are in order, so that `openings` tells what is live there and what leads where.
+    in_order: usize,
 }
 
 impl Model for Outlives {
     ghost use Rattle.cyc_types.specs.Outlives.{RegionContext};
-    ghost use Rattle.cyc_types.specs.Closure.{IsClosed, context_of};
+    ghost use Rattle.cyc_types.specs.Closure.{IsClosed, context_of, written_in};
+    ghost use Rattle.cyc_types.specs.Openings.{IsInOrder};
 
     ghost Value = { RegionContext };
 
     ghost view = { λ o. context_of o.constraints.items o.live.items o.scopes.items };
 
-    ghost invariant = { λ o. IsClosed o.constraints.items };
+    ghost invariant = { λ o. IsClosed o.constraints.items × IsInOrder (written_in o.constraints.items) o.live.items o.openings.items o.scopes.items o.in_order };
 }
 
 impl Outlives {
@@ -53,6 +59,8 @@ impl Outlives {
             constraints: closed(alloc, written)?,
             live: Vec::from_slice(alloc, live)?,
             scopes: Vec::new(alloc),
+            openings: Vec::new(alloc),
+            in_order: 0,
         })
     }
 
@@ -62,7 +70,7 @@ impl Outlives {
         // Where neither the constraints nor the scopes have the unique region, this is the relation.
         ensures related { HasNoUnique self.now → (IsTrue result ↔ OutlivesIn self.now a b) }
     {
-        is_outliving(&self.constraints, &self.live, &self.scopes, a, b)
+        self.is_outliving(a, b)
     }
 
     /// Whether the region is live.
@@ -70,6 +78,15 @@ impl Outlives {
     pub fn is_live(&self, region: Region) -> bool
         ensures { result ≡ is_region_among region (live_regions self.now.live self.now.opened) }
     {
+        if self.in_order == self.scopes.len() {
+            return is_live_before(
+                &self.live,
+                &self.openings,
+                &self.scopes,
+                self.in_order,
+                region,
+            );
+        }
         is_region_among(region, &self.live) || is_opened(&self.scopes, region)
     }
 
@@ -87,7 +104,19 @@ impl Outlives {
         ensures opened { OnOk result (self.new ≡ record self.old { opened = record { region = region; kind = kind } ∷ self.old.opened }) }
         ensures unchanged { OnErr result (self.new ≡ self.old) }
     {
-        self.scopes.push(Scope { region, kind })?;
+        let scope = Scope { region, kind };
+        let is_next = opens_in_order(
+            &self.constraints,
+            &self.live,
+            &mut self.openings,
+            &self.scopes,
+            self.in_order,
+            scope,
+        )?;
+        self.scopes.push(scope)?;
+        if is_next {
+            self.in_order = self.scopes.len();
+        }
         Ok(())
     }
 
@@ -97,6 +126,7 @@ impl Outlives {
         ensures context { (scope : Scope) × (self.old ≡ record self.new { opened = scope ∷ self.new.opened }) }
     {
         let _ = self.scopes.pop();
+        self.in_order = self.in_order.min(self.scopes.len());
     }
 
     /// Closes all open scopes but this number of the oldest.
@@ -105,6 +135,34 @@ impl Outlives {
         ensures { self.new ≡ record self.old { opened = drop (length self.old.opened - count) self.old.opened } }
     {
         self.scopes.truncate(count);
+        self.in_order = self.in_order.min(self.scopes.len());
+    }
+
+    /// Whether `a` outlives `b`: by the constraints and the scopes, or because it outlives the heap.
+    fn is_outliving(&self, a: Region, b: Region) -> bool
+        ensures { result ≡ is_outliving self.now a b }
+    {
+        if a == b {
+            return true;
+        }
+        b != Region::Unique && (self.leads(a, b) || self.leads(a, Region::Heap))
+    }
+
+    /// Whether the constraints and the open scopes lead from `a` to `b`.
+    fn leads(&self, a: Region, b: Region) -> bool
+        ensures { result ≡ leads self.now.written self.now.live self.now.opened a b }
+    {
+        if self.in_order == self.scopes.len() {
+            return leads_in_order(
+                &self.constraints,
+                &self.live,
+                &self.openings,
+                &self.scopes,
+                a,
+                b,
+            );
+        }
+        leads(&self.constraints, &self.live, &self.scopes, a, b)
     }
 }
 
@@ -118,25 +176,6 @@ fn is_opened(scopes: &[Scope], region: Region) -> bool
         }
     }
     false
-}
-
-/// Whether `a` outlives `b`: by the constraints and the scopes, or because it outlives the heap.
-fn is_outliving(
-    constraints: &[Constraint],
-    live: &[Region],
-    scopes: &[Scope],
-    a: Region,
-    b: Region,
-) -> bool
-    requires { IsClosed constraints.now }
-    ensures { result ≡ is_outliving (context_of constraints.now live.now scopes.now) a b }
-{
-    if a == b {
-        return true;
-    }
-    b != Region::Unique
-        && (leads(constraints, live, scopes, a, b)
-            || leads(constraints, live, scopes, a, Region::Heap))
 }
 
 /// Whether the constraints lead from `a` to one of these regions, the unique region aside.

@@ -1,0 +1,184 @@
+//! Where the oldest open scope of each region stands: what leads where is found there, and no scope is searched.
+ghost use Rattle.std.specs.Prelude.{◌≡◌, ◌≤◌, ◌<◌, ◌||◌, ◌&&◌, ◌++◌, ◌+◌, ℕ, List, [], ◌∷◌, reverse, length, get_or, not, false, true, IsTrue, OnOk, IfOk};
+ghost use Rattle.std.specs.List.{list_any};
+ghost use Rattle.cyc_types.specs.declared.region.Region.{Region};
+ghost use Rattle.cyc_types.specs.declared.region.Region.TheVariants.{Unique};
+ghost use Rattle.cyc_types.specs.declared.scope.Scope.{Scope};
+ghost use Rattle.cyc_types.specs.Outlives.{is_outlived_by_live};
+ghost use Rattle.cyc_types.specs.Regions.{region_eq, is_region_among};
+ghost use Rattle.cyc_types.specs.Closure.{IsClosed, above, above_one_of, leads, table_leads, written_in};
+ghost use Rattle.cyc_types.specs.Openings.{IsInOrder, live_before, opening_of};
+
+use crate::Region;
+use crate::constraints::{Constraint, entry_of, is_region_among, table_leads};
+use crate::scope::{Scope, is_outlived_by_live};
+use std::alloc::AllocError;
+
+/// Where the oldest scope of the region stands, if one is open.
+fn opening_of(openings: &[usize], region: Region) -> usize
+    ensures { result ≡ opening_of openings.now region }
+{
+    match region {
+        Region::Heap | Region::Unique => 0,
+        Region::Variable(number) => match openings.get(number) {
+            Some(place) => *place,
+            None => 0,
+        },
+    }
+}
+
+/// Whether the region is live where this many of the oldest scopes are open.
+pub(crate) fn is_live_before(
+    live: &[Region],
+    openings: &[usize],
+    scopes: &[Scope],
+    count: usize,
+    region: Region,
+) -> bool
+    requires { (w : List (Region × Region)) × (n : ℕ) × (count ≤ n) × IsInOrder w live.now openings.now scopes.now n }
+    ensures { result ≡ is_region_among region (live_before live.now scopes.now count) }
+{
+    if is_region_among(region, live) {
+        return true;
+    }
+    let place = opening_of(openings, region);
+    if place < count {
+        return scopes[place].region == region;
+    }
+    false
+}
+
+/// Whether one of these regions is live there, the unique region aside.
+fn is_one_live_before(
+    live: &[Region],
+    openings: &[usize],
+    scopes: &[Scope],
+    count: usize,
+    regions: &[Region],
+) -> bool
+    requires { (w : List (Region × Region)) × (n : ℕ) × (count ≤ n) × IsInOrder w live.now openings.now scopes.now n }
+    ensures { result ≡ list_any (λ r. not (region_eq r Unique) && is_region_among r (live_before live.now scopes.now count)) regions.now }
+{
+    for region in regions {
+        if *region != Region::Unique && is_live_before(live, openings, scopes, count, *region) {
+            return true;
+        }
+    }
+    false
+}
+
+/// Whether the constraints lead from `a` to what is live there, the unique region aside.
+fn is_above_live_before(
+    constraints: &[Constraint],
+    live: &[Region],
+    openings: &[usize],
+    scopes: &[Scope],
+    count: usize,
+    a: Region,
+) -> bool
+    requires closed { IsClosed constraints.now }
+    requires order { (n : ℕ) × (count ≤ n) × IsInOrder (written_in constraints.now) live.now openings.now scopes.now n }
+    ensures { result ≡ above_one_of (written_in constraints.now) (live_before live.now scopes.now count) a }
+{
+    if a != Region::Unique && is_live_before(live, openings, scopes, count, a) {
+        return true;
+    }
+    match entry_of(constraints, a) {
+        Some(entry) => is_one_live_before(live, openings, scopes, count, &entry.outlived),
+        None => false,
+    }
+}
+
+/// Whether the constraints and the open scopes lead from `a` to `b`, where all scopes are in order.
+///
+/// What is live where a scope opens leads to its region. No other way leads there but the constraints, since the region is new.
+pub(crate) fn leads_in_order(
+    constraints: &[Constraint],
+    live: &[Region],
+    openings: &[usize],
+    scopes: &[Scope],
+    a: Region,
+    b: Region,
+) -> bool
+    requires closed { IsClosed constraints.now }
+    requires order { IsInOrder (written_in constraints.now) live.now openings.now scopes.now (length scopes.now) }
+    ensures { result ≡ leads (written_in constraints.now) live.now (reverse scopes.now) a b }
+{
+    if table_leads(constraints, a, b) {
+        return true;
+    }
+    let place = opening_of(openings, b);
+    if place < scopes.len() {
+        let scope = scopes[place];
+        if scope.region == b && is_outlived_by_live(scope.kind) {
+            return is_above_live_before(constraints, live, openings, scopes, place, a);
+        }
+    }
+    false
+}
+
+/// Makes the table so long that it has an entry for this variable.
+fn grow(openings: &mut Vec<usize>, number: usize) -> Result<(), AllocError>
+    ensures same { (x : ℕ) → get_or openings.new.items x 0 ≡ get_or openings.old.items x 0 }
+    ensures long { OnOk result (number < length openings.new.items) }
+{
+    if number < openings.len() {
+        return Ok(());
+    }
+    let Some(length) = number.checked_add(1) else {
+        return Err(AllocError);
+    };
+    openings.resize(length, 0)?;
+    Ok(())
+}
+
+/// Notes where the oldest scope of a region stands, if the region is a variable.
+fn note(openings: &mut Vec<usize>, region: Region, place: usize) -> Result<bool, AllocError>
+    ensures noted { IfOk result (λ noted. noted ≡ true → opening_of openings.new.items region ≡ place) }
+    ensures others { (r : Region) → region_eq region r ≡ false → opening_of openings.new.items r ≡ opening_of openings.old.items r }
+{
+    let Region::Variable(number) = region else {
+        return Ok(false);
+    };
+    grow(openings, number)?;
+    openings[number] = place;
+    Ok(true)
+}
+
+/// Whether no constraint begins with the region.
+fn is_alone(constraints: &[Constraint], region: Region) -> bool
+    ensures { IsTrue result → (b : Region) → table_leads constraints.now region b ≡ region_eq region b }
+{
+    match entry_of(constraints, region) {
+        Some(_) => false,
+        None => true,
+    }
+}
+
+/// Where the oldest `in_order` scopes are in order, whether the scope is too if it opens next. Where its oldest scope stands is then noted.
+pub(crate) fn opens_in_order(
+    constraints: &[Constraint],
+    live: &[Region],
+    openings: &mut Vec<usize>,
+    scopes: &[Scope],
+    in_order: usize,
+    scope: Scope,
+) -> Result<bool, AllocError>
+    requires closed { IsClosed constraints.now }
+    requires order { IsInOrder (written_in constraints.now) live.now openings.old.items scopes.now in_order }
+    ensures kept { IsInOrder (written_in constraints.now) live.now openings.new.items scopes.now in_order }
+    ensures next { IfOk result (λ next. next ≡ true → IsInOrder (written_in constraints.now) live.now openings.new.items (scopes.now ++ scope ∷ []) (length scopes.now + 1)) }
+{
+    let place = scopes.len();
+    if in_order < place {
+        return Ok(false);
+    }
+    let is_known = is_live_before(live, openings, scopes, place, scope.region);
+    if is_known {
+        return Ok(!is_outlived_by_live(scope.kind));
+    }
+    if is_outlived_by_live(scope.kind) && !is_alone(constraints, scope.region) {
+        return Ok(false);
+    }
+    note(openings, scope.region, place)
+}
