@@ -35,8 +35,8 @@ use Rattle.cyc_soundness.specs.Lives.{Life, heap_life, as_heap, Reading, Lives, 
 use Rattle.cyc_soundness.specs.Lives as lives
 use Rattle.cyc_soundness.specs.Worlds.{In, Hand, Claims, ClaimsBy, giving, HasType, Typing, IsFull, variable_type, global_type, Outlasts, alike, globals as with_globals, AgreesWith, IsResult, AreOperands, IsTyped, IsOpenLife}
 use Rattle.cyc_soundness.specs.Frames.{IsAmong, Bound, InScope, Variable, IsBound, AreVariables, IsHomed, LiveIn, IsSet, IsFullIn, Holds, Implies, Exits, IsContext, KnowsProgram, lives_in, read, read_value}
-use Rattle.cyc_soundness.specs.Classes.{is_full, Relied, IsSpared, HasScopes, InExpression, InArguments, InOperations, Source}
-use Rattle.cyc_soundness.specs.Stacks.{Evaluates, Val, Go, turned, IsCalled, null, IsStack, IsFocus, IsWell}
+use Rattle.cyc_soundness.specs.Classes.{is_full, Relied, and_looked, IsSpared, HasScopes, InExpression, InArguments, InOperations, Source}
+use Rattle.cyc_soundness.specs.Stacks.{Evaluates, Val, Go, turned, relied_at, IsCalled, null, IsStack, IsFocus, IsWell}
 use Rattle.cyc_soundness.specs.Stacks as stacks
 use Rattle.cyc_soundness.proofs.Numbers.{some_same, both}
 use Rattle.cyc_soundness.proofs.TypeLemmas.{place_type, target_typed, is_kind_same, kind_read, kind_meant}
@@ -46,6 +46,7 @@ use Rattle.cyc_soundness.proofs.StackLemmas.{OneLocal, emptied_other, in_no_hand
 use Rattle.cyc_soundness.proofs.ValueLemmas.{zero_is, converted_by, kind_given}
 use Rattle.cyc_soundness.proofs.RegionLemmas.{agrees_of, there_of, cell_live, global_means, these_by, live_by, instance_is, parameters_mean, result_means}
 use Rattle.cyc_soundness.proofs.Cells.{running, part_at, reads, writes}
+use Rattle.cyc_soundness.proofs.Looking.{looked_expression, looked_converted, peeked_so}
 use Rattle.cyc_soundness.proofs.Objects.{makes_on}
 use Rattle.cyc_soundness.proofs.Places.{takes, gives, gives_by, converted_leads, moved_comes}
 
@@ -146,7 +147,7 @@ module _ (p : Source) (g : Typing) (x : Exits) (bs : List InScope) (e : Environm
 
 module _ (p : Source) (g : Typing) (x : Exits) (bs : List InScope) (e : Environment) (w : World) (typed : IsTyped g w.regions w.objects) (globals : KnowsProgram g p) (bound : IsBound e.locals e.counters bs) (variables : AreVariables g bs) where
   -- a local's value goes to an operand
-  pub moves : (k : List Entry) (c : Context) (n : ℕ) (u : Ty) (f : flow.State) → AreOpen w.regions (ends_of k) → LiveIn k bs → IsContext p x bs c → Holds g f bs → (r : ℕ) × HasLocal c.locals n u r → IsFullIn f n → IsSpared x.relied n
+  pub moves : (k : List Entry) (c : Context) (n : ℕ) (u : Ty) (f : flow.State) → AreOpen w.regions (ends_of k) → LiveIn k bs → IsContext p x bs c → Holds g f bs → (r : ℕ) × HasLocal c.locals n u r → IsFullIn f n → IsSpared (relied_at x.relied k) n
       → IsStack p g x bs (Val (Value (read bs u)) (with_fullness Vacant f n)) k → IsWell p (loaded_from (values.kind_of u) (e.locals n) k e w)
   moves k c n u f opens live stands holds (r, has) full spared stack =
       let (b, among, number, of_type) = bound_of p.reading (lives_in bs) c.locals bs n u r stands.scope has in
@@ -219,7 +220,7 @@ module _ (p : Source) where
     -- ---- arguments
 
     pub pass_on : (k : List Entry) (callee : Callee) (before : List Operand) (done : List RunTy) (as' : Arguments) (ts : List Ty) (c : Context) (r : ValueType) (f h : flow.State) (q : List ℕ)
-        → LiveIn k bs → IsContext p x bs c → Holds g f bs → ArePassed c ts as' → Derives (rule_arguments q as' f) h → InArguments p.reading x.relied as' → AreOperands g done before → stacks.AreClaimed g.own (stacks.operands_in k) done
+        → LiveIn k bs → IsContext p x bs c → Holds g f bs → ArePassed c ts as' → Derives (rule_arguments q as' f) h → InArguments p.reading (relied_at x.relied k) as' → AreOperands g done before → stacks.AreClaimed g.own (stacks.operands_in k) done
         → IsCalled p bs callee (turned done (map (read bs) ts)) (read_value bs r) → IsStack p g x bs (Val (read_value bs r) h) k → IsWell p (passes callee before as' k e w)
     pass_on k callee before done NoArguments [] c r f h q live stands holds passed (u, same) kept operands claims called stack =
         on (Calling callee before) k live (done, read_value bs r, h, subst (λ z. Holds g z bs) (sym same) holds, called, operands, claims, stack)
@@ -247,7 +248,7 @@ module _ (p : Source) where
     -- ---- expressions
 
     pub evaluate : (a : Expression) (k : List Entry) (c : Context) (t : ValueType) (f h : flow.State) (q : List ℕ) → AreOpen w.regions (ends_of k) → LiveIn k bs → IsContext p x bs c → Holds g f bs
-        → WellTyped c a t ⊎ IsPeek c a t → Derives (rule q a f) h → InExpression p.reading x.relied a → IsStack p g x bs (Val (read_value bs t) h) k → IsWell p (step_evaluating a k e w)
+        → WellTyped c a t ⊎ IsPeek c a t → Derives (rule q a f) h → InExpression p.reading (relied_at x.relied k) a → IsStack p g x bs (Val (read_value bs t) h) k → IsWell p (step_evaluating a k e w)
     evaluate (Number n) k c t f h q opens live stands holds (inl is) (u, same) kept stack =
         hands k (read_value bs t) (Value lives.Int) (record { kind = kinds.Int; value = values.Int n }) f h live holds same (ap (read_value bs) is) (refl, tt) tt stack
     evaluate NullPointer k c t f h q opens live stands holds (inl is) (u, same) kept stack =
@@ -311,7 +312,7 @@ module _ (p : Source) where
           f1,
           stands,
           holds,
-          record { waiting = q; typed = left_typed p.reading x.relied (WellTyped c a v) c a v os kept left; flows = d; kept = one },
+          record { waiting = q; typed = left_typed p.reading (relied_at x.relied k) (WellTyped c a v) c a v os kept left; flows = d; kept = one },
           (
             [],
             bs,
@@ -452,7 +453,7 @@ module _ (p : Source) where
           record { waiting = q; typed = cell; flows = dp; kept = kd },
           (
             Val (read_value bs (assigned_type v)) h,
-            stacks.stores_to c s v r f1 h (there_of p x bs c stands r (cell_live c d v r cell)) stands (record { waiting = and_peeked (peek_behind d) q; typed = inl well; flows = dc; kept = kc }) conv from_is to_is,
+            stacks.stores_to c s v r f1 h (there_of p x bs c stands r (cell_live c d v r cell)) stands (λ reached. record { waiting = and_peeked (peek_behind d) q; typed = inl well; flows = dc; kept = subst (λ o. InExpression p.reading (and_looked o (relied_at x.relied k)) a) (sym (peeked_so d)) (looked_converted p.reading (relied_at x.relied k) (peek_behind d) (Convert from to a) q f1 h reached dc kc) }) conv from_is to_is,
             tt,
             subst (λ z. IsStack p g x bs (Val (read_value bs z) h) k) (same ∙ gives_u) stack,
           ),
@@ -500,7 +501,7 @@ module _ (p : Source) where
 
     -- a right operand of pointers
     null_on : {o : PointerOperator} (peek : Option ℕ) (q : List ℕ) (kind : Kind) (value : values.Value) (b : Expression) (os : Operations) (k : List Entry) (c : Context) (v w' : ValueType) (f f1 : flow.State) → LiveIn k bs
-        → kind ≡ kinds.Nullable → value ≡ values.Null → IsContext p x bs c → Holds g f bs → PointerOperation c o types.Null v w' → Evaluates p.reading x.relied c b f v f1
+        → kind ≡ kinds.Nullable → value ≡ values.Null → IsContext p x bs c → Holds g f bs → PointerOperation c o types.Null v w' → Evaluates p.reading (and_looked peek (relied_at x.relied k)) c b f v f1
         → IsStack p g x bs (Val (read_value bs w') f1) (Needs (Chain os) ∷ k) → IsWell p (Running (Evaluating b) (Needs (ApplyPointer peek o (record { kind = kind; value = value })) ∷ Needs (Chain os) ∷ k) e w)
     null_on {o} peek q kind value b os k c v w' f f1 live kind_is value_is stands holds op evaluates stack =
         subst (λ z. IsWell p (Running (Evaluating b) (Needs (ApplyPointer peek o (record { kind = z; value = value })) ∷ Needs (Chain os) ∷ k) e w)) (sym kind_is)
@@ -509,7 +510,7 @@ module _ (p : Source) where
         (c, v, f, f1, stands, holds, evaluates, (lives.Pointer marks.Nullable lives.Int heap_life ∷ [], bs, Val (read_value bs w') f1, stacks.null_points c v w' f1 op, (((refl, tt), tt), (tt, tt)), stack))))
 
     pointed : (o : PointerOperator) (peek : Option ℕ) (q : List ℕ) (left : Operand) (b : Expression) (os : Operations) (k : List Entry) (c : Context) (s v w' : ValueType) (f f1 : flow.State) → LiveIn k bs → IsContext p x bs c → Holds g f bs
-        → IsResult g (read_value bs s) left → PointerOperation c o s v w' → Evaluates p.reading x.relied c b f v f1 → IsStack p g x bs (Val (read_value bs w') f1) (Needs (Chain os) ∷ k)
+        → IsResult g (read_value bs s) left → PointerOperation c o s v w' → Evaluates p.reading (and_looked peek (relied_at x.relied k)) c b f v f1 → IsStack p g x bs (Val (read_value bs w') f1) (Needs (Chain os) ∷ k)
         → IsWell p (awaits_right (takes_kind o left.kind) (ApplyPointer peek o left) b os k e w)
     pointed o peek q left b os k c s v w' f f1 live stands holds is op evaluates stack =
         subst (λ z. IsWell p (awaits_right z (ApplyPointer peek o left) b os k e w)) (sym (takes (lives_in bs) g left op is)) (go s is op)
@@ -522,7 +523,7 @@ module _ (p : Source) where
 
     -- a left operand stands before what is left of its chain
     pub chain_on : (os : Operations) (v : Operand) (k : List Entry) (c : Context) (s : ValueType) (u : Ty) (f h : flow.State) (q : List ℕ) → LiveIn k bs → IsContext p x bs c → Holds g f bs
-        → IsResult g (read_value bs s) v → stacks.Comes g (read_value bs s) k → IsChain c s os u → Derives (rule_operations q os f) h → InOperations p.reading x.relied os → IsStack p g x bs (Val (Value (read bs u)) h) k → IsWell p (chained os v k e w)
+        → IsResult g (read_value bs s) v → stacks.Comes g (read_value bs s) k → IsChain c s os u → Derives (rule_operations q os f) h → InOperations p.reading (relied_at x.relied k) os → IsStack p g x bs (Val (Value (read bs u)) h) k → IsWell p (chained os v k e w)
     chain_on NoOperations v k c s u f h q live stands holds is comes chain (unit, same) kept stack =
         hands k (Value (read bs u)) (read_value bs s) v f h live holds same (ap (read_value bs) (sym chain)) is comes stack
     chain_on (ThenCompute o b os) v k c s u f h q live stands holds is comes (int, well, chain) (f1, d, ds) (one, kept) stack =
@@ -568,7 +569,7 @@ module _ (p : Source) where
         pointed o None q v b os k c s v2 w2 f f1 live stands holds is op (record { waiting = q; typed = well; flows = d; kept = one })
         ([], bs, Val (Value (read bs u)) h, stacks.chains c w2 u f1 h stands (record { waiting = q; typed = chain; flows = ds; kept = kept }), tt, stack)
     chain_on (ThenPointerPeek n o b os) v k c s u f h q live stands holds is comes (v2, w2, well, op, chain) (f1, d, ds) (one, kept) stack =
-        pointed o (Some n) q v b os k c s v2 w2 f f1 live stands holds is op (record { waiting = and_peeked (Some n) q; typed = well; flows = d; kept = one })
+        pointed o (Some n) q v b os k c s v2 w2 f f1 live stands holds is op (record { waiting = and_peeked (Some n) q; typed = well; flows = d; kept = looked_expression p.reading (relied_at x.relied k) (Some n) b q f f1 holds.0 d one })
         ([], bs, Val (Value (read bs u)) h, stacks.chains c w2 u f1 h stands (record { waiting = q; typed = chain; flows = ds; kept = kept }), tt, stack)
 
     pub converted_on : (from to : Kind) (target : Option Kind) (v : Operand) (k : List Entry) (c : Context) (s : ValueType) (t : Ty) (f : flow.State) → LiveIn k bs → AgreesWith c.regions (lives_in bs) → Holds g f bs → IsResult g (read_value bs s) v → stacks.Comes g (read_value bs s) k → Converts c s t

@@ -26,6 +26,7 @@ use Rattle.cyc_meaning.specs.Parts.{target_by, loaded_from, inside, region_end}
 use Rattle.cyc_meaning.specs.Exceptions.{throws}
 use Rattle.cyc_meaning.specs.Nesting.{ends_of, IsNested}
 use Rattle.cyc_meaning.specs.Step.{step_executing, returns, continues_with}
+use Rattle.cyc_soundness.proofs.Looking.{looked_side}
 use Rattle.cyc_soundness.specs.Lives.{Life, Value, Seen, Reading, AsHeap, ByScope}
 use Rattle.cyc_soundness.specs.Worlds.{HasType, IsNumber, Typing, lent_now, IsTyped}
 use Rattle.cyc_soundness.specs.Frames.{InScope, Names, Home, life_named, lives_in, read, read_value, IsBound, AreVariables, LiveIn, Within, itself, older, IsSet, Holds, Implies, LoopExit, Exits, loop_of, around, lending, relying, AreBreaks, is_loop, IsContext, KnowsProgram}
@@ -218,7 +219,7 @@ module _ (p : Source) (g : Typing) (x : Exits) (bs : List InScope) (e : Environm
       let now : h ≡ f3 = ap (λ (z : Known). z.now) known ∙ same in
       let (first, second) = kept_both (side_demanded [] y f3) (side_demanded (and_peeked (peeked_side y) []) z f3) demands in
       swap_on p g x bs e w typed' globals bound variables y z c t k f f2 f3 (and_peeked (peeked_side y) []) live stands holds plain ty dy first ky
-      (record { waiting = and_peeked (peeked_side y) []; typed = tz; flows = dz; used = second; kept = kz }) (subst (λ i. IsStack p g x bs (Go i) k) now stack)
+      (λ reached. record { waiting = and_peeked (peeked_side y) []; typed = tz; flows = dz; used = second; kept = looked_side p.reading x.relied (peeked_side y) z [] f2 f3 reached dz kz }) (subst (λ i. IsStack p g x bs (Go i) k) now stack)
   execute (If a s t) k c f h before behind' live stands holds ((v, well, tested), ws, wt) (f1, d, (l, ds, (m, dt, (u, known)))) are (ka, ks, kt) stack =
       let now : h ≡ meet l.now m.now = ap (λ (z : Known). z.now) known in
       let breaks : behind' ≡ m.breaks = ap (λ (z : Known). z.breaks) known in

@@ -1,5 +1,5 @@
 -- WHAT IS LENT to the end of a block: dynamic regions that their keys open, and what a unique pointer leads to, by an alias.
-use Rattle.std.proofs.Common.{◌≡◌, inl, inr, set, ℕ, suc, ◌≤◌, ◌<◌, Bool, true, false, List, [], ◌∷◌, ◌++◌, length, Option, Some, None, slice_get, refl, sym, ap, subst, ◌∙◌, arith}
+use Rattle.std.proofs.Common.{◌≡◌, inl, inr, set, ℕ, suc, ◌≤◌, ◌<◌, Bool, true, false, List, [], ◌∷◌, length, Option, Some, None, slice_get, refl, sym, ap, subst, ◌∙◌, arith}
 use Rattle.std.specs.Prelude.{if◌then◌else◌}
 use Rattle.cyc_types.specs.declared.region.Region.{Region as Region'}
 use Rattle.cyc_types.specs.declared.region.Region.TheVariants as regions
@@ -31,19 +31,11 @@ use Rattle.cyc_soundness.proofs.TypeLemmas.{all_in, read_alike}
 use Rattle.cyc_soundness.proofs.FlowLemmas.{reached_with}
 use Rattle.cyc_soundness.proofs.RegionLemmas.{region_known, contains_more, name_known, same_name, known_other, known_more, other_life, context_key, context_alias, context_again}
 use Rattle.cyc_soundness.proofs.WorldLemmas.{with_kept, kept_grows, kept_typed, globals_grown, variables_grown, holds_grown, result_grown, given_now, given_typed, given_globals, variables_other, variables_more, moment_typed, moment_globals, holds_lent, lent_last, closed_by_key}
-use Rattle.cyc_soundness.proofs.StackLemmas.{OneLocal, emptied_other, in_no_hand, in_some, holds_other, stack_other, stack_grown, above_globals, full_here, within_full_at, within_variables, among_bound, among_variable, among_own, among_set, set_stored}
+use Rattle.cyc_soundness.proofs.StackLemmas.{OneLocal, emptied_other, in_no_hand, in_some, holds_other, stack_other, stack_grown, above_globals, full_here, within_full_at, within_variables, among_bound, among_variable, among_own, among_set, set_stored, statement_relied}
 use Rattle.cyc_soundness.proofs.Cells.{running}
 use Rattle.cyc_soundness.proofs.Evaluation.{full_set, unique_comes}
 
 -- ---- lists
-
-pub before_last : (n m : ℕ) (ks : List ℕ) → IsAmong n ks → IsAmong n (ks ++ m ∷ [])
-before_last n m ks (first js) = first (js ++ m ∷ [])
-before_last n m ks (later k js among) = later k (js ++ m ∷ []) (before_last n m js among)
-
-pub at_last : (n m : ℕ) (ks : List ℕ) → n ≡ m → IsAmong n (ks ++ m ∷ [])
-at_last n m [] same = subst (λ i. IsAmong i (m ∷ [])) (sym same) (first [])
-at_last n m (k ∷ ks) same = later k (ks ++ m ∷ []) (at_last n m ks same)
 
 -- ---- types
 
@@ -161,7 +153,7 @@ module _ (p : Source) (g : Typing) (x : Exits) (bs : List InScope) (e : Environm
           again,
           within_full_at j lent t cs bs within (full_here j e lent b.object t bs bs bound scope_now one_now some),
           within_variables o cs bs within scope,
-          stack_other t old new p g x cs (Go i) k has (inl (refl, spared)) stack,
+          stack_other t old new p g x cs (Go i) k has (inl (refl, subst (λ z. IsSpared z lent) (sym (statement_relied p g x cs i k x.relied stack)) spared)) stack,
         );
       }
 

@@ -34,7 +34,7 @@ use Rattle.cyc_soundness.specs.Lives.{Life, OfRegion, OfObject, Never, Kept, Rea
 use Rattle.cyc_soundness.specs.Lives as lives
 use Rattle.cyc_soundness.specs.Worlds.{Hand, In, ClaimsBy, giving, Stays, AreKeyless, IsOpenIn, ObjectType, IsKnownLife, IsNumber, IsOwner, Typing, IsFilled, variable_type, HasType, IsResult, AreCells, IsObject, IsTyped, Grows}
 use Rattle.cyc_soundness.specs.Frames.{later, Bound, InScope, Variable, Level, life_named, lives_in, read, read_value, IsThere, IsHomed, AreBelow, IsBound, AreVariables, IsLasting, home_in, LiveIn, Within, itself, older, Holds, Implies, LoopExit, Exits, IsHome, IsContext, KnowsProgram}
-use Rattle.cyc_soundness.specs.Stacks.{Executes, Continues, IsLoop, Repeats, IsArray, IsNew, Want, Val, Go, operands_in, Comes, Keeps, inside, Waits, IsReturn, IsStack, IsFocus, IsWell}
+use Rattle.cyc_soundness.specs.Stacks.{Executes, Continues, IsLoop, Repeats, IsArray, IsNew, Want, Val, Go, operands_in, Comes, Keeps, inside, Waits, IsReturn, IsStack, IsFocus, IsWell, relied_at}
 use Rattle.cyc_soundness.specs.Stacks as stacks
 use Rattle.cyc_soundness.proofs.TypeLemmas.{is_kind_same, kind_read}
 use Rattle.cyc_soundness.proofs.FlowLemmas.{holds_implied, reached_with, full_put, vacant_now}
@@ -236,7 +236,7 @@ module _ (p : Source) (g : Typing) (x : Exits) (bs : List InScope) (e : Environm
 
   -- by a handle
   placed_by : (i : Initial) (v : values.Value) (k : List Entry) (c : Context) (m : PointerKind) (t : Ty) (r : Region) (f h : flow.State) (q : List ℕ) → AreOpen w.regions (ends_of k) → LiveIn k bs → IsContext p x bs c → Holds g f bs
-      → IsThere bs r → IsMade c i m t → Derives (rule_initial q i f) h → InInitial p.reading x.relied i → HasType g (lives.Handle (lives_in bs r)) v
+      → IsThere bs r → IsMade c i m t → Derives (rule_initial q i f) h → InInitial p.reading (relied_at x.relied k) i → HasType g (lives.Handle (lives_in bs r)) v
       → IsStack p g x bs (Val (Value (lives.Pointer m (read bs t) (lives_in bs r))) h) k → IsWell p (makes_by i v k e w)
   placed_by i (values.Handle region) k c m t r f h q opens live stands holds alive made flows kept has stack =
       makes_on p g x bs e w typed globals bound variables i (InRegion region) k c m t r f h q opens live stands holds alive (owner_is (lives_in bs r) region has) made flows kept stack
@@ -244,7 +244,7 @@ module _ (p : Source) (g : Typing) (x : Exits) (bs : List InScope) (e : Environm
 
   -- the next element of an array has its value, and the counter is out of scope
   filled_on : (object count index level : ℕ) (kind : Kind) (element : Expression) (v : Operand) (k : List Entry) (cs : List InScope) (c : Context) (t : Ty) (r : Region) (f h : flow.State) → bs ≡ Level level ∷ cs
-      → AreOpen w.regions (ends_of k) → LiveIn k bs → IsThere cs r → IsContext p x cs c → Holds g h bs → Repeats p.reading x.relied c level kind element t f → Implies h f → index < count
+      → AreOpen w.regions (ends_of k) → LiveIn k bs → IsThere cs r → IsContext p x cs c → Holds g h bs → Repeats p.reading (relied_at x.relied k) c level kind element t f → Implies h f → index < count
       → IsArray g (read cs t) (lives_in cs r) object count index → IsResult g (Value (read cs t)) v → IsStack p g x cs (Val (Value (lives.Pointer marks.Fat (read cs t) (lives_in cs r))) f) k
       → IsWell p (fills_element object count index level kind element v k e w)
   filled_on object count index level kind element v k cs c t r f h same opens live alive stands holds repeats back less array is stack =
@@ -255,7 +255,7 @@ module _ (p : Source) (g : Typing) (x : Exits) (bs : List InScope) (e : Environm
   -- ---- all that waits
 
   pub given : {a : Awaiting} {ts : List RunTy} {r : RunValue} {f : flow.State} {cs : List InScope} {next : Want} (v : Operand) (k : List Entry) → IsNested k e w → LiveIn k bs → Holds g f bs → IsResult g r v
-      → Comes g r (Needs a ∷ k) → Waits p x bs a ts r f cs next → Keeps g (operands_in k) a ts → IsStack p g x cs next k → IsWell p (supplied a v k e w)
+      → Comes g r (Needs a ∷ k) → Waits p x (relied_at x.relied k) bs a ts r f cs next → Keeps g (operands_in k) a ts → IsStack p g x cs next k → IsWell p (supplied a v k e w)
   given v k nests live holds is comes (stacks.converts {from} {to} {target} c s t f agrees conv from_is to_is same) are stack =
       converted_on p g x bs e w typed globals bound variables from to target v k c s t f live agrees holds is (comes_alone g k (read_value bs s) comes) conv from_is to_is same stack
   given v k nests live holds is comes (stacks.negates f) are stack =

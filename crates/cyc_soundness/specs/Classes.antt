@@ -1,5 +1,5 @@
 -- CLASSES OF PROGRAMS that a theorem speaks of. Each is a predicate on typed trees, empty for the nodes that are not in it yet.
-use Rattle.std.specs.Prelude.{◌≡◌, ℕ, suc, ◌+◌, Bool, true, false, List, [], ◌∷◌, Option, Some, None, get_or}
+use Rattle.std.specs.Prelude.{◌≡◌, ℕ, zero, suc, ◌+◌, Bool, true, false, List, [], ◌∷◌, Option, Some, None, get_or}
 use Rattle.cyc_types.specs.Types.{Ty}
 use Rattle.cyc_types.specs.Declarations.{declared_regions, item_regions}
 use Rattle.cyc_types.specs.TypedTrees.{Local, Global, Expression, Number, NullPointer, HeapRegion, Counter, Copy, Move, Peek, Load, AddressOf, AddressOfCell, NumberOfElements, FreeKey, Call, Unary, Binary, Assign, Store, New, Dereference, Target, Member, Element, Placement, OnHeap, AsUnique, ByHandle, Initial, Plain, Fields, Array, Converted, Convert, Arguments, NoArguments, MoreArguments, Operations, NoOperations, ThenCompute, ThenTest, ThenPointer, ThenPointerPeek, Side, VariableSide, CellSide, Statement, Block, Empty, Evaluate, Swap, If, While, Return, Break, Continue, Throw, Try, Items, NoItems, MoreItems, Execute, Declare, DeclareRegion, OpenRegion, DeclareAlias, DeclareKey, Clauses, NoClauses, Default, Case, StructType, GlobalVariable, Function, Program}
@@ -40,6 +40,16 @@ IsSparedBy (Reached as') n = is_full (get_or as' n Vacant) ≡ false
 abbrev pub IsSpared : Relied → ℕ → Type 0
 IsSpared [] n = Unit {0}
 IsSpared (f ∷ q) n = IsSparedBy f n × IsSpared q n
+
+-- a local of this number is full, and of others nothing is known
+abbrev pub only : ℕ → List Fullness
+only zero = Full ∷ []
+only (suc n) = Vacant ∷ only n
+
+-- also where what this local holds was looked at, and is still to be used
+abbrev pub and_looked : Option ℕ → Relied → Relied
+and_looked None q = q
+and_looked (Some n) q = Reached (only n) ∷ q
 
 -- Programs that give no object back. All else is there: all types, objects in the heap, unique ones and those of regions, places behind
 -- pointers, swaps, functions with regions, conversions between all marks, loops and exceptions. Only where things are lent do they have
