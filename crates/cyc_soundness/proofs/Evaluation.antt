@@ -18,7 +18,7 @@ use Rattle.cyc_types.specs.Rules.{Derives}
 use Rattle.cyc_types.specs.typing.Tests.{is_moved, is_tested}
 use Rattle.cyc_types.specs.typing.Tests as tests
 use Rattle.cyc_types.specs.typing.Expressions.{assigned_type, instantiated}
-use Rattle.cyc_types.specs.typing.WellTyped.{Context, HasLocal, AreLive, AreOutliving, IsCallee, WellTyped, IsPeek, IsLeft, ArePassed, Converts, PointerOperation, adds, subtracts, equals, differs, thin_null, thin_there, fat_null, fat_there, IsChain, signature_of}
+use Rattle.cyc_types.specs.typing.WellTyped.{Context, HasLocal, AreLive, AreOutliving, IsCallee, WellTyped, IsPeek, IsLeft, ArePassed, Converts, PointerOperation, adds, subtracts, equals, differs, thin_null, thin_there, fat_null, fat_there, IsChain, signature_of, AreNotUnique, AreConstraints}
 use Rattle.cyc_types.specs.flow.States as flow
 use Rattle.cyc_types.specs.flow.States.{Fullness, Vacant, Locked, Full, is_locked, meet, fullness, with_fullness, is_vacant}
 use Rattle.cyc_types.specs.flow.Expressions.{and_peeked, peek_behind, rule, rule_arguments, rule_operations}
@@ -33,9 +33,9 @@ use Rattle.cyc_meaning.specs.Nesting.{ends_of, AreOpen}
 use Rattle.cyc_meaning.specs.Step.{step_evaluating, addressed, counts, passes, assigned, decided, tested, awaits_right, chained, converts}
 use Rattle.cyc_soundness.specs.Lives.{Life, heap_life, as_heap, Reading, Lives, AsHeap, ByScope, RunTy, RunValue, Value, kind_at}
 use Rattle.cyc_soundness.specs.Lives as lives
-use Rattle.cyc_soundness.specs.Worlds.{In, Hand, Claims, ClaimsBy, giving, HasType, Typing, IsFull, variable_type, global_type, Outlasts, alike, globals as with_globals, AgreesWith, IsResult, AreOperands, IsTyped, IsOpenLife}
-use Rattle.cyc_soundness.specs.Frames.{IsAmong, Bound, InScope, Variable, IsBound, AreVariables, IsHomed, LiveIn, IsSet, IsFullIn, Holds, Implies, Exits, IsContext, KnowsProgram, lives_in, read, read_value}
-use Rattle.cyc_soundness.specs.Classes.{is_full, Relied, and_looked, IsSpared, HasScopes, InExpression, InArguments, InOperations, Source}
+use Rattle.cyc_soundness.specs.Worlds.{In, Hand, Claims, ClaimsBy, giving, HasType, Typing, IsFull, variable_type, global_type, Outlasts, alike, globals as with_globals, AgreesWith, IsResult, AreOperands, IsTyped, IsOpenLife, IsOwner}
+use Rattle.cyc_soundness.specs.Frames.{IsAmong, Bound, InScope, Variable, IsBound, AreVariables, IsHomed, LiveIn, IsSet, IsFullIn, Holds, Implies, Exits, IsContext, KnowsProgram, lives_in, read, read_value, frees_in}
+use Rattle.cyc_soundness.specs.Classes.{is_full, Relied, frees_of, and_looked, IsSpared, HasScopes, InExpression, InArguments, InOperations, Source}
 use Rattle.cyc_soundness.specs.Stacks.{Evaluates, Val, Go, turned, relied_at, IsCalled, null, IsStack, IsFocus, IsWell}
 use Rattle.cyc_soundness.specs.Stacks as stacks
 use Rattle.cyc_soundness.proofs.Numbers.{some_same, both}
@@ -67,17 +67,24 @@ left_typed m q well c a v (ThenPointer o b os) kept is = inl is
 left_typed m q well c a v (ThenPointerPeek n o b os) kept is = inr is.0
 
 -- a local whose address is taken is there as long as the region of its block
+owned_made : (frees : Bool) → IsOwner (lives.owned_life frees) (Unique true)
+owned_made true = refl
+owned_made false = (refl, refl)
+
 homed : (m : Reading) (these : Lives) (region : ℕ) (l : Life) → HasScopes m → IsHomed m these region l → l ≡ these (regions.Variable region)
 homed AsHeap these region l scopes is = absurd scopes
-homed (ByScope lends) these region l scopes is = is
+homed (ByScope lends frees) these region l scopes is = is
 
 -- a global is no key, and what is copied or only looked at neither
-heap_comes : (g : Typing) (i : ℕ) (t : Ty) → Claims g.own (Hand i) (lives.at as_heap t)
-heap_comes g i types.Int = tt
-heap_comes g i (types.Pointer k t r) = tt
-heap_comes g i (types.Handle r) = tt
-heap_comes g i (types.Key r) = tt
-heap_comes g i (types.Struct n rs) = tt
+heap_comes : (g : Typing) (i : ℕ) (frees : Bool) (t : Ty) → Claims g.own (Hand i) (lives.at (as_heap frees) t)
+heap_comes g i frees types.Int = tt
+heap_comes g i frees (types.Pointer k t r) = tt
+heap_comes g i frees (types.Handle r) = tt
+heap_comes g i frees (types.Key regions.Heap) = tt
+heap_comes g i true (types.Key regions.Unique) = tt
+heap_comes g i false (types.Key regions.Unique) = tt
+heap_comes g i frees (types.Key (regions.Variable n)) = tt
+heap_comes g i frees (types.Struct n rs) = tt
 
 copied_comes : (g : Typing) (i : ℕ) (n : Lives) (t : Ty) → is_moved t ≡ false → Claims g.own (Hand i) (lives.at n t)
 copied_comes g i n types.Int plain = tt
@@ -165,19 +172,19 @@ module _ (p : Source) (g : Typing) (x : Exits) (bs : List InScope) (e : Environm
 
 module _ (p : Source) where
   -- what is called takes and gives this, where its region variables stand for what is put in their place
-  called_is : (x : Exits) (bs : List InScope) (c : Context) (callee : Callee) (s : Signature) (m : List Region) → IsContext p x bs c → IsCallee c callee s → AreLive c (instantiated m s).effect
+  called_is : (x : Exits) (bs : List InScope) (c : Context) (callee : Callee) (s : Signature) (m : List Region) → IsContext p x bs c → IsCallee c callee s → AreNotUnique m → ((number : ℕ) (h : Function) → slice_get p.program.functions number ≡ Some h → AreConstraints h.variables h.constraints) → AreLive c (instantiated m s).effect
       → AreOutliving c (instantiated m s).constraints
       → IsCalled p bs callee (map (read bs) (map (substituted_ty m) s.parameters)) (read_value bs (result_type (option_map (substituted_ty m) s.result)))
-  called_is x bs c callees.Putchar s m stands is alive outlive =
+  called_is x bs c callees.Putchar s m stands is apart named alive outlive =
       subst (λ (z : Signature). IsCalled p bs callees.Putchar (map (read bs) (map (substituted_ty m) z.parameters)) (read_value bs (result_type (option_map (substituted_ty m) z.result)))) (sym is) (refl, refl)
-  called_is x bs c callees.Getchar s m stands is alive outlive =
+  called_is x bs c callees.Getchar s m stands is apart named alive outlive =
       subst (λ (z : Signature). IsCalled p bs callees.Getchar (map (read bs) (map (substituted_ty m) z.parameters)) (read_value bs (result_type (option_map (substituted_ty m) z.result)))) (sym is) (refl, refl)
-  called_is x bs c (callees.Function n) s m stands is alive outlive =
+  called_is x bs c (callees.Function n) s m stands is apart named alive outlive =
       let (h, there, same) = of_map signature_of p.program.functions n s (ap (λ ss. slice_get ss n) (sym stands.functions) ∙ is) in
       let these = these_by (lives_in bs) m in
-      let instance = instance_is p x bs c stands h m (subst (λ (z : Signature). AreLive c (instantiated m z).effect) (sym same) alive) (subst (λ (z : Signature). AreOutliving c (instantiated m z).constraints) (sym same) outlive) in
+      let instance = instance_is p x bs c stands h m apart (named n h there) (subst (λ (z : Signature). AreLive c (instantiated m z).effect) (sym same) alive) (subst (λ (z : Signature). AreOutliving c (instantiated m z).constraints) (sym same) outlive) in
       subst (λ (z : Signature). IsCalled p bs (callees.Function n) (map (read bs) (map (substituted_ty m) z.parameters)) (read_value bs (result_type (option_map (substituted_ty m) z.result)))) same
-      (h, these, live_by p.reading h.effect, there, instance, parameters_mean (lives_in bs) refl refl m h.parameters, result_means (lives_in bs) refl refl m h.result)
+      (h, these, live_by p.reading h.effect, there, instance, parameters_mean (frees_in bs) (lives_in bs) refl refl m h.parameters, result_means (frees_in bs) (lives_in bs) refl refl m h.result)
 
   module _ (g : Typing) (x : Exits) (bs : List InScope) (e : Environment) (w : World) (typed : IsTyped g w.regions w.objects) (globals : KnowsProgram g p) (bound : IsBound e.locals e.counters bs) (variables : AreVariables g bs) where
     on : (focus : Focus) (k : List Entry) → LiveIn k bs → IsFocus p g x bs focus k → IsWell p (Running focus k e w)
@@ -193,7 +200,7 @@ module _ (p : Source) where
 
     -- a global, whose type means the same everywhere
     global_there : (n : ℕ) (u : Ty) (c : Context) → IsContext p x bs c → slice_get c.globals n ≡ Some u
-        → (slice_get (map (λ (v : GlobalVariable). v.of_type) p.program.globals) n ≡ Some u) × (read bs u ≡ lives.at as_heap u)
+        → (slice_get (map (λ (v : GlobalVariable). v.of_type) p.program.globals) n ≡ Some u) × (read bs u ≡ lives.at (as_heap (frees_of p.reading)) u)
     global_there n u c stands has =
         let there = ap (λ ts. slice_get ts n) (sym stands.globals) ∙ has in
         let (at, full, closed) = globals.globals n u there in
@@ -214,8 +221,8 @@ module _ (p : Source) where
     from_global k c n u t f opens live stands holds has same stack =
         let (there, means) = global_there n u c stands has in
         let (at, full, closed) = globals.globals n u there in
-        reads p g x bs e w typed globals bound variables k (values.kind_of u) n 0 (lives.at as_heap u) (global_type (lives.at as_heap u)) f live holds at refl (open_of w.regions (globals_among k) opens) full (kind_meant as_heap u)
-        (Value (lives.at as_heap u)) (λ v is. (sym (kind_meant as_heap u), is)) (heap_comes g (stacks.operands_in k) u) (subst (λ z. IsStack p g x bs (Val z f) k) (ap (read_value bs) same ∙ ap Value means) stack)
+        reads p g x bs e w typed globals bound variables k (values.kind_of u) n 0 (lives.at (as_heap (frees_of p.reading)) u) (global_type (lives.at (as_heap (frees_of p.reading)) u)) f live holds at refl (open_of w.regions (globals_among k) opens) full (kind_meant (as_heap (frees_of p.reading)) u)
+        (Value (lives.at (as_heap (frees_of p.reading)) u)) (λ v is. (sym (kind_meant (as_heap (frees_of p.reading)) u), is)) (heap_comes g (stacks.operands_in k) (frees_of p.reading) u) (subst (λ z. IsStack p g x bs (Val z f) k) (ap (read_value bs) same ∙ ap Value means) stack)
 
     -- ---- arguments
 
@@ -270,7 +277,7 @@ module _ (p : Source) where
         from_local k c n u t f h opens live stands holds has (not_true (is_vacant (fullness f n)) demands.0) (subst (λ z. Implies f z) (sym known) (implies_self f)) same (unique_comes g (stacks.operands_in k) (lives_in bs) u unique) stack
     evaluate (Call callee as' u) k c t f h q opens live stands holds (inl (s, m, is, count, apart, passed, alive, outlive, gives_u, same)) flows kept stack =
         pass_on k callee [] [] as' (map (substituted_ty m) s.parameters) c (result_type (option_map (substituted_ty m) s.result)) f h q live stands holds passed flows kept tt tt
-        (called_is x bs c callee s m stands is alive outlive) (subst (λ z. IsStack p g x bs (Val (read_value bs z) h) k) (same ∙ gives_u) stack)
+        (called_is x bs c callee s m stands is apart globals.constraints alive outlive) (subst (λ z. IsStack p g x bs (Val (read_value bs z) h) k) (same ∙ gives_u) stack)
     evaluate (Unary unary.Not a) k c t f h q opens live stands holds (inl (v, (well, is_tested'), same)) flows kept stack =
         on (Evaluating a) (Needs (Operate unary.Not) ∷ k) live (
           c,
@@ -396,11 +403,11 @@ module _ (p : Source) where
     evaluate (AddressOf (Global n) u) k c t f h q opens live stands holds (inl (v, r, (region, has), plain, u_is, same)) (unit, known) kept stack =
         let (there, means) = global_there n v c stands has in
         let (at, full, closed) = globals.globals n v there in
-        let part = part_at g w typed n (global_type (lives.at as_heap v)) (lives.at as_heap v) 0 at refl (open_of w.regions (globals_among k) opens) full in
-        let is : read_value bs t ≡ Value (lives.Pointer marks.NonNull (lives.at as_heap v) (lives_in bs r)) =
+        let part = part_at g w typed n (global_type (lives.at (as_heap (frees_of p.reading)) v)) (lives.at (as_heap (frees_of p.reading)) v) 0 at refl (open_of w.regions (globals_among k) opens) full in
+        let is : read_value bs t ≡ Value (lives.Pointer marks.NonNull (lives.at (as_heap (frees_of p.reading)) v) (lives_in bs r)) =
         ap (read_value bs) (same ∙ ap types.Value u_is) ∙ ap (λ z. Value (lives.Pointer marks.NonNull z (lives_in bs r))) means in
-        hands k (read_value bs t) (Value (lives.Pointer marks.NonNull (lives.at as_heap v) (lives_in bs r))) (record { kind = kinds.NonNull; value = values.Thin n 0 }) f h live holds known
-        is (refl, (global_type (lives.at as_heap v), at, refl, with_globals (lives_in bs r), part)) tt stack
+        hands k (read_value bs t) (Value (lives.Pointer marks.NonNull (lives.at (as_heap (frees_of p.reading)) v) (lives_in bs r))) (record { kind = kinds.NonNull; value = values.Thin n 0 }) f h live holds known
+        is (refl, (global_type (lives.at (as_heap (frees_of p.reading)) v), at, refl, with_globals (lives_in bs r), part)) tt stack
     evaluate (AddressOf (Local place n) u) k c t f h q opens live stands holds (inl (v, r, (m, has, region, there), plain, u_is, same)) (demands, known) kept stack =
         let l = bound_to p.reading (lives_in bs) c.locals bs n v m stands.scope (place_local c.locals n v m has) in
         let b = l.bound in
@@ -462,7 +469,7 @@ module _ (p : Source) where
         makes_on p g x bs e w typed globals bound variables i (InRegion heap_number) k c m v regions.Heap f1 h q opens live stands (subst (λ z. Holds g z bs) (sym known) holds) tt refl made di kept.1
         (subst (λ z. IsStack p g x bs (Val (read_value bs z) h) k) (same ∙ ap types.Value (u_is ∙ ap (λ z. types.Pointer m v z) region)) stack)
     evaluate (New AsUnique i u) k c t f h q opens live stands holds (inl (m, v, r, region, made, u_is, same)) (f1, (unit, known), di) kept stack =
-        makes_on p g x bs e w typed globals bound variables i (Unique true) k c m v regions.Unique f1 h q opens live stands (subst (λ z. Holds g z bs) (sym known) holds) tt (refl, refl) made di kept.1
+        makes_on p g x bs e w typed globals bound variables i (Unique true) k c m v regions.Unique f1 h q opens live stands (subst (λ z. Holds g z bs) (sym known) holds) tt (owned_made (frees_in bs)) made di kept.1
         (subst (λ z. IsStack p g x bs (Val (read_value bs z) h) k) (same ∙ ap types.Value (u_is ∙ ap (λ z. types.Pointer m v z) region)) stack)
     evaluate (New (ByHandle a) i u) k c t f h q opens live stands holds (inl (m, v, r, (well, alive), made, u_is, same)) (f1, d, di) (ka, ki) stack =
         on (Evaluating a) (Needs (PlaceBy i) ∷ k) live (
@@ -628,12 +635,12 @@ module _ (p : Source) where
         ))
 
     pub writes_global : (v : Operand) (k : List Entry) (n : ℕ) (t : Ty) (f : flow.State) → AreOpen w.regions (ends_of k) → LiveIn k bs
-        → slice_get (map (λ (v : GlobalVariable). v.of_type) p.program.globals) n ≡ Some t → read bs t ≡ lives.at as_heap t → Holds g f bs → IsResult g (Value (read bs t)) v → IsStack p g x bs (Val (read_value bs (assigned_type t)) f) k
+        → slice_get (map (λ (v : GlobalVariable). v.of_type) p.program.globals) n ≡ Some t → read bs t ≡ lives.at (as_heap (frees_of p.reading)) t → Holds g f bs → IsResult g (Value (read bs t)) v → IsStack p g x bs (Val (read_value bs (assigned_type t)) f) k
         → IsWell p (stored (cell_at w n 0) n 0 v (Given v) k e w)
     writes_global v k n t f opens live there means holds is stack =
         let (at, full, closed) = globals.globals n t there in
-        let (y, m, stands, flag, typed_is) = typed.each n (global_type (lives.at as_heap t)) at in
-        writes p g x bs e w typed globals bound variables v (Given v) k n 0 m (read bs t) (global_type (lives.at as_heap t)) live at
+        let (y, m, stands, flag, typed_is) = typed.each n (global_type (lives.at (as_heap (frees_of p.reading)) t)) at in
+        writes p g x bs e w typed globals bound variables v (Given v) k n 0 m (read bs t) (global_type (lives.at (as_heap (frees_of p.reading)) t)) live at
         (ap (λ z. Some z) (sym means)) (open_of w.regions (globals_among k) opens) flag (let few : 0 ≤ m = omega arith in few) is
         (λ grows now. (
           read_value bs (assigned_type t),

@@ -41,7 +41,7 @@ use Rattle.cyc_soundness.proofs.RegionLemmas.{opened_known, contains_more, live_
 use Rattle.cyc_soundness.proofs.WorldLemmas.{opened_typed}
 use Rattle.cyc_soundness.proofs.Cells.{running}
 use Rattle.cyc_soundness.proofs.Evaluation.{from_bound, used_full}
-use Rattle.cyc_soundness.proofs.Loans.{type_known, keys_on}
+use Rattle.cyc_soundness.proofs.Loans.{type_known, keys_on, shared_loans}
 use Rattle.cyc_soundness.proofs.Touched.{relied_body}
 use Rattle.cyc_soundness.proofs.Supply.{declares_blank}
 use Rattle.cyc_soundness.proofs.Swapping.{kept_both, swap_on}
@@ -88,11 +88,11 @@ context_after p x bs c s stands = context_behind p x bs c (length (declared_type
 -- the handle of a region that was opened
 handle_of : (m : Reading) (region : ℕ) (ns : List ℕ) (us : ℕ → Bool) → HasScopes m → IsNumber (opened_life m region ns us) region
 handle_of AsHeap region ns us scopes = absurd scopes
-handle_of (ByScope lends) region ns us scopes = refl
+handle_of (ByScope lends frees) region ns us scopes = refl
 
 new_handle : (m : Reading) (n r : ℕ) → r ≡ n → IsDeclarable m (suc n) (types.Handle (regions.Variable r))
 new_handle AsHeap n r same = tt
-new_handle (ByScope lends) n r same = let e : r < suc n = omega (arith, same) in e
+new_handle (ByScope lends frees) n r same = let e : r < suc n = omega (arith, same) in e
 
 alias_kind : (r : Region) (t : Ty) → values.kind_of (with_region_of r t) ≡ values.kind_of t
 alias_kind r types.Int = refl
@@ -419,7 +419,7 @@ module _ (p : Source) (g : Typing) (x : Exits) (bs : List InScope) (e : Environm
         [],
         cs,
         Go h,
-        stacks.aliases cs c b v t f (with_each Full (locks_of js) ending) h loans within stands bound_among number_of set spared (used_full f source demands.0 demands.1.0) unique (type_known p.reading c source v home loans stands.known has)
+        stacks.aliases cs c b v t f (with_each Full (locks_of js) ending) h loans within stands bound_among number_of set spared (used_full f source demands.0 demands.1.0) unique (type_known p.reading c source v home (shared_loans p.reading loans) stands.known has)
             (of_type ∙ ap (λ i. with_region_of (regions.Variable i) v) region) alive number rest (again source js ending h ends),
         tt,
         stack,

@@ -36,7 +36,7 @@ use Rattle.cyc_soundness.specs.Lives.{Life, RunTy, RunValue, Value, Lives, at, v
 use Rattle.cyc_soundness.specs.Lives as lives
 use Rattle.cyc_soundness.specs.Worlds.{ObjectType, Typing, IsFilled, IsPart, IsTarget, HasType, IsResult, Fits, AreCells, IsObject, IsTyped}
 use Rattle.cyc_soundness.specs.Frames.{InScope, IsBound, AreVariables, LiveIn, lives_among, Holds, Exits, IsContext, KnowsProgram, lives_in, read, read_value, IsThere}
-use Rattle.cyc_soundness.specs.Classes.{and_looked, InExpression, InPlace, Source}
+use Rattle.cyc_soundness.specs.Classes.{and_looked, InExpression, InPlace, Source, frees_of}
 use Rattle.cyc_soundness.specs.Stacks.{Evaluates, relied_at, Val, PlaceOf, null, WaitsPlace, of_cell, KeepsPlace, IsStack, IsFocus, IsWell}
 use Rattle.cyc_soundness.specs.Stacks as stacks
 use Rattle.cyc_soundness.proofs.Numbers.{some_same, inside, mapped, both}
@@ -301,15 +301,15 @@ module _ (p : Source) (g : Typing) (x : Exits) (bs : List InScope) (e : Environm
 
   -- the field of an object that is a struct
   field_found : (n : ℕ) (ls : List Life) (s : StructType) (t : Ty) (u : RunTy) (l : Life) (field object offset : ℕ) (k : List Entry) (f : flow.State) → AreOpen w.regions (ends_of k) → LiveIn k bs → IsPresent g (ends_of k) l → Holds g f bs
-      → slice_get p.program.structs n ≡ Some s → slice_get s.fields field ≡ Some t → (length ls ≡ s.parameters → at (lives_among ls) t ≡ u) → IsTarget g (lives.Struct n ls) l object offset
+      → slice_get p.program.structs n ≡ Some s → slice_get s.fields field ≡ Some t → (length ls ≡ s.parameters → at (lives_among (frees_of p.reading) ls) t ≡ u) → IsTarget g (lives.Struct n ls) l object offset
       → IsStack p g x bs (PlaceOf u l f) k → IsWell p (arrives (member_of w (At object offset) (map values.kind_of s.fields) field) k e w)
   field_found n ls s t u l field object offset k f opens live lasting holds struct there means (y, at', shown, outlasts, (first, fields, (m, flag, full))) stack =
       let (z, count, stands, filled, is) = typed.each object y at' in
       let enough : length ls ≡ s.parameters = globals.counts n s ls y.cells struct fields in
-      let ts : List RunTy = map (at (lives_among ls)) s.fields in
+      let ts : List RunTy = map (at (lives_among (frees_of p.reading) ls)) s.fields in
       let cells : y.cells ≡ ts = some_same y.cells ts (sym fields ∙ globals.structs n s ls struct enough) in
-      let alike : are_kinds (kinds_of z.cells) (map values.kind_of s.fields) ≡ true = kinds_typed (lives_among ls) g s.fields z.cells count (subst (λ ts. AreCells g ts z.cells count) cells is.cells) in
-      let found : slice_get y.cells field ≡ Some u = ap (λ us. slice_get us field) cells ∙ mapped (at (lives_among ls)) s.fields field t there ∙ ap (λ z. Some z) (means enough) in
+      let alike : are_kinds (kinds_of z.cells) (map values.kind_of s.fields) ≡ true = kinds_typed (lives_among (frees_of p.reading) ls) g s.fields z.cells count (subst (λ ts. AreCells g ts z.cells count) cells is.cells) in
+      let found : slice_get y.cells field ≡ Some u = ap (λ us. slice_get us field) cells ∙ mapped (at (lives_among (frees_of p.reading) ls)) s.fields field t there ∙ ap (λ z. Some z) (means enough) in
       let within : field < length y.cells = inside y.cells field u found in
       let some : IsFilled g object (suc field) = (m, flag, (let le : suc field ≤ m = omega (arith, within, full) in le)) in
       let open' = life_of g w typed k object y l at' opens outlasts lasting in
@@ -319,7 +319,7 @@ module _ (p : Source) (g : Typing) (x : Exits) (bs : List InScope) (e : Environm
       (on (GivenPlace (values.Thin object field)) k live (u, l, f, holds, (y, at', shown, outlasts, part_at g w typed object y u field at' found open' some), stack)))
 
   members : (m : PointerKind) (n : ℕ) (ls : List Life) (s : StructType) (t : Ty) (u : RunTy) (l : Life) (field : ℕ) (v : values.Value) (k : List Entry) (f : flow.State) → AreOpen w.regions (ends_of k) → LiveIn k bs
-      → IsPresent g (ends_of k) l → Holds g f bs → slice_get p.program.structs n ≡ Some s → slice_get s.fields field ≡ Some t → (length ls ≡ s.parameters → at (lives_among ls) t ≡ u)
+      → IsPresent g (ends_of k) l → Holds g f bs → slice_get p.program.structs n ≡ Some s → slice_get s.fields field ≡ Some t → (length ls ≡ s.parameters → at (lives_among (frees_of p.reading) ls) t ≡ u)
       → HasType g (lives.Pointer m (lives.Struct n ls) l) v → IsStack p g x bs (PlaceOf u l f) k → IsWell p (arrives (member_of w (followed v) (map values.kind_of s.fields) field) k e w)
   members marks.Nullable n ls s t u l field values.Null k f opens live lasting holds struct there means has stack = on (Throwing null_exception 0) k live (PlaceOf u l f, stack)
   members marks.Nullable n ls s t u l field (values.Thin object offset) k f opens live lasting holds struct there means has stack =
@@ -336,7 +336,7 @@ module _ (p : Source) (g : Typing) (x : Exits) (bs : List InScope) (e : Environm
 
   pub member_on : (m : PointerKind) (pk : Kind) (fields : List Kind) (n : ℕ) (ls : List Life) (s : StructType) (t : Ty) (u : RunTy) (l : Life) (field : ℕ) (v : Operand) (k : List Entry) (f : flow.State) → AreOpen w.regions (ends_of k)
       → LiveIn k bs → IsPresent g (ends_of k) l → Holds g f bs → pk ≡ tests.kind_of_mark m → fields ≡ map values.kind_of s.fields → slice_get p.program.structs n ≡ Some s → slice_get s.fields field ≡ Some t
-      → (length ls ≡ s.parameters → at (lives_among ls) t ≡ u) → IsResult g (Value (lives.Pointer m (lives.Struct n ls) l)) v → IsStack p g x bs (PlaceOf u l f) k → IsWell p (follows_member pk fields field v k e w)
+      → (length ls ≡ s.parameters → at (lives_among (frees_of p.reading) ls) t ≡ u) → IsResult g (Value (lives.Pointer m (lives.Struct n ls) l)) v → IsStack p g x bs (PlaceOf u l f) k → IsWell p (follows_member pk fields field v k e w)
   member_on m pk fields n ls s t u l field v k f opens live lasting holds kind fields_are struct there means is stack =
       subst (λ ks. IsWell p (follows_member pk ks field v k e w)) (sym fields_are)
       (subst (λ (b : Bool). IsWell p (if b then arrives (member_of w (followed v.value) (map values.kind_of s.fields) field) k e w else wrong w)) (sym (is_kind_same v.kind pk (is.0 ∙ mark_kinds m ∙ sym kind)))

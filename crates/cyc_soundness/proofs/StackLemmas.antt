@@ -7,6 +7,7 @@ use Rattle.cyc_syntax.specs.declared.tree.PointerKind.TheVariants as marks
 use Rattle.cyc_types.specs.declared.typed.PointerOperator.{PointerOperator}
 use Rattle.cyc_types.specs.declared.typed.Callee.{Callee}
 use Rattle.cyc_types.specs.declared.region.Region.{Region as Region'}
+use Rattle.cyc_types.specs.declared.region.Region.TheVariants as regions
 use Rattle.cyc_types.specs.Types.{Ty, ValueType, result_type}
 use Rattle.cyc_types.specs.Types as types
 use Rattle.cyc_types.specs.TypedTrees.{Operations, NoOperations, ThenCompute, ThenTest, ThenPointer, ThenPointerPeek, Arguments, Clauses, Function}
@@ -19,10 +20,10 @@ use Rattle.cyc_meaning.specs.Values as values
 use Rattle.cyc_meaning.specs.State.{Object, Owner, Pass, MakeFields, Region, Access, Found, Closed, Missing, found_region, is_open, heap_number, globals_number, World, FillElement, AwaitingPlace, SwapRight, Write, Environment, with_local, Awaiting, Entry, Needs, NeedsPlace, Discard, Rest, Join, Loop, CloseRegion, CloseLexical, EndLoan, Handler, Caller, Main}
 use Rattle.cyc_meaning.specs.Nesting.{ends_of, IsFound, AreOpen, IsHome, IsNested}
 use Rattle.cyc_meaning.specs.Nesting as nesting
-use Rattle.cyc_soundness.specs.Lives.{Life, OfRegion, OfObject, Never, Kept, heap_life, RunTy, RunValue, Void, Null, Value, Seen, Lives, at, value_at, Reading}
+use Rattle.cyc_soundness.specs.Lives.{Life, OfRegion, OfObject, Never, Owned, Kept, heap_life, RunTy, RunValue, Void, Null, Value, Seen, Lives, at, value_at, Reading}
 use Rattle.cyc_soundness.specs.Lives as lives
-use Rattle.cyc_soundness.specs.Worlds.{IsHeld, Holder, Nobody, Hand, In, Lent, Claims, ClaimsBy, giving, given, is_lent_by, Stays, IsOpenIn, AreOperands, ObjectType, Typing, IsKnownLife, IsTyped, IsFull, variable_type, IsEndOf, whole, behind, Outlasts, alike, heap as for_ever, globals as with_globals, stays, encloses, IsOpenLife, Grows}
-use Rattle.cyc_soundness.specs.Frames.{IsAmong, first, later, Bound, InScope, Variable, Level, Home, lives_in, read, IsThere, home_of, IsHomed, IsScope, AreBelow, IsBound, AreVariables, IsLasting, AreLiveIn, home_in, LiveIn, IsInner, Within, itself, older, IsSet, AreSet, IsFullIn, HoldsIts, Holds, IsFullAt, AreFullAt, Exits, relying}
+use Rattle.cyc_soundness.specs.Worlds.{IsHeld, Holder, Nobody, Hand, In, Lent, Claims, ClaimsBy, giving, given, is_lent_by, Stays, IsOpenIn, AreOperands, ObjectType, Typing, IsTyped, IsFull, variable_type, IsEndOf, whole, behind, Outlasts, alike, heap as for_ever, globals as with_globals, stays, encloses, IsOpenLife, Grows, IsKnownOwner}
+use Rattle.cyc_soundness.specs.Frames.{IsAmong, first, later, Bound, InScope, Variable, Level, Home, lives_in, read, IsThere, home_of, IsHomed, IsScope, AreBelow, IsBound, AreVariables, IsLasting, AreLiveIn, home_in, LiveIn, IsInner, Within, itself, older, IsSet, AreSet, IsFullIn, HoldsIts, Holds, IsFullAt, AreFullAt, Exits, relying, frees_in, life_named}
 use Rattle.cyc_soundness.specs.Classes.{is_full, Relied, and_looked, IsSparedBy, IsSpared, InOperations, Source}
 use Rattle.cyc_soundness.specs.Stacks.{IsAccepted, Part, Whole, PartOf, part, part_of_place, relied_by, relied_at, WaitsPlace, Want, Nothing, Val, PlaceOf, Go, held, Waits, IsArrayOf, AreClaimed, operands_in, Comes, Keeps, IsSpot, of_local, of_global, of_cell, KeepsPlace, AreSwapped, IsStack}
 use Rattle.cyc_soundness.specs.Stacks as stacks
@@ -797,7 +798,7 @@ abbrev pub IsKeptOpen : List Region → Life → Type 0
 IsKeptOpen regions (Kept number) = is_open (slice_get regions number) ≡ true
 IsKeptOpen regions l = Unit {0}
 
-pub kept_open : (g : Typing) (regions : List Region) (objects : List Object) (l : Life) → IsTyped g regions objects → IsKnownLife g l → IsOpenIn g l → IsKeptOpen regions l
+pub kept_open : (g : Typing) (regions : List Region) (objects : List Object) (l : Life) → IsTyped g regions objects → IsKnownOwner g l → IsOpenIn g l → IsKeptOpen regions l
 kept_open g regions objects (Kept number) typed known opens = dynamic_open (slice_get regions number) ((typed.kept number known).1 (lent_held g.loans (g.own number) opens))
   where
     lent_held : (count : ℕ) (h : Holder) → is_lent_by count h ≡ true → IsHeld h
@@ -808,15 +809,31 @@ kept_open g regions objects (Kept number) typed known opens = dynamic_open (slic
 kept_open g regions objects (OfRegion number ns us) typed known opens = tt
 kept_open g regions objects (OfObject object) typed known opens = tt
 kept_open g regions objects Never typed known opens = tt
+kept_open g regions objects Owned typed known opens = tt
 
 -- what has this life has not ended
 abbrev pub IsPresent : Typing → List ℕ → Life → Type 0
+IsPresent g ns Owned = Unit {0}
 IsPresent g ns l = IsLasting ns l × IsOpenIn g l
 
-pub there_present : (g : Typing) (ns : List ℕ) (bs : List InScope) (r : Region') → AreLiveIn ns bs → AreVariables g bs → IsThere bs r → IsPresent g ns (lives_in bs r)
-there_present g ns bs r live variables there = (there_lasting ns bs r live there, there_open g bs r variables there)
+lasting_present : (g : Typing) (ns : List ℕ) (l : Life) → IsLasting ns l → IsOpenIn g l → IsPresent g ns l
+lasting_present g ns (OfRegion number around lent) lasts opens = (lasts, opens)
+lasting_present g ns (OfObject object) lasts opens = absurd lasts
+lasting_present g ns Never lasts opens = absurd lasts
+lasting_present g ns (Kept region) lasts opens = (lasts, opens)
+lasting_present g ns Owned lasts opens = tt
 
-pub object_known : (g : Typing) (regions : List Region) (objects : List Object) (number : ℕ) (t : ObjectType) → IsTyped g regions objects → slice_get g.objects number ≡ Some t → IsKnownLife g t.life
+pub there_present : (g : Typing) (ns : List ℕ) (bs : List InScope) (r : Region') → AreLiveIn ns bs → AreVariables g bs → IsThere bs r → IsPresent g ns (lives_in bs r)
+there_present g ns bs regions.Heap live variables there = (inl refl, there_open g bs regions.Heap variables there)
+there_present g ns bs regions.Unique live variables there = owned_present (frees_in bs)
+  where
+    owned_present : (frees : Bool) → IsPresent g ns (lives.owned_life frees)
+    owned_present true = tt
+    owned_present false = (inl refl, λ r e. absurd (let z : false ≡ true = e in cc))
+there_present g ns bs (regions.Variable n) live variables there =
+    lasting_present g ns (life_named bs n) (there_lasting ns bs (regions.Variable n) live (λ e. let z : regions.Variable n ≡ regions.Unique = e in absurd (cc)) there) (there_open g bs (regions.Variable n) variables there)
+
+pub object_known : (g : Typing) (regions : List Region) (objects : List Object) (number : ℕ) (t : ObjectType) → IsTyped g regions objects → slice_get g.objects number ≡ Some t → IsKnownOwner g t.life
 object_known g regions objects number t typed there = let (x, m, at, flag, is) = typed.each number t there in is.known
 
 pub lasting_open : (regions : List Region) (ns : List ℕ) (l : Life) → AreOpen regions ns → is_open (slice_get regions heap_number) ≡ true → IsKeptOpen regions l → IsLasting ns l → IsOpenLife regions l
@@ -824,6 +841,7 @@ lasting_open regions ns (OfRegion m ms us) opens heap kept (inl is_heap) = subst
 lasting_open regions ns (OfRegion m ms us) opens heap kept (inr end) = open_of regions (end_among m ms ns end) opens
 lasting_open regions ns (OfObject o) opens heap kept is = is
 lasting_open regions ns Never opens heap kept is = is
+lasting_open regions ns Owned opens heap kept is = absurd is
 lasting_open regions ns (Kept number) opens heap kept is = kept
 
 around_heap : (n : ℕ) (ns : List ℕ) (us : ℕ → Bool) → OfRegion n ns us ≡ heap_life → ns ≡ []

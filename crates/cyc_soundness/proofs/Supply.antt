@@ -38,9 +38,9 @@ use Rattle.cyc_soundness.specs.Stacks.{Executes, Continues, IsLoop, Repeats, IsA
 use Rattle.cyc_soundness.specs.Stacks as stacks
 use Rattle.cyc_soundness.proofs.TypeLemmas.{is_kind_same, kind_read}
 use Rattle.cyc_soundness.proofs.FlowLemmas.{holds_implied, reached_with, full_put, vacant_now}
-use Rattle.cyc_soundness.proofs.WorldLemmas.{life_grown, open_stays, type_grown, with_object, object_stays, object_typed, globals_grown, variables_grown, set_grown, giving_grows, given_now, given_typed, given_globals, variables_other}
+use Rattle.cyc_soundness.proofs.WorldLemmas.{open_stays, type_grown, with_object, object_stays, object_typed, globals_grown, variables_grown, set_grown, giving_grows, given_now, given_typed, given_globals, variables_other, owner_grown}
 use Rattle.cyc_soundness.proofs.StackLemmas.{stack_grown, stack_other, holds_other, in_no_hand, there_present, fields_kept, passed_kept, comes_alone, claimed_next, below_more, local_new, bound_more, set_more, home_is, home_lasting, found_is, within_bound, within_variables, within_live, within_holds}
-use Rattle.cyc_soundness.proofs.RegionLemmas.{region_known, there_open, there_lasting, known_local}
+use Rattle.cyc_soundness.proofs.RegionLemmas.{region_known, there_open, there_lasting, known_local, owner_known}
 use Rattle.cyc_soundness.proofs.ValueLemmas.{negated, complemented, combined, zero_is}
 use Rattle.cyc_soundness.specs.Classes.{InInitial, Source}
 use Rattle.cyc_soundness.proofs.Cells.{running}
@@ -79,18 +79,19 @@ pub new_life : (m : Reading) (bs : List InScope) (region home : ℕ) (k : List E
 new_life AsHeap bs region home k live is at_home =
     let (ns, lasting) = home_lasting k in
     record { life = OfRegion (home_in k) ns (λ number. false); number = sym (home_is home k at_home); lasting = lasting; homed = tt; known = λ g are. (tt, λ r e. let z : false ≡ true = e in absurd (cc)) }
-new_life (ByScope lends) bs region home k live (number, there) at_home = record {
+new_life (ByScope lends frees) bs region home k live (number, there) at_home = record {
   life = life_named bs region;
   number = subst (λ n. IsNumber (life_named bs region) n) (live.1 ∙ sym (home_is home k at_home)) number;
-  lasting = there_lasting (ends_of k) bs (regions.Variable region) live.0 there;
+  lasting = there_lasting (ends_of k) bs (regions.Variable region) live.0 (λ e. let z : regions.Variable region ≡ regions.Unique = e in absurd (cc)) there;
   homed = refl;
-  known = λ g are. (region_known g bs (regions.Variable region) are, there_open g bs (regions.Variable region) are there);
+  known = λ g are. (region_known g bs (regions.Variable region) (λ e. let z : regions.Variable region ≡ regions.Unique = e in absurd (cc)) are, there_open g bs (regions.Variable region) are there);
 }
 
 pub owner_is : (l : Life) (region : ℕ) → IsNumber l region → IsOwner l (InRegion region)
 owner_is (OfRegion number ns us) region is = is
 owner_is (OfObject object) region is = absurd is
 owner_is Never region is = absurd is
+owner_is lives.Owned region is = absurd is
 owner_is (Kept number) region is = is
 
 -- no pointer leads to a local that is moved, and no other is a key
@@ -122,7 +123,7 @@ module _ (p : Source) (g : Typing) (x : Exits) (bs : List InScope) (e : Environm
       let h = new_typing g bs t l n in
       let stays : Stays g h = object_stays g (new_type bs t l) n in
       let is : IsObject h n (new_type bs t l) (variable e.home kind content) =
-      record { owner = owner_is l e.home numbered; known = life_grown g h stays.grows l known; keyless = copied_keyless (lives_in bs) t; cells = cells stays.grows } in
+      record { owner = owner_is l e.home numbered; known = owner_grown g h stays.grows l (owner_known g l known); keyless = copied_keyless (lives_in bs) t; cells = cells stays.grows } in
       let (r, found) = found_is (region_at w e.home) (home_found w.regions e.home stack nests.2 nests.0) in
       let there = subst (λ i. slice_get h.objects i ≡ Some (new_type bs t l)) (sym typed.count) (slice_get-end g.objects (new_type bs t l)) in
       let flag = subst (λ i. slice_get h.filled i ≡ Some n) (sym typed.counts) (slice_get-end g.filled n) in

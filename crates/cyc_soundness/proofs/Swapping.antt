@@ -22,7 +22,7 @@ use Rattle.cyc_soundness.specs.Lives.{Life, RunTy, as_heap}
 use Rattle.cyc_soundness.specs.Lives as lives
 use Rattle.cyc_soundness.specs.Worlds.{ObjectType, Typing, variable_type, global_type, IsFilled, HasType, IsTyped, IsOpenLife}
 use Rattle.cyc_soundness.specs.Frames.{InScope, IsBound, AreVariables, LiveIn, IsSet, Holds, Exits, IsContext, KnowsProgram, lives_in, read}
-use Rattle.cyc_soundness.specs.Classes.{InSide, Source, and_looked}
+use Rattle.cyc_soundness.specs.Classes.{InSide, Source, and_looked, frees_of}
 use Rattle.cyc_soundness.specs.Stacks.{Finds, Go, IsSpot, of_local, of_global, of_cell, IsRead, AreSwapped, IsStack, IsWell}
 use Rattle.cyc_soundness.specs.Stacks as stacks
 use Rattle.cyc_soundness.proofs.Numbers.{some_same}
@@ -74,7 +74,7 @@ module _ (p : Source) (g : Typing) (x : Exits) (bs : List InScope) (e : Environm
       record {
         number = number;
         offset = 0;
-        of_type = global_type (lives.at as_heap t);
+        of_type = global_type (lives.at (as_heap (frees_of p.reading)) t);
         is = refl;
         there = at;
         cell = ap (λ u. Some u) (sym same);

@@ -1,6 +1,6 @@
 -- THE TYPING OF STATES. Each entry of the control stack is typed from what it awaits to what it hands on. Typed trees on it keep their
 -- judgements, types and flow in one; the locals in scope are an index, of which an entry may forget the newest.
-use Rattle.std.specs.Prelude.{◌≡◌, ◌⊎◌, ℕ, zero, suc, ◌+◌, ◌<◌, ◌≤◌, Bool, true, false, List, [], ◌∷◌, length, map, Option, Some, None, slice_get}
+use Rattle.std.specs.Prelude.{◌≡◌, ◌≢◌, ◌⊎◌, ℕ, zero, suc, ◌+◌, ◌<◌, ◌≤◌, Bool, true, false, List, [], ◌∷◌, length, map, Option, Some, None, slice_get}
 use Rattle.cyc_syntax.specs.declared.tree.PointerKind.{PointerKind}
 use Rattle.cyc_syntax.specs.declared.tree.PointerKind.TheVariants as marks
 use Rattle.cyc_types.specs.declared.region.Region.{Region}
@@ -35,8 +35,8 @@ use Rattle.cyc_meaning.specs.Parts.{target_of, target_of_value}
 use Rattle.cyc_soundness.specs.Lives.{Life, RunTy, RunValue, Value, Seen, at, value_at, heap_life, lives_of, as_heap, Reading, AllIn, IsKnown}
 use Rattle.cyc_soundness.specs.Lives as lives
 use Rattle.cyc_soundness.specs.Worlds.{Holder, Hand, In, Lent, Claims, ClaimsBy, ObjectType, Typing, AgreesWith, IsFilled, IsFull, HasType, IsResult, AreOperands, IsOwner, AreKeyless, IsTyped}
-use Rattle.cyc_soundness.specs.Classes.{Relied, and_looked, IsSpared, HasLoans, InExpression, InPlace, InSide, InInitial, InArguments, InOperations, InStatement, InItems, InClauses, IsDeclarable, Source}
-use Rattle.cyc_soundness.specs.Frames.{IsAmong, Bound, InScope, Variable, Level, Names, Instance, Home, life_named, lives_in, read, read_value, IsThere, IsScope, AreBelow, IsBound, AreVariables, LiveIn, Within, IsSet, IsFullIn, Holds, Implies, LoopExit, Exits, HasResult, around, lending, relying, AreFullAt, AreBreaks, is_loop, Stand, IsHome, IsContext, lives_among, KnowsProgram}
+use Rattle.cyc_soundness.specs.Classes.{Relied, frees_of, and_looked, IsSpared, HasLoans, HasAliases, InExpression, InPlace, InSide, InInitial, InArguments, InOperations, InStatement, InItems, InClauses, IsDeclarable, Source}
+use Rattle.cyc_soundness.specs.Frames.{IsAmong, Bound, InScope, Variable, Level, Names, Instance, Home, frees_in, life_named, lives_in, read, read_value, IsThere, IsScope, AreBelow, IsBound, AreVariables, LiveIn, Within, IsSet, IsFullIn, Holds, Implies, LoopExit, Exits, HasResult, around, lending, relying, AreFullAt, AreBreaks, is_loop, Stand, IsHome, IsContext, lives_among, KnowsProgram}
 
 -- ---- trees, with what is known before and behind them
 
@@ -186,9 +186,9 @@ regions_at_call h = record { written = h.constraints; live = regions.Heap ∷ re
 
 -- What the region variables of a callee stand for, and which of that is live there, is so here.
 pub record IsInstance (p : Source) (bs : List InScope) (h : Function) (these : ℕ → Life) (live : ℕ → Bool) : Type 0 where
-  pub stand : Stand p.reading (regions_at_call h) (Instance these live ∷ [])
-  pub lasting : (n : ℕ) → live n ≡ true → (r : Region) × IsThere bs r × (lives_in bs r ≡ these n)
-  pub named : (n : ℕ) → (r : Region) × (lives_in bs r ≡ these n)
+  pub stand : Stand p.reading (regions_at_call h) (Instance (frees_in bs) these live ∷ [])
+  pub lasting : (n : ℕ) → live n ≡ true → (r : Region) × (r ≢ regions.Unique) × IsThere bs r × (lives_in bs r ≡ these n)
+  pub named : (n : ℕ) → (r : Region) × (r ≢ regions.Unique) × (lives_in bs r ≡ these n)
 
 -- a call with arguments of these types gives this
 abbrev pub IsCalled : Source → List InScope → Callee → List RunTy → RunValue → Type 0
@@ -196,11 +196,11 @@ IsCalled p bs callees.Putchar ts r = (ts ≡ lives.Int ∷ []) × (r ≡ Value l
 IsCalled p bs callees.Getchar ts r = (ts ≡ []) × (r ≡ Value lives.Int)
 IsCalled p bs (callees.Function number) ts r =
     (h : Function) × (these : ℕ → Life) × (live : ℕ → Bool) × (slice_get p.program.functions number ≡ Some h) × IsInstance p bs h these live
-    × (ts ≡ map (at (lives_of these)) h.parameters) × (r ≡ value_at (lives_of these) (result_type h.result))
+    × (ts ≡ map (at (lives_of (frees_in bs) these)) h.parameters) × (r ≡ value_at (lives_of (frees_in bs) these) (result_type h.result))
 
 -- these are the types of the fields of a struct whose parameters stand for this, and no key is among them
 abbrev pub AreFields : Source → (struct : ℕ) → List Life → List RunTy → Type 0
-AreFields p n ls ts = (s : StructType) × (slice_get p.program.structs n ≡ Some s) × (length ls ≡ s.parameters) × (ts ≡ map (at (lives_among ls)) s.fields) × AreKeyless ts
+AreFields p n ls ts = (s : StructType) × (slice_get p.program.structs n ≡ Some s) × (length ls ≡ s.parameters) × (ts ≡ map (at (lives_among (frees_of p.reading) ls)) s.fields) × AreKeyless ts
 
 -- a local of this type may be declared next
 abbrev pub IsNew : Reading → Context → Ty → Type 0
@@ -247,7 +247,7 @@ pub data Waits (p : Source) (x : Exits) (q : Relied) (bs : List InScope) : Await
   decides : (v : ValueType) (f h : flow.State) → is_tested v ≡ true → Implies f h → Waits p x q bs Decide [] (read_value bs v) f bs (Val (Value lives.Int) h)
   stores_local : (b : Bound) (t : Ty) (f : flow.State) → IsAmong (Variable b) bs → b.of_type ≡ read bs t
       → Waits p x q bs (Store (values.Thin b.object 0)) [] (Value (read bs t)) f bs (Val (read_value bs (assigned_type t)) (with_fullness Full f b.number))
-  stores_global : (number : ℕ) (t : Ty) (f : flow.State) → slice_get (map (λ (v : GlobalVariable). v.of_type) p.program.globals) number ≡ Some t → read bs t ≡ at as_heap t
+  stores_global : (number : ℕ) (t : Ty) (f : flow.State) → slice_get (map (λ (v : GlobalVariable). v.of_type) p.program.globals) number ≡ Some t → read bs t ≡ at (as_heap (frees_of p.reading)) t
       → Waits p x q bs (Store (values.Thin number 0)) [] (Value (read bs t)) f bs (Val (read_value bs (assigned_type t)) f)
   points : {peek : Option ℕ} {o : PointerOperator} {left : Operand} (c : Context) (t : Ty) (v w : ValueType) (f : flow.State) → IsContext p x bs c → PointerOperation c o (types.Value t) v w
       → Waits p x q bs (ApplyPointer peek o left) (read bs t ∷ []) (read_value bs v) f bs (Val (read_value bs w) f)
@@ -258,7 +258,7 @@ pub data Waits (p : Source) (x : Exits) (q : Relied) (bs : List InScope) : Await
   follows : {k : Kind} {target : Option Kind} (m : PointerKind) (t : Ty) (r : Region) (f : flow.State) → k ≡ kind_of_mark m → target ≡ target_of t → IsThere bs r
       → Waits p x q bs (Follow k target) [] (Value (lives.Pointer m (read bs t) (lives_in bs r))) f bs (PlaceOf (read bs t) (lives_in bs r) f)
   follows_member : {k : Kind} {fields : List Kind} {field : ℕ} (m : PointerKind) (n : ℕ) (ls : List Life) (s : StructType) (t : Ty) (u : RunTy) (r : Region) (f : flow.State) → k ≡ kind_of_mark m
-      → slice_get p.program.structs n ≡ Some s → fields ≡ map values.kind_of s.fields → slice_get s.fields field ≡ Some t → (length ls ≡ s.parameters → at (lives_among ls) t ≡ u) → IsThere bs r
+      → slice_get p.program.structs n ≡ Some s → fields ≡ map values.kind_of s.fields → slice_get s.fields field ≡ Some t → (length ls ≡ s.parameters → at (lives_among (frees_of p.reading) ls) t ≡ u) → IsThere bs r
       → Waits p x q bs (FollowMember k fields field) [] (Value (lives.Pointer m (lives.Struct n ls) (lives_in bs r))) f bs (PlaceOf u (lives_in bs r) f)
   indexes : {peek : Option ℕ} {target : Option Kind} {index : Expression} (c : Context) (t : Ty) (r : Region) (f h : flow.State) → IsContext p x bs c → (is_reached f ≡ true → Evaluates p.reading (and_looked peek q) c index f (types.Value types.Int) h)
       → target ≡ target_of t → IsThere bs r → Waits p x q bs (Index peek target index) [] (Value (lives.Pointer marks.Fat (read bs t) (lives_in bs r))) f bs (PlaceOf (read bs t) (lives_in bs r) h)
@@ -294,7 +294,7 @@ pub data Waits (p : Source) (x : Exits) (q : Relied) (bs : List InScope) : Await
       → IsSpared x.relied lent → IsFullIn f lent → r < c.next_region → IsLive c (regions.Variable c.region) → number ≡ c.next_local
       → Continues p.reading (lending x lent) (with_local false (types.Handle (regions.Variable r)) (with_key_opened r c)) js (with_fullness Full (with_fullness Locked f lent) number) h
       → Implies (with_fullness Full h lent) i → Waits p x q bs (OpenBy number lent js) [] (Seen (lives.Key (life_named bs r))) f cs (Go i)
-  aliases : {number lent : ℕ} {js : Items} (cs : List InScope) (c : Context) (b : Bound) (u t : Ty) (f h i : flow.State) → HasLoans p.reading → Within cs bs → IsContext p x bs c → IsAmong (Variable b) bs → b.number ≡ lent → IsSet f lent
+  aliases : {number lent : ℕ} {js : Items} (cs : List InScope) (c : Context) (b : Bound) (u t : Ty) (f h i : flow.State) → HasAliases p.reading → Within cs bs → IsContext p x bs c → IsAmong (Variable b) bs → b.number ≡ lent → IsSet f lent
       → IsSpared x.relied lent → IsFullIn f lent → is_unique u ≡ true → AllIn (IsKnown c.next_region) u → t ≡ with_region_of (regions.Variable c.next_region) u → IsLive c (regions.Variable c.region) → number ≡ c.next_local
       → Continues p.reading (lending x lent) (with_local true t (with_opened scopes.Alias c)) js (with_fullness Full (with_fullness Locked f lent) number) h
       → Implies (with_fullness Full h lent) i → Waits p x q bs (AliasOf number lent js) [] (Seen (read bs u)) f cs (Go i)
@@ -356,7 +356,7 @@ Keeps g i a (t ∷ ts) = AreOperands g (t ∷ ts) (held a) × AreClaimed g.own i
 -- A side of a swap whose place is found: a variable that holds something where this is known, or a cell that a pointer leads to.
 pub data IsSpot (p : Source) (g : Typing) (bs : List InScope) (t : Ty) (f : flow.State) : values.Value → Type 0 where
   of_local : (b : Bound) → IsAmong (Variable b) bs → b.of_type ≡ read bs t → IsSet f b.number → IsSpot p g bs t f (values.Thin b.object 0)
-  of_global : (number : ℕ) → slice_get (map (λ (v : GlobalVariable). v.of_type) p.program.globals) number ≡ Some t → read bs t ≡ at as_heap t
+  of_global : (number : ℕ) → slice_get (map (λ (v : GlobalVariable). v.of_type) p.program.globals) number ≡ Some t → read bs t ≡ at (as_heap (frees_of p.reading)) t
       → IsSpot p g bs t f (values.Thin number 0)
   of_cell : (place : values.Value) (r : Region) → IsThere bs r → HasType g (lives.Pointer marks.NonNull (read bs t) (lives_in bs r)) place → IsSpot p g bs t f place
 
@@ -496,7 +496,7 @@ IsFocus p g x bs Proceeding k = (f : flow.State) × Holds g f bs × IsStack p g 
 IsFocus p g x bs (Calling callee arguments) k =
     (ts : List RunTy) × (r : RunValue) × (f : flow.State) × Holds g f bs × IsCalled p bs callee (turned ts []) r × AreOperands g ts arguments × AreClaimed g.own (operands_in k) ts × IsStack p g x bs (Val r f) k
 IsFocus p g x bs (Entering h arguments) k =
-    (end : flow.State) × (these : ℕ → Life) × (live : ℕ → Bool) × IsAccepted p h end × IsBody x bs h × (bs ≡ Instance these live ∷ []) × Stand p.reading (regions_at_call h) bs
+    (end : flow.State) × (these : ℕ → Life) × (live : ℕ → Bool) × IsAccepted p h end × IsBody x bs h × ((frees : Bool) × (bs ≡ Instance frees these live ∷ [])) × Stand p.reading (regions_at_call h) bs
     × AreOperands g (map (read bs) h.parameters) arguments × AreGiven g.own (operands_in k) (map (read bs) h.parameters) × IsStack p g x bs (Go end) k
 IsFocus p g x bs (Binding number ts arguments body) k =
     (h : Function) × (end : flow.State) × (vs : List LocalInScope) × (cs : List InScope) × Within cs bs × IsAccepted p h end × IsBody x bs h × (body ≡ h.body) × (parameters_in_scope ts number vs ≡ parameters_in_scope h.parameters 0 [])
