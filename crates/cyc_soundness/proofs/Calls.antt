@@ -29,7 +29,7 @@ use Rattle.cyc_meaning.specs.Step.{called, values_of, prints, reads, step_callin
 use Rattle.cyc_soundness.specs.Lives.{Life, OfRegion, OfObject, Never, Kept, RunTy, RunValue, Value, Lives, at, value_at, lives_of, Reading, AsHeap, ByScope}
 use Rattle.cyc_soundness.specs.Lives as lives
 use Rattle.cyc_soundness.specs.Worlds.{Holder, Hand, In, Claims, giving, given, lent_now, IsOpenIn, Stays, Typing, IsKnownLife, HasType, AreOperands, IsTyped, Grows}
-use Rattle.cyc_soundness.specs.Frames.{InScope, Variable, Names, Instance, Home, lives_in, read, IsScope, AreBelow, IsBound, AreVariables, IsLasting, LiveIn, Within, itself, older, AreSet, Holds, Implies, Exits, HasResult, loop_of, around, AreBreaks, Stand, IsHome, IsContext, KnowsProgram}
+use Rattle.cyc_soundness.specs.Frames.{InScope, Variable, Names, Instance, Home, lives_in, read, IsScope, AreBelow, IsBound, AreVariables, IsLasting, LiveIn, Within, itself, older, AreSet, Holds, Implies, Exits, HasResult, loop_of, around, AreBreaks, Stand, IsHome, IsContext, KnowsProgram, frees_in}
 use Rattle.cyc_soundness.specs.Classes.{IsDeclarable, InItems, InClauses, Source}
 use Rattle.cyc_soundness.specs.Stacks.{regions_at_call, IsInstance, Continues, Catches, IsAccepted, Val, Go, turned, operands_in, AreClaimed, AreGiven, IsCalled, IsBlocked, AreFull, AreOwn, IsBody, IsStack, IsWell}
 use Rattle.cyc_soundness.proofs.TypeLemmas.{is_kind_same, kind_meant}
@@ -84,12 +84,14 @@ open_inside g d (OfRegion number ns us) opens = opens
 open_inside g d (Kept region) opens = opens
 open_inside g d (OfObject object) opens = opens
 open_inside g d Never opens = opens
+open_inside g d lives.Owned opens = opens
 
 known_inside : (g : Typing) (d : ℕ) (l : Life) → IsKnownLife g l → IsKnownLife (record g { depth = d }) l
 known_inside g d (OfRegion number ns us) known = known
 known_inside g d (Kept region) known = known
 known_inside g d (OfObject object) known = known
 known_inside g d Never known = known
+known_inside g d lives.Owned known = known
 
 -- and around it all is as it was
 same_around : (g : Typing) → Stays g (record g { depth = g.depth })
@@ -127,7 +129,7 @@ result_given (Some t) n = tt
 
 new_int : (m : Reading) (n : ℕ) → IsDeclarable m n types.Int
 new_int AsHeap n = tt
-new_int (ByScope lends) n = tt
+new_int (ByScope lends frees) n = tt
 
 -- the region of a block is live in it
 block_region : (c : Context) → IsLive (in_block c) (regions.Variable c.next_region)
@@ -164,14 +166,14 @@ module _ (p : Source) (accepted : AreAccepted p) where
     -- what is live in a callee has not ended
     instance_lasting : (k : List Entry) (h : Function) (these : ℕ → Life) (alive : ℕ → Bool) → LiveIn k bs → IsInstance p bs h these alive → (n : ℕ) → alive n ≡ true → IsLasting (ends_of k) (these n)
     instance_lasting k h these alive live instance n is =
-        let (r, there, same) = instance.lasting n is in
-        subst (λ l. IsLasting (ends_of k) l) same (there_lasting (ends_of k) bs r live.0 there)
+        let (r, plain, there, same) = instance.lasting n is in
+        subst (λ l. IsLasting (ends_of k) l) same (there_lasting (ends_of k) bs r live.0 plain there)
 
     instance_known : (h : Function) (these : ℕ → Life) (alive : ℕ → Bool) → IsInstance p bs h these alive → (n : ℕ) → IsKnownLife g (these n)
-    instance_known h these alive instance n = let (r, same) = instance.named n in subst (λ l. IsKnownLife g l) same (region_known g bs r variables)
+    instance_known h these alive instance n = let (r, plain, same) = instance.named n in subst (λ l. IsKnownLife g l) same (region_known g bs r plain variables)
 
     instance_open : (h : Function) (these : ℕ → Life) (alive : ℕ → Bool) → IsInstance p bs h these alive → (n : ℕ) → alive n ≡ true → IsOpenIn g (these n)
-    instance_open h these alive instance n is = let (r, there, same) = instance.lasting n is in subst (λ l. IsOpenIn g l) same (there_open g bs r variables there)
+    instance_open h these alive instance n is = let (r, plain, there, same) = instance.lasting n is in subst (λ l. IsOpenIn g l) same (there_open g bs r variables there)
 
     pub call : (callee : Callee) (vs : List Operand) (k : List Entry) (ts : List RunTy) (r : RunValue) (f : flow.State) → LiveIn k bs → Holds g f bs → IsCalled p bs callee (turned ts []) r → AreOperands g ts vs → AreClaimed g.own (operands_in k) ts
         → IsStack p g x bs (Val r f) k → IsWell p (step_calling p.program callee vs k e w)
@@ -179,19 +181,19 @@ module _ (p : Source) (accepted : AreAccepted p) where
     call callees.Getchar vs k ts r f live holds (types_is, result_is) are claims stack = read_on ts vs k f live holds types_is are (subst (λ z. IsStack p g x bs (Val z f) k) result_is stack)
     call (callees.Function n) vs k ts r f live holds (h, these, alive, there, instance, types_is, result_is) are claims stack =
         let (end, ok) = accepted n h there in
-        let arguments : AreOperands g (map (at (lives_of these)) h.parameters) (reverse vs) = subst (λ us. AreOperands g us (reverse vs)) types_is (operands_reversed g ts vs are) in
-        let given_value : RunValue = value_at (lives_of these) (result_type h.result) in
+        let arguments : AreOperands g (map (at (lives_of (frees_in bs) these)) h.parameters) (reverse vs) = subst (λ us. AreOperands g us (reverse vs)) types_is (operands_reversed g ts vs are) in
+        let given_value : RunValue = value_at (lives_of (frees_in bs) these) (result_type h.result) in
         let y : Exits = record { loop = None; result = h.result; gives = given_value; locks = []; relied = [] } in
-        let cs : List InScope = Instance these alive ∷ [] in
+        let cs : List InScope = Instance (frees_in bs) these alive ∷ [] in
         let d = suc g.depth in
         let i = record g { depth = d } in
         let grows : Grows g i = moment_grows g d g.loans in
-        let claimed : AreGiven g.own (operands_in k) (map (at (lives_of these)) h.parameters) = subst (λ us. AreGiven g.own (operands_in k) us) types_is (given_turned g.own (operands_in k) ts [] claims tt) in
+        let claimed : AreGiven g.own (operands_in k) (map (at (lives_of (frees_in bs) these)) h.parameters) = subst (λ us. AreGiven g.own (operands_in k) us) types_is (given_turned g.own (operands_in k) ts [] claims tt) in
         let same = same_around g in
         let back = record i { depth = g.depth } in
         subst (λ o. IsWell p (called o (reverse vs) (Caller e ∷ k) w)) (sym there)
         (subst (λ (b : Bool). IsWell p (if b then Running (Entering h (reverse vs)) (Caller e ∷ k) no_locals w else wrong w))
-        (sym (eq-eqb (length (reverse vs)) (length h.parameters) (operands_count (lives_of these) g h.parameters (reverse vs) arguments)))
+        (sym (eq-eqb (length (reverse vs)) (length h.parameters) (operands_count (lives_of (frees_in bs) these) g h.parameters (reverse vs) arguments)))
         (running p i y cs no_locals w (moment_typed g d g.loans w.regions w.objects typed) (moment_globals p g d g.loans globals) (tt, tt)
         ((λ n. (known_inside g d (these n) (instance_known h these alive instance n), λ e. open_inside g d (these n) (instance_open h these alive instance n e))), tt) (Entering h (reverse vs)) (Caller e ∷ k) ((instance_lasting k h these alive live instance, tt), refl) (
           end,
@@ -199,9 +201,9 @@ module _ (p : Source) (accepted : AreAccepted p) where
           alive,
           ok,
           (refl, refl, refl, refl, refl),
-          refl,
+          (frees_in bs, refl),
           instance.stand,
-          operands_grown g i grows (map (at (lives_of these)) h.parameters) (reverse vs) arguments,
+          operands_grown g i grows (map (at (lives_of (frees_in bs) these)) h.parameters) (reverse vs) arguments,
           claimed,
           (
             x,
@@ -211,7 +213,7 @@ module _ (p : Source) (accepted : AreAccepted p) where
             refl,
             refl,
             blocked_of h.result end ok.ends,
-            result_given h.result (lives_of these),
+            result_given h.result (lives_of (frees_in bs) these),
             bound,
             variables_grown g back same bs variables,
             live,
@@ -220,9 +222,9 @@ module _ (p : Source) (accepted : AreAccepted p) where
           ),
         )))
 
-    pub enter : (h : Function) (vs : List Operand) (k : List Entry) (end : flow.State) (these : ℕ → Life) (alive : ℕ → Bool) → LiveIn k bs → IsAccepted p h end → IsBody x bs h → bs ≡ Instance these alive ∷ []
+    pub enter : (h : Function) (vs : List Operand) (k : List Entry) (end : flow.State) (these : ℕ → Life) (alive : ℕ → Bool) → LiveIn k bs → IsAccepted p h end → IsBody x bs h → (frees : Bool) × (bs ≡ Instance frees these alive ∷ [])
         → Stand p.reading (regions_at_call h) bs → AreOperands g (map (read bs) h.parameters) vs → AreGiven g.own (operands_in k) (map (read bs) h.parameters) → IsStack p g x bs (Go end) k → IsWell p (step_entering h vs k e w)
-    enter h vs k end these alive live ok body these_are stand are claims stack =
+    enter h vs k end these alive live ok body (freed, these_are) stand are claims stack =
         let count : 0 + length h.parameters ≡ length h.parameters = omega arith in
         let region = length w.regions in
         let l : Life = opened_life p.reading region (ends_of k) (lent_now g) in

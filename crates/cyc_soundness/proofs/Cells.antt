@@ -12,10 +12,10 @@ use Rattle.cyc_meaning.specs.State.{World, Object, Found, Closed, cell_at, writt
 use Rattle.cyc_meaning.specs.Objects.{found_object, object_at}
 use Rattle.cyc_meaning.specs.Parts.{wrong, read, loaded, stored}
 use Rattle.cyc_meaning.specs.Nesting.{ends_of, AreOpen}
-use Rattle.cyc_soundness.specs.Lives.{Life, OfRegion, OfObject, Never, Kept, RunTy, RunValue, Int, Pointer, Handle, Key, Struct, Value, Lives, at, kind_at}
+use Rattle.cyc_soundness.specs.Lives.{Life, OfRegion, OfObject, Never, Owned, Kept, RunTy, RunValue, Int, Pointer, Handle, Key, Struct, Value, Lives, at, kind_at}
 use Rattle.cyc_soundness.specs.Lives.{at as at'}
-use Rattle.cyc_soundness.specs.Worlds.{Holder, Hand, Claims, IsKeyless, AreKeyless, Stays, ObjectType, Typing, Outlasts, IsFilled, IsPart, IsTarget, HasType, IsResult, IsTyped, IsOpenLife}
-use Rattle.cyc_soundness.specs.Frames.{InScope, IsBound, AreVariables, LiveIn, Holds, Exits, KnowsProgram}
+use Rattle.cyc_soundness.specs.Worlds.{Holder, Hand, Claims, IsKeyless, AreKeyless, Stays, ObjectType, Typing, IsOpenIn, Outlasts, alike, heap as for_ever, globals as with_globals, IsFilled, IsPart, IsTarget, HasType, IsResult, IsTyped, IsOpenLife}
+use Rattle.cyc_soundness.specs.Frames.{InScope, IsBound, AreVariables, LiveIn, Holds, Exits, KnowsProgram, IsLasting}
 use Rattle.cyc_soundness.specs.Stacks.{Val, operands_in, Comes, IsStack, IsFocus, IsWell}
 use Rattle.cyc_soundness.proofs.Numbers.{slice_get-set_same, some_same}
 use Rattle.cyc_soundness.proofs.TypeLemmas.{is_kind_same}
@@ -49,11 +49,20 @@ module _ (g : Typing) (w : World) (typed : IsTyped g w.regions w.objects) where
   part_at number x (Key l) offset there at opens filled = (at, filled)
   part_at number x (Struct n ls) offset there at opens filled = absurd (never_struct number x n ls offset there at opens filled)
 
-  -- what a pointer leads to is there
-  pub life_of : (k : List Entry) (object : ℕ) (y : ObjectType) (m : Life) → slice_get g.objects object ≡ Some y → AreOpen w.regions (ends_of k) → Outlasts y.life m → IsPresent g (ends_of k) m → IsOpenLife w.regions y.life
-  life_of k object y m there opens outlasts lasting =
+  life_by : (k : List Entry) (object : ℕ) (y : ObjectType) (m : Life) → slice_get g.objects object ≡ Some y → AreOpen w.regions (ends_of k) → Outlasts y.life m → IsLasting (ends_of k) m × IsOpenIn g m → IsOpenLife w.regions y.life
+  life_by k object y m there opens outlasts lasting =
       outlasting_open w.regions (ends_of k) y.life m opens typed.heap (open_of w.regions (globals_among k) opens)
       (kept_open g w.regions w.objects y.life typed (object_known g w.regions w.objects object y typed there) (open_outlasting g y.life m outlasts lasting.1)) outlasts lasting.0
+
+  -- what a pointer leads to is there
+  pub life_of : (k : List Entry) (object : ℕ) (y : ObjectType) (m : Life) → slice_get g.objects object ≡ Some y → AreOpen w.regions (ends_of k) → Outlasts y.life m → IsPresent g (ends_of k) m → IsOpenLife w.regions y.life
+  life_of k object y Owned there opens (alike _) lasting = tt
+  life_of k object y Owned there opens (for_ever _) lasting = typed.heap
+  life_of k object y Owned there opens (with_globals _) lasting = open_of w.regions (globals_among k) opens
+  life_of k object y (OfRegion number around lent) there opens outlasts lasting = life_by k object y (OfRegion number around lent) there opens outlasts lasting
+  life_of k object y (OfObject o) there opens outlasts lasting = life_by k object y (OfObject o) there opens outlasts lasting
+  life_of k object y Never there opens outlasts lasting = life_by k object y Never there opens outlasts lasting
+  life_of k object y (Kept region) there opens outlasts lasting = life_by k object y (Kept region) there opens outlasts lasting
 
   -- of an object that a pointer leads to
   pub target_live : (k : List Entry) (t : RunTy) (l : Life) (object offset : ℕ) → AreOpen w.regions (ends_of k) → IsPresent g (ends_of k) l → IsTarget g t l object offset → (x : Object) × (object_at w object ≡ Found x)
@@ -94,6 +103,7 @@ keyless_claims own h (Key (Kept region)) is = absurd is
 keyless_claims own h (Key (OfRegion number ns us)) is = tt
 keyless_claims own h (Key (OfObject object)) is = tt
 keyless_claims own h (Key Never) is = tt
+keyless_claims own h (Key Owned) is = tt
 
 -- ---- reads and writes
 

@@ -18,7 +18,7 @@ use Rattle.cyc_types.specs.Rules.{Derives}
 use Rattle.cyc_types.specs.typing.Tests.{is_moved, is_tested}
 use Rattle.cyc_types.specs.typing.Tests as tests
 use Rattle.cyc_types.specs.typing.Expressions.{assigned_type, instantiated}
-use Rattle.cyc_types.specs.typing.WellTyped.{Context, HasLocal, AreLive, AreOutliving, IsCallee, WellTyped, IsPeek, IsLeft, ArePassed, Converts, PointerOperation, adds, subtracts, equals, differs, thin_null, thin_there, fat_null, fat_there, IsChain, signature_of}
+use Rattle.cyc_types.specs.typing.WellTyped.{Context, HasLocal, AreLive, AreOutliving, IsCallee, WellTyped, IsPeek, IsLeft, ArePassed, Converts, PointerOperation, adds, subtracts, equals, differs, thin_null, thin_there, fat_null, fat_there, IsChain, signature_of, AreNotUnique, AreConstraints}
 use Rattle.cyc_types.specs.flow.States as flow
 use Rattle.cyc_types.specs.flow.States.{Fullness, Vacant, Locked, Full, is_locked, meet, fullness, with_fullness, is_vacant}
 use Rattle.cyc_types.specs.flow.Expressions.{and_peeked, peek_behind, rule, rule_arguments, rule_operations}
@@ -33,10 +33,10 @@ use Rattle.cyc_meaning.specs.Nesting.{ends_of, AreOpen}
 use Rattle.cyc_meaning.specs.Step.{step_evaluating, addressed, counts, passes, assigned, decided, tested, awaits_right, chained, converts}
 use Rattle.cyc_soundness.specs.Lives.{Life, heap_life, as_heap, Reading, Lives, AsHeap, ByScope, RunTy, RunValue, Value, kind_at}
 use Rattle.cyc_soundness.specs.Lives as lives
-use Rattle.cyc_soundness.specs.Worlds.{In, Hand, Claims, ClaimsBy, giving, HasType, Typing, IsFull, variable_type, global_type, Outlasts, alike, globals as with_globals, AgreesWith, IsResult, AreOperands, IsTyped, IsOpenLife}
-use Rattle.cyc_soundness.specs.Frames.{IsAmong, Bound, InScope, Variable, IsBound, AreVariables, IsHomed, LiveIn, IsSet, IsFullIn, Holds, Implies, Exits, IsContext, KnowsProgram, lives_in, read, read_value}
-use Rattle.cyc_soundness.specs.Classes.{is_full, Relied, IsSpared, HasScopes, InExpression, InArguments, InOperations, Source}
-use Rattle.cyc_soundness.specs.Stacks.{Evaluates, Val, Go, turned, IsCalled, null, IsStack, IsFocus, IsWell}
+use Rattle.cyc_soundness.specs.Worlds.{In, Hand, Claims, ClaimsBy, giving, HasType, Typing, IsFull, variable_type, global_type, Outlasts, alike, globals as with_globals, AgreesWith, IsResult, AreOperands, IsTyped, IsOpenLife, IsOwner}
+use Rattle.cyc_soundness.specs.Frames.{IsAmong, Bound, InScope, Variable, IsBound, AreVariables, IsHomed, LiveIn, IsSet, IsFullIn, Holds, Implies, Exits, IsContext, KnowsProgram, lives_in, read, read_value, frees_in}
+use Rattle.cyc_soundness.specs.Classes.{is_full, Relied, frees_of, and_looked, IsSpared, HasScopes, InExpression, InArguments, InOperations, Source}
+use Rattle.cyc_soundness.specs.Stacks.{Evaluates, Val, Go, turned, relied_at, IsCalled, null, IsStack, IsFocus, IsWell}
 use Rattle.cyc_soundness.specs.Stacks as stacks
 use Rattle.cyc_soundness.proofs.Numbers.{some_same, both}
 use Rattle.cyc_soundness.proofs.TypeLemmas.{place_type, target_typed, is_kind_same, kind_read, kind_meant}
@@ -46,6 +46,7 @@ use Rattle.cyc_soundness.proofs.StackLemmas.{OneLocal, emptied_other, in_no_hand
 use Rattle.cyc_soundness.proofs.ValueLemmas.{zero_is, converted_by, kind_given}
 use Rattle.cyc_soundness.proofs.RegionLemmas.{agrees_of, there_of, cell_live, global_means, these_by, live_by, instance_is, parameters_mean, result_means}
 use Rattle.cyc_soundness.proofs.Cells.{running, part_at, reads, writes}
+use Rattle.cyc_soundness.proofs.Looking.{looked_expression, looked_converted, peeked_so}
 use Rattle.cyc_soundness.proofs.Objects.{makes_on}
 use Rattle.cyc_soundness.proofs.Places.{takes, gives, gives_by, converted_leads, moved_comes}
 
@@ -66,17 +67,24 @@ left_typed m q well c a v (ThenPointer o b os) kept is = inl is
 left_typed m q well c a v (ThenPointerPeek n o b os) kept is = inr is.0
 
 -- a local whose address is taken is there as long as the region of its block
+owned_made : (frees : Bool) → IsOwner (lives.owned_life frees) (Unique true)
+owned_made true = refl
+owned_made false = (refl, refl)
+
 homed : (m : Reading) (these : Lives) (region : ℕ) (l : Life) → HasScopes m → IsHomed m these region l → l ≡ these (regions.Variable region)
 homed AsHeap these region l scopes is = absurd scopes
-homed (ByScope lends) these region l scopes is = is
+homed (ByScope lends frees) these region l scopes is = is
 
 -- a global is no key, and what is copied or only looked at neither
-heap_comes : (g : Typing) (i : ℕ) (t : Ty) → Claims g.own (Hand i) (lives.at as_heap t)
-heap_comes g i types.Int = tt
-heap_comes g i (types.Pointer k t r) = tt
-heap_comes g i (types.Handle r) = tt
-heap_comes g i (types.Key r) = tt
-heap_comes g i (types.Struct n rs) = tt
+heap_comes : (g : Typing) (i : ℕ) (frees : Bool) (t : Ty) → Claims g.own (Hand i) (lives.at (as_heap frees) t)
+heap_comes g i frees types.Int = tt
+heap_comes g i frees (types.Pointer k t r) = tt
+heap_comes g i frees (types.Handle r) = tt
+heap_comes g i frees (types.Key regions.Heap) = tt
+heap_comes g i true (types.Key regions.Unique) = tt
+heap_comes g i false (types.Key regions.Unique) = tt
+heap_comes g i frees (types.Key (regions.Variable n)) = tt
+heap_comes g i frees (types.Struct n rs) = tt
 
 copied_comes : (g : Typing) (i : ℕ) (n : Lives) (t : Ty) → is_moved t ≡ false → Claims g.own (Hand i) (lives.at n t)
 copied_comes g i n types.Int plain = tt
@@ -146,7 +154,7 @@ module _ (p : Source) (g : Typing) (x : Exits) (bs : List InScope) (e : Environm
 
 module _ (p : Source) (g : Typing) (x : Exits) (bs : List InScope) (e : Environment) (w : World) (typed : IsTyped g w.regions w.objects) (globals : KnowsProgram g p) (bound : IsBound e.locals e.counters bs) (variables : AreVariables g bs) where
   -- a local's value goes to an operand
-  pub moves : (k : List Entry) (c : Context) (n : ℕ) (u : Ty) (f : flow.State) → AreOpen w.regions (ends_of k) → LiveIn k bs → IsContext p x bs c → Holds g f bs → (r : ℕ) × HasLocal c.locals n u r → IsFullIn f n → IsSpared x.relied n
+  pub moves : (k : List Entry) (c : Context) (n : ℕ) (u : Ty) (f : flow.State) → AreOpen w.regions (ends_of k) → LiveIn k bs → IsContext p x bs c → Holds g f bs → (r : ℕ) × HasLocal c.locals n u r → IsFullIn f n → IsSpared (relied_at x.relied k) n
       → IsStack p g x bs (Val (Value (read bs u)) (with_fullness Vacant f n)) k → IsWell p (loaded_from (values.kind_of u) (e.locals n) k e w)
   moves k c n u f opens live stands holds (r, has) full spared stack =
       let (b, among, number, of_type) = bound_of p.reading (lives_in bs) c.locals bs n u r stands.scope has in
@@ -164,19 +172,19 @@ module _ (p : Source) (g : Typing) (x : Exits) (bs : List InScope) (e : Environm
 
 module _ (p : Source) where
   -- what is called takes and gives this, where its region variables stand for what is put in their place
-  called_is : (x : Exits) (bs : List InScope) (c : Context) (callee : Callee) (s : Signature) (m : List Region) → IsContext p x bs c → IsCallee c callee s → AreLive c (instantiated m s).effect
+  called_is : (x : Exits) (bs : List InScope) (c : Context) (callee : Callee) (s : Signature) (m : List Region) → IsContext p x bs c → IsCallee c callee s → AreNotUnique m → ((number : ℕ) (h : Function) → slice_get p.program.functions number ≡ Some h → AreConstraints h.variables h.constraints) → AreLive c (instantiated m s).effect
       → AreOutliving c (instantiated m s).constraints
       → IsCalled p bs callee (map (read bs) (map (substituted_ty m) s.parameters)) (read_value bs (result_type (option_map (substituted_ty m) s.result)))
-  called_is x bs c callees.Putchar s m stands is alive outlive =
+  called_is x bs c callees.Putchar s m stands is apart named alive outlive =
       subst (λ (z : Signature). IsCalled p bs callees.Putchar (map (read bs) (map (substituted_ty m) z.parameters)) (read_value bs (result_type (option_map (substituted_ty m) z.result)))) (sym is) (refl, refl)
-  called_is x bs c callees.Getchar s m stands is alive outlive =
+  called_is x bs c callees.Getchar s m stands is apart named alive outlive =
       subst (λ (z : Signature). IsCalled p bs callees.Getchar (map (read bs) (map (substituted_ty m) z.parameters)) (read_value bs (result_type (option_map (substituted_ty m) z.result)))) (sym is) (refl, refl)
-  called_is x bs c (callees.Function n) s m stands is alive outlive =
+  called_is x bs c (callees.Function n) s m stands is apart named alive outlive =
       let (h, there, same) = of_map signature_of p.program.functions n s (ap (λ ss. slice_get ss n) (sym stands.functions) ∙ is) in
       let these = these_by (lives_in bs) m in
-      let instance = instance_is p x bs c stands h m (subst (λ (z : Signature). AreLive c (instantiated m z).effect) (sym same) alive) (subst (λ (z : Signature). AreOutliving c (instantiated m z).constraints) (sym same) outlive) in
+      let instance = instance_is p x bs c stands h m apart (named n h there) (subst (λ (z : Signature). AreLive c (instantiated m z).effect) (sym same) alive) (subst (λ (z : Signature). AreOutliving c (instantiated m z).constraints) (sym same) outlive) in
       subst (λ (z : Signature). IsCalled p bs (callees.Function n) (map (read bs) (map (substituted_ty m) z.parameters)) (read_value bs (result_type (option_map (substituted_ty m) z.result)))) same
-      (h, these, live_by p.reading h.effect, there, instance, parameters_mean (lives_in bs) refl refl m h.parameters, result_means (lives_in bs) refl refl m h.result)
+      (h, these, live_by p.reading h.effect, there, instance, parameters_mean (frees_in bs) (lives_in bs) refl refl m h.parameters, result_means (frees_in bs) (lives_in bs) refl refl m h.result)
 
   module _ (g : Typing) (x : Exits) (bs : List InScope) (e : Environment) (w : World) (typed : IsTyped g w.regions w.objects) (globals : KnowsProgram g p) (bound : IsBound e.locals e.counters bs) (variables : AreVariables g bs) where
     on : (focus : Focus) (k : List Entry) → LiveIn k bs → IsFocus p g x bs focus k → IsWell p (Running focus k e w)
@@ -192,7 +200,7 @@ module _ (p : Source) where
 
     -- a global, whose type means the same everywhere
     global_there : (n : ℕ) (u : Ty) (c : Context) → IsContext p x bs c → slice_get c.globals n ≡ Some u
-        → (slice_get (map (λ (v : GlobalVariable). v.of_type) p.program.globals) n ≡ Some u) × (read bs u ≡ lives.at as_heap u)
+        → (slice_get (map (λ (v : GlobalVariable). v.of_type) p.program.globals) n ≡ Some u) × (read bs u ≡ lives.at (as_heap (frees_of p.reading)) u)
     global_there n u c stands has =
         let there = ap (λ ts. slice_get ts n) (sym stands.globals) ∙ has in
         let (at, full, closed) = globals.globals n u there in
@@ -213,13 +221,13 @@ module _ (p : Source) where
     from_global k c n u t f opens live stands holds has same stack =
         let (there, means) = global_there n u c stands has in
         let (at, full, closed) = globals.globals n u there in
-        reads p g x bs e w typed globals bound variables k (values.kind_of u) n 0 (lives.at as_heap u) (global_type (lives.at as_heap u)) f live holds at refl (open_of w.regions (globals_among k) opens) full (kind_meant as_heap u)
-        (Value (lives.at as_heap u)) (λ v is. (sym (kind_meant as_heap u), is)) (heap_comes g (stacks.operands_in k) u) (subst (λ z. IsStack p g x bs (Val z f) k) (ap (read_value bs) same ∙ ap Value means) stack)
+        reads p g x bs e w typed globals bound variables k (values.kind_of u) n 0 (lives.at (as_heap (frees_of p.reading)) u) (global_type (lives.at (as_heap (frees_of p.reading)) u)) f live holds at refl (open_of w.regions (globals_among k) opens) full (kind_meant (as_heap (frees_of p.reading)) u)
+        (Value (lives.at (as_heap (frees_of p.reading)) u)) (λ v is. (sym (kind_meant (as_heap (frees_of p.reading)) u), is)) (heap_comes g (stacks.operands_in k) (frees_of p.reading) u) (subst (λ z. IsStack p g x bs (Val z f) k) (ap (read_value bs) same ∙ ap Value means) stack)
 
     -- ---- arguments
 
     pub pass_on : (k : List Entry) (callee : Callee) (before : List Operand) (done : List RunTy) (as' : Arguments) (ts : List Ty) (c : Context) (r : ValueType) (f h : flow.State) (q : List ℕ)
-        → LiveIn k bs → IsContext p x bs c → Holds g f bs → ArePassed c ts as' → Derives (rule_arguments q as' f) h → InArguments p.reading x.relied as' → AreOperands g done before → stacks.AreClaimed g.own (stacks.operands_in k) done
+        → LiveIn k bs → IsContext p x bs c → Holds g f bs → ArePassed c ts as' → Derives (rule_arguments q as' f) h → InArguments p.reading (relied_at x.relied k) as' → AreOperands g done before → stacks.AreClaimed g.own (stacks.operands_in k) done
         → IsCalled p bs callee (turned done (map (read bs) ts)) (read_value bs r) → IsStack p g x bs (Val (read_value bs r) h) k → IsWell p (passes callee before as' k e w)
     pass_on k callee before done NoArguments [] c r f h q live stands holds passed (u, same) kept operands claims called stack =
         on (Calling callee before) k live (done, read_value bs r, h, subst (λ z. Holds g z bs) (sym same) holds, called, operands, claims, stack)
@@ -247,7 +255,7 @@ module _ (p : Source) where
     -- ---- expressions
 
     pub evaluate : (a : Expression) (k : List Entry) (c : Context) (t : ValueType) (f h : flow.State) (q : List ℕ) → AreOpen w.regions (ends_of k) → LiveIn k bs → IsContext p x bs c → Holds g f bs
-        → WellTyped c a t ⊎ IsPeek c a t → Derives (rule q a f) h → InExpression p.reading x.relied a → IsStack p g x bs (Val (read_value bs t) h) k → IsWell p (step_evaluating a k e w)
+        → WellTyped c a t ⊎ IsPeek c a t → Derives (rule q a f) h → InExpression p.reading (relied_at x.relied k) a → IsStack p g x bs (Val (read_value bs t) h) k → IsWell p (step_evaluating a k e w)
     evaluate (Number n) k c t f h q opens live stands holds (inl is) (u, same) kept stack =
         hands k (read_value bs t) (Value lives.Int) (record { kind = kinds.Int; value = values.Int n }) f h live holds same (ap (read_value bs) is) (refl, tt) tt stack
     evaluate NullPointer k c t f h q opens live stands holds (inl is) (u, same) kept stack =
@@ -269,7 +277,7 @@ module _ (p : Source) where
         from_local k c n u t f h opens live stands holds has (not_true (is_vacant (fullness f n)) demands.0) (subst (λ z. Implies f z) (sym known) (implies_self f)) same (unique_comes g (stacks.operands_in k) (lives_in bs) u unique) stack
     evaluate (Call callee as' u) k c t f h q opens live stands holds (inl (s, m, is, count, apart, passed, alive, outlive, gives_u, same)) flows kept stack =
         pass_on k callee [] [] as' (map (substituted_ty m) s.parameters) c (result_type (option_map (substituted_ty m) s.result)) f h q live stands holds passed flows kept tt tt
-        (called_is x bs c callee s m stands is alive outlive) (subst (λ z. IsStack p g x bs (Val (read_value bs z) h) k) (same ∙ gives_u) stack)
+        (called_is x bs c callee s m stands is apart globals.constraints alive outlive) (subst (λ z. IsStack p g x bs (Val (read_value bs z) h) k) (same ∙ gives_u) stack)
     evaluate (Unary unary.Not a) k c t f h q opens live stands holds (inl (v, (well, is_tested'), same)) flows kept stack =
         on (Evaluating a) (Needs (Operate unary.Not) ∷ k) live (
           c,
@@ -311,7 +319,7 @@ module _ (p : Source) where
           f1,
           stands,
           holds,
-          record { waiting = q; typed = left_typed p.reading x.relied (WellTyped c a v) c a v os kept left; flows = d; kept = one },
+          record { waiting = q; typed = left_typed p.reading (relied_at x.relied k) (WellTyped c a v) c a v os kept left; flows = d; kept = one },
           (
             [],
             bs,
@@ -395,11 +403,11 @@ module _ (p : Source) where
     evaluate (AddressOf (Global n) u) k c t f h q opens live stands holds (inl (v, r, (region, has), plain, u_is, same)) (unit, known) kept stack =
         let (there, means) = global_there n v c stands has in
         let (at, full, closed) = globals.globals n v there in
-        let part = part_at g w typed n (global_type (lives.at as_heap v)) (lives.at as_heap v) 0 at refl (open_of w.regions (globals_among k) opens) full in
-        let is : read_value bs t ≡ Value (lives.Pointer marks.NonNull (lives.at as_heap v) (lives_in bs r)) =
+        let part = part_at g w typed n (global_type (lives.at (as_heap (frees_of p.reading)) v)) (lives.at (as_heap (frees_of p.reading)) v) 0 at refl (open_of w.regions (globals_among k) opens) full in
+        let is : read_value bs t ≡ Value (lives.Pointer marks.NonNull (lives.at (as_heap (frees_of p.reading)) v) (lives_in bs r)) =
         ap (read_value bs) (same ∙ ap types.Value u_is) ∙ ap (λ z. Value (lives.Pointer marks.NonNull z (lives_in bs r))) means in
-        hands k (read_value bs t) (Value (lives.Pointer marks.NonNull (lives.at as_heap v) (lives_in bs r))) (record { kind = kinds.NonNull; value = values.Thin n 0 }) f h live holds known
-        is (refl, (global_type (lives.at as_heap v), at, refl, with_globals (lives_in bs r), part)) tt stack
+        hands k (read_value bs t) (Value (lives.Pointer marks.NonNull (lives.at (as_heap (frees_of p.reading)) v) (lives_in bs r))) (record { kind = kinds.NonNull; value = values.Thin n 0 }) f h live holds known
+        is (refl, (global_type (lives.at (as_heap (frees_of p.reading)) v), at, refl, with_globals (lives_in bs r), part)) tt stack
     evaluate (AddressOf (Local place n) u) k c t f h q opens live stands holds (inl (v, r, (m, has, region, there), plain, u_is, same)) (demands, known) kept stack =
         let l = bound_to p.reading (lives_in bs) c.locals bs n v m stands.scope (place_local c.locals n v m has) in
         let b = l.bound in
@@ -452,7 +460,7 @@ module _ (p : Source) where
           record { waiting = q; typed = cell; flows = dp; kept = kd },
           (
             Val (read_value bs (assigned_type v)) h,
-            stacks.stores_to c s v r f1 h (there_of p x bs c stands r (cell_live c d v r cell)) stands (record { waiting = and_peeked (peek_behind d) q; typed = inl well; flows = dc; kept = kc }) conv from_is to_is,
+            stacks.stores_to c s v r f1 h (there_of p x bs c stands r (cell_live c d v r cell)) stands (λ reached. record { waiting = and_peeked (peek_behind d) q; typed = inl well; flows = dc; kept = subst (λ o. InExpression p.reading (and_looked o (relied_at x.relied k)) a) (sym (peeked_so d)) (looked_converted p.reading (relied_at x.relied k) (peek_behind d) (Convert from to a) q f1 h reached dc kc) }) conv from_is to_is,
             tt,
             subst (λ z. IsStack p g x bs (Val (read_value bs z) h) k) (same ∙ gives_u) stack,
           ),
@@ -461,7 +469,7 @@ module _ (p : Source) where
         makes_on p g x bs e w typed globals bound variables i (InRegion heap_number) k c m v regions.Heap f1 h q opens live stands (subst (λ z. Holds g z bs) (sym known) holds) tt refl made di kept.1
         (subst (λ z. IsStack p g x bs (Val (read_value bs z) h) k) (same ∙ ap types.Value (u_is ∙ ap (λ z. types.Pointer m v z) region)) stack)
     evaluate (New AsUnique i u) k c t f h q opens live stands holds (inl (m, v, r, region, made, u_is, same)) (f1, (unit, known), di) kept stack =
-        makes_on p g x bs e w typed globals bound variables i (Unique true) k c m v regions.Unique f1 h q opens live stands (subst (λ z. Holds g z bs) (sym known) holds) tt (refl, refl) made di kept.1
+        makes_on p g x bs e w typed globals bound variables i (Unique true) k c m v regions.Unique f1 h q opens live stands (subst (λ z. Holds g z bs) (sym known) holds) tt (owned_made (frees_in bs)) made di kept.1
         (subst (λ z. IsStack p g x bs (Val (read_value bs z) h) k) (same ∙ ap types.Value (u_is ∙ ap (λ z. types.Pointer m v z) region)) stack)
     evaluate (New (ByHandle a) i u) k c t f h q opens live stands holds (inl (m, v, r, (well, alive), made, u_is, same)) (f1, d, di) (ka, ki) stack =
         on (Evaluating a) (Needs (PlaceBy i) ∷ k) live (
@@ -500,7 +508,7 @@ module _ (p : Source) where
 
     -- a right operand of pointers
     null_on : {o : PointerOperator} (peek : Option ℕ) (q : List ℕ) (kind : Kind) (value : values.Value) (b : Expression) (os : Operations) (k : List Entry) (c : Context) (v w' : ValueType) (f f1 : flow.State) → LiveIn k bs
-        → kind ≡ kinds.Nullable → value ≡ values.Null → IsContext p x bs c → Holds g f bs → PointerOperation c o types.Null v w' → Evaluates p.reading x.relied c b f v f1
+        → kind ≡ kinds.Nullable → value ≡ values.Null → IsContext p x bs c → Holds g f bs → PointerOperation c o types.Null v w' → Evaluates p.reading (and_looked peek (relied_at x.relied k)) c b f v f1
         → IsStack p g x bs (Val (read_value bs w') f1) (Needs (Chain os) ∷ k) → IsWell p (Running (Evaluating b) (Needs (ApplyPointer peek o (record { kind = kind; value = value })) ∷ Needs (Chain os) ∷ k) e w)
     null_on {o} peek q kind value b os k c v w' f f1 live kind_is value_is stands holds op evaluates stack =
         subst (λ z. IsWell p (Running (Evaluating b) (Needs (ApplyPointer peek o (record { kind = z; value = value })) ∷ Needs (Chain os) ∷ k) e w)) (sym kind_is)
@@ -509,7 +517,7 @@ module _ (p : Source) where
         (c, v, f, f1, stands, holds, evaluates, (lives.Pointer marks.Nullable lives.Int heap_life ∷ [], bs, Val (read_value bs w') f1, stacks.null_points c v w' f1 op, (((refl, tt), tt), (tt, tt)), stack))))
 
     pointed : (o : PointerOperator) (peek : Option ℕ) (q : List ℕ) (left : Operand) (b : Expression) (os : Operations) (k : List Entry) (c : Context) (s v w' : ValueType) (f f1 : flow.State) → LiveIn k bs → IsContext p x bs c → Holds g f bs
-        → IsResult g (read_value bs s) left → PointerOperation c o s v w' → Evaluates p.reading x.relied c b f v f1 → IsStack p g x bs (Val (read_value bs w') f1) (Needs (Chain os) ∷ k)
+        → IsResult g (read_value bs s) left → PointerOperation c o s v w' → Evaluates p.reading (and_looked peek (relied_at x.relied k)) c b f v f1 → IsStack p g x bs (Val (read_value bs w') f1) (Needs (Chain os) ∷ k)
         → IsWell p (awaits_right (takes_kind o left.kind) (ApplyPointer peek o left) b os k e w)
     pointed o peek q left b os k c s v w' f f1 live stands holds is op evaluates stack =
         subst (λ z. IsWell p (awaits_right z (ApplyPointer peek o left) b os k e w)) (sym (takes (lives_in bs) g left op is)) (go s is op)
@@ -522,7 +530,7 @@ module _ (p : Source) where
 
     -- a left operand stands before what is left of its chain
     pub chain_on : (os : Operations) (v : Operand) (k : List Entry) (c : Context) (s : ValueType) (u : Ty) (f h : flow.State) (q : List ℕ) → LiveIn k bs → IsContext p x bs c → Holds g f bs
-        → IsResult g (read_value bs s) v → stacks.Comes g (read_value bs s) k → IsChain c s os u → Derives (rule_operations q os f) h → InOperations p.reading x.relied os → IsStack p g x bs (Val (Value (read bs u)) h) k → IsWell p (chained os v k e w)
+        → IsResult g (read_value bs s) v → stacks.Comes g (read_value bs s) k → IsChain c s os u → Derives (rule_operations q os f) h → InOperations p.reading (relied_at x.relied k) os → IsStack p g x bs (Val (Value (read bs u)) h) k → IsWell p (chained os v k e w)
     chain_on NoOperations v k c s u f h q live stands holds is comes chain (unit, same) kept stack =
         hands k (Value (read bs u)) (read_value bs s) v f h live holds same (ap (read_value bs) (sym chain)) is comes stack
     chain_on (ThenCompute o b os) v k c s u f h q live stands holds is comes (int, well, chain) (f1, d, ds) (one, kept) stack =
@@ -568,7 +576,7 @@ module _ (p : Source) where
         pointed o None q v b os k c s v2 w2 f f1 live stands holds is op (record { waiting = q; typed = well; flows = d; kept = one })
         ([], bs, Val (Value (read bs u)) h, stacks.chains c w2 u f1 h stands (record { waiting = q; typed = chain; flows = ds; kept = kept }), tt, stack)
     chain_on (ThenPointerPeek n o b os) v k c s u f h q live stands holds is comes (v2, w2, well, op, chain) (f1, d, ds) (one, kept) stack =
-        pointed o (Some n) q v b os k c s v2 w2 f f1 live stands holds is op (record { waiting = and_peeked (Some n) q; typed = well; flows = d; kept = one })
+        pointed o (Some n) q v b os k c s v2 w2 f f1 live stands holds is op (record { waiting = and_peeked (Some n) q; typed = well; flows = d; kept = looked_expression p.reading (relied_at x.relied k) (Some n) b q f f1 holds.0 d one })
         ([], bs, Val (Value (read bs u)) h, stacks.chains c w2 u f1 h stands (record { waiting = q; typed = chain; flows = ds; kept = kept }), tt, stack)
 
     pub converted_on : (from to : Kind) (target : Option Kind) (v : Operand) (k : List Entry) (c : Context) (s : ValueType) (t : Ty) (f : flow.State) → LiveIn k bs → AgreesWith c.regions (lives_in bs) → Holds g f bs → IsResult g (read_value bs s) v → stacks.Comes g (read_value bs s) k → Converts c s t
@@ -627,12 +635,12 @@ module _ (p : Source) where
         ))
 
     pub writes_global : (v : Operand) (k : List Entry) (n : ℕ) (t : Ty) (f : flow.State) → AreOpen w.regions (ends_of k) → LiveIn k bs
-        → slice_get (map (λ (v : GlobalVariable). v.of_type) p.program.globals) n ≡ Some t → read bs t ≡ lives.at as_heap t → Holds g f bs → IsResult g (Value (read bs t)) v → IsStack p g x bs (Val (read_value bs (assigned_type t)) f) k
+        → slice_get (map (λ (v : GlobalVariable). v.of_type) p.program.globals) n ≡ Some t → read bs t ≡ lives.at (as_heap (frees_of p.reading)) t → Holds g f bs → IsResult g (Value (read bs t)) v → IsStack p g x bs (Val (read_value bs (assigned_type t)) f) k
         → IsWell p (stored (cell_at w n 0) n 0 v (Given v) k e w)
     writes_global v k n t f opens live there means holds is stack =
         let (at, full, closed) = globals.globals n t there in
-        let (y, m, stands, flag, typed_is) = typed.each n (global_type (lives.at as_heap t)) at in
-        writes p g x bs e w typed globals bound variables v (Given v) k n 0 m (read bs t) (global_type (lives.at as_heap t)) live at
+        let (y, m, stands, flag, typed_is) = typed.each n (global_type (lives.at (as_heap (frees_of p.reading)) t)) at in
+        writes p g x bs e w typed globals bound variables v (Given v) k n 0 m (read bs t) (global_type (lives.at (as_heap (frees_of p.reading)) t)) live at
         (ap (λ z. Some z) (sym means)) (open_of w.regions (globals_among k) opens) flag (let few : 0 ≤ m = omega arith in few) is
         (λ grows now. (
           read_value bs (assigned_type t),

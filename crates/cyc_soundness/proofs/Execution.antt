@@ -26,6 +26,7 @@ use Rattle.cyc_meaning.specs.Parts.{target_by, loaded_from, inside, region_end}
 use Rattle.cyc_meaning.specs.Exceptions.{throws}
 use Rattle.cyc_meaning.specs.Nesting.{ends_of, IsNested}
 use Rattle.cyc_meaning.specs.Step.{step_executing, returns, continues_with}
+use Rattle.cyc_soundness.proofs.Looking.{looked_side}
 use Rattle.cyc_soundness.specs.Lives.{Life, Value, Seen, Reading, AsHeap, ByScope}
 use Rattle.cyc_soundness.specs.Worlds.{HasType, IsNumber, Typing, lent_now, IsTyped}
 use Rattle.cyc_soundness.specs.Frames.{InScope, Names, Home, life_named, lives_in, read, read_value, IsBound, AreVariables, LiveIn, Within, itself, older, IsSet, Holds, Implies, LoopExit, Exits, loop_of, around, lending, relying, AreBreaks, is_loop, IsContext, KnowsProgram}
@@ -40,7 +41,7 @@ use Rattle.cyc_soundness.proofs.RegionLemmas.{opened_known, contains_more, live_
 use Rattle.cyc_soundness.proofs.WorldLemmas.{opened_typed}
 use Rattle.cyc_soundness.proofs.Cells.{running}
 use Rattle.cyc_soundness.proofs.Evaluation.{from_bound, used_full}
-use Rattle.cyc_soundness.proofs.Loans.{type_known, keys_on}
+use Rattle.cyc_soundness.proofs.Loans.{type_known, keys_on, shared_loans}
 use Rattle.cyc_soundness.proofs.Touched.{relied_body}
 use Rattle.cyc_soundness.proofs.Supply.{declares_blank}
 use Rattle.cyc_soundness.proofs.Swapping.{kept_both, swap_on}
@@ -87,11 +88,11 @@ context_after p x bs c s stands = context_behind p x bs c (length (declared_type
 -- the handle of a region that was opened
 handle_of : (m : Reading) (region : ℕ) (ns : List ℕ) (us : ℕ → Bool) → HasScopes m → IsNumber (opened_life m region ns us) region
 handle_of AsHeap region ns us scopes = absurd scopes
-handle_of (ByScope lends) region ns us scopes = refl
+handle_of (ByScope lends frees) region ns us scopes = refl
 
 new_handle : (m : Reading) (n r : ℕ) → r ≡ n → IsDeclarable m (suc n) (types.Handle (regions.Variable r))
 new_handle AsHeap n r same = tt
-new_handle (ByScope lends) n r same = let e : r < suc n = omega (arith, same) in e
+new_handle (ByScope lends frees) n r same = let e : r < suc n = omega (arith, same) in e
 
 alias_kind : (r : Region) (t : Ty) → values.kind_of (with_region_of r t) ≡ values.kind_of t
 alias_kind r types.Int = refl
@@ -218,7 +219,7 @@ module _ (p : Source) (g : Typing) (x : Exits) (bs : List InScope) (e : Environm
       let now : h ≡ f3 = ap (λ (z : Known). z.now) known ∙ same in
       let (first, second) = kept_both (side_demanded [] y f3) (side_demanded (and_peeked (peeked_side y) []) z f3) demands in
       swap_on p g x bs e w typed' globals bound variables y z c t k f f2 f3 (and_peeked (peeked_side y) []) live stands holds plain ty dy first ky
-      (record { waiting = and_peeked (peeked_side y) []; typed = tz; flows = dz; used = second; kept = kz }) (subst (λ i. IsStack p g x bs (Go i) k) now stack)
+      (λ reached. record { waiting = and_peeked (peeked_side y) []; typed = tz; flows = dz; used = second; kept = looked_side p.reading x.relied (peeked_side y) z [] f2 f3 reached dz kz }) (subst (λ i. IsStack p g x bs (Go i) k) now stack)
   execute (If a s t) k c f h before behind' live stands holds ((v, well, tested), ws, wt) (f1, d, (l, ds, (m, dt, (u, known)))) are (ka, ks, kt) stack =
       let now : h ≡ meet l.now m.now = ap (λ (z : Known). z.now) known in
       let breaks : behind' ≡ m.breaks = ap (λ (z : Known). z.breaks) known in
@@ -418,7 +419,7 @@ module _ (p : Source) (g : Typing) (x : Exits) (bs : List InScope) (e : Environm
         [],
         cs,
         Go h,
-        stacks.aliases cs c b v t f (with_each Full (locks_of js) ending) h loans within stands bound_among number_of set spared (used_full f source demands.0 demands.1.0) unique (type_known p.reading c source v home loans stands.known has)
+        stacks.aliases cs c b v t f (with_each Full (locks_of js) ending) h loans within stands bound_among number_of set spared (used_full f source demands.0 demands.1.0) unique (type_known p.reading c source v home (shared_loans p.reading loans) stands.known has)
             (of_type ∙ ap (λ i. with_region_of (regions.Variable i) v) region) alive number rest (again source js ending h ends),
         tt,
         stack,

@@ -3,7 +3,7 @@ use Rattle.std.proofs.Common.{◌≡◌, ℕ, zero, suc, Bool, true, false, not,
 use Rattle.std.specs.Prelude.{◌≢◌, get_or, slice_set, if◌then◌else◌}
 use Rattle.std.proofs.lemmas.List.{get_or-set_other}
 use Rattle.cyc_types.specs.flow.States.{Fullness, Vacant, Locked, Full, State, Unreached, Reached, lower, lower_each, meet, is_as_full, are_as_full, is_at_least, is_reached, fullness, with_fullness, with_each, is_vacant, is_locked, emptied}
-use Rattle.cyc_soundness.specs.Worlds.{Typing}
+use Rattle.cyc_soundness.specs.Worlds.{IsAmong, first as newest, later as behind, Typing}
 use Rattle.cyc_soundness.specs.Classes.{is_full}
 use Rattle.cyc_soundness.specs.Frames.{InScope, Variable, HoldsIts, IsSet, AreSet, Holds, Implies}
 use Rattle.cyc_soundness.proofs.Numbers.{both_true}
@@ -218,3 +218,13 @@ full_added n (m ∷ ns) f = full_added n ns (with_fullness Full f m) ∙ ap (λ 
 pub not_vacant : (b : Bool) → not b ≡ true → b ≡ false
 not_vacant true e = absurd (let k : false ≡ true = e in cc)
 not_vacant false e = refl
+
+-- ---- numbers in a list
+
+pub before_last : (n m : ℕ) (ks : List ℕ) → IsAmong n ks → IsAmong n (ks ++ m ∷ [])
+before_last n m ks (newest js) = newest (js ++ m ∷ [])
+before_last n m ks (behind k js among) = behind k (js ++ m ∷ []) (before_last n m js among)
+
+pub at_last : (n m : ℕ) (ks : List ℕ) → n ≡ m → IsAmong n (ks ++ m ∷ [])
+at_last n m [] same = subst (λ i. IsAmong i (m ∷ [])) (sym same) (newest [])
+at_last n m (k ∷ ks) same = behind k (ks ++ m ∷ []) (at_last n m ks same)

@@ -8,6 +8,7 @@ mod WorldLemmas
 mod StackLemmas
 mod ValueLemmas
 mod Cells
+mod Looking
 mod Objects
 mod Swapping
 mod Places

@@ -1,11 +1,11 @@
 -- WHAT IS LENT to the end of a block: dynamic regions that their keys open, and what a unique pointer leads to, by an alias.
-use Rattle.std.proofs.Common.{◌≡◌, inl, inr, set, ℕ, suc, ◌≤◌, ◌<◌, Bool, true, false, List, [], ◌∷◌, ◌++◌, length, Option, Some, None, slice_get, refl, sym, ap, subst, ◌∙◌, arith}
+use Rattle.std.proofs.Common.{◌≡◌, inl, inr, set, ℕ, suc, ◌≤◌, ◌<◌, Bool, true, false, List, [], ◌∷◌, length, Option, Some, None, slice_get, refl, sym, ap, subst, ◌∙◌, arith}
 use Rattle.std.specs.Prelude.{if◌then◌else◌}
 use Rattle.cyc_types.specs.declared.region.Region.{Region as Region'}
 use Rattle.cyc_types.specs.declared.region.Region.TheVariants as regions
 use Rattle.cyc_types.specs.declared.scope.ScopeKind.TheVariants as scopes
 use Rattle.cyc_types.specs.declared.typed.Kind.TheVariants as kinds
-use Rattle.cyc_types.specs.Outlives.{live_regions}
+use Rattle.cyc_types.specs.Outlives.{live_regions, RegionContext}
 use Rattle.cyc_types.specs.Types.{Ty}
 use Rattle.cyc_types.specs.Types as types
 use Rattle.cyc_types.specs.TypedTrees.{Items}
@@ -21,45 +21,37 @@ use Rattle.cyc_meaning.specs.State.{World, Found, Closed, found_region, region_a
 use Rattle.cyc_meaning.specs.Parts.{wrong}
 use Rattle.cyc_meaning.specs.Nesting.{ends_of, IsNested}
 use Rattle.cyc_meaning.specs.Regions.{is_dynamic, opened_by, opens_with, opens_dynamic, closes_dynamic, closes_with, aliased}
-use Rattle.cyc_soundness.specs.Lives.{Life, OfRegion, OfObject, Never, Kept, heap_life, Value, at, Reading, AsHeap, ByScope, AllIn, IsKnown}
+use Rattle.cyc_soundness.specs.Lives.{Life, OfRegion, OfObject, Never, Kept, heap_life, Value, at, Reading, AsHeap, ByScope, AllIn, IsKnown, owned_life}
 use Rattle.cyc_soundness.specs.Lives as lives
-use Rattle.cyc_soundness.specs.Worlds.{Nobody, Hand, In, Lent, giving, given, Claims, ClaimsBy, IsHeld, is_lent_by, IsOpenIn, Stays, Grows, IsFull, Typing, IsKnownLife, IsNumber, IsKeyOf, HasType, IsResult, IsTyped, IsDynamic}
-use Rattle.cyc_soundness.specs.Classes.{IsSpared, HasLoans, IsDeclarable, Source}
-use Rattle.cyc_soundness.specs.Frames.{IsAmong, first, later, Bound, InScope, Variable, Names, life_named, lives_in, read, IsBound, AreVariables, IsLasting, LiveIn, Within, older, IsFullIn, Holds, Implies, Exits, lending, AreKnownLocals, AreKnown, IsContext, KnowsProgram}
+use Rattle.cyc_soundness.specs.Worlds.{Nobody, Hand, In, Lent, giving, given, Claims, ClaimsBy, IsHeld, is_lent_by, IsOpenIn, Stays, Grows, IsFull, Typing, IsKnownLife, IsNumber, IsKeyOf, HasType, IsResult, IsTyped, IsDynamic, IsKnownOwner}
+use Rattle.cyc_soundness.specs.Classes.{IsSpared, HasLoans, IsDeclarable, Source, HasAliases}
+use Rattle.cyc_soundness.specs.Frames.{IsAmong, first, later, Bound, InScope, Variable, Names, life_named, lives_in, read, IsBound, AreVariables, IsLasting, LiveIn, Within, older, IsFullIn, Holds, Implies, Exits, lending, AreKnownLocals, AreKnown, IsContext, KnowsProgram, frees_in, Stand}
 use Rattle.cyc_soundness.specs.Stacks.{operands_in, Continues, Go, IsStack, IsWell}
 use Rattle.cyc_soundness.proofs.TypeLemmas.{all_in, read_alike}
 use Rattle.cyc_soundness.proofs.FlowLemmas.{reached_with}
-use Rattle.cyc_soundness.proofs.RegionLemmas.{region_known, contains_more, name_known, same_name, known_other, known_more, other_life, context_key, context_alias, context_again}
+use Rattle.cyc_soundness.proofs.RegionLemmas.{contains_more, name_known, same_name, known_other, known_more, other_life, context_key, context_alias, context_again, region_owner}
 use Rattle.cyc_soundness.proofs.WorldLemmas.{with_kept, kept_grows, kept_typed, globals_grown, variables_grown, holds_grown, result_grown, given_now, given_typed, given_globals, variables_other, variables_more, moment_typed, moment_globals, holds_lent, lent_last, closed_by_key}
-use Rattle.cyc_soundness.proofs.StackLemmas.{OneLocal, emptied_other, in_no_hand, in_some, holds_other, stack_other, stack_grown, above_globals, full_here, within_full_at, within_variables, among_bound, among_variable, among_own, among_set, set_stored}
+use Rattle.cyc_soundness.proofs.StackLemmas.{OneLocal, emptied_other, in_no_hand, in_some, holds_other, stack_other, stack_grown, above_globals, full_here, within_full_at, within_variables, among_bound, among_variable, among_own, among_set, set_stored, statement_relied}
 use Rattle.cyc_soundness.proofs.Cells.{running}
 use Rattle.cyc_soundness.proofs.Evaluation.{full_set, unique_comes}
 
 -- ---- lists
-
-pub before_last : (n m : ℕ) (ks : List ℕ) → IsAmong n ks → IsAmong n (ks ++ m ∷ [])
-before_last n m ks (first js) = first (js ++ m ∷ [])
-before_last n m ks (later k js among) = later k (js ++ m ∷ []) (before_last n m js among)
-
-pub at_last : (n m : ℕ) (ks : List ℕ) → n ≡ m → IsAmong n (ks ++ m ∷ [])
-at_last n m [] same = subst (λ i. IsAmong i (m ∷ [])) (sym same) (first [])
-at_last n m (k ∷ ks) same = later k (ks ++ m ∷ []) (at_last n m ks same)
 
 -- ---- types
 
 -- a region that was declared before
 named_before : (m : Reading) (n r : ℕ) → r < n → IsDeclarable m n (types.Handle (regions.Variable r))
 named_before AsHeap n r less = tt
-named_before (ByScope lends) n r less = less
+named_before (ByScope lends frees) n r less = less
 
 pub key_before : (m : Reading) (n r : ℕ) → r < n → IsDeclarable m n (types.Key (regions.Variable r))
 key_before AsHeap n r less = tt
-key_before (ByScope lends) n r less = less
+key_before (ByScope lends frees) n r less = less
 
 -- the type of a local names regions that were declared before
 pub type_known : (m : Reading) (c : Context) (n : ℕ) (t : Ty) (r : ℕ) → HasLoans m → AreKnown m c.next_region c.regions c.locals c.result → HasLocal c.locals n t r → AllIn (IsKnown c.next_region) t
 type_known AsHeap c n t r loans known has = absurd loans
-type_known (ByScope lends) c n t r loans known has = go c.locals known.locals has
+type_known (ByScope lends frees) c n t r loans known has = go c.locals known.locals has
   where
     go : (vs : List LocalInScope) → AreKnownLocals c.next_region vs → HasLocal vs n t r → AllIn (IsKnown c.next_region) t
     go [] known has = absurd has
@@ -68,26 +60,35 @@ type_known (ByScope lends) c n t r loans known has = go c.locals known.locals ha
 
 alias_known : (m : Reading) (n : ℕ) (u : Ty) → is_unique u ≡ true → AllIn (IsKnown n) u → IsDeclarable m (suc n) (with_region_of (regions.Variable n) u)
 alias_known AsHeap n u unique known = tt
-alias_known (ByScope lends) n (types.Pointer k t s) unique (known, one) =
+alias_known (ByScope lends frees) n (types.Pointer k t s) unique (known, one) =
     (all_in (IsKnown n) (IsKnown (suc n)) (λ r is. known_more n (suc n) r (let most : n ≤ suc n = omega arith in most) is) t known, (let less : n < suc n = omega arith in less))
-alias_known (ByScope lends) n types.Int unique known = absurd (let z : false ≡ true = unique in cc)
-alias_known (ByScope lends) n (types.Handle r) unique known = absurd (let z : false ≡ true = unique in cc)
-alias_known (ByScope lends) n (types.Key r) unique known = absurd (let z : false ≡ true = unique in cc)
-alias_known (ByScope lends) n (types.Struct s rs) unique known = absurd (let z : false ≡ true = unique in cc)
+alias_known (ByScope lends frees) n types.Int unique known = absurd (let z : false ≡ true = unique in cc)
+alias_known (ByScope lends frees) n (types.Handle r) unique known = absurd (let z : false ≡ true = unique in cc)
+alias_known (ByScope lends frees) n (types.Key r) unique known = absurd (let z : false ≡ true = unique in cc)
+alias_known (ByScope lends frees) n (types.Struct s rs) unique known = absurd (let z : false ≡ true = unique in cc)
+
+-- where there are aliases, no object is given back
+pub shared_loans : (m : Reading) → HasAliases m → HasLoans m
+shared_loans AsHeap shares = shares
+shared_loans (ByScope lends frees) shares = shares.0
+
+none_freed : (m : Reading) (c : RegionContext) (bs : List InScope) → HasAliases m → Stand m c bs → frees_in bs ≡ false
+none_freed AsHeap c bs shares stand = absurd shares
+none_freed (ByScope lends frees) c bs shares (same, stand) = same ∙ shares.1
 
 -- an alias has the type of what it shares, as a run reads it
-alias_read : (bs : List InScope) (n : ℕ) (u : Ty) → is_unique u ≡ true → AllIn (IsKnown n) u → read (Names n heap_life true ∷ bs) (with_region_of (regions.Variable n) u) ≡ read bs u
-alias_read bs n (types.Pointer k t regions.Unique) unique (known, one) =
+alias_read : (bs : List InScope) (n : ℕ) (u : Ty) → frees_in bs ≡ false → is_unique u ≡ true → AllIn (IsKnown n) u → read (Names n heap_life true ∷ bs) (with_region_of (regions.Variable n) u) ≡ read bs u
+alias_read bs n (types.Pointer k t regions.Unique) none unique (known, one) =
     let inner : List InScope = Names n heap_life true ∷ bs in
     let same : read inner t ≡ read bs t = sym (read_alike (lives_in bs) (lives_in inner) t
     (all_in (IsKnown n) (λ r. lives_in bs r ≡ lives_in inner r) (λ r is. other_life n heap_life true bs r (known_other n r is)) t known)) in
-    ap (λ z. lives.Pointer k z (life_named inner n)) same ∙ ap (λ l. lives.Pointer k (read bs t) l) (same_name n heap_life (life_named bs n))
-alias_read bs n (types.Pointer k t regions.Heap) unique known = absurd (let z : false ≡ true = unique in cc)
-alias_read bs n (types.Pointer k t (regions.Variable m)) unique known = absurd (let z : false ≡ true = unique in cc)
-alias_read bs n types.Int unique known = absurd (let z : false ≡ true = unique in cc)
-alias_read bs n (types.Handle r) unique known = absurd (let z : false ≡ true = unique in cc)
-alias_read bs n (types.Key r) unique known = absurd (let z : false ≡ true = unique in cc)
-alias_read bs n (types.Struct s rs) unique known = absurd (let z : false ≡ true = unique in cc)
+    ap (λ z. lives.Pointer k z (life_named inner n)) same ∙ ap (λ l. lives.Pointer k (read bs t) l) (same_name n heap_life (life_named bs n) ∙ sym (ap owned_life none))
+alias_read bs n (types.Pointer k t regions.Heap) none unique known = absurd (let z : false ≡ true = unique in cc)
+alias_read bs n (types.Pointer k t (regions.Variable m)) none unique known = absurd (let z : false ≡ true = unique in cc)
+alias_read bs n types.Int none unique known = absurd (let z : false ≡ true = unique in cc)
+alias_read bs n (types.Handle r) none unique known = absurd (let z : false ≡ true = unique in cc)
+alias_read bs n (types.Key r) none unique known = absurd (let z : false ≡ true = unique in cc)
+alias_read bs n (types.Struct s rs) none unique known = absurd (let z : false ≡ true = unique in cc)
 
 dynamic_found : (o : Option state.Region) → IsDynamic o → (r : state.Region) × (found_region o ≡ Found r) × (is_dynamic r.sort ≡ true)
 dynamic_found None is = absurd is
@@ -161,7 +162,7 @@ module _ (p : Source) (g : Typing) (x : Exits) (bs : List InScope) (e : Environm
           again,
           within_full_at j lent t cs bs within (full_here j e lent b.object t bs bs bound scope_now one_now some),
           within_variables o cs bs within scope,
-          stack_other t old new p g x cs (Go i) k has (inl (refl, spared)) stack,
+          stack_other t old new p g x cs (Go i) k has (inl (refl, subst (λ z. IsSpared z lent) (sym (statement_relied p g x cs i k x.relied stack)) spared)) stack,
         );
       }
 
@@ -213,21 +214,23 @@ module _ (p : Source) (g : Typing) (x : Exits) (bs : List InScope) (e : Environm
       by_life (OfRegion n ns us) is_kept same = absurd same
       by_life (OfObject o) is_kept same = absurd same
       by_life Never is_kept same = absurd same
+      by_life lives.Owned is_kept same = absurd same
   opens_on number lent js v k cs c b r f h i live holds loans within stands among number_of of_type spared full less alive number_is next again is stack = absurd is
 
   -- a unique pointer comes, which an alias shares
-  pub aliases_on : (number lent : ℕ) (js : Items) (v : Operand) (k : List Entry) (cs : List InScope) (c : Context) (b : Bound) (u t : Ty) (f h i : flow.State) → LiveIn k bs → Holds g f bs → HasLoans p.reading → Within cs bs
+  pub aliases_on : (number lent : ℕ) (js : Items) (v : Operand) (k : List Entry) (cs : List InScope) (c : Context) (b : Bound) (u t : Ty) (f h i : flow.State) → LiveIn k bs → Holds g f bs → HasAliases p.reading → Within cs bs
       → IsContext p x bs c → IsAmong (Variable b) bs → b.number ≡ lent → IsSpared x.relied lent → IsFullIn f lent → is_unique u ≡ true → AllIn (IsKnown c.next_region) u → t ≡ with_region_of (regions.Variable c.next_region) u
       → IsLive c (regions.Variable c.region) → number ≡ c.next_local
       → Continues p.reading (lending x lent) (with_local true t (with_opened scopes.Alias c)) js (with_fullness Full (with_fullness Locked f lent) number) h → Implies (with_fullness Full h lent) i
       → IsResult g (Value (read bs u)) v → IsStack p g x cs (Go i) k → IsWell p (aliased number lent js v k e w)
-  aliases_on number lent js v k cs c b u t f h i live holds loans within stands among number_of spared full unique known of_type alive number_is next again is stack =
+  aliases_on number lent js v k cs c b u t f h i live holds shares within stands among number_of spared full unique known of_type alive number_is next again is stack =
+      let loans : HasLoans p.reading = shared_loans p.reading shares in
       let named : List InScope = Names c.next_region heap_life true ∷ bs in
       let z = lends b lent f h i cs k within among number_of full spared holds again stack in
       let j = lending_typing b in
       let here = context_lending p x named (with_opened scopes.Alias c) lent (context_alias p x bs c stands loans alive heap_life) in
       let declared : IsDeclarable p.reading (suc c.next_region) t = subst (λ y. IsDeclarable p.reading (suc c.next_region) y) (sym of_type) (alias_known p.reading c.next_region u unique known) in
-      let same : read named t ≡ read bs u = ap (read named) of_type ∙ alias_read bs c.next_region u unique known in
+      let same : read named t ≡ read bs u = ap (read named) of_type ∙ alias_read bs c.next_region u (none_freed p.reading c.regions bs shares stands.regions) unique known in
       let is_now : IsResult j (Value (read bs u)) v = result_grown g j (lending_grows b) (Value (read bs u)) v is in
       running p j (lending x lent) named e w z.objects z.knows (tt, bound) ((tt, λ e. λ r lent. let y : false ≡ true = lent in absurd (cc)), z.scope) (Naming number v js) (EndLoan lent ∷ k)
       (((λ is. inl refl), live.0), live.1) (
@@ -295,7 +298,7 @@ module _ (p : Source) (g : Typing) (x : Exits) (bs : List InScope) (e : Environm
       by_life (Kept n) is_kept same claims =
           let t : lives.RunTy = lives.Key (Kept n) in
           let hand = Hand (operands_in k) in
-          let known : IsAmong n g.kept = subst (λ l. IsKnownLife g l) is_kept (region_known g bs r variables) in
+          let known : IsAmong n g.kept = subst (λ l. IsKnownOwner g l) is_kept (region_owner g bs r variables) in
           let held : IsHeld (g.own n) = subst (λ o. IsHeld o) (sym claims) tt in
           let (s, found, dynamic) = dynamic_found (slice_get w.regions region) (subst (λ i. IsDynamic (slice_get w.regions i)) same ((typed.kept n known).1 held)) in
           subst (λ a. IsWell p (closes_dynamic a region k e w)) (sym found)
@@ -307,4 +310,5 @@ module _ (p : Source) (g : Typing) (x : Exits) (bs : List InScope) (e : Environm
       by_life (OfRegion n ns us) is_kept same claims = absurd same
       by_life (OfObject o) is_kept same claims = absurd same
       by_life Never is_kept same claims = absurd same
+      by_life lives.Owned is_kept same claims = absurd same
   closes_on v k r f live holds is has stack = absurd is

@@ -5,6 +5,7 @@ use Rattle.std.proofs.lemmas.Bool.{eq-eqb, eqb-true}
 use mathlib.Core.List.{reverse_aux}
 use Rattle.cyc_syntax.specs.declared.tree.PointerKind.{PointerKind}
 use Rattle.cyc_syntax.specs.declared.tree.PointerKind.TheVariants as marks
+use Rattle.cyc_types.specs.declared.region.Region.TheVariants as regions
 use Rattle.cyc_types.specs.declared.region.Region.{Region as Region'}
 use Rattle.cyc_types.specs.declared.typed.Kind.{Kind}
 use Rattle.cyc_types.specs.declared.typed.Kind.TheVariants as kinds
@@ -28,18 +29,18 @@ use Rattle.cyc_meaning.specs.Operators.{array_size}
 use Rattle.cyc_meaning.specs.Allocation.{writes_from, blanks_of, filled, makes_of, makes_plain, makes_fields, most_words, blanks, begun, makes_array, step_beginning, step_repeating, fills_element, makes}
 use Rattle.cyc_meaning.specs.Nesting.{ends_of, AreOpen}
 use Rattle.cyc_meaning.proofs.ListLemmas.{slice_get-end, slice_get-set_other}
-use Rattle.cyc_soundness.specs.Lives.{Reading, AsHeap, ByScope, Lives, at, Life, OfRegion, OfObject, Never, Kept, RunTy, Int, Pointer, Handle, Key, Struct, Value, kind_at}
-use Rattle.cyc_soundness.specs.Worlds.{IsAmong, IsKnownLife, IsHeld, IsKeyless, AreKeyless, Stays, IsDynamic, ObjectType, Typing, Outlasts, alike, IsFilled, IsPart, IsTarget, HasType, IsResult, AreOperands, AreCells, IsOwner, IsObject, IsTyped, IsOpenLife, Grows}
-use Rattle.cyc_soundness.specs.Frames.{first, later, InScope, Level, HasMeaning, IsBound, AreVariables, LiveIn, Holds, Implies, Exits, IsContext, KnowsProgram, lives_among, lives_in, read, IsThere}
-use Rattle.cyc_soundness.specs.Classes.{HasLoans, InInitial, InArguments, Source}
-use Rattle.cyc_soundness.specs.Stacks.{Val, turned, AreClaimed, operands_in, AreFields, Repeats, AreNext, IsWhole, IsMaking, IsArray, IsStack, IsFocus, IsWell}
+use Rattle.cyc_soundness.specs.Lives.{Reading, AsHeap, ByScope, Lives, at, Life, OfRegion, OfObject, Never, Kept, RunTy, Int, Pointer, Handle, Key, Struct, Value, kind_at, Owned, owned_life}
+use Rattle.cyc_soundness.specs.Worlds.{IsAmong, IsHeld, IsKeyless, AreKeyless, Stays, IsDynamic, ObjectType, Typing, Outlasts, alike, IsFilled, IsPart, IsTarget, HasType, IsResult, AreOperands, AreCells, IsOwner, IsObject, IsTyped, IsOpenLife, Grows, IsKnownOwner}
+use Rattle.cyc_soundness.specs.Frames.{first, later, InScope, Level, HasMeaning, IsBound, AreVariables, LiveIn, Holds, Implies, Exits, IsContext, KnowsProgram, lives_among, lives_in, read, IsThere, frees_in, life_named}
+use Rattle.cyc_soundness.specs.Classes.{HasLoans, InInitial, InArguments, Source, frees_of}
+use Rattle.cyc_soundness.specs.Stacks.{Val, turned, AreClaimed, operands_in, AreFields, Repeats, AreNext, IsWhole, IsMaking, IsArray, IsStack, IsFocus, IsWell, relied_at}
 use Rattle.cyc_soundness.specs.Stacks as stacks
 use Rattle.cyc_soundness.proofs.Numbers.{same_or_other, less_or_same, slice_get-set_same}
 use Rattle.cyc_soundness.proofs.FlowLemmas.{at_least_implies, holds_implied}
 use Rattle.cyc_soundness.proofs.TypeLemmas.{target_typed, is_kind_same, kind_read}
-use Rattle.cyc_soundness.proofs.WorldLemmas.{life_grown, operands_grown, variables_grown, holds_grown, globals_grown, with_object, object_stays, object_typed, typed_beside, open_region, risen, with_filled}
+use Rattle.cyc_soundness.proofs.WorldLemmas.{owner_grown, operands_grown, variables_grown, holds_grown, globals_grown, with_object, object_stays, object_typed, typed_beside, open_region, risen, with_filled}
 use Rattle.cyc_soundness.proofs.StackLemmas.{keeps_fields, stack_grown, kept_open, lasting_open}
-use Rattle.cyc_soundness.proofs.RegionLemmas.{region_known, there_open, agrees_of, there_lasting, mapped_count, fields_mean}
+use Rattle.cyc_soundness.proofs.RegionLemmas.{region_owner, there_open, agrees_of, there_lasting, mapped_count, fields_mean}
 use Rattle.cyc_soundness.proofs.Cells.{running, part_at, writes}
 
 -- ---- lists of operands
@@ -129,27 +130,28 @@ plain_each n [] plain = tt
 plain_each n (t ∷ ts) plain = (plain_keyless n t (plain 0 t refl), plain_each n ts (λ i u there. plain (suc i) u there))
 
 -- without dynamic regions there are no keys
-no_key : (g : Typing) (l : Life) → ((n : ℕ) → IsAmong n g.kept → ⊥) → IsKnownLife g l → IsKeyless (Key l)
+no_key : (g : Typing) (l : Life) → ((n : ℕ) → IsAmong n g.kept → ⊥) → IsKnownOwner g l → IsKeyless (Key l)
 no_key g (Kept region) none known = none region known
 no_key g (OfRegion number ns us) none known = tt
 no_key g (OfObject object) none known = tt
 no_key g Never none known = tt
+no_key g Owned none known = tt
 
-unkept : (g : Typing) (n : Lives) (t : Ty) → ((m : ℕ) → IsAmong m g.kept → ⊥) → ((r : Region') → IsKnownLife g (n r)) → IsKeyless (at n t)
+unkept : (g : Typing) (n : Lives) (t : Ty) → ((m : ℕ) → IsAmong m g.kept → ⊥) → ((r : Region') → IsKnownOwner g (n r)) → IsKeyless (at n t)
 unkept g n types.Int none known = tt
 unkept g n (types.Pointer k t r) none known = tt
 unkept g n (types.Handle r) none known = tt
 unkept g n (types.Key r) none known = no_key g (n r) none (known r)
 unkept g n (types.Struct s rs) none known = tt
 
-all_unkept : (g : Typing) (n : Lives) (ts : List Ty) → ((m : ℕ) → IsAmong m g.kept → ⊥) → ((r : Region') → IsKnownLife g (n r)) → AreKeyless (map (at n) ts)
+all_unkept : (g : Typing) (n : Lives) (ts : List Ty) → ((m : ℕ) → IsAmong m g.kept → ⊥) → ((r : Region') → IsKnownOwner g (n r)) → AreKeyless (map (at n) ts)
 all_unkept g n [] none known = tt
 all_unkept g n (t ∷ ts) none known = (unkept g n t none known, all_unkept g n ts none known)
 
 lends_or_not : (m : Reading) → HasLoans m ⊎ (HasLoans m → ⊥)
 lends_or_not AsHeap = inr (λ h. h)
-lends_or_not (ByScope true) = inl refl
-lends_or_not (ByScope false) = inr (λ h. let z : false ≡ true = h in absurd (cc))
+lends_or_not (ByScope true frees) = inl refl
+lends_or_not (ByScope false frees) = inr (λ h. let z : false ≡ true = h in absurd (cc))
 
 -- ---- arrays
 
@@ -217,8 +219,15 @@ counter_more e level index (b ∷ bs) (is, are) = (counter_still e level index b
 module _ (p : Source) (g : Typing) (x : Exits) (bs : List InScope) (e : Environment) (w : World) (typed : IsTyped g w.regions w.objects) (globals : KnowsProgram g p) (bound : IsBound e.locals e.counters bs) (variables : AreVariables g bs) where
   -- what a live region stands for is open
   pub open_life : (r : Region') (k : List Entry) → AreOpen w.regions (ends_of k) → LiveIn k bs → IsThere bs r → IsOpenLife w.regions (lives_in bs r)
-  open_life r k opens live alive = lasting_open w.regions (ends_of k) (lives_in bs r) opens typed.heap
-      (kept_open g w.regions w.objects (lives_in bs r) typed (region_known g bs r variables) (there_open g bs r variables alive)) (there_lasting (ends_of k) bs r live.0 alive)
+  open_life regions.Heap k opens live alive = typed.heap
+  open_life regions.Unique k opens live alive = owned_there (frees_in bs)
+    where
+      owned_there : (frees : Bool) → IsOpenLife w.regions (owned_life frees)
+      owned_there true = tt
+      owned_there false = typed.heap
+  open_life (regions.Variable n) k opens live alive = lasting_open w.regions (ends_of k) (life_named bs n) opens typed.heap
+      (kept_open g w.regions w.objects (life_named bs n) typed (region_owner g bs (regions.Variable n) variables) (there_open g bs (regions.Variable n) variables alive))
+      (there_lasting (ends_of k) bs (regions.Variable n) live.0 (λ e. let z : regions.Variable n ≡ regions.Unique = e in absurd (cc)) alive)
 
   -- ---- an object is made
 
@@ -262,8 +271,10 @@ module _ (p : Source) (g : Typing) (x : Exits) (bs : List InScope) (e : Environm
   created_there owner cells (OfObject o) owned opens = absurd opens
   created_there owner cells Never owned opens = absurd opens
   created_there (Unique false) cells (Kept region) owned opens = absurd owned
+  created_there (Unique false) cells Owned owned opens = absurd (let z : false ≡ true = owned in cc)
+  created_there (InRegion n) cells Owned owned opens = absurd owned
 
-  made_on : (owner : Owner) (l : Life) (new : World) (ts : List RunTy) (cells : List Cell) (focus : Focus) (k : List Entry) → LiveIn k bs → IsOwner l owner → IsKnownLife g l → AreKeyless ts → ((h : Typing) → AreCells h ts cells 0)
+  made_on : (owner : Owner) (l : Life) (new : World) (ts : List RunTy) (cells : List Cell) (focus : Focus) (k : List Entry) → LiveIn k bs → IsOwner l owner → IsKnownOwner g l → AreKeyless ts → ((h : Typing) → AreCells h ts cells 0)
       → new.objects ≡ w.objects ++ record { owner = owner; cells = cells } ∷ [] → AreStill new.regions
       → (Stays g (with_object g (new_type ts l) 0) → slice_get (with_object g (new_type ts l) 0).objects (length w.objects) ≡ Some (new_type ts l) → IsFilled (with_object g (new_type ts l) 0) (length w.objects) 0
       → IsFocus p (with_object g (new_type ts l) 0) x bs focus k)
@@ -272,7 +283,7 @@ module _ (p : Source) (g : Typing) (x : Exits) (bs : List InScope) (e : Environm
       let h = with_object g (new_type ts l) 0 in
       let grows : Stays g h = object_stays g (new_type ts l) 0 in
       let made : Object = record { owner = owner; cells = cells } in
-      let is : IsObject h 0 (new_type ts l) made = record { owner = owned; known = life_grown g h grows.grows l known; keyless = λ shown. keyless; cells = blanks_are h } in
+      let is : IsObject h 0 (new_type ts l) made = record { owner = owned; known = owner_grown g h grows.grows l known; keyless = λ shown. keyless; cells = blanks_are h } in
       let beside : IsTyped h w.regions new.objects = subst (λ os. IsTyped h w.regions os) (sym objects_are) (object_typed g w.regions w.objects (new_type ts l) 0 made typed is) in
       let there = subst (λ n. slice_get h.objects n ≡ Some (new_type ts l)) (sym typed.count) (slice_get-end g.objects (new_type ts l)) in
       let flag = subst (λ n. slice_get h.filled n ≡ Some 0) (sym typed.counts) (slice_get-end g.filled 0) in
@@ -288,7 +299,7 @@ module _ (p : Source) (g : Typing) (x : Exits) (bs : List InScope) (e : Environm
       let h = with_object g (new_type ts l) 0 in
       let handed : Operand = record { kind = kinds.NonNull; value = values.Thin (length w.objects) 0 } in
       subst (λ a. IsWell p (filled a (length w.objects) vs k e w)) (sym found)
-      (made_on owner l new ts (blanks_of vs) (Writing (writes_from (length w.objects) 0 vs) (Some handed)) k live owned (region_known g bs r variables) keyless (λ h. blank_cells g h ts vs are) objects_are opens
+      (made_on owner l new ts (blanks_of vs) (Writing (writes_from (length w.objects) 0 vs) (Some handed)) k live owned (region_owner g bs r variables) keyless (λ h. blank_cells g h ts vs are) objects_are opens
       (λ grows there none. (
         t,
         r,
@@ -316,14 +327,14 @@ module _ (p : Source) (g : Typing) (x : Exits) (bs : List InScope) (e : Environm
 
   pub begin_array : (owner : Owner) (count level : ℕ) (kind : Kind) (element : Expression) (k : List Entry) (c : Context) (t : Ty) (r : Region') (f : flow.State) → AreOpen w.regions (ends_of k) → LiveIn k bs
       → IsContext p x bs c → Holds g f bs → IsThere bs r → IsOwner (lives_in bs r) owner
-      → Repeats p.reading x.relied c level kind element t f → IsStack p g x bs (Val (Value (Pointer marks.Fat (read bs t) (lives_in bs r))) f) k → IsWell p (step_beginning owner count level kind element k e w)
+      → Repeats p.reading (relied_at x.relied k) c level kind element t f → IsStack p g x bs (Val (Value (Pointer marks.Fat (read bs t) (lives_in bs r))) f) k → IsWell p (step_beginning owner count level kind element k e w)
   begin_array owner count level kind element k c t r f all_open live stands holds alive owned repeats stack =
       let l = lives_in bs r in
       let (new, found, objects_are, opens) = created_there owner (blanks count kind) l owned (open_life r k all_open live alive) in
       let ts = repeated count (read bs t) in
       let h = with_object g (new_type ts l) 0 in
       subst (λ a. IsWell p (begun a (length w.objects) count level kind element k e w)) (sym found)
-      (made_on owner l new ts (blanks count kind) (Repeating (length w.objects) count 0 level kind element) k live owned (region_known g bs r variables) (keyless_repeated count (read bs t) (plain_keyless (lives_in bs) t repeats.plain))
+      (made_on owner l new ts (blanks count kind) (Repeating (length w.objects) count 0 level kind element) k live owned (region_owner g bs r variables) (keyless_repeated count (read bs t) (plain_keyless (lives_in bs) t repeats.plain))
       (λ h. blanks_typed h count kind (read bs t) (repeats.kind_is ∙ sym (kind_read (lives_in bs) t))) objects_are opens
       (λ grows there none. (
         c,
@@ -350,7 +361,7 @@ module _ (p : Source) (g : Typing) (x : Exits) (bs : List InScope) (e : Environm
       (y, there, shown, subst (λ m. Outlasts m l) (sym life) (alike l), part_at g w typed object y t i there (cells i less) (subst (λ m. IsOpenLife w.regions m) (sym life) opens) some)
 
   pub repeat_on : (object count index level : ℕ) (kind : Kind) (element : Expression) (k : List Entry) (c : Context) (t : Ty) (r : Region') (f : flow.State) → AreOpen w.regions (ends_of k) → LiveIn k bs → IsContext p x bs c
-      → Holds g f bs → IsThere bs r → Repeats p.reading x.relied c level kind element t f → IsArray g (read bs t) (lives_in bs r) object count index → IsStack p g x bs (Val (Value (Pointer marks.Fat (read bs t) (lives_in bs r))) f) k
+      → Holds g f bs → IsThere bs r → Repeats p.reading (relied_at x.relied k) c level kind element t f → IsArray g (read bs t) (lives_in bs r) object count index → IsStack p g x bs (Val (Value (Pointer marks.Fat (read bs t) (lives_in bs r))) f) k
       → IsWell p (step_repeating object count index level kind element k e w)
   repeat_on object count index level kind element k c t r f all_open live stands holds alive repeats array stack = go (index == count) refl
     where
@@ -387,7 +398,7 @@ module _ (p : Source) (g : Typing) (x : Exits) (bs : List InScope) (e : Environm
           )
 
   pub array_on : (owner : Owner) (level : ℕ) (kind : Kind) (element : Expression) (v : values.Value) (k : List Entry) (c : Context) (t : Ty) (r : Region') (f : flow.State) → LiveIn k bs → IsContext p x bs c → Holds g f bs → IsThere bs r
-      → IsOwner (lives_in bs r) owner → Repeats p.reading x.relied c level kind element t f → HasType g Int v → IsStack p g x bs (Val (Value (Pointer marks.Fat (read bs t) (lives_in bs r))) f) k → IsWell p (makes_array owner level kind element v k e w)
+      → IsOwner (lives_in bs r) owner → Repeats p.reading (relied_at x.relied k) c level kind element t f → HasType g Int v → IsStack p g x bs (Val (Value (Pointer marks.Fat (read bs t) (lives_in bs r))) f) k → IsWell p (makes_array owner level kind element v k e w)
   array_on owner level kind element (values.Int count) k c t r f live stands holds alive owned repeats is stack = go (nat_le (count * values.words_of_kind kind) most_words)
     where
       go : (b : Bool) → IsWell p (if b then Running (Beginning owner count level kind element) k e w else Running (Throwing array_size 0) k e w)
@@ -397,7 +408,7 @@ module _ (p : Source) (g : Typing) (x : Exits) (bs : List InScope) (e : Environm
 
   -- the next element gets its value, and the counter is out of scope
   pub fill_on : (object count index level : ℕ) (kind : Kind) (element : Expression) (v : Operand) (k : List Entry) (c : Context) (t : Ty) (r : Region') (f h : flow.State) → AreOpen w.regions (ends_of k) → LiveIn k bs → IsThere bs r
-      → IsContext p x bs c → Holds g h bs → Repeats p.reading x.relied c level kind element t f → Implies h f → index < count → IsArray g (read bs t) (lives_in bs r) object count index → IsResult g (Value (read bs t)) v
+      → IsContext p x bs c → Holds g h bs → Repeats p.reading (relied_at x.relied k) c level kind element t f → Implies h f → index < count → IsArray g (read bs t) (lives_in bs r) object count index → IsResult g (Value (read bs t)) v
       → IsStack p g x bs (Val (Value (Pointer marks.Fat (read bs t) (lives_in bs r))) f) k
       → IsWell p (fills_element object count index level kind element v k e w)
   fill_on object count index level kind element v k c t r f h all_open live alive stands holds repeats back less (y, there, shown, life, cells, (m, flag, enough), few) is stack =
@@ -479,7 +490,7 @@ module _ (p : Source) (g : Typing) (x : Exits) (bs : List InScope) (e : Environm
       (makes_these owner (read bs t ∷ []) (v ∷ []) (read bs t) r k f all_open live holds alive owned (plain_keyless (lives_in bs) t plain, tt) (is, tt) (whole_of g (lives_in bs r) (read bs t) v.value is.1) stack)
 
   pub fields_on : (k : List Entry) (owner : Owner) (before : List Operand) (done : List RunTy) (as' : Arguments) (ts : List Ty) (c : Context) (n : ℕ) (ls : List Life) (r : Region') (f h : flow.State) (q : List ℕ)
-      → AreOpen w.regions (ends_of k) → LiveIn k bs → IsContext p x bs c → Holds g f bs → IsThere bs r → IsOwner (lives_in bs r) owner → ArePassed c ts as' → Derives (rule_arguments q as' f) h → InArguments p.reading x.relied as' → AreOperands g done before
+      → AreOpen w.regions (ends_of k) → LiveIn k bs → IsContext p x bs c → Holds g f bs → IsThere bs r → IsOwner (lives_in bs r) owner → ArePassed c ts as' → Derives (rule_arguments q as' f) h → InArguments p.reading (relied_at x.relied k) as' → AreOperands g done before
       → AreClaimed g.own (operands_in k) done → AreFields p n ls (turned done (map (read bs) ts)) → IsStack p g x bs (Val (Value (Pointer marks.NonNull (Struct n ls) (lives_in bs r))) h) k → IsWell p (makes_fields owner before as' k e w)
   fields_on k owner before done NoArguments [] c n ls r f h q all_open live stands holds alive owned passed (u, same) kept operands claims (s, at, count, fields, keyless) stack =
       makes_these owner (turned done []) (reverse before) (Struct n ls) r k h all_open live (subst (λ z. Holds g z bs) (sym same) holds) alive owned keyless (operands_reversed g done before operands)
@@ -513,7 +524,7 @@ module _ (p : Source) (g : Typing) (x : Exits) (bs : List InScope) (e : Environm
       )
 
   pub makes_on : (i : Initial) (owner : Owner) (k : List Entry) (c : Context) (m : PointerKind) (t : Ty) (r : Region') (f h : flow.State) (q : List ℕ) → AreOpen w.regions (ends_of k) → LiveIn k bs → IsContext p x bs c → Holds g f bs → IsThere bs r
-      → IsOwner (lives_in bs r) owner → IsMade c i m t → Derives (rule_initial q i f) h → InInitial p.reading x.relied i → IsStack p g x bs (Val (Value (Pointer m (read bs t) (lives_in bs r))) h) k → IsWell p (makes owner i k e w)
+      → IsOwner (lives_in bs r) owner → IsMade c i m t → Derives (rule_initial q i f) h → InInitial p.reading (relied_at x.relied k) i → IsStack p g x bs (Val (Value (Pointer m (read bs t) (lives_in bs r))) h) k → IsWell p (makes owner i k e w)
   makes_on (Plain kind a) owner k c m t r f h q all_open live stands holds alive owned (well, keyless, kind_is, mark) flows kept stack =
       running p g x bs e w typed globals bound variables (Evaluating a) (Needs (MakePlain owner kind) ∷ k) live (
         c,
@@ -538,14 +549,14 @@ module _ (p : Source) (g : Typing) (x : Exits) (bs : List InScope) (e : Environm
       let enough : length ls ≡ s.parameters = mapped_count (lives_in bs) rs ∙ count in
       let means = fields_mean p x bs c stands rs s count (λ field u found. globals.fields n s there field u found) in
       let keyless : AreKeyless (map (read bs) (map (substituted_ty rs) s.fields)) = elim (lends_or_not p.reading) [
-        | inl lends ↦ subst (λ us. AreKeyless us) (sym means) (plain_each (lives_among ls) s.fields (globals.plain lends n s there))
-        | inr never ↦ all_unkept g (lives_in bs) (map (substituted_ty rs) s.fields) (λ m among. never (globals.keys m among)) (λ r. region_known g bs r variables)
+        | inl lends ↦ subst (λ us. AreKeyless us) (sym means) (plain_each (lives_among (frees_of p.reading) ls) s.fields (globals.plain lends n s there))
+        | inr never ↦ all_unkept g (lives_in bs) (map (substituted_ty rs) s.fields) (λ m among. never (globals.keys m among)) (λ r. region_owner g bs r variables)
       ] in
       fields_on k owner [] [] as' (map (substituted_ty rs) s.fields) c n ls r f h q all_open live stands holds alive owned passed flows kept tt tt
       (s, there, enough, means, keyless)
       (subst (λ z. IsStack p g x bs (Val (Value (Pointer z (Struct n ls) (lives_in bs r))) h) k) mark (subst (λ z. IsStack p g x bs (Val (Value (Pointer m (read bs z) (lives_in bs r))) h) k) t_is stack))
   makes_on (Array place level count kind element) owner k c m t r f h q all_open live stands holds alive owned (level_is, well, each, keyless, kind_is, mark) (f1, d, (f2, de, (demands, known))) (kn, ke) stack =
-      let repeats : Repeats p.reading x.relied c level kind element t f1 = record {
+      let repeats : Repeats p.reading (relied_at x.relied k) c level kind element t f1 = record {
         now = f2;
         level_is = level_is;
         kind_is = kind_is;

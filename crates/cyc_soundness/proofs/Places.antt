@@ -20,6 +20,7 @@ use Rattle.cyc_types.specs.typing.Tests as tests
 use Rattle.cyc_types.specs.typing.Expressions.{assigned_type}
 use Rattle.cyc_types.specs.typing.WellTyped.{Context, IsLive, IsCell, Converts, PointerOperation, adds, subtracts, equals, differs, thin_null, thin_there, fat_null, fat_there, null_is, null_is_not}
 use Rattle.cyc_types.specs.flow.States as flow
+use Rattle.cyc_types.specs.flow.States.{is_reached}
 use Rattle.cyc_types.specs.flow.Expressions.{and_peeked, peek_of, rule_place}
 use Rattle.cyc_meaning.specs.Values.{Operand, Cell, is_kind, are_kinds, is_thin, kinds_of}
 use Rattle.cyc_meaning.specs.Values as values
@@ -35,14 +36,15 @@ use Rattle.cyc_soundness.specs.Lives.{Life, RunTy, RunValue, Value, Lives, at, v
 use Rattle.cyc_soundness.specs.Lives as lives
 use Rattle.cyc_soundness.specs.Worlds.{ObjectType, Typing, IsFilled, IsPart, IsTarget, HasType, IsResult, Fits, AreCells, IsObject, IsTyped}
 use Rattle.cyc_soundness.specs.Frames.{InScope, IsBound, AreVariables, LiveIn, lives_among, Holds, Exits, IsContext, KnowsProgram, lives_in, read, read_value, IsThere}
-use Rattle.cyc_soundness.specs.Classes.{InPlace, Source}
-use Rattle.cyc_soundness.specs.Stacks.{Evaluates, Val, PlaceOf, null, WaitsPlace, of_cell, KeepsPlace, IsStack, IsFocus, IsWell}
+use Rattle.cyc_soundness.specs.Classes.{and_looked, InExpression, InPlace, Source, frees_of}
+use Rattle.cyc_soundness.specs.Stacks.{Evaluates, relied_at, Val, PlaceOf, null, WaitsPlace, of_cell, KeepsPlace, IsStack, IsFocus, IsWell}
 use Rattle.cyc_soundness.specs.Stacks as stacks
 use Rattle.cyc_soundness.proofs.Numbers.{some_same, inside, mapped, both}
 use Rattle.cyc_soundness.proofs.TypeLemmas.{target_typed, is_kind_same, mark_kinds, kind_meant}
 use Rattle.cyc_soundness.proofs.WorldLemmas.{holds_grown, result_grown, typed_cell}
 use Rattle.cyc_soundness.proofs.StackLemmas.{stack_grown, IsPresent, there_present}
 use Rattle.cyc_soundness.proofs.RegionLemmas.{agrees_of, there_of, mapped_count, field_means}
+use Rattle.cyc_soundness.proofs.Looking.{looked_expression, peeked_so}
 use Rattle.cyc_soundness.proofs.Swapping.{finds_right_on, both_on}
 use Rattle.cyc_soundness.specs.Worlds.{Hand, ClaimsBy, IsKeyless}
 use Rattle.cyc_soundness.proofs.Cells.{keyless_claims, running, part_at, life_of, target_live, reads_target, writes_target}
@@ -208,7 +210,7 @@ module _ (p : Source) (g : Typing) (x : Exits) (bs : List InScope) (e : Environm
 
   -- ---- a place is found
 
-  pub locate : (d : Dereference) (k : List Entry) (c : Context) (t : Ty) (f h : flow.State) (q : List ℕ) (r : Named) → LiveIn k bs → IsContext p x bs c → Holds g f bs → IsCell c d t r → Derives (rule_place q d f) h → InPlace p.reading x.relied d
+  pub locate : (d : Dereference) (k : List Entry) (c : Context) (t : Ty) (f h : flow.State) (q : List ℕ) (r : Named) → LiveIn k bs → IsContext p x bs c → Holds g f bs → IsCell c d t r → Derives (rule_place q d f) h → InPlace p.reading (relied_at x.relied k) d
       → IsStack p g x bs (PlaceOf (read bs t) (lives_in bs r) h) k → IsWell p (step_locating p.program d k e w)
   locate (Target pk a u) k c t f h q r live stands holds (m, well, alive, kind, same) flows kept stack =
       on (Evaluating a) (Needs (Follow pk (target_of u)) ∷ k) live (
@@ -263,7 +265,12 @@ module _ (p : Source) (g : Typing) (x : Exits) (bs : List InScope) (e : Environm
           [],
           bs,
           PlaceOf (read bs u) (lives_in bs r) h,
-          stacks.indexes c u r f1 h stands (record { waiting = and_peeked (peek_of a) q; typed = inl index; flows = di; kept = ki }) refl (there_of p x bs c stands r alive),
+          stacks.indexes c u r f1 h stands (λ reached. record {
+            waiting = and_peeked (peek_of a) q;
+            typed = inl index;
+            flows = di;
+            kept = subst (λ o. InExpression p.reading (and_looked o (relied_at x.relied k)) i) (sym (peeked_so (Element a i u))) (looked_expression p.reading (relied_at x.relied k) (peek_of a) i q f1 h reached di ki);
+          }) refl (there_of p x bs c stands r alive),
           tt,
           subst (λ z. IsStack p g x bs (PlaceOf (read bs z) (lives_in bs r) h) k) same stack,
         ),
@@ -294,15 +301,15 @@ module _ (p : Source) (g : Typing) (x : Exits) (bs : List InScope) (e : Environm
 
   -- the field of an object that is a struct
   field_found : (n : ℕ) (ls : List Life) (s : StructType) (t : Ty) (u : RunTy) (l : Life) (field object offset : ℕ) (k : List Entry) (f : flow.State) → AreOpen w.regions (ends_of k) → LiveIn k bs → IsPresent g (ends_of k) l → Holds g f bs
-      → slice_get p.program.structs n ≡ Some s → slice_get s.fields field ≡ Some t → (length ls ≡ s.parameters → at (lives_among ls) t ≡ u) → IsTarget g (lives.Struct n ls) l object offset
+      → slice_get p.program.structs n ≡ Some s → slice_get s.fields field ≡ Some t → (length ls ≡ s.parameters → at (lives_among (frees_of p.reading) ls) t ≡ u) → IsTarget g (lives.Struct n ls) l object offset
       → IsStack p g x bs (PlaceOf u l f) k → IsWell p (arrives (member_of w (At object offset) (map values.kind_of s.fields) field) k e w)
   field_found n ls s t u l field object offset k f opens live lasting holds struct there means (y, at', shown, outlasts, (first, fields, (m, flag, full))) stack =
       let (z, count, stands, filled, is) = typed.each object y at' in
       let enough : length ls ≡ s.parameters = globals.counts n s ls y.cells struct fields in
-      let ts : List RunTy = map (at (lives_among ls)) s.fields in
+      let ts : List RunTy = map (at (lives_among (frees_of p.reading) ls)) s.fields in
       let cells : y.cells ≡ ts = some_same y.cells ts (sym fields ∙ globals.structs n s ls struct enough) in
-      let alike : are_kinds (kinds_of z.cells) (map values.kind_of s.fields) ≡ true = kinds_typed (lives_among ls) g s.fields z.cells count (subst (λ ts. AreCells g ts z.cells count) cells is.cells) in
-      let found : slice_get y.cells field ≡ Some u = ap (λ us. slice_get us field) cells ∙ mapped (at (lives_among ls)) s.fields field t there ∙ ap (λ z. Some z) (means enough) in
+      let alike : are_kinds (kinds_of z.cells) (map values.kind_of s.fields) ≡ true = kinds_typed (lives_among (frees_of p.reading) ls) g s.fields z.cells count (subst (λ ts. AreCells g ts z.cells count) cells is.cells) in
+      let found : slice_get y.cells field ≡ Some u = ap (λ us. slice_get us field) cells ∙ mapped (at (lives_among (frees_of p.reading) ls)) s.fields field t there ∙ ap (λ z. Some z) (means enough) in
       let within : field < length y.cells = inside y.cells field u found in
       let some : IsFilled g object (suc field) = (m, flag, (let le : suc field ≤ m = omega (arith, within, full) in le)) in
       let open' = life_of g w typed k object y l at' opens outlasts lasting in
@@ -312,7 +319,7 @@ module _ (p : Source) (g : Typing) (x : Exits) (bs : List InScope) (e : Environm
       (on (GivenPlace (values.Thin object field)) k live (u, l, f, holds, (y, at', shown, outlasts, part_at g w typed object y u field at' found open' some), stack)))
 
   members : (m : PointerKind) (n : ℕ) (ls : List Life) (s : StructType) (t : Ty) (u : RunTy) (l : Life) (field : ℕ) (v : values.Value) (k : List Entry) (f : flow.State) → AreOpen w.regions (ends_of k) → LiveIn k bs
-      → IsPresent g (ends_of k) l → Holds g f bs → slice_get p.program.structs n ≡ Some s → slice_get s.fields field ≡ Some t → (length ls ≡ s.parameters → at (lives_among ls) t ≡ u)
+      → IsPresent g (ends_of k) l → Holds g f bs → slice_get p.program.structs n ≡ Some s → slice_get s.fields field ≡ Some t → (length ls ≡ s.parameters → at (lives_among (frees_of p.reading) ls) t ≡ u)
       → HasType g (lives.Pointer m (lives.Struct n ls) l) v → IsStack p g x bs (PlaceOf u l f) k → IsWell p (arrives (member_of w (followed v) (map values.kind_of s.fields) field) k e w)
   members marks.Nullable n ls s t u l field values.Null k f opens live lasting holds struct there means has stack = on (Throwing null_exception 0) k live (PlaceOf u l f, stack)
   members marks.Nullable n ls s t u l field (values.Thin object offset) k f opens live lasting holds struct there means has stack =
@@ -329,7 +336,7 @@ module _ (p : Source) (g : Typing) (x : Exits) (bs : List InScope) (e : Environm
 
   pub member_on : (m : PointerKind) (pk : Kind) (fields : List Kind) (n : ℕ) (ls : List Life) (s : StructType) (t : Ty) (u : RunTy) (l : Life) (field : ℕ) (v : Operand) (k : List Entry) (f : flow.State) → AreOpen w.regions (ends_of k)
       → LiveIn k bs → IsPresent g (ends_of k) l → Holds g f bs → pk ≡ tests.kind_of_mark m → fields ≡ map values.kind_of s.fields → slice_get p.program.structs n ≡ Some s → slice_get s.fields field ≡ Some t
-      → (length ls ≡ s.parameters → at (lives_among ls) t ≡ u) → IsResult g (Value (lives.Pointer m (lives.Struct n ls) l)) v → IsStack p g x bs (PlaceOf u l f) k → IsWell p (follows_member pk fields field v k e w)
+      → (length ls ≡ s.parameters → at (lives_among (frees_of p.reading) ls) t ≡ u) → IsResult g (Value (lives.Pointer m (lives.Struct n ls) l)) v → IsStack p g x bs (PlaceOf u l f) k → IsWell p (follows_member pk fields field v k e w)
   member_on m pk fields n ls s t u l field v k f opens live lasting holds kind fields_are struct there means is stack =
       subst (λ ks. IsWell p (follows_member pk ks field v k e w)) (sym fields_are)
       (subst (λ (b : Bool). IsWell p (if b then arrives (member_of w (followed v.value) (map values.kind_of s.fields) field) k e w else wrong w)) (sym (is_kind_same v.kind pk (is.0 ∙ mark_kinds m ∙ sym kind)))
@@ -337,12 +344,12 @@ module _ (p : Source) (g : Typing) (x : Exits) (bs : List InScope) (e : Environm
 
   -- ---- elements
 
-  pub index_on : (peek : Option ℕ) (target : Option Kind) (index : Expression) (c : Context) (t : Ty) (r : Named) (base : Operand) (k : List Entry) (f h : flow.State) → LiveIn k bs → Holds g f bs → IsContext p x bs c → Evaluates p.reading x.relied c index f (types.Value types.Int) h
+  pub index_on : (peek : Option ℕ) (target : Option Kind) (index : Expression) (c : Context) (t : Ty) (r : Named) (base : Operand) (k : List Entry) (f h : flow.State) → LiveIn k bs → Holds g f bs → IsContext p x bs c → (is_reached f ≡ true → Evaluates p.reading (and_looked peek (relied_at x.relied k)) c index f (types.Value types.Int) h)
       → target ≡ target_of t → IsThere bs r → IsResult g (Value (lives.Pointer marks.Fat (read bs t) (lives_in bs r))) base → IsStack p g x bs (PlaceOf (read bs t) (lives_in bs r) h) k → IsWell p (indexes peek target index base k e w)
   index_on peek target index c t r base k f h live holds stands evaluates same alive is stack =
       subst (λ (b : Bool). IsWell p (if b then Running (Evaluating index) (Needs (Advance peek target base) ∷ k) e w else wrong w)) (sym (is_kind_same base.kind kinds.Fat is.0))
       (on (Evaluating index) (Needs (Advance peek target base) ∷ k) live
-      (c, types.Value types.Int, f, h, stands, holds, evaluates, (lives.Pointer marks.Fat (read bs t) (lives_in bs r) ∷ [], bs, PlaceOf (read bs t) (lives_in bs r) h, stacks.advances t r h same alive, ((is, tt), (tt, tt)), stack)))
+      (c, types.Value types.Int, f, h, stands, holds, evaluates holds.0, (lives.Pointer marks.Fat (read bs t) (lives_in bs r) ∷ [], bs, PlaceOf (read bs t) (lives_in bs r) h, stacks.advances t r h same alive, ((is, tt), (tt, tt)), stack)))
 
   pub advance_on : (t : Ty) (r : Named) (target : Option Kind) (base index : Operand) (k : List Entry) (f : flow.State) → LiveIn k bs → Holds g f bs → target ≡ target_of t → IsThere bs r → IsResult g (Value (lives.Pointer marks.Fat (read bs t) (lives_in bs r))) base → IsResult g (Value lives.Int) index
       → IsStack p g x bs (PlaceOf (read bs t) (lives_in bs r) f) k → IsWell p (advances target base index k e w)
@@ -357,10 +364,11 @@ module _ (p : Source) (g : Typing) (x : Exits) (bs : List InScope) (e : Environm
   -- ---- what waits for a place
 
   pub place_given : {a : AwaitingPlace} {t : RunTy} {l : Life} {f : flow.State} {next : stacks.Want} (place : values.Value) (k : List Entry) → AreOpen w.regions (ends_of k) → LiveIn k bs → Holds g f bs → HasType g (lives.Pointer marks.NonNull t l) place
-      → WaitsPlace p x bs a t l f next → KeepsPlace p g bs a t f → IsStack p g x bs next k → IsWell p (placed a place k e w)
+      → WaitsPlace p x (relied_at x.relied k) bs a t l f next → KeepsPlace p g bs a t f → IsStack p g x bs next k → IsWell p (placed a place k e w)
   place_given (values.Thin object offset) k opens live holds has (stacks.loads_from {kind} t r f alive plain same) keeps stack = reads_target p g x bs e w typed globals bound variables k kind object offset (lives_in bs) t (lives_in bs r) f opens live (there_present g (ends_of k) bs r live.0 variables alive) holds has plain (kind_meant (lives_in bs) t ∙ sym same) stack
   place_given place k opens live holds has (stacks.takes_address t l f) keeps stack = on (Given (record { kind = kinds.NonNull; value = place })) k live (Value (lives.Pointer marks.NonNull t l), f, holds, (refl, has), tt, stack)
-  place_given place k opens live holds has (stacks.stores_to {peek} {from} {to} {a} c v t r f h alive stands evaluates conv from_is to_is) keeps stack =
+  place_given place k opens live holds has (stacks.stores_to {peek} {from} {to} {a} c v t r f h alive stands later conv from_is to_is) keeps stack =
+      let evaluates = later holds.0 in
       on (Evaluating a) (Needs (ConvertTo from to (target_by a)) ∷ Needs (StoreCell peek place) ∷ k) live (
         c,
         v,
@@ -378,7 +386,8 @@ module _ (p : Source) (g : Typing) (x : Exits) (bs : List InScope) (e : Environm
           (lives.Pointer marks.NonNull (read bs t) (lives_in bs r) ∷ [], bs, Val (read_value bs (assigned_type t)) h, stacks.stores_cell t r h alive, (((refl, has), tt), (tt, tt)), stack),
         ),
       )
-  place_given place k opens live holds has (stacks.swaps_left {kind} {peek} {right} c t r f h alive stands kind_is plain finds) keeps stack =
+  place_given place k opens live holds has (stacks.swaps_left {kind} {peek} {right} c t r f h alive stands kind_is plain later) keeps stack =
+      let finds = later holds.0 in
       finds_right_on p g x bs e w typed globals bound variables kind peek true place right c t k f h finds.waiting live stands holds kind_is plain (λ i. of_cell place r alive has) finds.typed finds.flows finds.used finds.kept stack
   place_given place k opens live holds has (stacks.swaps_right {kind} {peek} {is_cell} {left} t r f alive kind_is) (u, same, plain, spot) stack =
       both_on p g x bs e w typed globals bound variables kind left place u k f live holds (kind_is ∙ sym (kind_meant (lives_in bs) t) ∙ ap kind_at same ∙ kind_meant (lives_in bs) u) plain spot

@@ -13,11 +13,11 @@ use Rattle.cyc_types.specs.TypedTrees.{Dereference, Target, Member, Element, Str
 use Rattle.cyc_types.specs.Types.{Ty, ValueType, result_type, substituted_ty}
 use Rattle.cyc_types.specs.Types as types
 use Rattle.cyc_types.specs.typing.Scopes.{with_scope}
-use Rattle.cyc_types.specs.typing.WellTyped.{LocalInScope, Context, IsLive, AreLive, AreOutliving, IsCell, body_context, parameters_in_scope, IsNamed, AreNamed as AreNamedRegions, IsNamedIn, AreNamedIn, IsNamedResult, AreConstraints, IsWellTypedFunction, in_block, with_local, with_region, with_opened, with_key_opened}
-use Rattle.cyc_soundness.specs.Lives.{Life, OfRegion, OfObject, Never, Kept, Lives, at, value_at, heap_life, lives_of, as_heap, Reading, AsHeap, ByScope, AllOf, AllIn, AllInValue, IsKnown, IsOther}
-use Rattle.cyc_soundness.specs.Worlds.{Typing, IsKnownLife, IsOpenIn, lent_now, Outlasts, heap as for_ever, stays, encloses, whole, behind, AgreesWith, IsNumber}
-use Rattle.cyc_soundness.specs.Classes.{HasLoans, IsDeclarable, Source}
-use Rattle.cyc_soundness.specs.Frames.{later, InScope, Variable, Level, Names, Instance, Home, life_named, is_live_named, lives_in, read, read_value, home_of, AreVariables, lives_among, IsThereBy, IsThere, IsHomed, IsScope, IsLasting, IsLiveIn, AreLiveIn, Exits, AreNamed, StandBy, Stand, IsHome, AreKnownLocals, AreKnown, IsContext}
+use Rattle.cyc_types.specs.typing.WellTyped.{LocalInScope, Context, IsLive, AreLive, AreOutliving, IsCell, body_context, parameters_in_scope, IsNamed, AreNamed as AreNamedRegions, IsNamedIn, AreNamedIn, IsNamedResult, AreConstraints, IsWellTypedFunction, in_block, with_local, with_region, with_opened, with_key_opened, AreNotUnique}
+use Rattle.cyc_soundness.specs.Lives.{Life, OfRegion, OfObject, Never, Kept, Lives, at, value_at, heap_life, lives_of, as_heap, Reading, AsHeap, ByScope, AllOf, AllIn, AllInValue, IsKnown, IsOther, owned_life, Owned}
+use Rattle.cyc_soundness.specs.Worlds.{Typing, IsKnownLife, IsOpenIn, lent_now, Outlasts, heap as for_ever, stays, encloses, whole, behind, AgreesWith, IsNumber, IsKnownOwner}
+use Rattle.cyc_soundness.specs.Classes.{HasLoans, IsDeclarable, Source, frees_of}
+use Rattle.cyc_soundness.specs.Frames.{later, InScope, Variable, Level, Names, Instance, Home, life_named, is_live_named, lives_in, read, read_value, home_of, AreVariables, lives_among, IsThereBy, IsThere, IsHomed, IsScope, IsLasting, IsLiveIn, AreLiveIn, Exits, AreNamed, StandBy, Stand, IsHome, AreKnownLocals, AreKnown, IsContext, frees_in}
 use Rattle.cyc_soundness.specs.Stacks.{IsNew, regions_at_call, IsInstance}
 use Rattle.cyc_soundness.proofs.TypeLemmas.{all_in, every_in, read_alike, value_alike, lives_by, instance_by, result_by}
 use Rattle.cyc_soundness.proofs.ValueLemmas.{given_agree}
@@ -41,12 +41,13 @@ lasting_more n ns (OfRegion m ms us) (inl heap) = inl heap
 lasting_more n ns (OfRegion m ms us) (inr end) = inr (behind n ns end)
 lasting_more n ns (OfObject o) is = is
 lasting_more n ns Never is = is
+lasting_more n ns Owned is = absurd is
 lasting_more n ns (Kept region) is = is
 
 one_more : (n : ℕ) (ns : List ℕ) (b : InScope) → IsLiveIn ns b → IsLiveIn (n ∷ ns) b
 one_more n ns (Variable b) is = lasting_more n ns b.life is
 one_more n ns (Names number l live) is = λ e. lasting_more n ns l (is e)
-one_more n ns (Instance these live) is = λ k e. lasting_more n ns (these k) (is k e)
+one_more n ns (Instance frees these live) is = λ k e. lasting_more n ns (these k) (is k e)
 one_more n ns b is = tt
 
 pub live_more : (n : ℕ) (ns : List ℕ) (bs : List InScope) → AreLiveIn ns bs → AreLiveIn (n ∷ ns) bs
@@ -63,7 +64,7 @@ named_lasting ns [] k are live = inl refl
 named_lasting ns (Variable b ∷ bs) k (is, are) live = named_lasting ns bs k are live
 named_lasting ns (Level l ∷ bs) k (is, are) live = named_lasting ns bs k are live
 named_lasting ns (Home region ∷ bs) k (is, are) live = named_lasting ns bs k are live
-named_lasting ns (Instance these lives ∷ bs) k (is, are) live = is k live
+named_lasting ns (Instance frees these lives ∷ bs) k (is, are) live = is k live
 named_lasting ns (Names number l alive ∷ bs) k (is, are) live = named_either (k == number) ns l (life_named bs k) alive (is_live_named bs k) is (λ e. named_lasting ns bs k are e) live
 
 named_both : (g : Typing) (b : Bool) (l m : Life) → IsKnownLife g l → IsKnownLife g m → IsKnownLife g (if b then l else m)
@@ -75,7 +76,7 @@ name_known g [] k are = tt
 name_known g (Variable b ∷ bs) k (is, are) = name_known g bs k are
 name_known g (Level l ∷ bs) k (is, are) = name_known g bs k are
 name_known g (Home region ∷ bs) k (is, are) = name_known g bs k are
-name_known g (Instance these lives ∷ bs) k (is, are) = (is k).0
+name_known g (Instance frees these lives ∷ bs) k (is, are) = (is k).0
 name_known g (Names number l alive ∷ bs) k (is, are) = named_both g (k == number) l (life_named bs k) is.0 (name_known g bs k are)
 
 open_either : (g : Typing) (b : Bool) (l m : Life) (first second : Bool) → (first ≡ true → IsOpenIn g l) → (second ≡ true → IsOpenIn g m) → (if b then first else second) ≡ true → IsOpenIn g (if b then l else m)
@@ -87,32 +88,54 @@ name_open g [] k are live = λ r e. absurd (let z : false ≡ true = e in cc)
 name_open g (Variable b ∷ bs) k (is, are) live = name_open g bs k are live
 name_open g (Level l ∷ bs) k (is, are) live = name_open g bs k are live
 name_open g (Home region ∷ bs) k (is, are) live = name_open g bs k are live
-name_open g (Instance these lives ∷ bs) k (is, are) live = (is k).1 live
+name_open g (Instance frees these lives ∷ bs) k (is, are) live = (is k).1 live
 name_open g (Names number l alive ∷ bs) k (is, are) live = open_either g (k == number) l (life_named bs k) alive (is_live_named bs k) is.1 (λ e. name_open g bs k are e) live
+
+owned_open : (g : Typing) (frees : Bool) → IsOpenIn g (owned_life frees)
+owned_open g true = tt
+owned_open g false = λ r e. absurd (let z : false ≡ true = e in cc)
 
 -- what a live region stands for is open
 pub there_open : (g : Typing) (bs : List InScope) (r : Region) → AreVariables g bs → IsThere bs r → IsOpenIn g (lives_in bs r)
 there_open g bs regions.Heap are there = λ r e. absurd (let z : false ≡ true = e in cc)
-there_open g bs regions.Unique are there = λ r e. absurd (let z : false ≡ true = e in cc)
+there_open g bs regions.Unique are there = owned_open g (frees_in bs)
 there_open g bs (regions.Variable n) are there = name_open g bs n are there
 
 -- what a region stands for is known
-pub region_known : (g : Typing) (bs : List InScope) (r : Region) → AreVariables g bs → IsKnownLife g (lives_in bs r)
-region_known g bs regions.Heap are = tt
-region_known g bs regions.Unique are = tt
-region_known g bs (regions.Variable n) are = name_known g bs n are
+pub region_known : (g : Typing) (bs : List InScope) (r : Region) → r ≢ regions.Unique → AreVariables g bs → IsKnownLife g (lives_in bs r)
+region_known g bs regions.Heap plain are = tt
+region_known g bs regions.Unique plain are = absurd (plain refl)
+region_known g bs (regions.Variable n) plain are = name_known g bs n are
+
+pub owner_known : (g : Typing) (l : Life) → IsKnownLife g l → IsKnownOwner g l
+owner_known g (OfRegion number ns us) is = tt
+owner_known g (OfObject object) is = tt
+owner_known g Never is = tt
+owner_known g (Kept region) is = is
+owner_known g Owned is = tt
+
+owned_known : (g : Typing) (frees : Bool) → IsKnownOwner g (owned_life frees)
+owned_known g true = tt
+owned_known g false = tt
+
+-- also of unique objects
+pub region_owner : (g : Typing) (bs : List InScope) (r : Region) → AreVariables g bs → IsKnownOwner g (lives_in bs r)
+region_owner g bs regions.Heap are = tt
+region_owner g bs regions.Unique are = owned_known g (frees_in bs)
+region_owner g bs (regions.Variable n) are = owner_known g (life_named bs n) (name_known g bs n are)
 
 -- what a live region stands for has not ended
-pub there_lasting : (ns : List ℕ) (bs : List InScope) (r : Region) → AreLiveIn ns bs → IsThere bs r → IsLasting ns (lives_in bs r)
-there_lasting ns bs regions.Heap are there = inl refl
-there_lasting ns bs regions.Unique are there = inl refl
-there_lasting ns bs (regions.Variable n) are there = named_lasting ns bs n are there
+pub there_lasting : (ns : List ℕ) (bs : List InScope) (r : Region) → AreLiveIn ns bs → r ≢ regions.Unique → IsThere bs r → IsLasting ns (lives_in bs r)
+there_lasting ns bs regions.Heap are plain there = inl refl
+there_lasting ns bs regions.Unique are plain there = absurd (plain refl)
+there_lasting ns bs (regions.Variable n) are plain there = named_lasting ns bs n are there
 
 pub lasts_around : (g : Typing) (ns : List ℕ) (n : ℕ) (l : Life) → IsLasting ns l → IsOpenIn g l → Outlasts l (OfRegion n ns (lent_now g))
 lasts_around g ns n (OfRegion m ms us) (inl heap) opens = subst (λ l. Outlasts l (OfRegion n ns (lent_now g))) (sym heap) (for_ever (OfRegion n ns (lent_now g)))
 lasts_around g ns n (OfRegion m ms us) (inr end) opens = encloses m n ms ns us (lent_now g) end opens
 lasts_around g ns n (OfObject o) is opens = absurd is
 lasts_around g ns n Never is opens = absurd is
+lasts_around g ns n Owned is opens = absurd is
 lasts_around g ns n (Kept region) is opens = stays region n ns (lent_now g) opens
 
 -- ---- names
@@ -157,14 +180,21 @@ at_opening live (s ∷ earlier) a b (inl (kind, same, plain, has)) =
 at_opening live (s ∷ earlier) a b (inr is) =
     let (one, two) = at_opening live earlier a b is in (contains_more s.region a (live_regions live earlier) one, contains_more s.region b (live_regions live earlier) two)
 
+-- where a scope opens, nothing else outlives what is unique
+opened_plain : (kind : ScopeKind) (number : ℕ) (c : RegionContext) → ((a : Region) → IsGiven c a regions.Unique → ⊥) → (a : Region) → IsGiven (with_scope kind (regions.Variable number) c) a regions.Unique → ⊥
+opened_plain kind number c plain a (inl (heap, other)) = other refl
+opened_plain kind number c plain a (inr (inl written)) = plain a (inr (inl written))
+opened_plain kind number c plain a (inr (inr (inl (outlived, new, other, has)))) = let e : regions.Unique ≡ regions.Variable number = new in absurd (cc)
+opened_plain kind number c plain a (inr (inr (inr old))) = plain a (inr (inr old))
+
 module _ (g : Typing) (kind : ScopeKind) (number region : ℕ) (ns : List ℕ) (c : RegionContext) (bs : List InScope) (variables : AreVariables g bs) (outlived : is_outlived_by_live kind ≡ true) (live : AreLiveIn ns bs)
     (others : (r : Region) → Contains (live_regions c.live c.opened) r → IsOther number r) (pairs : (a b : Region) → Contains c.written (a, b) → IsOther number a × IsOther number b) where
   abbrev inner : List InScope
   inner = Names number (OfRegion region ns (lent_now g)) true ∷ bs
 
-  opened_named : AreNamed c (λ n. life_named bs n) (λ n. is_live_named bs n)
-      → AreNamed (with_scope kind (regions.Variable number) c) (λ n. life_named inner n) (λ n. is_live_named inner n)
-  opened_named names = record { there = there; agrees = agrees }
+  opened_named : AreNamed c (frees_in bs) (λ n. life_named bs n) (λ n. is_live_named bs n)
+      → AreNamed (with_scope kind (regions.Variable number) c) (frees_in bs) (λ n. life_named inner n) (λ n. is_live_named inner n)
+  opened_named names = record { there = there; agrees = agrees; plain = opened_plain kind number c names.plain }
     where
       there : (r : Region) → Contains (regions.Variable number ∷ live_regions c.live c.opened) r → IsThere inner r
       there r has = elim (contains_later (regions.Variable number) r (live_regions c.live c.opened) has) [
@@ -184,7 +214,7 @@ module _ (g : Typing) (kind : ScopeKind) (number region : ℕ) (ns : List ℕ) (
           subst (λ z. Outlasts (lives_in inner a) (lives_in inner z)) (sym new)
           (subst (λ l. Outlasts (lives_in inner a) l) (sym (same_name number (OfRegion region ns (lent_now g)) (life_named bs number)))
           (subst (λ l. Outlasts l (OfRegion region ns (lent_now g))) (other_life number (OfRegion region ns (lent_now g)) true bs a (others a has))
-          (lasts_around g ns region (lives_in bs a) (there_lasting ns bs a live (names.there a has)) (there_open g bs a variables (names.there a has)))))
+          (lasts_around g ns region (lives_in bs a) (there_lasting ns bs a live plain (names.there a has)) (there_open g bs a variables (names.there a has)))))
       agrees a b (inr (inr (inr old))) =
           let (one, two) = at_opening c.live c.opened a b old in moved a b (others a one) (others b two) (names.agrees a b (inr (inr old)))
 
@@ -196,8 +226,8 @@ module _ (number : ℕ) (l : Life) (alive : Bool) (c : RegionContext) (bs : List
   abbrev named_too : List InScope
   named_too = Names number l alive ∷ bs
 
-  renamed : AreNamed c (λ n. life_named bs n) (λ n. is_live_named bs n) → AreNamed c (λ n. life_named named_too n) (λ n. is_live_named named_too n)
-  renamed names = record { there = λ r has. still r (others r has) (names.there r has); agrees = agrees }
+  renamed : AreNamed c (frees_in bs) (λ n. life_named bs n) (λ n. is_live_named bs n) → AreNamed c (frees_in bs) (λ n. life_named named_too n) (λ n. is_live_named named_too n)
+  renamed names = record { there = λ r has. still r (others r has) (names.there r has); agrees = agrees; plain = names.plain }
     where
       moved : (a b : Region) → Q a → Q b → Outlasts (lives_in bs a) (lives_in bs b) → Outlasts (lives_in named_too a) (lives_in named_too b)
       moved a b first second is = subst (λ k. Outlasts k (lives_in named_too b)) (same a first) (subst (λ k. Outlasts (lives_in bs a) k) (same b second) is)
@@ -208,9 +238,9 @@ module _ (number : ℕ) (l : Life) (alive : Bool) (c : RegionContext) (bs : List
       agrees a b (inr (inr old)) = let (one, two) = at_opening c.live c.opened a b old in moved a b (others a one) (others b two) (names.agrees a b (inr (inr old)))
 
 -- a scope whose region is older than itself
-also_opened : (kind : ScopeKind) (number : ℕ) (c : RegionContext) (these : ℕ → Life) (live : ℕ → Bool) → is_outlived_by_live kind ≡ false → live number ≡ true → AreNamed c these live
-    → AreNamed (with_scope kind (regions.Variable number) c) these live
-also_opened kind number c these live older alive names = record { there = there; agrees = agrees }
+also_opened : (kind : ScopeKind) (number : ℕ) (c : RegionContext) (frees : Bool) (these : ℕ → Life) (live : ℕ → Bool) → is_outlived_by_live kind ≡ false → live number ≡ true → AreNamed c frees these live
+    → AreNamed (with_scope kind (regions.Variable number) c) frees these live
+also_opened kind number c frees these live older alive names = record { there = there; agrees = agrees; plain = opened_plain kind number c names.plain }
   where
     there : (r : Region) → Contains (regions.Variable number ∷ live_regions c.live c.opened) r → IsThereBy live r
     there r has = elim (contains_later (regions.Variable number) r (live_regions c.live c.opened) has) [
@@ -218,7 +248,7 @@ also_opened kind number c these live older alive names = record { there = there;
       | inr old ↦ names.there r old
     ]
 
-    agrees : (a b : Region) → IsGiven (with_scope kind (regions.Variable number) c) a b → Outlasts (lives_of these a) (lives_of these b)
+    agrees : (a b : Region) → IsGiven (with_scope kind (regions.Variable number) c) a b → Outlasts (lives_of frees these a) (lives_of frees these b)
     agrees a b (inl heap) = names.agrees a b (inl heap)
     agrees a b (inr (inl written)) = names.agrees a b (inr (inl written))
     agrees a b (inr (inr (inl (outlived, new, plain, has)))) = absurd (let z : true ≡ false = sym outlived ∙ older in cc)
@@ -245,10 +275,10 @@ again_there number l bs (regions.Variable n) there = go (n == number)
 
 -- ---- the heap
 
-heap_lives : (these : ℕ → Life) (live : ℕ → Bool) → ((n : ℕ) → (these n ≡ heap_life) × (live n ≡ true)) → (r : Region) → lives_of these r ≡ heap_life
-heap_lives these live are regions.Heap = refl
-heap_lives these live are regions.Unique = refl
-heap_lives these live are (regions.Variable n) = (are n).0
+heap_lives : (frees : Bool) (these : ℕ → Life) (live : ℕ → Bool) → (frees ≡ false) × ((n : ℕ) → (these n ≡ heap_life) × (live n ≡ true)) → (r : Region) → lives_of frees these r ≡ heap_life
+heap_lives frees these live (none, are) regions.Heap = refl
+heap_lives frees these live (none, are) regions.Unique = ap owned_life none
+heap_lives frees these live (none, are) (regions.Variable n) = (are n).0
 
 heap_there : (these : ℕ → Life) (live : ℕ → Bool) → ((n : ℕ) → (these n ≡ heap_life) × (live n ≡ true)) → (r : Region) → IsThereBy live r
 heap_there these live are regions.Heap = tt
@@ -265,33 +295,33 @@ named_heap number these live are n = go (n == number)
 
 -- ---- in a context
 
-there_by : (m : Reading) (c : RegionContext) (these : ℕ → Life) (live : ℕ → Bool) → StandBy m c these live → (r : Region) → Contains (live_regions c.live c.opened) r → IsThereBy live r
-there_by AsHeap c these live are r has = heap_there these live are r
-there_by (ByScope lends) c these live are r has = are.there r has
+there_by : (m : Reading) (c : RegionContext) (freed : Bool) (these : ℕ → Life) (live : ℕ → Bool) → StandBy m c freed these live → (r : Region) → Contains (live_regions c.live c.opened) r → IsThereBy live r
+there_by AsHeap c freed these live are r has = heap_there these live are.1 r
+there_by (ByScope lends frees) c freed these live are r has = are.1.there r has
 
-pub agrees_by : (m : Reading) (c : RegionContext) (these : ℕ → Life) (live : ℕ → Bool) → StandBy m c these live → AgreesWith c (lives_of these)
-agrees_by AsHeap c these live are = λ a b outlives. subst (λ l. Outlasts l (lives_of these b)) (sym (heap_lives these live are a)) (for_ever (lives_of these b))
-agrees_by (ByScope lends) c these live are = given_agree c (lives_of these) are.agrees
+pub agrees_by : (m : Reading) (c : RegionContext) (freed : Bool) (these : ℕ → Life) (live : ℕ → Bool) → StandBy m c freed these live → AgreesWith c (lives_of freed these)
+agrees_by AsHeap c freed these live are = λ a b outlives. subst (λ l. Outlasts l (lives_of freed these b)) (sym (heap_lives freed these live are a)) (for_ever (lives_of freed these b))
+agrees_by (ByScope lends frees) c freed these live are = given_agree c (lives_of freed these) are.1.agrees
 
 -- ---- what is known of other regions
 
 -- other regions stand for the same; read as the heap, all do
 abbrev pub IsOtherBy : Reading → ℕ → Region → Type 0
 IsOtherBy AsHeap n r = Unit {0}
-IsOtherBy (ByScope lends) n r = IsOther n r
+IsOtherBy (ByScope lends frees) n r = IsOther n r
 
 -- the life of a region that is opened
 abbrev pub opened_life : Reading → (region : ℕ) → (around : List ℕ) → (lent : ℕ → Bool) → Life
 opened_life AsHeap region ns us = heap_life
-opened_life (ByScope lends) region ns us = OfRegion region ns us
+opened_life (ByScope lends frees) region ns us = OfRegion region ns us
 
 opened_same : (m : Reading) (number region : ℕ) (ns : List ℕ) (us : ℕ → Bool) (c : RegionContext) (bs : List InScope) → Stand m c bs → (r : Region) → IsOtherBy m number r
     → lives_in bs r ≡ lives_in (Names number (opened_life m region ns us) true ∷ bs) r
 opened_same AsHeap number region ns us c bs stand r other =
-    let before = heap_lives (λ n. life_named bs n) (λ n. is_live_named bs n) stand r in
-    let now = heap_lives (λ n. life_named (Names number heap_life true ∷ bs) n) (λ n. is_live_named (Names number heap_life true ∷ bs) n) (named_heap number (λ n. life_named bs n) (λ n. is_live_named bs n) stand) r in
+    let before = heap_lives (frees_in bs) (λ n. life_named bs n) (λ n. is_live_named bs n) stand r in
+    let now = heap_lives (frees_in bs) (λ n. life_named (Names number heap_life true ∷ bs) n) (λ n. is_live_named (Names number heap_life true ∷ bs) n) (stand.0, named_heap number (λ n. life_named bs n) (λ n. is_live_named bs n) stand.1) r in
     before ∙ sym now
-opened_same (ByScope lends) number region ns us c bs stand r other = other_life number (OfRegion region ns us) true bs r other
+opened_same (ByScope lends frees) number region ns us c bs stand r other = other_life number (OfRegion region ns us) true bs r other
 
 in_value : (P Q : Region → Type 0) → ((r : Region) → P r → Q r) → (v : ValueType) → AllInValue P v → AllInValue Q v
 in_value P Q so types.Void all = tt
@@ -305,7 +335,7 @@ every_value P so (types.Value t) = every_in P so t
 
 others_value : (m : Reading) (n : ℕ) (c : RegionContext) (vs : List LocalInScope) (result : Option Ty) → AreKnown m n c vs result → AllInValue (IsOtherBy m n) (result_type result)
 others_value AsHeap n c vs result known = every_value (λ r. Unit {0}) (λ r. tt) (result_type result)
-others_value (ByScope lends) n c vs result known = in_value (IsKnown n) (IsOther n) (known_other n) (result_type result) known.gives
+others_value (ByScope lends frees) n c vs result known = in_value (IsKnown n) (IsOther n) (known_other n) (result_type result) known.gives
 
 abbrev AreOthers : Reading → ℕ → List LocalInScope → Type 0
 AreOthers m n [] = Unit {0}
@@ -315,17 +345,17 @@ no_others : (n : ℕ) (vs : List LocalInScope) → AreOthers AsHeap n vs
 no_others n [] = tt
 no_others n (v ∷ vs) = ((every_in (λ r. Unit {0}) (λ r. tt) v.of_type, tt), no_others n vs)
 
-known_others : (lends : Bool) (n : ℕ) (vs : List LocalInScope) → AreKnownLocals n vs → AreOthers (ByScope lends) n vs
-known_others lends n [] known = tt
-known_others lends n (v ∷ vs) ((of_type, region), known) = ((all_in (IsKnown n) (IsOther n) (known_other n) v.of_type of_type, known_other n (regions.Variable v.region) region), known_others lends n vs known)
+known_others : (lends frees : Bool) (n : ℕ) (vs : List LocalInScope) → AreKnownLocals n vs → AreOthers (ByScope lends frees) n vs
+known_others lends frees n [] known = tt
+known_others lends frees n (v ∷ vs) ((of_type, region), known) = ((all_in (IsKnown n) (IsOther n) (known_other n) v.of_type of_type, known_other n (regions.Variable v.region) region), known_others lends frees n vs known)
 
 others_locals : (m : Reading) (n : ℕ) (c : RegionContext) (vs : List LocalInScope) (result : Option Ty) → AreKnown m n c vs result → AreOthers m n vs
 others_locals AsHeap n c vs result known = no_others n vs
-others_locals (ByScope lends) n c vs result known = known_others lends n vs known.locals
+others_locals (ByScope lends frees) n c vs result known = known_others lends frees n vs known.locals
 
 homed_kept : (m : Reading) (j k : Lives) (region : ℕ) (l : Life) → j (regions.Variable region) ≡ k (regions.Variable region) → IsHomed m j region l → IsHomed m k region l
 homed_kept AsHeap j k region l same is = tt
-homed_kept (ByScope lends) j k region l same is = is ∙ same
+homed_kept (ByScope lends frees) j k region l same is = is ∙ same
 
 -- a scope stays where all that it names stands for the same
 pub scope_kept : (m : Reading) (n : ℕ) (j k : Lives) (vs : List LocalInScope) (bs : List InScope) → ((r : Region) → IsOtherBy m n r → j r ≡ k r) → AreOthers m n vs → IsScope m j vs bs → IsScope m k vs bs
@@ -345,7 +375,7 @@ locals_more n m (v ∷ vs) most ((of_type, region), known) =
 
 pub known_behind : (m : Reading) (n k : ℕ) (c : RegionContext) (vs : List LocalInScope) (result : Option Ty) → n ≤ k → AreKnown m n c vs result → AreKnown m k c vs result
 known_behind AsHeap n k c vs result most known = tt
-known_behind (ByScope lends) n k c vs result most known = record {
+known_behind (ByScope lends frees) n k c vs result most known = record {
   live = λ r has. known_more n k r most (known.live r has);
   pairs = λ a b has. (known_more n k a most (known.pairs a b has).0, known_more n k b most (known.pairs a b has).1);
   locals = locals_more n k vs most known.locals;
@@ -355,7 +385,7 @@ known_behind (ByScope lends) n k c vs result most known = record {
 known_opened : (m : Reading) (n : ℕ) (kind : ScopeKind) (c : RegionContext) (vs : List LocalInScope) (result : Option Ty) → AreKnown m n c vs result
     → AreKnown m (suc n) (with_scope kind (regions.Variable n) c) vs result
 known_opened AsHeap n kind c vs result known = tt
-known_opened (ByScope lends) n kind c vs result known = record {
+known_opened (ByScope lends frees) n kind c vs result known = record {
   live = live;
   pairs = λ a b has. (known_more n (suc n) a most (known.pairs a b has).0, known_more n (suc n) b most (known.pairs a b has).1);
   locals = locals_more n (suc n) vs most known.locals;
@@ -374,7 +404,7 @@ known_opened (ByScope lends) n kind c vs result known = record {
 pub known_local : (m : Reading) (c : Context) (b : Bool) (t : Ty) → AreKnown m c.next_region c.regions c.locals c.result → IsNew m c t
     → AreKnown m c.next_region c.regions (with_local b t c).locals c.result
 known_local AsHeap c b t known new = tt
-known_local (ByScope lends) c b t known (declared, live) = record {
+known_local (ByScope lends frees) c b t known (declared, live) = record {
   live = known.live;
   pairs = known.pairs;
   locals = ((declared, known.live (regions.Variable c.region) live), known.locals);
@@ -386,34 +416,34 @@ known_local (ByScope lends) c b t known (declared, live) = record {
 pub stand_opened : (g : Typing) (m : Reading) (kind : ScopeKind) (number region : ℕ) (ns : List ℕ) (c : RegionContext) (bs : List InScope) → AreVariables g bs → is_outlived_by_live kind ≡ true → AreLiveIn ns bs
     → ((r : Region) → Contains (live_regions c.live c.opened) r → IsOtherBy m number r) → ((a b : Region) → Contains c.written (a, b) → IsOtherBy m number a × IsOtherBy m number b)
     → Stand m c bs → Stand m (with_scope kind (regions.Variable number) c) (Names number (opened_life m region ns (lent_now g)) true ∷ bs)
-stand_opened g AsHeap kind number region ns c bs variables outlived live others pairs stand = named_heap number (λ n. life_named bs n) (λ n. is_live_named bs n) stand
-stand_opened g (ByScope lends) kind number region ns c bs variables outlived live others pairs stand = opened_named g kind number region ns c bs variables outlived live others pairs stand
+stand_opened g AsHeap kind number region ns c bs variables outlived live others pairs stand = (stand.0, named_heap number (λ n. life_named bs n) (λ n. is_live_named bs n) stand.1)
+stand_opened g (ByScope lends frees) kind number region ns c bs variables outlived live others pairs (same, stand) = (same, opened_named g kind number region ns c bs variables outlived live others pairs stand)
 
 known_live : (m : Reading) (n : ℕ) (c : RegionContext) (vs : List LocalInScope) (result : Option Ty) → AreKnown m n c vs result → (r : Region) → Contains (live_regions c.live c.opened) r → IsOtherBy m n r
 known_live AsHeap n c vs result known r has = tt
-known_live (ByScope lends) n c vs result known r has = known_other n r (known.live r has)
+known_live (ByScope lends frees) n c vs result known r has = known_other n r (known.live r has)
 
 known_pairs : (m : Reading) (n : ℕ) (c : RegionContext) (vs : List LocalInScope) (result : Option Ty) → AreKnown m n c vs result → (a b : Region) → Contains c.written (a, b) → IsOtherBy m n a × IsOtherBy m n b
 known_pairs AsHeap n c vs result known a b has = (tt, tt)
-known_pairs (ByScope lends) n c vs result known a b has = (known_other n a (known.pairs a b has).0, known_other n b (known.pairs a b has).1)
+known_pairs (ByScope lends frees) n c vs result known a b has = (known_other n a (known.pairs a b has).0, known_other n b (known.pairs a b has).1)
 
 pub opened_lasting : (m : Reading) (region : ℕ) (ns : List ℕ) (us : ℕ → Bool) → IsLasting (region ∷ ns) (opened_life m region ns us)
 opened_lasting AsHeap region ns us = inl refl
-opened_lasting (ByScope lends) region ns us = inr whole
+opened_lasting (ByScope lends frees) region ns us = inr whole
 
 pub opened_known : (g : Typing) (m : Reading) (region : ℕ) (ns : List ℕ) → IsKnownLife g (opened_life m region ns (lent_now g)) × (true ≡ true → IsOpenIn g (opened_life m region ns (lent_now g)))
 opened_known g AsHeap region ns = (tt, λ e r is. absurd (let z : false ≡ true = is in cc))
-opened_known g (ByScope lends) region ns = (tt, λ e r is. is)
+opened_known g (ByScope lends frees) region ns = (tt, λ e r is. is)
 
 pub new_home : (m : Reading) (number region : ℕ) (ns : List ℕ) (us : ℕ → Bool) (bs : List InScope) → IsHome m number (Home region ∷ Names number (opened_life m region ns us) true ∷ bs)
 new_home AsHeap number region ns us bs = tt
-new_home (ByScope lends) number region ns us bs =
+new_home (ByScope lends frees) number region ns us bs =
     (subst (λ l. IsNumber l region) (sym (same_name number (OfRegion region ns us) (life_named bs number))) refl, same_name number true (is_live_named bs number))
 
 same_home : (m : Reading) (number region : ℕ) (ns : List ℕ) (us : ℕ → Bool) (c : Context) (bs : List InScope) → (AreKnown m c.next_region c.regions c.locals c.result) → number ≡ c.next_region → IsLive c (regions.Variable c.region)
     → IsHome m c.region bs → IsHome m c.region (Names number (opened_life m region ns us) true ∷ bs)
 same_home AsHeap number region ns us c bs known same live is = tt
-same_home (ByScope lends) number region ns us c bs known same live (at_home, there) =
+same_home (ByScope lends frees) number region ns us c bs known same live (at_home, there) =
     let less : c.region < c.next_region = known.live (regions.Variable c.region) live in
     let apart : c.region ≢ number = (λ e. (let k : c.region ≡ number = e in absurd (omega (arith, less, k, same)))) in (
       subst (λ l. IsNumber l (home_of bs)) (sym (other_name number c.region (OfRegion region ns us) (life_named bs c.region) apart)) at_home,
@@ -423,10 +453,10 @@ same_home (ByScope lends) number region ns us c bs known same live (at_home, the
 module _ (p : Source) (x : Exits) (bs : List InScope) (c : Context) (stands : IsContext p x bs c) where
   -- a live region has not ended
   pub there_of : (r : Region) → IsLive c r → IsThere bs r
-  there_of r live = there_by p.reading c.regions (λ n. life_named bs n) (λ n. is_live_named bs n) stands.regions r live
+  there_of r live = there_by p.reading c.regions (frees_in bs) (λ n. life_named bs n) (λ n. is_live_named bs n) stands.regions r live
 
   pub agrees_of : AgreesWith c.regions (lives_in bs)
-  agrees_of = agrees_by p.reading c.regions (λ n. life_named bs n) (λ n. is_live_named bs n) stands.regions
+  agrees_of = agrees_by p.reading c.regions (frees_in bs) (λ n. life_named bs n) (λ n. is_live_named bs n) stands.regions
 
   module _ (g : Typing) (variables : AreVariables g bs) (region : ℕ) (ns : List ℕ) (live : AreLiveIn ns bs) where
     abbrev here : List InScope
@@ -486,34 +516,34 @@ module _ (p : Source) (x : Exits) (bs : List InScope) (c : Context) (stands : Is
 -- the name of a new region
 name_same : (m : Reading) → HasLoans m → (number : ℕ) (l : Life) (alive : Bool) (bs : List InScope) (r : Region) → IsOtherBy m number r → lives_in bs r ≡ lives_in (Names number l alive ∷ bs) r
 name_same AsHeap loans number l alive bs r other = absurd loans
-name_same (ByScope lends) loans number l alive bs r other = other_life number l alive bs r other
+name_same (ByScope lends frees) loans number l alive bs r other = other_life number l alive bs r other
 
 stand_named : (m : Reading) → HasLoans m → (number : ℕ) (l : Life) (alive : Bool) (c : RegionContext) (bs : List InScope)
     → ((r : Region) → Contains (live_regions c.live c.opened) r → IsOtherBy m number r) → ((a b : Region) → Contains c.written (a, b) → IsOtherBy m number a × IsOtherBy m number b)
     → Stand m c bs → Stand m c (Names number l alive ∷ bs)
 stand_named AsHeap loans number l alive c bs others pairs stand = absurd loans
-stand_named (ByScope lends) loans number l alive c bs others pairs stand =
-    renamed number l alive c bs (IsOther number) (λ r other. other_life number l alive bs r other) (λ r other there. other_there number l alive bs r other there) others pairs stand
+stand_named (ByScope lends frees) loans number l alive c bs others pairs (same, stand) =
+    (same, renamed number l alive c bs (IsOther number) (λ r other. other_life number l alive bs r other) (λ r other there. other_there number l alive bs r other there) others pairs stand)
 
 stand_again : (m : Reading) → HasLoans m → (number : ℕ) (c : RegionContext) (bs : List InScope) → Stand m c bs → Stand m c (Names number (life_named bs number) true ∷ bs)
 stand_again AsHeap loans number c bs stand = absurd loans
-stand_again (ByScope lends) loans number c bs stand =
-    renamed number (life_named bs number) true c bs (λ r. Unit {0}) (λ r is. again_life number bs r) (λ r is there. again_there number (life_named bs number) bs r there) (λ r has. tt) (λ a b has. (tt, tt)) stand
+stand_again (ByScope lends frees) loans number c bs (same, stand) =
+    (same, renamed number (life_named bs number) true c bs (λ r. Unit {0}) (λ r is. again_life number bs r) (λ r is there. again_there number (life_named bs number) bs r there) (λ r has. tt) (λ a b has. (tt, tt)) stand)
 
 stand_also : (m : Reading) → HasLoans m → (kind : ScopeKind) (number : ℕ) (l : Life) (c : RegionContext) (bs : List InScope) → is_outlived_by_live kind ≡ false → Stand m c (Names number l true ∷ bs)
     → Stand m (with_scope kind (regions.Variable number) c) (Names number l true ∷ bs)
 stand_also AsHeap loans kind number l c bs older stand = absurd loans
-stand_also (ByScope lends) loans kind number l c bs older stand =
-    also_opened kind number c (λ n. life_named (Names number l true ∷ bs) n) (λ n. is_live_named (Names number l true ∷ bs) n) older (same_name number true (is_live_named bs number)) stand
+stand_also (ByScope lends frees) loans kind number l c bs older (same, stand) =
+    (same, also_opened kind number c (frees_in bs) (λ n. life_named (Names number l true ∷ bs) n) (λ n. is_live_named (Names number l true ∷ bs) n) older (same_name number true (is_live_named bs number)) stand)
 
 home_named : (m : Reading) (region number : ℕ) (l : Life) (alive : Bool) (bs : List InScope) → life_named bs region ≡ life_named (Names number l alive ∷ bs) region
     → (is_live_named bs region ≡ true → is_live_named (Names number l alive ∷ bs) region ≡ true) → IsHome m region bs → IsHome m region (Names number l alive ∷ bs)
 home_named AsHeap region number l alive bs same still is = tt
-home_named (ByScope lends) region number l alive bs same still (at_home, there) = (subst (λ k. IsNumber k (home_of bs)) same at_home, still there)
+home_named (ByScope lends frees) region number l alive bs same still (at_home, there) = (subst (λ k. IsNumber k (home_of bs)) same at_home, still there)
 
 known_again : (m : Reading) (n r : ℕ) (c : RegionContext) (vs : List LocalInScope) (result : Option Ty) → r < n → AreKnown m n c vs result → AreKnown m n (with_scope scopes.Dynamic (regions.Variable r) c) vs result
 known_again AsHeap n r c vs result less known = tt
-known_again (ByScope lends) n r c vs result less known = record { live = live; pairs = known.pairs; locals = known.locals; gives = known.gives }
+known_again (ByScope lends frees) n r c vs result less known = record { live = live; pairs = known.pairs; locals = known.locals; gives = known.gives }
   where
     live : (s : Region) → Contains (regions.Variable r ∷ live_regions c.live c.opened) s → IsKnown n s
     live s has = elim (contains_later (regions.Variable r) s (live_regions c.live c.opened) has) [
@@ -523,7 +553,7 @@ known_again (ByScope lends) n r c vs result less known = record { live = live; p
 
 live_other : (m : Reading) (c : Context) → AreKnown m c.next_region c.regions c.locals c.result → HasLoans m → IsLive c (regions.Variable c.region) → c.region ≢ c.next_region
 live_other AsHeap c known loans live = absurd loans
-live_other (ByScope lends) c known loans live = let less : c.region < c.next_region = known.live (regions.Variable c.region) live in λ e. absurd (omega (arith, less, e))
+live_other (ByScope lends frees) c known loans live = let less : c.region < c.next_region = known.live (regions.Variable c.region) live in λ e. absurd (omega (arith, less, e))
 
 module _ (p : Source) (x : Exits) (bs : List InScope) (c : Context) (stands : IsContext p x bs c) (loans : HasLoans p.reading) (alive : IsLive c (regions.Variable c.region)) where
   context_named : (number : ℕ) (l : Life) (live : Bool) → ((r : Region) → IsOtherBy p.reading c.next_region r → lives_in bs r ≡ lives_in (Names number l live ∷ bs) r) → (n : ℕ) (regions : RegionContext)
@@ -584,9 +614,9 @@ other_same m region ns us c bs stand r other = opened_same m 0 region ns us c bs
 
 named_other : (m : Reading) (k : ℕ) (r : Region) → IsNamed k r → IsOtherBy m 0 r
 named_other AsHeap k r named = tt
-named_other (ByScope lends) k regions.Heap named = tt
-named_other (ByScope lends) k regions.Unique named = tt
-named_other (ByScope lends) k (regions.Variable n) (some, most) = λ e. (let z : n ≡ 0 = e in absurd (omega (arith, some, z)))
+named_other (ByScope lends frees) k regions.Heap named = tt
+named_other (ByScope lends frees) k regions.Unique named = tt
+named_other (ByScope lends frees) k (regions.Variable n) (some, most) = λ e. (let z : n ≡ 0 = e in absurd (omega (arith, some, z)))
 
 named_known : (k : ℕ) (r : Region) → IsNamed k r → IsKnown (suc k) r
 named_known k regions.Heap named = tt
@@ -656,7 +686,7 @@ known_parameters k number (t ∷ ts) vs (one, named) known =
 -- and what its body knows was declared
 pub known_body : (m : Reading) (p : Program) (h : Function) → IsWellTypedFunction p h → AreKnown m (suc h.variables) (body_context p h).regions (parameters_in_scope h.parameters 0 []) h.result
 known_body AsHeap p h well = tt
-known_body (ByScope lends) p h well = record {
+known_body (ByScope lends frees) p h well = record {
   live = live;
   pairs = λ a b has. (let (one, two) = named_pairs h.variables h.constraints a b well.constraints has in (named_known h.variables a one, named_known h.variables b two));
   locals = known_parameters h.variables 0 h.parameters [] well.parameters tt;
@@ -685,51 +715,53 @@ life_among m [] k r less = absurd (omega (arith, less))
 life_among m (a ∷ rs) zero r less = refl
 life_among m (a ∷ rs) (suc k) r less = life_among m rs k r (let e : k < length rs = omega (arith, less) in e)
 
-field_lives : (m : Lives) (rs : List Region) (r : Region) → m regions.Heap ≡ heap_life → m regions.Unique ≡ heap_life → IsKnown (length rs) r → lives_among (map m rs) r ≡ lives_by m rs r
-field_lives m rs regions.Heap heap unique known = sym heap
-field_lives m rs regions.Unique heap unique known = sym unique
-field_lives m rs (regions.Variable n) heap unique known = life_among m rs n (regions.Variable n) known
+field_lives : (frees : Bool) (m : Lives) (rs : List Region) (r : Region) → m regions.Heap ≡ heap_life → m regions.Unique ≡ owned_life frees → IsKnown (length rs) r → lives_among frees (map m rs) r ≡ lives_by m rs r
+field_lives frees m rs regions.Heap heap unique known = sym heap
+field_lives frees m rs regions.Unique heap unique known = sym unique
+field_lives frees m rs (regions.Variable n) heap unique known = life_among m rs n (regions.Variable n) known
 
-field_heap : (m : Lives) (rs : List Region) → ((r : Region) → m r ≡ heap_life) → (r : Region) → lives_among (map m rs) r ≡ lives_by m rs r
+field_heap : (m : Lives) (rs : List Region) → ((r : Region) → m r ≡ heap_life) → (r : Region) → lives_among false (map m rs) r ≡ lives_by m rs r
 field_heap m rs heap regions.Heap = sym (heap regions.Heap)
 field_heap m rs heap regions.Unique = sym (heap regions.Unique)
 field_heap m rs heap (regions.Variable n) = heap_among m heap rs n ∙ sym (heap (substituted_region rs (regions.Variable n)))
 
 field_by : (m : Reading) (c : RegionContext) (bs : List InScope) (rs : List Region) (s : StructType) (t : Ty) → Stand m c bs → length rs ≡ s.parameters → IsDeclarable m s.parameters t
-    → at (lives_among (map (lives_in bs) rs)) t ≡ at (lives_by (lives_in bs) rs) t
-field_by AsHeap c bs rs s t stand count known = read_alike (lives_among (map (lives_in bs) rs)) (lives_by (lives_in bs) rs) t
-    (every_in (λ r. lives_among (map (lives_in bs) rs) r ≡ lives_by (lives_in bs) rs r) (field_heap (lives_in bs) rs (heap_lives (λ n. life_named bs n) (λ n. is_live_named bs n) stand)) t)
-field_by (ByScope lends) c bs rs s t stand count known = read_alike (lives_among (map (lives_in bs) rs)) (lives_by (lives_in bs) rs) t
-    (all_in (IsKnown s.parameters) (λ r. lives_among (map (lives_in bs) rs) r ≡ lives_by (lives_in bs) rs r)
-    (λ r is. field_lives (lives_in bs) rs r refl refl (subst (λ n. IsKnown n r) (sym count) is)) t known)
+    → at (lives_among (frees_of m) (map (lives_in bs) rs)) t ≡ at (lives_by (lives_in bs) rs) t
+field_by AsHeap c bs rs s t stand count known = read_alike (lives_among (false) (map (lives_in bs) rs)) (lives_by (lives_in bs) rs) t
+    (every_in (λ r. lives_among (false) (map (lives_in bs) rs) r ≡ lives_by (lives_in bs) rs r) (field_heap (lives_in bs) rs (heap_lives (frees_in bs) (λ n. life_named bs n) (λ n. is_live_named bs n) stand)) t)
+field_by (ByScope lends frees) c bs rs s t stand count known = read_alike (lives_among (frees) (map (lives_in bs) rs)) (lives_by (lives_in bs) rs) t
+    (all_in (IsKnown s.parameters) (λ r. lives_among (frees) (map (lives_in bs) rs) r ≡ lives_by (lives_in bs) rs r)
+    (λ r is. field_lives frees (lives_in bs) rs r refl (ap owned_life stand.0) (subst (λ n. IsKnown n r) (sym count) is)) t known)
 
 -- a field's type, where the struct's parameters stand for what is put in their place
 pub field_means : (p : Source) (x : Exits) (bs : List InScope) (c : Context) → IsContext p x bs c → (rs : List Region) (s : StructType) (t : Ty) → length rs ≡ s.parameters → IsDeclarable p.reading s.parameters t
-    → at (lives_among (map (lives_in bs) rs)) t ≡ read bs (substituted_ty rs t)
+    → at (lives_among (frees_of p.reading) (map (lives_in bs) rs)) t ≡ read bs (substituted_ty rs t)
 field_means p x bs c stands rs s t count known = field_by p.reading c.regions bs rs s t stands.regions count known ∙ sym (instance_by (lives_in bs) rs t)
 
 all_mean : (p : Source) (x : Exits) (bs : List InScope) (c : Context) → IsContext p x bs c → (rs : List Region) (s : StructType) (ts : List Ty) → length rs ≡ s.parameters
-    → ((field : ℕ) (t : Ty) → slice_get ts field ≡ Some t → IsDeclarable p.reading s.parameters t) → map (read bs) (map (substituted_ty rs) ts) ≡ map (at (lives_among (map (lives_in bs) rs))) ts
+    → ((field : ℕ) (t : Ty) → slice_get ts field ≡ Some t → IsDeclarable p.reading s.parameters t) → map (read bs) (map (substituted_ty rs) ts) ≡ map (at (lives_among (frees_of p.reading) (map (lives_in bs) rs))) ts
 all_mean p x bs c stands rs s [] count known = refl
 all_mean p x bs c stands rs s (t ∷ ts) count known =
     ap (λ u. u ∷ map (read bs) (map (substituted_ty rs) ts)) (sym (field_means p x bs c stands rs s t count (known 0 t refl)))
-    ∙ ap (λ us. at (lives_among (map (lives_in bs) rs)) t ∷ us) (all_mean p x bs c stands rs s ts count (λ field u found. known (suc field) u found))
+    ∙ ap (λ us. at (lives_among (frees_of p.reading) (map (lives_in bs) rs)) t ∷ us) (all_mean p x bs c stands rs s ts count (λ field u found. known (suc field) u found))
 
 pub fields_mean : (p : Source) (x : Exits) (bs : List InScope) (c : Context) → IsContext p x bs c → (rs : List Region) (s : StructType) → length rs ≡ s.parameters
-    → ((field : ℕ) (t : Ty) → slice_get s.fields field ≡ Some t → IsDeclarable p.reading s.parameters t) → map (read bs) (map (substituted_ty rs) s.fields) ≡ map (at (lives_among (map (lives_in bs) rs))) s.fields
+    → ((field : ℕ) (t : Ty) → slice_get s.fields field ≡ Some t → IsDeclarable p.reading s.parameters t) → map (read bs) (map (substituted_ty rs) s.fields) ≡ map (at (lives_among (frees_of p.reading) (map (lives_in bs) rs))) s.fields
 fields_mean p x bs c stands rs s count known = all_mean p x bs c stands rs s s.fields count known
 
 -- ---- globals
 
 -- the type of a global names no region variable, and so is read alike everywhere
-pub global_means : (m : Reading) (c : RegionContext) (bs : List InScope) (t : Ty) → Stand m c bs → IsDeclarable m 0 t → read bs t ≡ at as_heap t
-global_means AsHeap c bs t stand known =
-    read_alike (lives_in bs) as_heap t (every_in (λ r. lives_in bs r ≡ heap_life) (heap_lives (λ n. life_named bs n) (λ n. is_live_named bs n) stand) t)
-global_means (ByScope lends) c bs t stand known = read_alike (lives_in bs) as_heap t (all_in (IsKnown 0) (λ r. lives_in bs r ≡ heap_life) none t known)
+pub global_means : (m : Reading) (c : RegionContext) (bs : List InScope) (t : Ty) → Stand m c bs → IsDeclarable m 0 t → read bs t ≡ at (as_heap (frees_of m)) t
+global_means AsHeap c bs t stand known = read_alike (lives_in bs) (as_heap false) t (every_in (λ r. lives_in bs r ≡ as_heap false r) every t)
   where
-    none : (r : Region) → IsKnown 0 r → lives_in bs r ≡ heap_life
+    every : (r : Region) → lives_in bs r ≡ as_heap false r
+    every r = heap_lives (frees_in bs) (λ n. life_named bs n) (λ n. is_live_named bs n) stand r ∙ sym (heap_lives false (λ n. heap_life) (λ n. true) (refl, λ n. (refl, refl)) r)
+global_means (ByScope lends frees) c bs t (same, stand) known = read_alike (lives_in bs) (as_heap frees) t (all_in (IsKnown 0) (λ r. lives_in bs r ≡ as_heap frees r) none t known)
+  where
+    none : (r : Region) → IsKnown 0 r → lives_in bs r ≡ as_heap frees r
     none regions.Heap is = refl
-    none regions.Unique is = refl
+    none regions.Unique is = ap owned_life same
     none (regions.Variable n) less = absurd (omega (arith, less))
 
 -- a place is in a live region
@@ -752,28 +784,28 @@ is_among n (r ∷ rs) = is_among n rs
 -- and which of that is live there
 abbrev pub live_by : Reading → List Region → ℕ → Bool
 live_by AsHeap effect k = true
-live_by (ByScope lends) effect k = is_among k effect
+live_by (ByScope lends frees) effect k = is_among k effect
 
 -- where region variables are put in their place
-abbrev IsBase : Lives → Type 0
-IsBase n = (n regions.Heap ≡ heap_life) × (n regions.Unique ≡ heap_life)
+abbrev IsBase : Bool → Lives → Type 0
+IsBase frees n = (n regions.Heap ≡ heap_life) × (n regions.Unique ≡ owned_life frees)
 
-these_are : (n : Lives) (m : List Region) → IsBase n → (r : Region) → lives_by n m r ≡ lives_of (these_by n m) r
-these_are n m (heap, unique) regions.Heap = heap
-these_are n m (heap, unique) regions.Unique = unique
-these_are n m base (regions.Variable k) = refl
+these_are : (frees : Bool) (n : Lives) (m : List Region) → IsBase frees n → (r : Region) → lives_by n m r ≡ lives_of frees (these_by n m) r
+these_are frees n m (heap, unique) regions.Heap = heap
+these_are frees n m (heap, unique) regions.Unique = unique
+these_are frees n m base (regions.Variable k) = refl
 
-pub parameters_mean : (n : Lives) → n regions.Heap ≡ heap_life → n regions.Unique ≡ heap_life → (m : List Region) (ts : List Ty) → map (at n) (map (substituted_ty m) ts) ≡ map (at (lives_of (these_by n m))) ts
-parameters_mean n heap unique m [] = refl
-parameters_mean n heap unique m (t ∷ ts) =
-    let same : at n (substituted_ty m t) ≡ at (lives_of (these_by n m)) t =
-    instance_by n m t ∙ read_alike (lives_by n m) (lives_of (these_by n m)) t (every_in (λ r. lives_by n m r ≡ lives_of (these_by n m) r) (these_are n m (heap, unique)) t) in
-    ap (λ u. u ∷ map (at n) (map (substituted_ty m) ts)) same ∙ ap (λ us. at (lives_of (these_by n m)) t ∷ us) (parameters_mean n heap unique m ts)
+pub parameters_mean : (frees : Bool) (n : Lives) → n regions.Heap ≡ heap_life → n regions.Unique ≡ owned_life frees → (m : List Region) (ts : List Ty) → map (at n) (map (substituted_ty m) ts) ≡ map (at (lives_of frees (these_by n m))) ts
+parameters_mean frees n heap unique m [] = refl
+parameters_mean frees n heap unique m (t ∷ ts) =
+    let same : at n (substituted_ty m t) ≡ at (lives_of frees (these_by n m)) t =
+    instance_by n m t ∙ read_alike (lives_by n m) (lives_of frees (these_by n m)) t (every_in (λ r. lives_by n m r ≡ lives_of frees (these_by n m) r) (these_are frees n m (heap, unique)) t) in
+    ap (λ u. u ∷ map (at n) (map (substituted_ty m) ts)) same ∙ ap (λ us. at (lives_of frees (these_by n m)) t ∷ us) (parameters_mean frees n heap unique m ts)
 
-pub result_means : (n : Lives) → n regions.Heap ≡ heap_life → n regions.Unique ≡ heap_life → (m : List Region) (t : Option Ty)
-    → value_at n (result_type (option_map (substituted_ty m) t)) ≡ value_at (lives_of (these_by n m)) (result_type t)
-result_means n heap unique m t =
-    result_by n m t ∙ value_alike (lives_by n m) (lives_of (these_by n m)) (result_type t) (every_value (λ r. lives_by n m r ≡ lives_of (these_by n m) r) (these_are n m (heap, unique)) (result_type t))
+pub result_means : (frees : Bool) (n : Lives) → n regions.Heap ≡ heap_life → n regions.Unique ≡ owned_life frees → (m : List Region) (t : Option Ty)
+    → value_at n (result_type (option_map (substituted_ty m) t)) ≡ value_at (lives_of frees (these_by n m)) (result_type t)
+result_means frees n heap unique m t =
+    result_by n m t ∙ value_alike (lives_by n m) (lives_of frees (these_by n m)) (result_type t) (every_value (λ r. lives_by n m r ≡ lives_of frees (these_by n m) r) (these_are frees n m (heap, unique)) (result_type t))
 
 contained : (rs : List Region) (n : ℕ) → Contains rs (regions.Variable n) → is_among n rs ≡ true
 contained [] n has = contains_none (regions.Variable n) has
@@ -807,32 +839,56 @@ outliving c m (q ∷ ps) a b (is, are) has = elim (contains_later q (a, b) ps ha
   | inr old ↦ outliving c m ps a b are old
 ]
 
-module _ (p : Source) (x : Exits) (bs : List InScope) (c : Context) (stands : IsContext p x bs c) (h : Function) (m : List Region) (alive : AreLive c (map (substituted_region m) h.effect))
+-- what is put in the place of a region variable is not unique
+never_unique : (m : List Region) (n : ℕ) → AreNotUnique m → substituted_region m (regions.Variable n) ≢ regions.Unique
+never_unique [] n apart = λ e. (let k : regions.Variable n ≡ regions.Unique = e in absurd (cc))
+never_unique (r ∷ m) zero (one, apart) = one
+never_unique (r ∷ m) (suc n) (one, apart) = λ e. never_other m n n apart e
+  where
+    never_other : (m : List Region) (i n : ℕ) → AreNotUnique m → slice_index_or m i (regions.Variable (suc n)) ≢ regions.Unique
+    never_other [] i n apart = λ e. (let k : regions.Variable (suc n) ≡ regions.Unique = e in absurd (cc))
+    never_other (r ∷ m) zero n (one, apart) = one
+    never_other (r ∷ m) (suc i) n (one, apart) = never_other m i n apart
+
+-- no constraint names what is unique
+unmixed : (k : ℕ) (ps : List (Region × Region)) (a : Region) → AreConstraints k ps → Contains ps (a, regions.Unique) → ⊥
+unmixed k [] a named has = contains_none (a, regions.Unique) has
+unmixed k (q ∷ ps) a ((first, plain, second, also), named) has = elim (contains_later q (a, regions.Unique) ps has) [
+  | inl same ↦ also (ap (λ (z : Region × Region). z.1) same)
+  | inr old ↦ unmixed k ps a named old
+]
+
+module _ (p : Source) (x : Exits) (bs : List InScope) (c : Context) (stands : IsContext p x bs c) (h : Function) (m : List Region) (apart : AreNotUnique m) (constraints : AreConstraints h.variables h.constraints) (alive : AreLive c (map (substituted_region m) h.effect))
     (outlive : AreOutliving c (map (λ (p : Region × Region). (substituted_region m p.0, substituted_region m p.1)) h.constraints)) where
-  instance_by_scope : AreNamed (regions_at_call h) (these_by (lives_in bs) m) (λ k. is_among k h.effect)
-  instance_by_scope = record { there = there; agrees = agrees }
+  instance_by_scope : AreNamed (regions_at_call h) (frees_in bs) (these_by (lives_in bs) m) (λ k. is_among k h.effect)
+  instance_by_scope = record { there = there; agrees = agrees; plain = plain }
     where
       there : (r : Region) → Contains (regions.Heap ∷ regions.Unique ∷ h.effect) r → IsThereBy (λ k. is_among k h.effect) r
       there regions.Heap has = tt
       there regions.Unique has = tt
       there (regions.Variable n) has = contained (regions.Heap ∷ regions.Unique ∷ h.effect) n has
 
-      agrees : (a b : Region) → IsGiven (regions_at_call h) a b → Outlasts (lives_of (these_by (lives_in bs) m) a) (lives_of (these_by (lives_in bs) m) b)
+      agrees : (a b : Region) → IsGiven (regions_at_call h) a b → Outlasts (lives_of (frees_in bs) (these_by (lives_in bs) m) a) (lives_of (frees_in bs) (these_by (lives_in bs) m) b)
       agrees a b (inl (heap, plain)) =
-          subst (λ z. Outlasts (lives_of (these_by (lives_in bs) m) z) (lives_of (these_by (lives_in bs) m) b)) (sym heap) (for_ever (lives_of (these_by (lives_in bs) m) b))
+          subst (λ z. Outlasts (lives_of (frees_in bs) (these_by (lives_in bs) m) z) (lives_of (frees_in bs) (these_by (lives_in bs) m) b)) (sym heap) (for_ever (lives_of (frees_in bs) (these_by (lives_in bs) m) b))
       agrees a b (inr (inl written)) =
-          subst (λ l. Outlasts l (lives_of (these_by (lives_in bs) m) b)) (these_are (lives_in bs) m (refl, refl) a)
-          (subst (λ l. Outlasts (lives_by (lives_in bs) m a) l) (these_are (lives_in bs) m (refl, refl) b)
+          subst (λ l. Outlasts l (lives_of (frees_in bs) (these_by (lives_in bs) m) b)) (these_are (frees_in bs) (lives_in bs) m (refl, refl) a)
+          (subst (λ l. Outlasts (lives_by (lives_in bs) m a) l) (these_are (frees_in bs) (lives_in bs) m (refl, refl) b)
           (agrees_of p x bs c stands (substituted_region m a) (substituted_region m b) (outliving c m h.constraints a b outlive written)))
       agrees a b (inr (inr old)) = absurd old
 
-  stand_by : (r : Reading) → Stand r c.regions bs → StandBy r (regions_at_call h) (these_by (lives_in bs) m) (live_by r h.effect)
-  stand_by AsHeap stand = λ n. (heap_lives (λ n. life_named bs n) (λ n. is_live_named bs n) stand (substituted_region m (regions.Variable n)), refl)
-  stand_by (ByScope lends) stand = instance_by_scope
+      plain : (a : Region) → IsGiven (regions_at_call h) a regions.Unique → ⊥
+      plain a (inl (heap, other)) = other refl
+      plain a (inr (inl written)) = unmixed h.variables h.constraints a constraints written
+      plain a (inr (inr old)) = absurd old
 
-  lasting_by : (r : Reading) → Stand r c.regions bs → (n : ℕ) → live_by r h.effect n ≡ true → (s : Region) × IsThere bs s × (lives_in bs s ≡ these_by (lives_in bs) m n)
-  lasting_by AsHeap stand n live = (substituted_region m (regions.Variable n), heap_there (λ n. life_named bs n) (λ n. is_live_named bs n) stand (substituted_region m (regions.Variable n)), refl)
-  lasting_by (ByScope lends) stand n live = (substituted_region m (regions.Variable n), there_of p x bs c stands (substituted_region m (regions.Variable n)) (among_live c m h.effect n alive live), refl)
+  stand_by : (r : Reading) → Stand r c.regions bs → StandBy r (regions_at_call h) (frees_in bs) (these_by (lives_in bs) m) (live_by r h.effect)
+  stand_by AsHeap stand = (stand.0, λ n. (heap_lives (frees_in bs) (λ n. life_named bs n) (λ n. is_live_named bs n) stand (substituted_region m (regions.Variable n)), refl))
+  stand_by (ByScope lends frees) stand = (stand.0, instance_by_scope)
+
+  lasting_by : (r : Reading) → Stand r c.regions bs → (n : ℕ) → live_by r h.effect n ≡ true → (s : Region) × (s ≢ regions.Unique) × IsThere bs s × (lives_in bs s ≡ these_by (lives_in bs) m n)
+  lasting_by AsHeap stand n live = (substituted_region m (regions.Variable n), never_unique m n apart, heap_there (λ n. life_named bs n) (λ n. is_live_named bs n) stand.1 (substituted_region m (regions.Variable n)), refl)
+  lasting_by (ByScope lends frees) stand n live = (substituted_region m (regions.Variable n), never_unique m n apart, there_of p x bs c stands (substituted_region m (regions.Variable n)) (among_live c m h.effect n alive live), refl)
 
   pub instance_is : IsInstance p bs h (these_by (lives_in bs) m) (live_by p.reading h.effect)
-  instance_is = record { stand = stand_by p.reading stands.regions; lasting = lasting_by p.reading stands.regions; named = λ n. (substituted_region m (regions.Variable n), refl) }
+  instance_is = record { stand = stand_by p.reading stands.regions; lasting = lasting_by p.reading stands.regions; named = λ n. (substituted_region m (regions.Variable n), never_unique m n apart, refl) }

@@ -7,9 +7,10 @@ use Rattle.cyc_syntax.specs.declared.tree.PointerKind.TheVariants as marks
 use Rattle.cyc_types.specs.declared.typed.PointerOperator.{PointerOperator}
 use Rattle.cyc_types.specs.declared.typed.Callee.{Callee}
 use Rattle.cyc_types.specs.declared.region.Region.{Region as Region'}
+use Rattle.cyc_types.specs.declared.region.Region.TheVariants as regions
 use Rattle.cyc_types.specs.Types.{Ty, ValueType, result_type}
 use Rattle.cyc_types.specs.Types as types
-use Rattle.cyc_types.specs.TypedTrees.{Operations, NoOperations, ThenCompute, ThenTest, ThenPointer, ThenPointerPeek, Arguments, Function}
+use Rattle.cyc_types.specs.TypedTrees.{Operations, NoOperations, ThenCompute, ThenTest, ThenPointer, ThenPointerPeek, Arguments, Clauses, Function}
 use Rattle.cyc_types.specs.typing.Tests.{is_tested, is_moved}
 use Rattle.cyc_types.specs.typing.WellTyped.{LocalInScope, Context, HasLocal, HasPlace, Converts, PointerOperation, adds, subtracts, equals, differs, thin_null, thin_there, fat_null, fat_there, null_is, null_is_not, IsChain}
 use Rattle.cyc_types.specs.flow.States as flow
@@ -19,12 +20,12 @@ use Rattle.cyc_meaning.specs.Values as values
 use Rattle.cyc_meaning.specs.State.{Object, Owner, Pass, MakeFields, Region, Access, Found, Closed, Missing, found_region, is_open, heap_number, globals_number, World, FillElement, AwaitingPlace, SwapRight, Write, Environment, with_local, Awaiting, Entry, Needs, NeedsPlace, Discard, Rest, Join, Loop, CloseRegion, CloseLexical, EndLoan, Handler, Caller, Main}
 use Rattle.cyc_meaning.specs.Nesting.{ends_of, IsFound, AreOpen, IsHome, IsNested}
 use Rattle.cyc_meaning.specs.Nesting as nesting
-use Rattle.cyc_soundness.specs.Lives.{Life, OfRegion, OfObject, Never, Kept, heap_life, RunTy, RunValue, Void, Null, Value, Seen, Lives, at, value_at, Reading}
+use Rattle.cyc_soundness.specs.Lives.{Life, OfRegion, OfObject, Never, Owned, Kept, heap_life, RunTy, RunValue, Void, Null, Value, Seen, Lives, at, value_at, Reading}
 use Rattle.cyc_soundness.specs.Lives as lives
-use Rattle.cyc_soundness.specs.Worlds.{IsHeld, Holder, Nobody, Hand, In, Lent, Claims, ClaimsBy, giving, given, is_lent_by, Stays, IsOpenIn, AreOperands, ObjectType, Typing, IsKnownLife, IsTyped, IsFull, variable_type, IsEndOf, whole, behind, Outlasts, alike, heap as for_ever, globals as with_globals, stays, encloses, IsOpenLife, Grows}
-use Rattle.cyc_soundness.specs.Frames.{IsAmong, first, later, Bound, InScope, Variable, Level, Home, lives_in, read, IsThere, home_of, IsHomed, IsScope, AreBelow, IsBound, AreVariables, IsLasting, AreLiveIn, home_in, LiveIn, IsInner, Within, itself, older, IsSet, AreSet, IsFullIn, HoldsIts, Holds, IsFullAt, AreFullAt, Exits, relying}
-use Rattle.cyc_soundness.specs.Classes.{is_full, Relied, IsSparedBy, IsSpared, InOperations, Source}
-use Rattle.cyc_soundness.specs.Stacks.{IsAccepted, Want, Nothing, Val, PlaceOf, Go, held, Waits, IsArrayOf, AreClaimed, operands_in, Comes, Keeps, IsSpot, of_local, of_global, of_cell, KeepsPlace, AreSwapped, IsStack}
+use Rattle.cyc_soundness.specs.Worlds.{IsHeld, Holder, Nobody, Hand, In, Lent, Claims, ClaimsBy, giving, given, is_lent_by, Stays, IsOpenIn, AreOperands, ObjectType, Typing, IsTyped, IsFull, variable_type, IsEndOf, whole, behind, Outlasts, alike, heap as for_ever, globals as with_globals, stays, encloses, IsOpenLife, Grows, IsKnownOwner}
+use Rattle.cyc_soundness.specs.Frames.{IsAmong, first, later, Bound, InScope, Variable, Level, Home, lives_in, read, IsThere, home_of, IsHomed, IsScope, AreBelow, IsBound, AreVariables, IsLasting, AreLiveIn, home_in, LiveIn, IsInner, Within, itself, older, IsSet, AreSet, IsFullIn, HoldsIts, Holds, IsFullAt, AreFullAt, Exits, relying, frees_in, life_named}
+use Rattle.cyc_soundness.specs.Classes.{is_full, Relied, and_looked, IsSparedBy, IsSpared, InOperations, Source}
+use Rattle.cyc_soundness.specs.Stacks.{IsAccepted, Part, Whole, PartOf, part, part_of_place, relied_by, relied_at, WaitsPlace, Want, Nothing, Val, PlaceOf, Go, held, Waits, IsArrayOf, AreClaimed, operands_in, Comes, Keeps, IsSpot, of_local, of_global, of_cell, KeepsPlace, AreSwapped, IsStack}
 use Rattle.cyc_soundness.specs.Stacks as stacks
 use Rattle.cyc_soundness.proofs.Numbers.{same_or_other, some_same}
 use Rattle.cyc_soundness.proofs.FlowLemmas.{other_set, other_full, full_put, reached_with}
@@ -142,7 +143,7 @@ stack_grown p g h same' x bs w k is = absurd is
 abbrev pub IsAbove : Exits → Typing → List Entry → Holder → Type 0
 IsAbove x g k Nobody = Unit {0}
 IsAbove x g k (Hand i) = operands_in k ≤ i
-IsAbove x g k (In d n) = ((d ≡ g.depth) × IsSpared x.relied n) ⊎ (g.depth < d)
+IsAbove x g k (In d n) = ((d ≡ g.depth) × IsSpared (relied_at x.relied k) n) ⊎ (g.depth < d)
 IsAbove x g k (Lent j) = g.loans ≤ j
 
 pub hand_same : (i j : ℕ) → Hand i ≡ Hand j → i ≡ j
@@ -210,24 +211,95 @@ claimed_next g i t ts vs are is =
     let same : length vs + i ≡ i + length ts = omega (arith, long) in
     subst (λ j. Claims g.own (Hand j) t) same is
 
-above_needs : (x : Exits) (g : Typing) (a : Awaiting) (k : List Entry) (old : Holder) → IsAbove x g (Needs a ∷ k) old → IsAbove x g k old
-above_needs x g a k Nobody above = tt
-above_needs x g a k (Hand i) above = let few : operands_in k ≤ i = omega (arith, above) in few
-above_needs x g a k (In d n) above = above
-above_needs x g a k (Lent j) above = above
+above_to : (x y : Exits) (g : Typing) (b : Entry) (k : List Entry) (old : Holder) → operands_in k ≤ operands_in (b ∷ k) → ((n : ℕ) → IsSpared (relied_at x.relied (b ∷ k)) n → IsSpared (relied_at y.relied k) n)
+    → IsAbove x g (b ∷ k) old → IsAbove y g k old
+above_to x y g b k Nobody fewer less above = tt
+above_to x y g b k (Hand i) fewer less above = let few : operands_in k ≤ i = omega (arith, above, fewer) in few
+above_to x y g b k (In d n) fewer less (inl (same, spared)) = inl (same, less n spared)
+above_to x y g b k (In d n) fewer less (inr deeper) = inr deeper
+above_to x y g b k (Lent j) fewer less above = above
 
-above_same : (x : Exits) (g : Typing) (b : Entry) (k : List Entry) (old : Holder) → operands_in (b ∷ k) ≡ operands_in k → IsAbove x g (b ∷ k) old → IsAbove x g k old
-above_same x g b k Nobody same above = tt
-above_same x g b k (Hand i) same above = let few : operands_in k ≤ i = omega (arith, above, same) in few
-above_same x g b k (In d n) same above = above
-above_same x g b k (Lent j) same above = above
+-- where a statement ends, no expression is under way
+pub statement_relied : (p : Source) (g : Typing) (x : Exits) (bs : List InScope) (f : flow.State) (k : List Entry) (q : Relied) → IsStack p g x bs (Go f) k → relied_at q k ≡ q
+statement_relied p g x bs f [] q is = absurd is
+statement_relied p g x bs f (Needs a ∷ k) q is = absurd is
+statement_relied p g x bs f (NeedsPlace a ∷ k) q is = absurd is
+statement_relied p g x bs f (Discard ∷ k) q is = refl
+statement_relied p g x bs f (Rest js ∷ k) q is = refl
+statement_relied p g x bs f (Join ∷ k) q is = refl
+statement_relied p g x bs f (Loop condition body ∷ k) q is = refl
+statement_relied p g x bs f (CloseRegion region home ∷ k) q is = refl
+statement_relied p g x bs f (CloseLexical region ∷ k) q is = refl
+statement_relied p g x bs f (EndLoan lent ∷ k) q is = refl
+statement_relied p g x bs f (Handler cs ∷ k) q is = refl
+statement_relied p g x bs f (Caller e ∷ k) q is = refl
+statement_relied p g x bs f (Main ∷ k) q is = refl
 
-above_from : (x y : Exits) (g : Typing) (k : List Entry) (old : Holder) → ((n : ℕ) → IsSpared x.relied n → IsSpared y.relied n) → IsAbove x g k old → IsAbove y g k old
-above_from x y g k Nobody less above = tt
-above_from x y g k (Hand i) less above = above
-above_from x y g k (In d n) less (inl (same, spared)) = inl (same, less n spared)
-above_from x y g k (In d n) less (inr deeper) = inr deeper
-above_from x y g k (Lent j) less above = above
+statement_spared : (p : Source) (g : Typing) (x : Exits) (bs : List InScope) (f : flow.State) (k : List Entry) (q : Relied) (n : ℕ) → IsStack p g x bs (Go f) k → IsSpared q n → IsSpared (relied_at q k) n
+statement_spared p g x bs f k q n is spared = subst (λ z. IsSpared z n) (sym (statement_relied p g x bs f k q is)) spared
+
+ends_relied : (p : Source) (g : Typing) (x : Exits) (bs : List InScope) (k : List Entry) (q : Relied) (n : ℕ) → IsStack p g x bs Nothing k → IsSpared q n → IsSpared (relied_at q k) n
+ends_relied p g x bs [] q n is spared = spared
+ends_relied p g x bs (b ∷ k) q n is spared = absurd is
+
+fewer : (k : List Entry) → operands_in k ≤ operands_in k
+fewer k = omega arith
+
+looked_less : (peek : Option ℕ) (q : Relied) (n : ℕ) → IsSpared (and_looked peek q) n → IsSpared q n
+looked_less None q n spared = spared
+looked_less (Some m) q n spared = spared.1
+
+-- behind a part of an expression no more is relied on
+part_spared : (w : Part) (q r : Relied) (n : ℕ) → ((peek : Option ℕ) → w ≡ Whole peek → r ≡ q) → IsSpared (relied_by w q r) n → IsSpared r n
+part_spared (Whole peek) q r n same spared = subst (λ z. IsSpared z n) (sym (same peek refl)) (looked_less peek q n spared)
+part_spared (PartOf peek) q r n same spared = looked_less peek r n spared
+
+part_whole : {A : Type 0} (o peek : Option ℕ) → PartOf o ≡ Whole peek → A
+part_whole o peek e = let k : PartOf o ≡ Whole peek = e in absurd (cc)
+
+-- a statement goes on behind what is no part of an expression
+waits_whole : {p : Source} {x : Exits} {q : Relied} {bs cs : List InScope} {a : Awaiting} {ts : List RunTy} {r : RunValue} {f : flow.State} {next : Want} → Waits p x q bs a ts r f cs next → (peek : Option ℕ) → part a ≡ Whole peek → (h : flow.State) × (next ≡ Go h)
+waits_whole (stacks.converts c v t f agrees conv from to target) peek e = part_whole None peek e
+waits_whole (stacks.negates f) peek e = part_whole None peek e
+waits_whole (stacks.complements f) peek e = part_whole None peek e
+waits_whole (stacks.denies v f tested) peek e = part_whole None peek e
+waits_whole (stacks.chains c v t f h stands computes) peek e = part_whole None peek e
+waits_whole (stacks.applies f) peek e = part_whole None peek e
+waits_whole (stacks.decides v f h tested i) peek e = part_whole None peek e
+waits_whole (stacks.stores_local b t f among same) peek e = part_whole None peek e
+waits_whole (stacks.stores_global number t f there same) peek e = part_whole None peek e
+waits_whole (stacks.points {peek = o} c t v w f stands op) peek e = part_whole o peek e
+waits_whole (stacks.null_points {peek = o} c v w f op) peek e = part_whole o peek e
+waits_whole (stacks.stores_cell {peek = o} t r f alive) peek e = part_whole o peek e
+waits_whole (stacks.follows m t r f kind target alive) peek e = part_whole None peek e
+waits_whole (stacks.follows_member m n ls s t u r f kind struct fields field is alive) peek e = part_whole None peek e
+waits_whole (stacks.indexes c t r f h stands evaluates target alive) peek e = part_whole None peek e
+waits_whole (stacks.advances {peek = o} t r f target alive) peek e = part_whole o peek e
+waits_whole (stacks.counts_elements t l f) peek e = part_whole None peek e
+waits_whole (stacks.places_by c m t r f h stands makes alive) peek e = part_whole None peek e
+waits_whole (stacks.makes_plain t r f plain alive owner kind) peek e = part_whole None peek e
+waits_whole (stacks.makes_fields c done t ts n ls r f h alive owner stands passes fields) peek e = part_whole None peek e
+waits_whole (stacks.makes_array c t r f alive owner stands repeats) peek e = part_whole None peek e
+waits_whole (stacks.fills cs c t r f h same alive stands repeats i) peek e = part_whole None peek e
+waits_whole (stacks.passes c done t ts r f h stands passes called) peek e = part_whole None peek e
+waits_whole (stacks.initialises cs c t f h within stands new number kind continues) peek e = (h, refl)
+waits_whole (stacks.chooses c d v f g h i tested first_stands second_stands one two j k) peek e = (i, refl)
+waits_whole (stacks.tests l v f h loop) peek e = (h, refl)
+waits_whole (stacks.returns t u f h result gives) peek e = (h, refl)
+waits_whole (stacks.closes_by_key r f) peek e = part_whole None peek e
+waits_whole (stacks.throws f h) peek e = (h, refl)
+waits_whole (stacks.opens_by cs c b r f h i loans within stands among number of_type set spared full less alive next continues again) peek e = (i, refl)
+waits_whole (stacks.aliases cs c b u t f h i loans within stands among number set spared full unique known of_type alive next continues again) peek e = (i, refl)
+
+place_whole : {p : Source} {x : Exits} {q : Relied} {bs : List InScope} {a : AwaitingPlace} {t : RunTy} {l : Life} {f : flow.State} {next : Want} → WaitsPlace p x q bs a t l f next → (peek : Option ℕ) → part_of_place a ≡ Whole peek → (h : flow.State) × (next ≡ Go h)
+place_whole (stacks.loads_from t r f alive plain kind) peek e = part_whole None peek e
+place_whole (stacks.takes_address t l f) peek e = part_whole None peek e
+place_whole (stacks.stores_to c v t r f h alive stands evaluates conv from to) peek e = part_whole None peek e
+place_whole (stacks.swaps_left c t r f h alive stands kind plain finds) peek e = (h, refl)
+place_whole (stacks.swaps_right t r f alive kind) peek e = (f, refl)
+
+goes_relied : (p : Source) (g : Typing) (x : Exits) (bs : List InScope) (next : Want) (k : List Entry) (q : Relied) → (h : flow.State) × (next ≡ Go h) → IsStack p g x bs next k → relied_at q k ≡ q
+goes_relied p g x bs next k q (h, same) is = statement_relied p g x bs h k q (subst (λ z. IsStack p g x bs z k) same is)
 
 above_behind : (x : Exits) (g : Typing) (k : List Entry) (j : ℕ) (old : Holder) → g.loans ≡ suc j → IsAbove x g k old → IsAbove x (record g { loans = j }) k old
 above_behind x g k j Nobody same above = tt
@@ -235,20 +307,20 @@ above_behind x g k j (Hand i) same above = above
 above_behind x g k j (In d n) same above = above
 above_behind x g k j (Lent i) same above = let few : j ≤ i = omega (arith, above, same) in few
 
-above_outside : (x y : Exits) (g : Typing) (k : List Entry) (d : ℕ) (old : Holder) → g.depth ≡ suc d → IsAbove x g k old → IsAbove y (record g { depth = d }) k old
-above_outside x y g k d Nobody same above = tt
-above_outside x y g k d (Hand i) same above = above
-above_outside x y g k d (In e n) same (inl (here, spared)) = inr (let less : d < e = omega (arith, here, same) in less)
-above_outside x y g k d (In e n) same (inr deeper) = inr (let less : d < e = omega (arith, deeper, same) in less)
-above_outside x y g k d (Lent j) same above = above
+above_outside : (x y : Exits) (g : Typing) (e : Environment) (k : List Entry) (d : ℕ) (old : Holder) → g.depth ≡ suc d → IsAbove x g (Caller e ∷ k) old → IsAbove y (record g { depth = d }) k old
+above_outside x y g caller k d Nobody same above = tt
+above_outside x y g caller k d (Hand i) same above = above
+above_outside x y g caller k d (In e n) same (inl (here, spared)) = inr (let less : d < e = omega (arith, here, same) in less)
+above_outside x y g caller k d (In e n) same (inr deeper) = inr (let less : d < e = omega (arith, deeper, same) in less)
+above_outside x y g caller k d (Lent j) same above = above
 
 -- a variable that clauses rely on is another one
-relied_other : (x y : Exits) (g : Typing) (k : List Entry) (f : flow.State) (old : Holder) (m : ℕ) → x ≡ relying y f → is_reached f ≡ true → IsAbove x g k old → IsFullIn f m → In g.depth m ≢ old
-relied_other x y g k f Nobody m same reached above full = λ e. (let z : In g.depth m ≡ Nobody = e in absurd (cc))
-relied_other x y g k f (Hand i) m same reached above full = λ e. (let z : In g.depth m ≡ Hand i = e in absurd (cc))
-relied_other x y g k f (Lent j) m same reached above full = λ e. (let z : In g.depth m ≡ Lent j = e in absurd (cc))
-relied_other x y g k f (In d n) m same reached (inr deeper) full = λ e. (let (here, number) = in_same g.depth d m n e in absurd (omega (arith, here, deeper)))
-relied_other x y g k f (In d n) m same reached (inl (here, spared)) full = λ e. (let (depth, number) = in_same g.depth d m n e in
+relied_other : (x y : Exits) (g : Typing) (cs : Clauses) (k : List Entry) (f : flow.State) (old : Holder) (m : ℕ) → x ≡ relying y f → is_reached f ≡ true → IsAbove x g (Handler cs ∷ k) old → IsFullIn f m → In g.depth m ≢ old
+relied_other x y g cs k f Nobody m same reached above full = λ e. (let z : In g.depth m ≡ Nobody = e in absurd (cc))
+relied_other x y g cs k f (Hand i) m same reached above full = λ e. (let z : In g.depth m ≡ Hand i = e in absurd (cc))
+relied_other x y g cs k f (Lent j) m same reached above full = λ e. (let z : In g.depth m ≡ Lent j = e in absurd (cc))
+relied_other x y g cs k f (In d n) m same reached (inr deeper) full = λ e. (let (here, number) = in_same g.depth d m n e in absurd (omega (arith, here, deeper)))
+relied_other x y g cs k f (In d n) m same reached (inl (here, spared)) full = λ e. (let (depth, number) = in_same g.depth d m n e in
     let one : IsSparedBy f n = (subst (λ (z : Exits). IsSpared z.relied n) same spared).0 in
     let z : true ≡ false = sym (subst (λ i. IsFullIn f i) number full) ∙ not_full f n reached one in absurd (cc))
   where
@@ -256,12 +328,12 @@ relied_other x y g k f (In d n) m same reached (inl (here, spared)) full = λ e.
     not_full Unreached n reached one = absurd (let k : false ≡ true = reached in cc)
     not_full (Reached as') n reached one = one
 
-outer_other : (x : Exits) (g : Typing) (k : List Entry) (d : ℕ) (old : Holder) (m : ℕ) → g.depth ≡ suc d → IsAbove x g k old → In d m ≢ old
-outer_other x g k d Nobody m same above = λ e. (let z : In d m ≡ Nobody = e in absurd (cc))
-outer_other x g k d (Hand i) m same above = λ e. (let z : In d m ≡ Hand i = e in absurd (cc))
-outer_other x g k d (Lent j) m same above = λ e. (let z : In d m ≡ Lent j = e in absurd (cc))
-outer_other x g k d (In e n) m same (inl (here, spared)) = λ q. (let (one, two) = in_same d e m n q in absurd (omega (arith, one, here, same)))
-outer_other x g k d (In e n) m same (inr deeper) = λ q. (let (one, two) = in_same d e m n q in absurd (omega (arith, one, deeper, same)))
+outer_other : (x : Exits) (g : Typing) (caller : Environment) (k : List Entry) (d : ℕ) (old : Holder) (m : ℕ) → g.depth ≡ suc d → IsAbove x g (Caller caller ∷ k) old → In d m ≢ old
+outer_other x g caller k d Nobody m same above = λ e. (let z : In d m ≡ Nobody = e in absurd (cc))
+outer_other x g caller k d (Hand i) m same above = λ e. (let z : In d m ≡ Hand i = e in absurd (cc))
+outer_other x g caller k d (Lent j) m same above = λ e. (let z : In d m ≡ Lent j = e in absurd (cc))
+outer_other x g caller k d (In e n) m same (inl (here, spared)) = λ q. (let (one, two) = in_same d e m n q in absurd (omega (arith, one, here, same)))
+outer_other x g caller k d (In e n) m same (inr deeper) = λ q. (let (one, two) = in_same d e m n q in absurd (omega (arith, one, deeper, same)))
 
 -- a local that is not full is another one than those that are
 pub emptied_other : (g : Typing) (a : flow.Fullness) (f : flow.State) (n m : ℕ) → is_full a ≡ false → is_reached f ≡ true → IsFullIn (with_fullness a f n) m → In g.depth m ≢ In g.depth n
@@ -309,23 +381,22 @@ module _ (t : RunTy) (old new : Holder) where
     waits,
     keeps_grown p g (giving g t new) (giving_grows g t new) (operands_in k) a ts (λ operands claims. claimed_other g (operands_in k) ts has
         (λ j less. hand_other x g (Needs a ∷ k) j old above (let long : length ts ≡ length (held a) = operands_long g ts (held a) operands in let few : j < length (held a) + operands_in k = omega (arith, less, long) in few)) claims) are,
-    stack_other p g x cs next k has (above_needs x g a k old above) rest,
+    stack_other p g x cs next k has (above_to x x g (Needs a) k old (let fewer : operands_in k ≤ length (held a) + operands_in k = omega arith in fewer) (λ n spared. part_spared (part a) x.relied (relied_at x.relied k) n (λ o same. goes_relied p g x cs next k x.relied (waits_whole waits o same) rest) spared) above) rest,
   )
-  stack_other p g x bs (PlaceOf u l f) (NeedsPlace a ∷ k) has above (next, waits, keeps, rest) = (next, waits, keeps_place_grown p g (giving g t new) (giving_grows g t new) bs a u f keeps, stack_other p g x bs next k has (above_same x g (NeedsPlace a) k old refl above) rest)
-  stack_other p g x bs (Val r f) (Discard ∷ k) has above is = stack_other p g x bs (Go f) k has (above_same x g Discard k old refl above) is
-  stack_other p g x bs (Go f) (Discard ∷ k) has above is = stack_other p g x bs (Go f) k has (above_same x g Discard k old refl above) is
+  stack_other p g x bs (PlaceOf u l f) (NeedsPlace a ∷ k) has above (next, waits, keeps, rest) = (next, waits, keeps_place_grown p g (giving g t new) (giving_grows g t new) bs a u f keeps, stack_other p g x bs next k has (above_to x x g (NeedsPlace a) k old (fewer k) (λ n spared. part_spared (part_of_place a) x.relied (relied_at x.relied k) n (λ o same. goes_relied p g x bs next k x.relied (place_whole waits o same) rest) spared) above) rest)
+  stack_other p g x bs (Val r f) (Discard ∷ k) has above is = stack_other p g x bs (Go f) k has (above_to x x g Discard k old (fewer k) (λ n spared. statement_spared p g x bs f k x.relied n is spared) above) is
+  stack_other p g x bs (Go f) (Discard ∷ k) has above is = stack_other p g x bs (Go f) k has (above_to x x g Discard k old (fewer k) (λ n spared. statement_spared p g x bs f k x.relied n is spared) above) is
   stack_other p g x bs (Go f) (Rest js ∷ k) has above (cs, c, end, within, stands, continues, rest) =
-      (cs, c, end, within, stands, continues, stack_other p g x cs (Go end) k has (above_same x g (Rest js) k old refl above) rest)
-  stack_other p g x bs (Go f) (Join ∷ k) has above (end, i, rest) = (end, i, stack_other p g x bs (Go end) k has (above_same x g Join k old refl above) rest)
+      (cs, c, end, within, stands, continues, stack_other p g x cs (Go end) k has (above_to x x g (Rest js) k old (fewer k) (λ n spared. statement_spared p g x cs end k x.relied n rest spared) above) rest)
+  stack_other p g x bs (Go f) (Join ∷ k) has above (end, i, rest) = (end, i, stack_other p g x bs (Go end) k has (above_to x x g Join k old (fewer k) (λ n spared. statement_spared p g x bs end k x.relied n rest spared) above) rest)
   stack_other p g x bs (Go f) (Loop condition body ∷ k) has above (y, l, v, u, end, same, loop, i, rest) =
-      let inner = above_from x y g k old (λ n spared. subst (λ (z : Exits). IsSpared z.relied n) same spared) (above_same x g (Loop condition body) k old refl above) in
+      let inner = above_to x y g (Loop condition body) k old (fewer k) (λ n spared. statement_spared p g y bs end k y.relied n rest (subst (λ (z : Exits). IsSpared z.relied n) same spared)) above in
       (y, l, v, u, end, same, loop, i, stack_other p g y bs (Go end) k has inner rest)
   stack_other p g x bs (Go f) (CloseRegion region home ∷ k) has above (cs, number, l, alive, end, same, i, live, rest) =
-      (cs, number, l, alive, end, same, i, live, stack_other p g x cs (Go end) k has (above_same x g (CloseRegion region home) k old refl above) rest)
-  stack_other p g x bs (Go f) (CloseLexical region ∷ k) has above (end, i, live, rest) = (end, i, live, stack_other p g x bs (Go end) k has (above_same x g (CloseLexical region) k old refl above) rest)
+      (cs, number, l, alive, end, same, i, live, stack_other p g x cs (Go end) k has (above_to x x g (CloseRegion region home) k old (fewer k) (λ n spared. statement_spared p g x cs end k x.relied n rest spared) above) rest)
+  stack_other p g x bs (Go f) (CloseLexical region ∷ k) has above (end, i, live, rest) = (end, i, live, stack_other p g x bs (Go end) k has (above_to x x g (CloseLexical region) k old (fewer k) (λ n spared. statement_spared p g x bs end k x.relied n rest spared) above) rest)
   stack_other p g x bs (Go f) (EndLoan lent ∷ k) has above (y, end, j, u, same, loans, claims, i, full, variables, rest) =
-      let here = above_same x g (EndLoan lent) k old refl above in
-      let inner = above_from x y g k old (λ n spared. subst (λ (z : Exits). IsSpared z.relied n) same spared) here in
+      let inner = above_to x y g (EndLoan lent) k old (fewer k) (λ n spared. statement_spared p (record g { loans = j }) y bs end k y.relied n rest (subst (λ (z : Exits). IsSpared z.relied n) same spared)) above in
       let behind' = above_behind y g k j old loans inner in (
         y,
         end,
@@ -340,22 +411,20 @@ module _ (t : RunTy) (old new : Holder) where
         stack_other p (record g { loans = j }) y bs (Go end) k has behind' rest,
       )
   stack_other p g x bs (Go f) (Handler cs ∷ k) has above (y, c, start, end, same, stands, holds, catches, i, rest) =
-      let here = above_same x g (Handler cs) k old refl above in
-      let inner = above_from x y g k old (λ n spared. (subst (λ (z : Exits). IsSpared z.relied n) same spared).1) here in (
+      let inner = above_to x y g (Handler cs) k old (fewer k) (λ n spared. statement_spared p g y bs end k y.relied n rest ((subst (λ (z : Exits). IsSpared z.relied n) same spared).1)) above in (
         y,
         c,
         start,
         end,
         same,
         stands,
-        holds_other g start bs has (λ m full. relied_other x y g k start old m same holds.0 here full) holds,
+        holds_other g start bs has (λ m full. relied_other x y g cs k start old m same holds.0 above full) holds,
         catches,
         i,
         stack_other p g y bs (Go end) k has inner rest,
       )
   stack_other p g x bs (Go f) (Caller e ∷ k) has above (y, cs, end, d, depth, loop, blocked, gives, bound, variables, live, holds, rest) =
-      let here = above_same x g (Caller e) k old refl above in
-      let outer = above_outside x y g k d old depth here in (
+      let outer = above_outside x y g e k d old depth above in (
         y,
         cs,
         end,
@@ -367,10 +436,10 @@ module _ (t : RunTy) (old new : Holder) where
         bound,
         variables_other (record g { depth = d }) t old new cs has (none_lent y (record g { depth = d }) k old outer) variables,
         live,
-        holds_other (record g { depth = d }) end cs has (λ m full. outer_other x g k d old m depth here) holds,
+        holds_other (record g { depth = d }) end cs has (λ m full. outer_other x g e k d old m depth above) holds,
         stack_other p (record g { depth = d }) y cs (Val x.gives end) k has outer rest,
       )
-  stack_other p g x bs (Go f) (Main ∷ k) has above (loop, int, gives, blocked, rest) = (loop, int, gives, blocked, stack_other p g x bs Nothing k has (above_same x g Main k old refl above) rest)
+  stack_other p g x bs (Go f) (Main ∷ k) has above (loop, int, gives, blocked, rest) = (loop, int, gives, blocked, stack_other p g x bs Nothing k has (above_to x x g Main k old (fewer k) (λ n spared. ends_relied p g x bs k x.relied n rest spared) above) rest)
   stack_other p g x bs w k has above is = absurd is
 
 -- ---- what has no value is only dropped
@@ -431,12 +500,12 @@ void_chain m q c (ThenPointerPeek n o a os) t (v, w, well, op, chain) kept = poi
 void_tested : (n : Lives) (v : ValueType) → value_at n v ≡ Void → is_tested v ≡ true → ⊥
 void_tested n v e tested = let k : false ≡ true = subst (λ z. is_tested z ≡ true) (void_read n v e) tested in absurd (cc)
 
-void_waits : {p : Source} {x : Exits} {bs cs : List InScope} {a : Awaiting} {ts : List RunTy} {r : RunValue} {f : flow.State} {next : Want} → Waits p x bs a ts r f cs next → r ≡ Void → ⊥
+void_waits : {p : Source} {x : Exits} {q : Relied} {bs cs : List InScope} {a : Awaiting} {ts : List RunTy} {r : RunValue} {f : flow.State} {next : Want} → Waits p x q bs a ts r f cs next → r ≡ Void → ⊥
 void_waits {bs = bs} (stacks.converts c v t f agrees conv from to target) e = void_converts c t (subst (λ z. Converts c z t) (void_read (lives_in bs) v e) conv)
 void_waits (stacks.negates f) e = value_void e
 void_waits (stacks.complements f) e = value_void e
 void_waits {bs = bs} (stacks.denies v f tested) e = void_tested (lives_in bs) v e tested
-void_waits {p} {x} {bs} (stacks.chains {os} c v t f h stands computes) e = void_chain p.reading x.relied c os t (subst (λ z. IsChain c z os t) (void_read (lives_in bs) v e) computes.typed) computes.kept
+void_waits {p} {q = q} {bs = bs} (stacks.chains {os} c v t f h stands computes) e = void_chain p.reading q c os t (subst (λ z. IsChain c z os t) (void_read (lives_in bs) v e) computes.typed) computes.kept
 void_waits (stacks.applies f) e = value_void e
 void_waits {bs = bs} (stacks.decides v f h tested i) e = void_tested (lives_in bs) v e tested
 void_waits (stacks.stores_local b t f among same) e = value_void e
@@ -729,7 +798,7 @@ abbrev pub IsKeptOpen : List Region → Life → Type 0
 IsKeptOpen regions (Kept number) = is_open (slice_get regions number) ≡ true
 IsKeptOpen regions l = Unit {0}
 
-pub kept_open : (g : Typing) (regions : List Region) (objects : List Object) (l : Life) → IsTyped g regions objects → IsKnownLife g l → IsOpenIn g l → IsKeptOpen regions l
+pub kept_open : (g : Typing) (regions : List Region) (objects : List Object) (l : Life) → IsTyped g regions objects → IsKnownOwner g l → IsOpenIn g l → IsKeptOpen regions l
 kept_open g regions objects (Kept number) typed known opens = dynamic_open (slice_get regions number) ((typed.kept number known).1 (lent_held g.loans (g.own number) opens))
   where
     lent_held : (count : ℕ) (h : Holder) → is_lent_by count h ≡ true → IsHeld h
@@ -740,15 +809,31 @@ kept_open g regions objects (Kept number) typed known opens = dynamic_open (slic
 kept_open g regions objects (OfRegion number ns us) typed known opens = tt
 kept_open g regions objects (OfObject object) typed known opens = tt
 kept_open g regions objects Never typed known opens = tt
+kept_open g regions objects Owned typed known opens = tt
 
 -- what has this life has not ended
 abbrev pub IsPresent : Typing → List ℕ → Life → Type 0
+IsPresent g ns Owned = Unit {0}
 IsPresent g ns l = IsLasting ns l × IsOpenIn g l
 
-pub there_present : (g : Typing) (ns : List ℕ) (bs : List InScope) (r : Region') → AreLiveIn ns bs → AreVariables g bs → IsThere bs r → IsPresent g ns (lives_in bs r)
-there_present g ns bs r live variables there = (there_lasting ns bs r live there, there_open g bs r variables there)
+lasting_present : (g : Typing) (ns : List ℕ) (l : Life) → IsLasting ns l → IsOpenIn g l → IsPresent g ns l
+lasting_present g ns (OfRegion number around lent) lasts opens = (lasts, opens)
+lasting_present g ns (OfObject object) lasts opens = absurd lasts
+lasting_present g ns Never lasts opens = absurd lasts
+lasting_present g ns (Kept region) lasts opens = (lasts, opens)
+lasting_present g ns Owned lasts opens = tt
 
-pub object_known : (g : Typing) (regions : List Region) (objects : List Object) (number : ℕ) (t : ObjectType) → IsTyped g regions objects → slice_get g.objects number ≡ Some t → IsKnownLife g t.life
+pub there_present : (g : Typing) (ns : List ℕ) (bs : List InScope) (r : Region') → AreLiveIn ns bs → AreVariables g bs → IsThere bs r → IsPresent g ns (lives_in bs r)
+there_present g ns bs regions.Heap live variables there = (inl refl, there_open g bs regions.Heap variables there)
+there_present g ns bs regions.Unique live variables there = owned_present (frees_in bs)
+  where
+    owned_present : (frees : Bool) → IsPresent g ns (lives.owned_life frees)
+    owned_present true = tt
+    owned_present false = (inl refl, λ r e. absurd (let z : false ≡ true = e in cc))
+there_present g ns bs (regions.Variable n) live variables there =
+    lasting_present g ns (life_named bs n) (there_lasting ns bs (regions.Variable n) live (λ e. let z : regions.Variable n ≡ regions.Unique = e in absurd (cc)) there) (there_open g bs (regions.Variable n) variables there)
+
+pub object_known : (g : Typing) (regions : List Region) (objects : List Object) (number : ℕ) (t : ObjectType) → IsTyped g regions objects → slice_get g.objects number ≡ Some t → IsKnownOwner g t.life
 object_known g regions objects number t typed there = let (x, m, at, flag, is) = typed.each number t there in is.known
 
 pub lasting_open : (regions : List Region) (ns : List ℕ) (l : Life) → AreOpen regions ns → is_open (slice_get regions heap_number) ≡ true → IsKeptOpen regions l → IsLasting ns l → IsOpenLife regions l
@@ -756,6 +841,7 @@ lasting_open regions ns (OfRegion m ms us) opens heap kept (inl is_heap) = subst
 lasting_open regions ns (OfRegion m ms us) opens heap kept (inr end) = open_of regions (end_among m ms ns end) opens
 lasting_open regions ns (OfObject o) opens heap kept is = is
 lasting_open regions ns Never opens heap kept is = is
+lasting_open regions ns Owned opens heap kept is = absurd is
 lasting_open regions ns (Kept number) opens heap kept is = kept
 
 around_heap : (n : ℕ) (ns : List ℕ) (us : ℕ → Bool) → OfRegion n ns us ≡ heap_life → ns ≡ []
@@ -788,7 +874,7 @@ found_is (Found r) h = (r, refl)
 found_is Closed h = absurd h
 found_is Missing h = absurd h
 
-pub waits_within : {p : Source} {x : Exits} {bs cs : List InScope} {a : Awaiting} {ts : List RunTy} {r : RunValue} {f : flow.State} {next : Want} → Waits p x bs a ts r f cs next → Within cs bs
+pub waits_within : {p : Source} {x : Exits} {q : Relied} {bs cs : List InScope} {a : Awaiting} {ts : List RunTy} {r : RunValue} {f : flow.State} {next : Want} → Waits p x q bs a ts r f cs next → Within cs bs
 waits_within {bs = bs} (stacks.converts c v t f agrees conv from to target) = itself bs
 waits_within {bs = bs} (stacks.negates f) = itself bs
 waits_within {bs = bs} (stacks.complements f) = itself bs

@@ -34,13 +34,13 @@ use Rattle.cyc_soundness.specs.Lives.{Life, OfRegion, OfObject, Never, Kept, Rea
 use Rattle.cyc_soundness.specs.Lives as lives
 use Rattle.cyc_soundness.specs.Worlds.{Hand, In, ClaimsBy, giving, Stays, AreKeyless, IsOpenIn, ObjectType, IsKnownLife, IsNumber, IsOwner, Typing, IsFilled, variable_type, HasType, IsResult, AreCells, IsObject, IsTyped, Grows}
 use Rattle.cyc_soundness.specs.Frames.{later, Bound, InScope, Variable, Level, life_named, lives_in, read, read_value, IsThere, IsHomed, AreBelow, IsBound, AreVariables, IsLasting, home_in, LiveIn, Within, itself, older, Holds, Implies, LoopExit, Exits, IsHome, IsContext, KnowsProgram}
-use Rattle.cyc_soundness.specs.Stacks.{Executes, Continues, IsLoop, Repeats, IsArray, IsNew, Want, Val, Go, operands_in, Comes, Keeps, inside, Waits, IsReturn, IsStack, IsFocus, IsWell}
+use Rattle.cyc_soundness.specs.Stacks.{Executes, Continues, IsLoop, Repeats, IsArray, IsNew, Want, Val, Go, operands_in, Comes, Keeps, inside, Waits, IsReturn, IsStack, IsFocus, IsWell, relied_at}
 use Rattle.cyc_soundness.specs.Stacks as stacks
 use Rattle.cyc_soundness.proofs.TypeLemmas.{is_kind_same, kind_read}
 use Rattle.cyc_soundness.proofs.FlowLemmas.{holds_implied, reached_with, full_put, vacant_now}
-use Rattle.cyc_soundness.proofs.WorldLemmas.{life_grown, open_stays, type_grown, with_object, object_stays, object_typed, globals_grown, variables_grown, set_grown, giving_grows, given_now, given_typed, given_globals, variables_other}
+use Rattle.cyc_soundness.proofs.WorldLemmas.{open_stays, type_grown, with_object, object_stays, object_typed, globals_grown, variables_grown, set_grown, giving_grows, given_now, given_typed, given_globals, variables_other, owner_grown}
 use Rattle.cyc_soundness.proofs.StackLemmas.{stack_grown, stack_other, holds_other, in_no_hand, there_present, fields_kept, passed_kept, comes_alone, claimed_next, below_more, local_new, bound_more, set_more, home_is, home_lasting, found_is, within_bound, within_variables, within_live, within_holds}
-use Rattle.cyc_soundness.proofs.RegionLemmas.{region_known, there_open, there_lasting, known_local}
+use Rattle.cyc_soundness.proofs.RegionLemmas.{region_known, there_open, there_lasting, known_local, owner_known}
 use Rattle.cyc_soundness.proofs.ValueLemmas.{negated, complemented, combined, zero_is}
 use Rattle.cyc_soundness.specs.Classes.{InInitial, Source}
 use Rattle.cyc_soundness.proofs.Cells.{running}
@@ -79,18 +79,19 @@ pub new_life : (m : Reading) (bs : List InScope) (region home : ℕ) (k : List E
 new_life AsHeap bs region home k live is at_home =
     let (ns, lasting) = home_lasting k in
     record { life = OfRegion (home_in k) ns (λ number. false); number = sym (home_is home k at_home); lasting = lasting; homed = tt; known = λ g are. (tt, λ r e. let z : false ≡ true = e in absurd (cc)) }
-new_life (ByScope lends) bs region home k live (number, there) at_home = record {
+new_life (ByScope lends frees) bs region home k live (number, there) at_home = record {
   life = life_named bs region;
   number = subst (λ n. IsNumber (life_named bs region) n) (live.1 ∙ sym (home_is home k at_home)) number;
-  lasting = there_lasting (ends_of k) bs (regions.Variable region) live.0 there;
+  lasting = there_lasting (ends_of k) bs (regions.Variable region) live.0 (λ e. let z : regions.Variable region ≡ regions.Unique = e in absurd (cc)) there;
   homed = refl;
-  known = λ g are. (region_known g bs (regions.Variable region) are, there_open g bs (regions.Variable region) are there);
+  known = λ g are. (region_known g bs (regions.Variable region) (λ e. let z : regions.Variable region ≡ regions.Unique = e in absurd (cc)) are, there_open g bs (regions.Variable region) are there);
 }
 
 pub owner_is : (l : Life) (region : ℕ) → IsNumber l region → IsOwner l (InRegion region)
 owner_is (OfRegion number ns us) region is = is
 owner_is (OfObject object) region is = absurd is
 owner_is Never region is = absurd is
+owner_is lives.Owned region is = absurd is
 owner_is (Kept number) region is = is
 
 -- no pointer leads to a local that is moved, and no other is a key
@@ -122,7 +123,7 @@ module _ (p : Source) (g : Typing) (x : Exits) (bs : List InScope) (e : Environm
       let h = new_typing g bs t l n in
       let stays : Stays g h = object_stays g (new_type bs t l) n in
       let is : IsObject h n (new_type bs t l) (variable e.home kind content) =
-      record { owner = owner_is l e.home numbered; known = life_grown g h stays.grows l known; keyless = copied_keyless (lives_in bs) t; cells = cells stays.grows } in
+      record { owner = owner_is l e.home numbered; known = owner_grown g h stays.grows l (owner_known g l known); keyless = copied_keyless (lives_in bs) t; cells = cells stays.grows } in
       let (r, found) = found_is (region_at w e.home) (home_found w.regions e.home stack nests.2 nests.0) in
       let there = subst (λ i. slice_get h.objects i ≡ Some (new_type bs t l)) (sym typed.count) (slice_get-end g.objects (new_type bs t l)) in
       let flag = subst (λ i. slice_get h.filled i ≡ Some n) (sym typed.counts) (slice_get-end g.filled n) in
@@ -236,7 +237,7 @@ module _ (p : Source) (g : Typing) (x : Exits) (bs : List InScope) (e : Environm
 
   -- by a handle
   placed_by : (i : Initial) (v : values.Value) (k : List Entry) (c : Context) (m : PointerKind) (t : Ty) (r : Region) (f h : flow.State) (q : List ℕ) → AreOpen w.regions (ends_of k) → LiveIn k bs → IsContext p x bs c → Holds g f bs
-      → IsThere bs r → IsMade c i m t → Derives (rule_initial q i f) h → InInitial p.reading x.relied i → HasType g (lives.Handle (lives_in bs r)) v
+      → IsThere bs r → IsMade c i m t → Derives (rule_initial q i f) h → InInitial p.reading (relied_at x.relied k) i → HasType g (lives.Handle (lives_in bs r)) v
       → IsStack p g x bs (Val (Value (lives.Pointer m (read bs t) (lives_in bs r))) h) k → IsWell p (makes_by i v k e w)
   placed_by i (values.Handle region) k c m t r f h q opens live stands holds alive made flows kept has stack =
       makes_on p g x bs e w typed globals bound variables i (InRegion region) k c m t r f h q opens live stands holds alive (owner_is (lives_in bs r) region has) made flows kept stack
@@ -244,7 +245,7 @@ module _ (p : Source) (g : Typing) (x : Exits) (bs : List InScope) (e : Environm
 
   -- the next element of an array has its value, and the counter is out of scope
   filled_on : (object count index level : ℕ) (kind : Kind) (element : Expression) (v : Operand) (k : List Entry) (cs : List InScope) (c : Context) (t : Ty) (r : Region) (f h : flow.State) → bs ≡ Level level ∷ cs
-      → AreOpen w.regions (ends_of k) → LiveIn k bs → IsThere cs r → IsContext p x cs c → Holds g h bs → Repeats p.reading x.relied c level kind element t f → Implies h f → index < count
+      → AreOpen w.regions (ends_of k) → LiveIn k bs → IsThere cs r → IsContext p x cs c → Holds g h bs → Repeats p.reading (relied_at x.relied k) c level kind element t f → Implies h f → index < count
       → IsArray g (read cs t) (lives_in cs r) object count index → IsResult g (Value (read cs t)) v → IsStack p g x cs (Val (Value (lives.Pointer marks.Fat (read cs t) (lives_in cs r))) f) k
       → IsWell p (fills_element object count index level kind element v k e w)
   filled_on object count index level kind element v k cs c t r f h same opens live alive stands holds repeats back less array is stack =
@@ -255,7 +256,7 @@ module _ (p : Source) (g : Typing) (x : Exits) (bs : List InScope) (e : Environm
   -- ---- all that waits
 
   pub given : {a : Awaiting} {ts : List RunTy} {r : RunValue} {f : flow.State} {cs : List InScope} {next : Want} (v : Operand) (k : List Entry) → IsNested k e w → LiveIn k bs → Holds g f bs → IsResult g r v
-      → Comes g r (Needs a ∷ k) → Waits p x bs a ts r f cs next → Keeps g (operands_in k) a ts → IsStack p g x cs next k → IsWell p (supplied a v k e w)
+      → Comes g r (Needs a ∷ k) → Waits p x (relied_at x.relied k) bs a ts r f cs next → Keeps g (operands_in k) a ts → IsStack p g x cs next k → IsWell p (supplied a v k e w)
   given v k nests live holds is comes (stacks.converts {from} {to} {target} c s t f agrees conv from_is to_is same) are stack =
       converted_on p g x bs e w typed globals bound variables from to target v k c s t f live agrees holds is (comes_alone g k (read_value bs s) comes) conv from_is to_is same stack
   given v k nests live holds is comes (stacks.negates f) are stack =

@@ -1,5 +1,5 @@
 -- SWAPS: both places are found, and then are read and written.
-use Rattle.std.proofs.Common.{◌≡◌, ℕ, suc, ◌≤◌, Bool, false, List, [], ◌∷◌, ◌++◌, Option, Some, None, slice_get, refl, sym, ap, subst, ◌∙◌, arith}
+use Rattle.std.proofs.Common.{true, ◌≡◌, ℕ, suc, ◌≤◌, Bool, false, List, [], ◌∷◌, ◌++◌, Option, Some, None, slice_get, refl, sym, ap, subst, ◌∙◌, arith}
 use Rattle.std.specs.Prelude.{if◌then◌else◌}
 use Rattle.cyc_syntax.specs.declared.tree.PointerKind.TheVariants as marks
 use Rattle.cyc_types.specs.declared.typed.Kind.{Kind}
@@ -9,19 +9,20 @@ use Rattle.cyc_types.specs.Rules.{Demand, AllKept, Derives}
 use Rattle.cyc_types.specs.typing.Tests.{is_struct}
 use Rattle.cyc_types.specs.typing.WellTyped.{Context, IsSide}
 use Rattle.cyc_types.specs.flow.States as flow
-use Rattle.cyc_types.specs.flow.States.{fullness, is_vacant}
-use Rattle.cyc_types.specs.flow.Statements.{rule_side, side_demanded}
+use Rattle.cyc_types.specs.flow.States.{fullness, is_vacant, is_reached}
+use Rattle.cyc_types.specs.flow.Statements.{rule_side, side_demanded, peeked_side}
 use Rattle.cyc_meaning.specs.Values.{Operand}
 use Rattle.cyc_meaning.specs.Values as values
 use Rattle.cyc_meaning.specs.State.{World, cell_at, Environment, SwapLeft, SwapRight, Write, Entry, NeedsPlace, Locating, Proceeding, Writing, Swapping}
 use Rattle.cyc_meaning.specs.Parts.{wrong, stored_at, step_writing}
 use Rattle.cyc_meaning.specs.Swaps.{both_places, finds_right_object, finds_right, finds_left_object, swaps, swap_read, swap_content, swap_loaded, swap_loaded_at, step_swapping}
 use Rattle.cyc_meaning.specs.Nesting.{ends_of, AreOpen}
+use Rattle.cyc_soundness.proofs.Looking.{peeked_so}
 use Rattle.cyc_soundness.specs.Lives.{Life, RunTy, as_heap}
 use Rattle.cyc_soundness.specs.Lives as lives
 use Rattle.cyc_soundness.specs.Worlds.{ObjectType, Typing, variable_type, global_type, IsFilled, HasType, IsTyped, IsOpenLife}
 use Rattle.cyc_soundness.specs.Frames.{InScope, IsBound, AreVariables, LiveIn, IsSet, Holds, Exits, IsContext, KnowsProgram, lives_in, read}
-use Rattle.cyc_soundness.specs.Classes.{InSide, Source}
+use Rattle.cyc_soundness.specs.Classes.{InSide, Source, and_looked, frees_of}
 use Rattle.cyc_soundness.specs.Stacks.{Finds, Go, IsSpot, of_local, of_global, of_cell, IsRead, AreSwapped, IsStack, IsWell}
 use Rattle.cyc_soundness.specs.Stacks as stacks
 use Rattle.cyc_soundness.proofs.Numbers.{some_same}
@@ -73,7 +74,7 @@ module _ (p : Source) (g : Typing) (x : Exits) (bs : List InScope) (e : Environm
       record {
         number = number;
         offset = 0;
-        of_type = global_type (lives.at as_heap t);
+        of_type = global_type (lives.at (as_heap (frees_of p.reading)) t);
         is = refl;
         there = at;
         cell = ap (λ u. Some u) (sym same);
@@ -96,7 +97,7 @@ module _ (p : Source) (g : Typing) (x : Exits) (bs : List InScope) (e : Environm
       of_global n found (global_means p.reading c.regions bs t stands.regions closed)
 
   pub finds_right_on : (kind : Kind) (peek : Option ℕ) (is_cell : Bool) (left : values.Value) (right : Side) (c : Context) (t : Ty) (k : List Entry) (f h : flow.State) (q : List ℕ) → LiveIn k bs → IsContext p x bs c → Holds g f bs
-      → kind ≡ values.kind_of t → is_struct t ≡ false → (Unit {0} → IsSpot p g bs t h left) → IsSide c right t → Derives (rule_side q right f) h → AllKept (side_demanded q right h) → InSide p.reading x.relied right
+      → kind ≡ values.kind_of t → is_struct t ≡ false → (Unit {0} → IsSpot p g bs t h left) → IsSide c right t → Derives (rule_side q right f) h → AllKept (side_demanded q right h) → InSide p.reading (and_looked peek x.relied) right
       → IsStack p g x bs (Go h) k → IsWell p (finds_right kind peek is_cell left right k e w)
   finds_right_on kind peek is_cell left (VariableSide (Local place n) u) c t k f h q live stands holds kind_is plain here (r, (m, has, region, there), same) (unit, known) used kept stack =
       let (b, among, number, of_type) = bound_of p.reading (lives_in bs) c.locals bs n u m stands.scope (place_local c.locals n u m has) in
@@ -121,15 +122,17 @@ module _ (p : Source) (g : Typing) (x : Exits) (bs : List InScope) (e : Environm
       )
 
   pub swap_on : (y z : Side) (c : Context) (t : Ty) (k : List Entry) (f f1 h : flow.State) (q : List ℕ) → LiveIn k bs → IsContext p x bs c → Holds g f bs → is_struct t ≡ false
-      → IsSide c y t → Derives (rule_side [] y f) f1 → AllKept (side_demanded [] y h) → InSide p.reading x.relied y → Finds p.reading x.relied c z f1 t h → IsStack p g x bs (Go h) k → IsWell p (swaps y z k e w)
-  swap_on (VariableSide (Local place n) u) z c t k f f1 h q live stands holds plain (r, (m, has, region, there), same) (unit, known) used kept finds stack =
+      → IsSide c y t → Derives (rule_side [] y f) f1 → AllKept (side_demanded [] y h) → InSide p.reading x.relied y → (is_reached f1 ≡ true → Finds p.reading (and_looked (peeked_side y) x.relied) c z f1 t h) → IsStack p g x bs (Go h) k → IsWell p (swaps y z k e w)
+  swap_on (VariableSide (Local place n) u) z c t k f f1 h q live stands holds plain (r, (m, has, region, there), same) (unit, known) used kept later stack =
+      let finds = later (ap is_reached known ∙ holds.0) in
       let (b, among, number, of_type) = bound_of p.reading (lives_in bs) c.locals bs n u m stands.scope (place_local c.locals n u m has) in
       let at : e.locals n ≡ Some b.object = ap e.locals (sym number) ∙ among_bound e among bound in
       let set : IsSet h b.number = subst (λ i. IsSet h i) (sym number) (not_vacant (is_vacant (fullness h n)) used.0) in
       subst (λ o. IsWell p (finds_left_object (values.kind_of u) o z k e w)) (sym at)
       (finds_right_on (values.kind_of u) None false (values.Thin b.object 0) z c t k f1 h finds.waiting live stands (subst (λ i. Holds g i bs) (sym known) holds) (ap values.kind_of (sym same)) plain
       (λ i. of_local b among (of_type ∙ ap (read bs) (sym same)) set) finds.typed finds.flows finds.used finds.kept stack)
-  swap_on (VariableSide (Global n) u) z c t k f f1 h q live stands holds plain (r, (region, there), same) (unit, known) used kept finds stack =
+  swap_on (VariableSide (Global n) u) z c t k f f1 h q live stands holds plain (r, (region, there), same) (unit, known) used kept later stack =
+      let finds = later (ap is_reached known ∙ holds.0) in
       finds_right_on (values.kind_of u) None false (values.Thin n 0) z c t k f1 h finds.waiting live stands (subst (λ i. Holds g i bs) (sym known) holds) (ap values.kind_of (sym same)) plain
       (λ i. global_spot n u t c h stands same there) finds.typed finds.flows finds.used finds.kept stack
   swap_on (CellSide d) z c t k f f1 h q live stands holds plain (r, cell) flows used kept finds stack =
@@ -142,7 +145,7 @@ module _ (p : Source) (g : Typing) (x : Exits) (bs : List InScope) (e : Environm
         stands,
         holds,
         record { waiting = []; typed = cell; flows = flows; kept = kept },
-        (Go h, stacks.swaps_left c t r f1 h (there_of p x bs c stands r (cell_live c d t r cell)) stands (ap values.kind_of (sym (place_type c d t r cell))) plain finds, tt, stack),
+        (Go h, stacks.swaps_left c t r f1 h (there_of p x bs c stands r (cell_live c d t r cell)) stands (ap values.kind_of (sym (place_type c d t r cell))) plain (λ reached. subst (λ o. Finds p.reading (and_looked o x.relied) c z f1 t h) (sym (peeked_so d)) (finds reached)), tt, stack),
       )
 
   -- ---- both are read

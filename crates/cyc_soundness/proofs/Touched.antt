@@ -10,7 +10,7 @@ use Rattle.cyc_types.specs.flow.Touched.{and_local, and_assigned, touched, touch
 use Rattle.cyc_soundness.specs.Lives.{Reading}
 use Rattle.cyc_soundness.specs.Worlds.{IsAmong, first, later}
 use Rattle.cyc_soundness.specs.Classes.{is_full, Relied, IsSparedBy, InExpression, InPlace, InPlacement, InInitial, InConverted, InArguments, InOperations, InValue, InThrown, InSide, InStatement, InItems, InClauses}
-use Rattle.cyc_soundness.proofs.Loans.{before_last, at_last}
+use Rattle.cyc_soundness.proofs.FlowLemmas.{before_last, at_last}
 
 -- ---- what was touched before is so behind
 

@@ -1,12 +1,12 @@
 -- THE WHOLE: every step of a typed state leads to a typed state, so no run of an accepted program of the class is dead or wrong.
 use Rattle.std.proofs.Common.{◌≡◌, ◌≢◌, inl, inr, ℕ, ◌≤◌, zero, suc, Bool, true, false, List, [], ◌∷◌, length, map, Option, Some, None, slice_get, refl, sym, ap, subst, ◌∙◌, arith}
-use Rattle.std.specs.Prelude.{if◌then◌else◌, ◌==◌}
+use Rattle.std.specs.Prelude.{if◌then◌else◌, ◌==◌, Contains}
 use Rattle.std.proofs.lemmas.Bool.{eq-eqb, eqb-true}
 use Rattle.cyc_syntax.specs.declared.tree.PointerKind.{PointerKind}
 use Rattle.cyc_syntax.specs.declared.tree.PointerKind.TheVariants as marks
 use Rattle.cyc_types.specs.declared.region.Region.{Region}
 use Rattle.cyc_types.specs.declared.region.Region.TheVariants as regions
-use Rattle.cyc_types.specs.Outlives.{RegionContext}
+use Rattle.cyc_types.specs.Outlives.{RegionContext, IsGiven}
 use Rattle.cyc_syntax.specs.Symbols.{Place}
 use Rattle.cyc_types.specs.Types.{Ty, result_type}
 use Rattle.cyc_types.specs.Types as types
@@ -26,11 +26,12 @@ use Rattle.cyc_meaning.specs.Places.{step_given_place}
 use Rattle.cyc_meaning.specs.Step.{called, step, stepped, step_given}
 use Rattle.cyc_meaning.specs.Run.{start, steps, run}
 use Rattle.cyc_meaning.proofs.Nested.{nests_step, nests_start}
+use Rattle.cyc_soundness.proofs.RegionLemmas.{contains_none}
 use Rattle.cyc_soundness.specs.Lives.{Life, RunTy, RunValue, at, heap_life, lives_of, as_heap, Reading, AsHeap, ByScope}
 use Rattle.cyc_soundness.specs.Lives as lives
 use Rattle.cyc_soundness.specs.Worlds.{Nobody, AreKeyless, ObjectType, Typing, Outlasts, heap as for_ever, global_type, HasType, IsResult, AreOperands, IsObject, IsTyped}
 use Rattle.cyc_soundness.specs.Frames.{InScope, Instance, read, read_value, IsThereBy, IsBound, AreVariables, LiveIn, Holds, Exits, StandBy, lives_among, KnowsProgram}
-use Rattle.cyc_soundness.specs.Classes.{IsDeclarable, InFunctions, InGlobals, InFields, InStructs, IsOfTheHeap, IsOfScopes, FreesNoObject, HasLoans, Source, IsInClass}
+use Rattle.cyc_soundness.specs.Classes.{IsDeclarable, InFunctions, InGlobals, InFields, InStructs, IsOfTheHeap, IsOfScopes, FreesNoObject, HasLoans, Source, IsInClass, frees_of}
 use Rattle.cyc_soundness.specs.Stacks.{IsAccepted, Comes, AreGiven, Val, PlaceOf, regions_at_call, IsStack, IsFocus, IsWell}
 use Rattle.cyc_soundness.specs.Sound.{IsSound}
 use Rattle.cyc_soundness.proofs.Numbers.{some_same}
@@ -127,61 +128,64 @@ accepted_among p (f ∷ hs) (one, well) (u, d, flows) (in_one, kept) (suc n) h f
 abbrev ones : List GlobalVariable → List ℕ
 ones vs = map (λ (v : GlobalVariable). 1) vs
 
-abbrev global_of : GlobalVariable → ObjectType
-global_of v = global_type (at as_heap v.of_type)
+abbrev global_of : (frees : Bool) → GlobalVariable → ObjectType
+global_of frees v = global_type (at (as_heap frees) v.of_type)
 
 -- the cells of a struct, for as many lives as it has parameters
-abbrev cells_of : List Life → StructType → Option (List RunTy)
-cells_of ls s = if length ls == s.parameters then Some (map (at (lives_among ls)) s.fields) else None
+abbrev cells_of : (frees : Bool) → List Life → StructType → Option (List RunTy)
+cells_of frees ls s = if length ls == s.parameters then Some (map (at (lives_among frees ls)) s.fields) else None
 
-abbrev found_cells : List Life → Option StructType → Option (List RunTy)
-found_cells ls None = None
-found_cells ls (Some s) = cells_of ls s
+abbrev found_cells : (frees : Bool) → List Life → Option StructType → Option (List RunTy)
+found_cells frees ls None = None
+found_cells frees ls (Some s) = cells_of frees ls s
 
-abbrev globals_typed : List StructType → List GlobalVariable → Typing
-globals_typed ss vs = record { objects = map global_of vs; filled = ones vs; fields = λ n ls. found_cells ls (slice_get ss n); kept = []; own = λ n. Nobody; depth = 0; loans = 0 }
+abbrev globals_typed : (frees : Bool) → List StructType → List GlobalVariable → Typing
+globals_typed frees ss vs = record { objects = map (global_of frees) vs; filled = ones vs; fields = λ n ls. found_cells frees ls (slice_get ss n); kept = []; own = λ n. Nobody; depth = 0; loans = 0 }
 
-null_typed : (g : Typing) (k : PointerKind) (t : Ty) (r : Region) → is_non_null (types.Pointer k t r) ≡ false → HasType g (at as_heap (types.Pointer k t r)) values.Null
-null_typed g marks.Nullable t r is = tt
-null_typed g marks.NonNull t r is = absurd (let z : true ≡ false = is in cc)
-null_typed g marks.Fat t r is = tt
+null_typed : (frees : Bool) (g : Typing) (k : PointerKind) (t : Ty) (r : Region) → is_non_null (types.Pointer k t r) ≡ false → HasType g (at (as_heap frees) (types.Pointer k t r)) values.Null
+null_typed frees g marks.Nullable t r is = tt
+null_typed frees g marks.NonNull t r is = absurd (let z : true ≡ false = is in cc)
+null_typed frees g marks.Fat t r is = tt
 
-value_typed : (g : Typing) (v : GlobalVariable) → IsWellTypedGlobal v → HasType g (at as_heap v.of_type) (constant_value v.value)
-value_typed g v (inl (int, (word, is))) =
-    subst (λ z. HasType g (at as_heap v.of_type) (constant_value z)) (sym is) (subst (λ t. HasType g (at as_heap t) (values.Int word)) (sym int) tt)
-value_typed g v (inr (k, t, r, pointer, null, is)) =
-    subst (λ z. HasType g (at as_heap v.of_type) (constant_value z)) (sym is)
-    (subst (λ u. HasType g (at as_heap u) values.Null) (sym pointer) (null_typed g k t r (subst (λ u. is_non_null u ≡ false) pointer null)))
+value_typed : (frees : Bool) (g : Typing) (v : GlobalVariable) → IsWellTypedGlobal v → HasType g (at (as_heap frees) v.of_type) (constant_value v.value)
+value_typed frees g v (inl (int, (word, is))) =
+    subst (λ z. HasType g (at (as_heap frees) v.of_type) (constant_value z)) (sym is) (subst (λ t. HasType g (at (as_heap frees) t) (values.Int word)) (sym int) tt)
+value_typed frees g v (inr (k, t, r, pointer, null, is)) =
+    subst (λ z. HasType g (at (as_heap frees) v.of_type) (constant_value z)) (sym is)
+    (subst (λ u. HasType g (at (as_heap frees) u) values.Null) (sym pointer) (null_typed frees g k t r (subst (λ u. is_non_null u ≡ false) pointer null)))
 
 -- the key of the heap is none
-global_keyless : (t : Ty) → AreKeyless (at as_heap t ∷ [])
-global_keyless types.Int = (tt, tt)
-global_keyless (types.Pointer k t r) = (tt, tt)
-global_keyless (types.Handle r) = (tt, tt)
-global_keyless (types.Key r) = (tt, tt)
-global_keyless (types.Struct n rs) = (tt, tt)
+global_keyless : (frees : Bool) (t : Ty) → AreKeyless (at (as_heap frees) t ∷ [])
+global_keyless frees types.Int = (tt, tt)
+global_keyless frees (types.Pointer k t r) = (tt, tt)
+global_keyless frees (types.Handle r) = (tt, tt)
+global_keyless frees (types.Key regions.Heap) = (tt, tt)
+global_keyless true (types.Key regions.Unique) = (tt, tt)
+global_keyless false (types.Key regions.Unique) = (tt, tt)
+global_keyless frees (types.Key (regions.Variable n)) = (tt, tt)
+global_keyless frees (types.Struct n rs) = (tt, tt)
 
-global_is : (g : Typing) (v : GlobalVariable) → IsWellTypedGlobal v → IsObject g 1 (global_of v) (global_object v)
-global_is g v has = record { owner = refl; known = tt; keyless = λ shown. global_keyless v.of_type; cells = ((sym (kind_meant as_heap v.of_type), value_typed g v has), tt) }
+global_is : (frees : Bool) (g : Typing) (v : GlobalVariable) → IsWellTypedGlobal v → IsObject g 1 (global_of frees v) (global_object v)
+global_is frees g v has = record { owner = refl; known = tt; keyless = λ shown. global_keyless frees v.of_type; cells = ((sym (kind_meant (as_heap frees) v.of_type), value_typed frees g v has), tt) }
 
 mapped_length : {A B C : Type 0} (f : A → B) (h : A → C) (xs : List A) → length (map f xs) ≡ length (map h xs)
 mapped_length f h [] = refl
 mapped_length f h (x ∷ xs) = ap suc (mapped_length f h xs)
 
-globals_each : (g : Typing) (vs : List GlobalVariable) → AreWellTypedGlobals vs → (n : ℕ) (t : ObjectType) → slice_get (map global_of vs) n ≡ Some t
+globals_each : (frees : Bool) (g : Typing) (vs : List GlobalVariable) → AreWellTypedGlobals vs → (n : ℕ) (t : ObjectType) → slice_get (map (global_of frees) vs) n ≡ Some t
     → (x : Object) × (filled : ℕ) × (slice_get (map global_object vs) n ≡ Some x) × (slice_get (ones vs) n ≡ Some filled) × IsObject g filled t x
-globals_each g [] have n t found = absurd (let z : None ≡ Some t = found in cc)
-globals_each g (v ∷ vs) (has, have) zero t found =
-    let t_is : global_of v ≡ t = some_same (global_of v) t found in
-    (global_object v, 1, refl, refl, subst (λ z. IsObject g 1 z (global_object v)) t_is (global_is g v has))
-globals_each g (v ∷ vs) (has, have) (suc n) t found = globals_each g vs have n t found
+globals_each frees g [] have n t found = absurd (let z : None ≡ Some t = found in cc)
+globals_each frees g (v ∷ vs) (has, have) zero t found =
+    let t_is : global_of frees v ≡ t = some_same (global_of frees v) t found in
+    (global_object v, 1, refl, refl, subst (λ z. IsObject g 1 z (global_object v)) t_is (global_is frees g v has))
+globals_each frees g (v ∷ vs) (has, have) (suc n) t found = globals_each frees g vs have n t found
 
 all_globals : (m : Reading) (vs : List GlobalVariable) → InGlobals m vs → (n : ℕ) (t : Ty) → slice_get (map (λ (v : GlobalVariable). v.of_type) vs) n ≡ Some t
-    → (slice_get (map global_of vs) n ≡ Some (global_type (at as_heap t))) × (slice_get (ones vs) n ≡ Some 1) × IsDeclarable m 0 t
+    → (slice_get (map (global_of (frees_of m)) vs) n ≡ Some (global_type (at (as_heap (frees_of m)) t))) × (slice_get (ones vs) n ≡ Some 1) × IsDeclarable m 0 t
 all_globals m [] kept n t found = absurd (let z : None ≡ Some t = found in cc)
 all_globals m (v ∷ vs) (one, kept) zero t found =
     let same : v.of_type ≡ t = some_same v.of_type t found in
-    (ap (λ u. Some (global_type (at as_heap u))) same, refl, subst (λ u. IsDeclarable m 0 u) same one)
+    (ap (λ u. Some (global_type (at (as_heap (frees_of m)) u))) same, refl, subst (λ u. IsDeclarable m 0 u) same one)
 all_globals m (v ∷ vs) (one, kept) (suc n) t found = all_globals m vs kept n t found
 
 all_fields : (m : Reading) (n : ℕ) (ts : List Ty) → InFields m n ts → (field : ℕ) (t : Ty) → slice_get ts field ≡ Some t → IsDeclarable m n t
@@ -192,64 +196,78 @@ all_fields m n (u ∷ ts) (one, usual, kept) (suc field) t found = all_fields m 
 -- where things are lent, none is a key
 all_usual : (m : Reading) (n : ℕ) (ts : List Ty) → HasLoans m → InFields m n ts → (field : ℕ) (t : Ty) → slice_get ts field ≡ Some t → is_key t ≡ false
 all_usual AsHeap n ts loans kept field t found = absurd loans
-all_usual (ByScope false) n ts loans kept field t found = absurd (let z : false ≡ true = loans in cc)
-all_usual (ByScope true) n [] loans kept field t found = absurd (let z : None ≡ Some t = found in cc)
-all_usual (ByScope true) n (u ∷ ts) loans (one, usual, kept) zero t found = subst (λ z. is_key z ≡ false) (some_same u t found) usual
-all_usual (ByScope true) n (u ∷ ts) loans (one, usual, kept) (suc field) t found = all_usual (ByScope true) n ts loans kept field t found
+all_usual (ByScope false frees) n ts loans kept field t found = absurd (let z : false ≡ true = loans in cc)
+all_usual (ByScope true frees) n [] loans kept field t found = absurd (let z : None ≡ Some t = found in cc)
+all_usual (ByScope true frees) n (u ∷ ts) loans (one, usual, kept) zero t found = subst (λ z. is_key z ≡ false) (some_same u t found) usual
+all_usual (ByScope true frees) n (u ∷ ts) loans (one, usual, kept) (suc field) t found = all_usual (ByScope true frees) n ts loans kept field t found
 
 all_structs : (m : Reading) (ss : List StructType) → InStructs m ss → (n : ℕ) (s : StructType) → slice_get ss n ≡ Some s → InFields m s.parameters s.fields
 all_structs m [] kept n s found = absurd (let z : None ≡ Some s = found in cc)
 all_structs m (r ∷ ss) (one, kept) zero s found = subst (λ (z : StructType). InFields m z.parameters z.fields) (some_same r s found) one
 all_structs m (r ∷ ss) (one, kept) (suc n) s found = all_structs m ss kept n s found
 
-counted_cells : (ls : List Life) (s : StructType) → length ls ≡ s.parameters → cells_of ls s ≡ Some (map (at (lives_among ls)) s.fields)
-counted_cells ls s count = ap (λ (b : Bool). if b then Some (map (at (lives_among ls)) s.fields) else None) (eq-eqb (length ls) s.parameters count)
+counted_cells : (frees : Bool) (ls : List Life) (s : StructType) → length ls ≡ s.parameters → cells_of frees ls s ≡ Some (map (at (lives_among frees ls)) s.fields)
+counted_cells frees ls s count = ap (λ (b : Bool). if b then Some (map (at (lives_among frees ls)) s.fields) else None) (eq-eqb (length ls) s.parameters count)
 
-cells_counted : (ls : List Life) (s : StructType) (ts : List RunTy) → cells_of ls s ≡ Some ts → length ls ≡ s.parameters
-cells_counted ls s ts is = go (length ls == s.parameters) refl is
+cells_counted : (frees : Bool) (ls : List Life) (s : StructType) (ts : List RunTy) → cells_of frees ls s ≡ Some ts → length ls ≡ s.parameters
+cells_counted frees ls s ts is = go (length ls == s.parameters) refl is
   where
-    go : (b : Bool) → (length ls == s.parameters) ≡ b → (if b then Some (map (at (lives_among ls)) s.fields) else None) ≡ Some ts → length ls ≡ s.parameters
+    go : (b : Bool) → (length ls == s.parameters) ≡ b → (if b then Some (map (at (lives_among frees ls)) s.fields) else None) ≡ Some ts → length ls ≡ s.parameters
     go true same is = eqb-true (length ls) s.parameters same
     go false other is = absurd (let z : None ≡ Some ts = is in cc)
 
 -- at the start all regions are read as the heap
-stand_first : (m : Reading) (c : RegionContext) → StandBy m c (λ n. heap_life) (λ n. true)
-stand_first AsHeap c = λ n. (refl, refl)
-stand_first (ByScope lends) c = record { there = λ r has. there r; agrees = λ a b given. agrees a b }
+-- where there are no constraints, nothing is given of unique pointers
+plain_given : (h : Function) (a : Region) → h.constraints ≡ [] → IsGiven (regions_at_call h) a regions.Unique → ⊥
+plain_given h a none (inl (heap, plain)) = plain refl
+plain_given h a none (inr (inl written)) = contains_none (a, regions.Unique) (subst (λ ps. Contains ps (a, regions.Unique)) none written)
+plain_given h a none (inr (inr old)) = old
+
+first_given : (h : Function) (b : Region) → h.constraints ≡ [] → IsGiven (regions_at_call h) regions.Unique b → ⊥
+first_given h b none (inl (heap, plain)) = let e : regions.Unique ≡ regions.Heap = heap in absurd (cc)
+first_given h b none (inr (inl written)) = contains_none (regions.Unique, b) (subst (λ ps. Contains ps (regions.Unique, b)) none written)
+first_given h b none (inr (inr old)) = old
+
+stand_first : (m : Reading) (c : RegionContext) → ((a : Region) → IsGiven c a regions.Unique → ⊥) → ((b : Region) → IsGiven c regions.Unique b → ⊥) → StandBy m c (frees_of m) (λ n. heap_life) (λ n. true)
+stand_first AsHeap c plain first = (refl, λ n. (refl, refl))
+stand_first (ByScope lends frees) c plain first = (refl, record { there = λ r has. there r; agrees = agrees; plain = plain })
   where
     there : (r : Region) → IsThereBy (λ n. true) r
     there regions.Heap = tt
     there regions.Unique = tt
     there (regions.Variable n) = refl
 
-    agrees : (a b : Region) → Outlasts (lives_of (λ n. heap_life) a) (lives_of (λ n. heap_life) b)
-    agrees regions.Heap b = for_ever (lives_of (λ n. heap_life) b)
-    agrees regions.Unique b = for_ever (lives_of (λ n. heap_life) b)
-    agrees (regions.Variable n) b = for_ever (lives_of (λ n. heap_life) b)
+    -- nothing is unique but what is so itself
+    agrees : (a b : Region) → IsGiven c a b → Outlasts (lives_of frees (λ n. heap_life) a) (lives_of frees (λ n. heap_life) b)
+    agrees regions.Heap b given = for_ever (lives_of frees (λ n. heap_life) b)
+    agrees (regions.Variable n) b given = for_ever (lives_of frees (λ n. heap_life) b)
+    agrees regions.Unique b given = absurd (first b given)
 
 well_start : (p : Source) (input : List ℕ) → AreAccepted p → IsWellTypedProgram p.program → IsInClass p → IsWell p (start p.program input)
 well_start p input accepted well (in_functions, in_globals, in_structs) =
     let (h, found, same) = of_map signature_of p.program.functions p.program.main (signature_of_ints []) well.main in
     let (end, ok) = accepted p.program.main h found in
     let none : h.parameters ≡ [] = ap (λ (s : Signature). s.parameters) same in
+    let unmixed : h.constraints ≡ [] = ap (λ (s : Signature). s.constraints) same in
     let int : h.result ≡ Some types.Int = ap (λ (s : Signature). s.result) same in
     let w = first_world p.program input in
-    let g = globals_typed p.program.structs p.program.globals in
-    let bs : List InScope = Instance (λ n. heap_life) (λ n. true) ∷ [] in
+    let g = globals_typed (frees_of p.reading) p.program.structs p.program.globals in
+    let bs : List InScope = Instance (frees_of p.reading) (λ n. heap_life) (λ n. true) ∷ [] in
     let x : Exits = record { loop = None; result = h.result; gives = read_value bs (result_type h.result); locks = []; relied = [] } in
     let objects : IsTyped g w.regions w.objects = record {
-      count = mapped_length global_object global_of p.program.globals;
+      count = mapped_length global_object (global_of (frees_of p.reading)) p.program.globals;
       counts = mapped_length global_object (λ (v : GlobalVariable). 1) p.program.globals;
-      each = globals_each g p.program.globals well.globals;
+      each = globals_each (frees_of p.reading) g p.program.globals well.globals;
       heap = refl;
       kept = λ n is. none_among is;
       fresh = λ n less. refl;
     } in
     let knows : KnowsProgram g p = record {
       globals = λ n t there. (let (object, flag, closed) = all_globals p.reading p.program.globals in_globals n t there in (object, (1, flag, (let one : 1 ≤ 1 = omega arith in one)), closed));
-      structs = λ n s ls there count. ap (found_cells ls) there ∙ counted_cells ls s count;
-      counts = λ n s ls ts there is. cells_counted ls s ts (sym (ap (found_cells ls) there) ∙ is);
+      structs = λ n s ls there count. ap (found_cells (frees_of p.reading) ls) there ∙ counted_cells (frees_of p.reading) ls s count;
+      counts = λ n s ls ts there is. cells_counted (frees_of p.reading) ls s ts (sym (ap (found_cells (frees_of p.reading) ls) there) ∙ is);
       keys = λ n is. none_among is;
+      constraints = λ n h there. (let (end, ok) = accepted n h there in ok.typed.constraints);
       plain = λ loans n s there. all_usual p.reading s.parameters s.fields loans (all_structs p.reading p.program.structs in_structs n s there);
       fields = λ n s there. all_fields p.reading s.parameters s.fields (all_structs p.reading p.program.structs in_structs n s there);
     } in
@@ -262,8 +280,8 @@ well_start p input accepted well (in_functions, in_globals, in_structs) =
       (λ n. true),
       ok,
       (refl, refl, refl, refl, refl),
-      refl,
-      stand_first p.reading (regions_at_call h),
+      (frees_of p.reading, refl),
+      stand_first p.reading (regions_at_call h) (λ a given. plain_given h a unmixed given) (λ b given. first_given h b unmixed given),
       subst (λ ts. AreOperands g (map (read bs) ts) []) (sym none) tt,
       subst (λ ts. AreGiven g.own 0 (map (read bs) ts)) (sym none) tt,
       (refl, int, ap (λ o. read_value bs (result_type o)) int, ok.ends types.Int int, tt),
@@ -278,11 +296,11 @@ sound_by p well allowed kept input count =
 
 -- programs that give no object back
 pub lending_sound : (p : Program) → IsWellTypedProgram p → IsAllowedProgram p → FreesNoObject p → IsSound p
-lending_sound p well allowed kept = sound_by (record { program = p; reading = ByScope true }) well allowed kept
+lending_sound p well allowed kept = sound_by (record { program = p; reading = ByScope true false }) well allowed kept
 
 -- programs that are read by scope
 pub scopes_sound : (p : Program) → IsWellTypedProgram p → IsAllowedProgram p → IsOfScopes p → IsSound p
-scopes_sound p well allowed kept = sound_by (record { program = p; reading = ByScope false }) well allowed kept
+scopes_sound p well allowed kept = sound_by (record { program = p; reading = ByScope false false }) well allowed kept
 
 globals_as_heap : (vs : List GlobalVariable) → InGlobals AsHeap vs
 globals_as_heap [] = tt

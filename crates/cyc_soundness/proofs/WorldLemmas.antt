@@ -10,10 +10,10 @@ use Rattle.cyc_meaning.specs.Values as values
 use Rattle.cyc_meaning.specs.State.{Dynamic, new_region, Region, Owner, InRegion, Unique, Object, World, Found, Closed, found_region, located, heap_number, is_open, is_live, cell_in, cell_at, written}
 use Rattle.cyc_meaning.specs.Nesting.{IsScoped, IsFound}
 use Rattle.cyc_meaning.proofs.ListLemmas.{slice_get-append, slice_get-end, slice_get-set_other}
-use Rattle.cyc_soundness.specs.Lives.{Life, OfRegion, OfObject, Never, Kept, RunTy, Int, Pointer, Handle, Key, Struct, RunValue, Void, Null, Value, Seen, kind_at, at}
-use Rattle.cyc_soundness.specs.Worlds.{IsAmong, first as newest, later as behind, Holder, Nobody, Hand, In, Lent, ObjectType, Typing, IsHeld, Claims, ClaimsBy, given, giving, is_lent_by, lent_now, IsOpenIn, Stays, IsKnownLife, IsDynamic, IsFilled, IsPart, IsTarget, HasType, IsResult, AreOperands, IsContent, AreCells, IsOwner, IsObject, IsTyped, IsOpenLife, Grows}
+use Rattle.cyc_soundness.specs.Lives.{Life, OfRegion, OfObject, Never, Owned, Kept, RunTy, Int, Pointer, Handle, Key, Struct, RunValue, Void, Null, Value, Seen, kind_at, at}
+use Rattle.cyc_soundness.specs.Worlds.{IsAmong, first as newest, later as behind, Holder, Nobody, Hand, In, Lent, ObjectType, Typing, IsHeld, Claims, ClaimsBy, given, giving, is_lent_by, lent_now, IsOpenIn, Stays, IsKnownLife, IsKnownOwner, IsDynamic, IsFilled, IsPart, IsTarget, HasType, IsResult, AreOperands, IsContent, AreCells, IsOwner, IsObject, IsTyped, IsOpenLife, Grows}
 use Rattle.cyc_soundness.specs.Frames.{InScope, Variable, Names, Instance, lives_among, IsOfVariable, HoldsIts, AreVariables, AreSet, Holds, KnowsProgram}
-use Rattle.cyc_soundness.specs.Classes.{HasLoans, Source}
+use Rattle.cyc_soundness.specs.Classes.{frees_of, HasLoans, Source}
 use Rattle.cyc_types.specs.flow.States as flow
 use Rattle.cyc_soundness.proofs.Numbers.{same_or_other, slice_get-set_same, appended, some_same}
 
@@ -69,17 +69,26 @@ module _ (g h : Typing) (grows : Grows g h) where
   life_grown (OfRegion region ns us) is = tt
   life_grown (OfObject object) is = tt
   life_grown Never is = tt
+  life_grown Owned is = absurd is
+
+  pub owner_grown : (l : Life) → IsKnownOwner g l → IsKnownOwner h l
+  owner_grown (Kept region) is = grows.kept region is
+  owner_grown (OfRegion region ns us) is = tt
+  owner_grown (OfObject object) is = tt
+  owner_grown Never is = tt
+  owner_grown Owned is = tt
 
   pub object_grown : (n : ℕ) (t : ObjectType) (x : Object) → IsObject g n t x → IsObject h n t x
-  object_grown n t x is = record { owner = is.owner; known = life_grown t.life is.known; keyless = is.keyless; cells = cells_grown t.cells x.cells n is.cells }
+  object_grown n t x is = record { owner = is.owner; known = owner_grown t.life is.known; keyless = is.keyless; cells = cells_grown t.cells x.cells n is.cells }
 
   pub globals_grown : (p : Source) → ((struct : ℕ) (ls : List Life) → g.fields struct ls ≡ h.fields struct ls) → ((number : ℕ) → IsAmong number h.kept → HasLoans p.reading) → KnowsProgram g p → KnowsProgram h p
   globals_grown p same keys knows = record {
     globals = λ number t there. (let (at, full, closed) = knows.globals number t there in (grows.objects number _ at, grows.filled number 1 full, closed));
-    structs = λ number s ls there count. grows.fields number ls (map (at (lives_among ls)) s.fields) (knows.structs number s ls there count);
+    structs = λ number s ls there count. grows.fields number ls (map (at (lives_among (frees_of p.reading) ls)) s.fields) (knows.structs number s ls there count);
     counts = λ number s ls ts there is. knows.counts number s ls ts there (same number ls ∙ is);
     keys = keys;
     plain = knows.plain;
+    constraints = knows.constraints;
     fields = knows.fields;
   }
 
@@ -97,12 +106,14 @@ module _ (g h : Typing) (stays : Stays g h) where
   open_stays (OfRegion number ns us) is = λ r e. lent_stays r (is r e)
   open_stays (OfObject object) is = tt
   open_stays Never is = tt
+  open_stays Owned is = tt
 
   pub claims_stay : (holder : Holder) (t : RunTy) → Claims g.own holder t → Claims h.own holder t
   claims_stay holder (Key (Kept region)) is = ap (λ f. f region) stays.own ∙ is
   claims_stay holder (Key (OfRegion number ns us)) is = tt
   claims_stay holder (Key (OfObject object)) is = tt
   claims_stay holder (Key Never) is = tt
+  claims_stay holder (Key Owned) is = tt
   claims_stay holder Int is = tt
   claims_stay holder (Pointer k t l) is = tt
   claims_stay holder (Handle l) is = tt
@@ -111,7 +122,7 @@ module _ (g h : Typing) (stays : Stays g h) where
   variable_grown : (b : InScope) → IsOfVariable g b → IsOfVariable h b
   variable_grown (Variable b) (is, opens) = (stays.grows.objects b.object _ is, open_stays b.life opens)
   variable_grown (Names number life live) (is, opens) = (life_grown g h stays.grows life is, λ e. open_stays life (opens e))
-  variable_grown (Instance these live) is = λ n. (life_grown g h stays.grows (these n) (is n).0, λ e. open_stays (these n) ((is n).1 e))
+  variable_grown (Instance frees these live) is = λ n. (life_grown g h stays.grows (these n) (is n).0, λ e. open_stays (these n) ((is n).1 e))
   variable_grown b is = tt
 
   pub variables_grown : (bs : List InScope) → AreVariables g bs → AreVariables h bs
@@ -242,6 +253,7 @@ given_now g (Key (Kept region)) holder = same_number region region holder (g.own
 given_now g (Key (OfRegion number ns us)) holder = tt
 given_now g (Key (OfObject object)) holder = tt
 given_now g (Key Never) holder = tt
+given_now g (Key Owned) holder = tt
 given_now g Int holder = tt
 given_now g (Pointer k t l) holder = tt
 given_now g (Handle l) holder = tt
@@ -256,6 +268,7 @@ given_other g (Key (Kept r)) old new holder region has other is = elim (same_or_
 given_other g (Key (OfRegion number ns us)) old new holder region has other is = is
 given_other g (Key (OfObject object)) old new holder region has other is = is
 given_other g (Key Never) old new holder region has other is = is
+given_other g (Key Owned) old new holder region has other is = is
 given_other g Int old new holder region has other is = is
 given_other g (Pointer k t l) old new holder region has other is = is
 given_other g (Handle l) old new holder region has other is = is
@@ -266,6 +279,7 @@ claims_other g t old new holder (Key (Kept region)) has other is = given_other g
 claims_other g t old new holder (Key (OfRegion number ns us)) has other is = tt
 claims_other g t old new holder (Key (OfObject object)) has other is = tt
 claims_other g t old new holder (Key Never) has other is = tt
+claims_other g t old new holder (Key Owned) has other is = tt
 claims_other g t old new holder Int has other is = tt
 claims_other g t old new holder (Pointer k s l) has other is = tt
 claims_other g t old new holder (Handle l) has other is = tt
@@ -287,11 +301,12 @@ open_other g t old new (Kept region) has none is = lent_other g t old new region
 open_other g t old new (OfRegion number ns us) has none is = λ r e. lent_other g t old new r has none (is r e)
 open_other g t old new (OfObject object) has none is = tt
 open_other g t old new Never has none is = tt
+open_other g t old new Owned has none is = tt
 
 one_other : (g : Typing) (t : RunTy) (old new : Holder) (b : InScope) → Claims g.own old t → is_lent_by g.loans old ≡ false → IsOfVariable g b → IsOfVariable (giving g t new) b
 one_other g t old new (Variable b) has none (is, opens) = (is, open_other g t old new b.life has none opens)
 one_other g t old new (Names number l live) has none (is, opens) = (life_grown g (giving g t new) (giving_grows g t new) l is, λ e. open_other g t old new l has none (opens e))
-one_other g t old new (Instance these live) has none is = λ n. (life_grown g (giving g t new) (giving_grows g t new) (these n) (is n).0, λ e. open_other g t old new (these n) has none ((is n).1 e))
+one_other g t old new (Instance frees these live) has none is = λ n. (life_grown g (giving g t new) (giving_grows g t new) (these n) (is n).0, λ e. open_other g t old new (these n) has none ((is n).1 e))
 one_other g t old new b has none is = tt
 
 -- where what is lent stays lent, the scope is as it was
@@ -318,6 +333,7 @@ given_typed g t old new regions objects has held typed = record {
     kept (Key (OfRegion number ns us)) has n among now = (typed.kept n among).1 now
     kept (Key (OfObject object)) has n among now = (typed.kept n among).1 now
     kept (Key Never) has n among now = (typed.kept n among).1 now
+    kept (Key Owned) has n among now = (typed.kept n among).1 now
     kept Int has n among now = (typed.kept n among).1 now
     kept (Pointer k u l) has n among now = (typed.kept n among).1 now
     kept (Handle l) has n among now = (typed.kept n among).1 now
@@ -331,6 +347,7 @@ given_typed g t old new regions objects has held typed = record {
     fresh (Key (OfRegion number ns us)) has n less = typed.fresh n less
     fresh (Key (OfObject object)) has n less = typed.fresh n less
     fresh (Key Never) has n less = typed.fresh n less
+    fresh (Key Owned) has n less = typed.fresh n less
     fresh Int has n less = typed.fresh n less
     fresh (Pointer k u l) has n less = typed.fresh n less
     fresh (Handle l) has n less = typed.fresh n less
@@ -369,11 +386,12 @@ open_more g (Kept region) is = lent_more g.loans (g.own region) is
 open_more g (OfRegion number ns us) is = λ r e. lent_more g.loans (g.own r) (is r e)
 open_more g (OfObject object) is = tt
 open_more g Never is = tt
+open_more g Owned is = tt
 
 variable_more : (g : Typing) (b : InScope) → IsOfVariable g b → IsOfVariable (record g { loans = suc g.loans }) b
 variable_more g (Variable b) (is, opens) = (is, open_more g b.life opens)
 variable_more g (Names number l live) (is, opens) = (life_grown g (record g { loans = suc g.loans }) (moment_grows g g.depth (suc g.loans)) l is, λ e. open_more g l (opens e))
-variable_more g (Instance these live) is =
+variable_more g (Instance frees these live) is =
     λ n. (life_grown g (record g { loans = suc g.loans }) (moment_grows g g.depth (suc g.loans)) (these n) (is n).0, λ e. open_more g (these n) ((is n).1 e))
 variable_more g b is = tt
 
@@ -494,7 +512,10 @@ live_owner w (OfRegion region ns us) (InRegion number) same opens = subst (λ n.
 live_owner w (OfRegion region ns us) (Unique live) (heap, same) opens = same
 live_owner w (Kept region) (InRegion number) same opens = subst (λ n. is_open (slice_get w.regions n) ≡ true) same opens
 live_owner w (Kept region) (Unique live) is opens = absurd is
-live_owner w l o is opens = absurd opens
+live_owner w Owned (Unique live) is opens = is
+live_owner w Owned (InRegion number) is opens = absurd is
+live_owner w (OfObject object) o is opens = absurd opens
+live_owner w Never o is opens = absurd opens
 
 -- what stands at a number, and its cell of this type
 pub record HasCell (g : Typing) (w : World) (number offset : ℕ) (x : ObjectType) (t : RunTy) : Type 0 where
@@ -593,7 +614,7 @@ module _ (g : Typing) (w : World) (number offset : ℕ) (x : ObjectType) (t : Ru
   is_with_value : IsObject (with_filled g number (risen offset c.filled)) (risen offset c.filled) x with_value
   is_with_value = record {
     owner = c.is.owner;
-    known = life_grown g (with_filled g number (risen offset c.filled)) written_grows x.life c.is.known;
+    known = owner_grown g (with_filled g number (risen offset c.filled)) written_grows x.life c.is.known;
     keyless = c.is.keyless;
     cells = cells_written (with_filled g number (risen offset c.filled)) x.cells c.object.cells c.filled offset t c.of.cell v
         (cells_grown g (with_filled g number (risen offset c.filled)) written_grows x.cells c.object.cells c.filled c.is.cells) here c.of.at c.of.kind few

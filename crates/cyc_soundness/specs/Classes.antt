@@ -1,5 +1,5 @@
 -- CLASSES OF PROGRAMS that a theorem speaks of. Each is a predicate on typed trees, empty for the nodes that are not in it yet.
-use Rattle.std.specs.Prelude.{◌≡◌, ℕ, suc, ◌+◌, Bool, true, false, List, [], ◌∷◌, Option, Some, None, get_or}
+use Rattle.std.specs.Prelude.{◌≡◌, ℕ, zero, suc, ◌+◌, Bool, true, false, List, [], ◌∷◌, Option, Some, None, get_or}
 use Rattle.cyc_types.specs.Types.{Ty}
 use Rattle.cyc_types.specs.Declarations.{declared_regions, item_regions}
 use Rattle.cyc_types.specs.TypedTrees.{Local, Global, Expression, Number, NullPointer, HeapRegion, Counter, Copy, Move, Peek, Load, AddressOf, AddressOfCell, NumberOfElements, FreeKey, Call, Unary, Binary, Assign, Store, New, Dereference, Target, Member, Element, Placement, OnHeap, AsUnique, ByHandle, Initial, Plain, Fields, Array, Converted, Convert, Arguments, NoArguments, MoreArguments, Operations, NoOperations, ThenCompute, ThenTest, ThenPointer, ThenPointerPeek, Side, VariableSide, CellSide, Statement, Block, Empty, Evaluate, Swap, If, While, Return, Break, Continue, Throw, Try, Items, NoItems, MoreItems, Execute, Declare, DeclareRegion, OpenRegion, DeclareAlias, DeclareKey, Clauses, NoClauses, Default, Case, StructType, GlobalVariable, Function, Program}
@@ -11,17 +11,27 @@ use Rattle.cyc_soundness.specs.Lives.{Reading, AsHeap, ByScope, AllIn, IsKnown}
 -- a form that makes what ends with a scope
 abbrev pub HasScopes : Reading → Type 0
 HasScopes AsHeap = ⊥
-HasScopes (ByScope lends) = Unit {0}
+HasScopes (ByScope lends frees) = Unit {0}
 
 -- a form that makes or uses what is lent to the end of a block
 abbrev pub HasLoans : Reading → Type 0
 HasLoans AsHeap = ⊥
-HasLoans (ByScope lends) = lends ≡ true
+HasLoans (ByScope lends frees) = lends ≡ true
+
+-- a form that shares what a unique pointer leads to: not yet where objects are given back
+abbrev pub HasAliases : Reading → Type 0
+HasAliases AsHeap = ⊥
+HasAliases (ByScope lends frees) = (lends ≡ true) × (frees ≡ false)
+
+-- whether objects are given back
+abbrev pub frees_of : Reading → Bool
+frees_of AsHeap = false
+frees_of (ByScope lends frees) = frees
 
 -- a type names only regions with a number below this one
 abbrev pub IsDeclarable : Reading → ℕ → Ty → Type 0
 IsDeclarable AsHeap n t = Unit {0}
-IsDeclarable (ByScope lends) n t = AllIn (IsKnown n) t
+IsDeclarable (ByScope lends frees) n t = AllIn (IsKnown n) t
 
 -- What is known where the clauses begin of each `try` around: they rely on it.
 abbrev pub Relied : Type 0
@@ -40,6 +50,16 @@ IsSparedBy (Reached as') n = is_full (get_or as' n Vacant) ≡ false
 abbrev pub IsSpared : Relied → ℕ → Type 0
 IsSpared [] n = Unit {0}
 IsSpared (f ∷ q) n = IsSparedBy f n × IsSpared q n
+
+-- a local of this number is full, and of others nothing is known
+abbrev pub only : ℕ → List Fullness
+only zero = Full ∷ []
+only (suc n) = Vacant ∷ only n
+
+-- also where what this local holds was looked at, and is still to be used
+abbrev pub and_looked : Option ℕ → Relied → Relied
+and_looked None q = q
+and_looked (Some n) q = Reached (only n) ∷ q
 
 -- Programs that give no object back. All else is there: all types, objects in the heap, unique ones and those of regions, places behind
 -- pointers, swaps, functions with regions, conversions between all marks, loops and exceptions. Only where things are lent do they have
@@ -130,7 +150,7 @@ abbrev mutual
   InItems m q n (MoreItems (Declare l t v) js) = IsDeclarable m n t × InValue m q v × InItems m q n js
   InItems m q n (MoreItems (DeclareRegion r l) js) = HasScopes m × InItems m q (suc n) js
   InItems m q n (MoreItems (OpenRegion r l p k) js) = HasLoans m × IsSpared q k × InItems m q n js
-  InItems m q n (MoreItems (DeclareAlias r l t p s) js) = HasLoans m × IsSpared q s × InItems m q (suc n) js
+  InItems m q n (MoreItems (DeclareAlias r l t p s) js) = HasAliases m × IsSpared q s × InItems m q (suc n) js
   InItems m q n (MoreItems (DeclareKey r l) js) = HasLoans m × InItems m q (suc n) js
 
   pub InClauses : Reading → Relied → ℕ → Clauses → Type 0
@@ -150,8 +170,8 @@ InGlobals m (v ∷ vs) = IsDeclarable m 0 v.of_type × InGlobals m vs
 -- where things are lent, no field is a key
 abbrev pub IsUsual : Reading → Ty → Type 0
 IsUsual AsHeap t = Unit {0}
-IsUsual (ByScope false) t = Unit {0}
-IsUsual (ByScope true) t = is_key t ≡ false
+IsUsual (ByScope false frees) t = Unit {0}
+IsUsual (ByScope true frees) t = is_key t ≡ false
 
 -- the types of fields name only the parameters of their struct
 abbrev pub InFields : Reading → ℕ → List Ty → Type 0
@@ -168,11 +188,11 @@ IsOfTheHeap p = InFunctions AsHeap p.functions
 
 -- programs in which what ends does so with a scope
 abbrev pub IsOfScopes : Program → Type 0
-IsOfScopes p = InFunctions (ByScope false) p.functions × InGlobals (ByScope false) p.globals × InStructs (ByScope false) p.structs
+IsOfScopes p = InFunctions (ByScope false false) p.functions × InGlobals (ByScope false false) p.globals × InStructs (ByScope false false) p.structs
 
 -- programs that give no object back
 abbrev pub FreesNoObject : Program → Type 0
-FreesNoObject p = InFunctions (ByScope true) p.functions × InGlobals (ByScope true) p.globals × InStructs (ByScope true) p.structs
+FreesNoObject p = InFunctions (ByScope true false) p.functions × InGlobals (ByScope true false) p.globals × InStructs (ByScope true false) p.structs
 
 -- a program, and how its regions are read
 pub record Source : Type 0 where

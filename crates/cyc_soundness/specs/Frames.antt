@@ -4,10 +4,10 @@ use Rattle.cyc_syntax.specs.Symbols.{Place}
 use Rattle.cyc_types.specs.declared.region.Region.{Region}
 use Rattle.cyc_types.specs.declared.region.Region.TheVariants as regions
 use Rattle.cyc_types.specs.Types.{Ty, ValueType, result_type}
-use Rattle.cyc_types.specs.TypedTrees.{StructType, GlobalVariable}
+use Rattle.cyc_types.specs.TypedTrees.{StructType, GlobalVariable, Function}
 use Rattle.cyc_types.specs.Outlives.{RegionContext, live_regions, IsGiven}
 use Rattle.cyc_types.specs.typing.Tests.{is_moved, is_key}
-use Rattle.cyc_types.specs.typing.WellTyped.{LocalInScope, Context, signature_of}
+use Rattle.cyc_types.specs.typing.WellTyped.{LocalInScope, Context, signature_of, AreConstraints}
 use Rattle.cyc_types.specs.flow.States as flow
 use Rattle.cyc_types.specs.flow.States.{fullness, is_vacant, is_reached}
 use Rattle.cyc_types.specs.flow.Statements.{Loop, Around}
@@ -16,7 +16,7 @@ use Rattle.cyc_meaning.specs.Nesting.{ends_of}
 use Rattle.cyc_soundness.specs.Lives.{Life, OfRegion, Kept, RunTy, RunValue, Void, Lives, at, value_at, heap_life, lives_of, as_heap, Reading, AsHeap, ByScope, AllIn, AllInValue, IsKnown}
 pub use Rattle.cyc_soundness.specs.Worlds.{IsAmong, first, later}
 use Rattle.cyc_soundness.specs.Worlds.{In, Typing, Claims, IsOpenIn, IsKnownLife, IsFull, variable_type, global_type, IsEndOf, Outlasts, IsNumber}
-use Rattle.cyc_soundness.specs.Classes.{is_full, Relied, HasLoans, IsDeclarable, Source}
+use Rattle.cyc_soundness.specs.Classes.{is_full, Relied, frees_of, HasLoans, IsDeclarable, Source}
 
 -- a local in scope, with its object and how long this is there
 pub record Bound : Type 0 where
@@ -34,8 +34,8 @@ pub data InScope : Type 0 where
   Level : (level : ℕ) → InScope
   -- what the region variable of this number stands for, and whether that is live
   Names : (number : ℕ) → Life → (is_live : Bool) → InScope
-  -- what all region variables of a call stand for, and which of that is live
-  Instance : (ℕ → Life) → (ℕ → Bool) → InScope
+  -- what all region variables of a call stand for, and which of that is live; and whether objects are given back
+  Instance : (frees : Bool) → (ℕ → Life) → (ℕ → Bool) → InScope
   -- the region in which the variables of the innermost block live
   Home : (region : ℕ) → InScope
 
@@ -47,7 +47,7 @@ life_named [] k = heap_life
 life_named (Variable b ∷ bs) k = life_named bs k
 life_named (Level l ∷ bs) k = life_named bs k
 life_named (Names number life live ∷ bs) k = if k == number then life else life_named bs k
-life_named (Instance these live ∷ bs) k = these k
+life_named (Instance frees these live ∷ bs) k = these k
 life_named (Home region ∷ bs) k = life_named bs k
 
 abbrev pub is_live_named : List InScope → ℕ → Bool
@@ -55,12 +55,20 @@ is_live_named [] k = true
 is_live_named (Variable b ∷ bs) k = is_live_named bs k
 is_live_named (Level l ∷ bs) k = is_live_named bs k
 is_live_named (Names number life live ∷ bs) k = if k == number then live else is_live_named bs k
-is_live_named (Instance these live ∷ bs) k = live k
+is_live_named (Instance frees these live ∷ bs) k = live k
 is_live_named (Home region ∷ bs) k = is_live_named bs k
+
+abbrev pub frees_in : List InScope → Bool
+frees_in [] = false
+frees_in (Variable b ∷ bs) = frees_in bs
+frees_in (Level l ∷ bs) = frees_in bs
+frees_in (Names number life live ∷ bs) = frees_in bs
+frees_in (Instance frees these live ∷ bs) = frees
+frees_in (Home region ∷ bs) = frees_in bs
 
 -- what the regions of the function stand for here
 abbrev pub lives_in : List InScope → Lives
-lives_in bs = lives_of (λ n. life_named bs n)
+lives_in bs = lives_of (frees_in bs) (λ n. life_named bs n)
 
 -- types as this run reads them here
 abbrev pub read : List InScope → Ty → RunTy
@@ -90,7 +98,7 @@ home_of (b ∷ bs) = home_of bs
 -- A pointer to a local is one into the region of its block; read as the heap, there are none.
 abbrev pub IsHomed : Reading → Lives → (region : ℕ) → Life → Type 0
 IsHomed AsHeap m region l = Unit {0}
-IsHomed (ByScope lends) m region l = l ≡ m (regions.Variable region)
+IsHomed (ByScope lends frees) m region l = l ≡ m (regions.Variable region)
 
 -- the newest in scope, and then the rest of the locals
 abbrev pub IsNewest : Reading → Lives → List LocalInScope → InScope → (rest : List LocalInScope) → Type 0
@@ -126,7 +134,7 @@ IsBound locals counters (b ∷ bs) = HasMeaning locals counters b × IsBound loc
 abbrev pub IsOfVariable : Typing → InScope → Type 0
 IsOfVariable g (Variable b) = (slice_get g.objects b.object ≡ Some (variable_type b.of_type b.life b.is_hidden)) × IsOpenIn g b.life
 IsOfVariable g (Names number life live) = IsKnownLife g life × (live ≡ true → IsOpenIn g life)
-IsOfVariable g (Instance these live) = (n : ℕ) → IsKnownLife g (these n) × (live n ≡ true → IsOpenIn g (these n))
+IsOfVariable g (Instance frees these live) = (n : ℕ) → IsKnownLife g (these n) × (live n ≡ true → IsOpenIn g (these n))
 IsOfVariable g b = Unit {0}
 
 abbrev pub AreVariables : Typing → List InScope → Type 0
@@ -143,7 +151,7 @@ IsLasting regions l = ⊥
 abbrev pub IsLiveIn : List ℕ → InScope → Type 0
 IsLiveIn regions (Variable b) = IsLasting regions b.life
 IsLiveIn regions (Names number life live) = live ≡ true → IsLasting regions life
-IsLiveIn regions (Instance these live) = (n : ℕ) → live n ≡ true → IsLasting regions (these n)
+IsLiveIn regions (Instance frees these live) = (n : ℕ) → live n ≡ true → IsLasting regions (these n)
 IsLiveIn regions b = Unit {0}
 
 abbrev pub AreLiveIn : List ℕ → List InScope → Type 0
@@ -259,21 +267,23 @@ is_loop (Some l) = true
 -- ---- what the regions of a context stand for
 
 -- what is live has not ended, and what outlives another lasts as long
-pub record AreNamed (c : RegionContext) (these : ℕ → Life) (live : ℕ → Bool) : Type 0 where
+pub record AreNamed (c : RegionContext) (frees : Bool) (these : ℕ → Life) (live : ℕ → Bool) : Type 0 where
   pub there : (r : Region) → Contains (live_regions c.live c.opened) r → IsThereBy live r
-  pub agrees : (a b : Region) → IsGiven c a b → Outlasts (lives_of these a) (lives_of these b)
+  pub agrees : (a b : Region) → IsGiven c a b → Outlasts (lives_of frees these a) (lives_of frees these b)
+  -- nothing else outlives what is unique
+  pub plain : (a : Region) → IsGiven c a regions.Unique → ⊥
 
 -- as the program is read, region variables stand for the heap, or for what the context says of them
-abbrev pub StandBy : Reading → RegionContext → (ℕ → Life) → (ℕ → Bool) → Type 0
-StandBy AsHeap c these live = (n : ℕ) → (these n ≡ heap_life) × (live n ≡ true)
-StandBy (ByScope lends) c these live = AreNamed c these live
+abbrev pub StandBy : Reading → RegionContext → (frees : Bool) → (ℕ → Life) → (ℕ → Bool) → Type 0
+StandBy AsHeap c freed these live = (freed ≡ false) × ((n : ℕ) → (these n ≡ heap_life) × (live n ≡ true))
+StandBy (ByScope lends frees) c freed these live = (freed ≡ frees) × AreNamed c freed these live
 
 abbrev pub Stand : Reading → RegionContext → List InScope → Type 0
-Stand m c bs = StandBy m c (λ n. life_named bs n) (λ n. is_live_named bs n)
+Stand m c bs = StandBy m c (frees_in bs) (λ n. life_named bs n) (λ n. is_live_named bs n)
 
 abbrev pub IsHomeBy : Reading → Life → (is_live : Bool) → (home : ℕ) → Type 0
 IsHomeBy AsHeap l live home = Unit {0}
-IsHomeBy (ByScope lends) l live home = IsNumber l home × (live ≡ true)
+IsHomeBy (ByScope lends frees) l live home = IsNumber l home × (live ≡ true)
 
 -- the variables of the innermost block live in the region that this one stands for
 abbrev pub IsHome : Reading → (region : ℕ) → List InScope → Type 0
@@ -292,7 +302,7 @@ pub record IsKnownBy (n : ℕ) (c : RegionContext) (vs : List LocalInScope) (res
 
 abbrev pub AreKnown : Reading → ℕ → RegionContext → List LocalInScope → Option Ty → Type 0
 AreKnown AsHeap n c vs result = Unit {0}
-AreKnown (ByScope lends) n c vs result = IsKnownBy n c vs result
+AreKnown (ByScope lends frees) n c vs result = IsKnownBy n c vs result
 
 -- the context of a tree in a function of this program, where control may go there and this is in scope
 pub record IsContext (p : Source) (x : Exits) (bs : List InScope) (c : Context) : Type 0 where
@@ -312,19 +322,21 @@ pub record IsContext (p : Source) (x : Exits) (bs : List InScope) (c : Context) 
 -- ---- programs
 
 -- the region parameters of a struct stand for these
-abbrev pub lives_among : List Life → Lives
-lives_among ls = lives_of (λ n. slice_index_or ls n heap_life)
+abbrev pub lives_among : (frees : Bool) → List Life → Lives
+lives_among frees ls = lives_of frees (λ n. slice_index_or ls n heap_life)
 
 -- what is known of a program: its globals are the first objects, and its structs have the cells of their fields
 pub record KnowsProgram (g : Typing) (p : Source) : Type 0 where
   pub globals : (number : ℕ) (t : Ty) → slice_get (map (λ (v : GlobalVariable). v.of_type) p.program.globals) number ≡ Some t
-      → (slice_get g.objects number ≡ Some (global_type (at as_heap t))) × IsFull g number × IsDeclarable p.reading 0 t
+      → (slice_get g.objects number ≡ Some (global_type (at (as_heap (frees_of p.reading)) t))) × IsFull g number × IsDeclarable p.reading 0 t
   pub structs : (number : ℕ) (s : StructType) (ls : List Life) → slice_get p.program.structs number ≡ Some s → length ls ≡ s.parameters
-      → g.fields number ls ≡ Some (map (at (lives_among ls)) s.fields)
+      → g.fields number ls ≡ Some (map (at (lives_among (frees_of p.reading) ls)) s.fields)
   -- a struct has so many parameters
   pub counts : (number : ℕ) (s : StructType) (ls : List Life) (ts : List RunTy) → slice_get p.program.structs number ≡ Some s → g.fields number ls ≡ Some ts → length ls ≡ s.parameters
   -- there are dynamic regions only where things are lent, and then no field is a key
   pub keys : (number : ℕ) → IsAmong number g.kept → HasLoans p.reading
   pub plain : HasLoans p.reading → (number : ℕ) (s : StructType) → slice_get p.program.structs number ≡ Some s → (field : ℕ) (t : Ty) → slice_get s.fields field ≡ Some t → is_key t ≡ false
+  -- no constraint names the region of unique pointers
+  pub constraints : (number : ℕ) (h : Function) → slice_get p.program.functions number ≡ Some h → AreConstraints h.variables h.constraints
   -- its fields speak of no others
   pub fields : (number : ℕ) (s : StructType) → slice_get p.program.structs number ≡ Some s → (field : ℕ) (t : Ty) → slice_get s.fields field ≡ Some t → IsDeclarable p.reading s.parameters t

@@ -1,6 +1,6 @@
 -- THE TYPING OF STATES. Each entry of the control stack is typed from what it awaits to what it hands on. Typed trees on it keep their
 -- judgements, types and flow in one; the locals in scope are an index, of which an entry may forget the newest.
-use Rattle.std.specs.Prelude.{◌≡◌, ◌⊎◌, ℕ, zero, suc, ◌+◌, ◌<◌, ◌≤◌, Bool, true, false, List, [], ◌∷◌, length, map, Option, Some, None, slice_get}
+use Rattle.std.specs.Prelude.{◌≡◌, ◌≢◌, ◌⊎◌, ℕ, zero, suc, ◌+◌, ◌<◌, ◌≤◌, Bool, true, false, List, [], ◌∷◌, length, map, Option, Some, None, slice_get}
 use Rattle.cyc_syntax.specs.declared.tree.PointerKind.{PointerKind}
 use Rattle.cyc_syntax.specs.declared.tree.PointerKind.TheVariants as marks
 use Rattle.cyc_types.specs.declared.region.Region.{Region}
@@ -35,8 +35,8 @@ use Rattle.cyc_meaning.specs.Parts.{target_of, target_of_value}
 use Rattle.cyc_soundness.specs.Lives.{Life, RunTy, RunValue, Value, Seen, at, value_at, heap_life, lives_of, as_heap, Reading, AllIn, IsKnown}
 use Rattle.cyc_soundness.specs.Lives as lives
 use Rattle.cyc_soundness.specs.Worlds.{Holder, Hand, In, Lent, Claims, ClaimsBy, ObjectType, Typing, AgreesWith, IsFilled, IsFull, HasType, IsResult, AreOperands, IsOwner, AreKeyless, IsTyped}
-use Rattle.cyc_soundness.specs.Classes.{Relied, IsSpared, HasLoans, InExpression, InPlace, InSide, InInitial, InArguments, InOperations, InStatement, InItems, InClauses, IsDeclarable, Source}
-use Rattle.cyc_soundness.specs.Frames.{IsAmong, Bound, InScope, Variable, Level, Names, Instance, Home, life_named, lives_in, read, read_value, IsThere, IsScope, AreBelow, IsBound, AreVariables, LiveIn, Within, IsSet, IsFullIn, Holds, Implies, LoopExit, Exits, HasResult, around, lending, relying, AreFullAt, AreBreaks, is_loop, Stand, IsHome, IsContext, lives_among, KnowsProgram}
+use Rattle.cyc_soundness.specs.Classes.{Relied, frees_of, and_looked, IsSpared, HasLoans, HasAliases, InExpression, InPlace, InSide, InInitial, InArguments, InOperations, InStatement, InItems, InClauses, IsDeclarable, Source}
+use Rattle.cyc_soundness.specs.Frames.{IsAmong, Bound, InScope, Variable, Level, Names, Instance, Home, frees_in, life_named, lives_in, read, read_value, IsThere, IsScope, AreBelow, IsBound, AreVariables, LiveIn, Within, IsSet, IsFullIn, Holds, Implies, LoopExit, Exits, HasResult, around, lending, relying, AreFullAt, AreBreaks, is_loop, Stand, IsHome, IsContext, lives_among, KnowsProgram}
 
 -- ---- trees, with what is known before and behind them
 
@@ -140,6 +140,41 @@ held (Advance peek target base) = base ∷ []
 held (MakeFields owner before rest) = before
 held a = []
 
+-- How what waits in an entry stands to what is around: an expression begins under it, or is a part of one that goes on behind it; and
+-- the local that was looked at, where the value is still to be used.
+pub data Part : Type 0 where
+  Whole : (peek : Option ℕ) → Part
+  PartOf : (peek : Option ℕ) → Part
+
+abbrev pub part : Awaiting → Part
+part (ApplyPointer peek operator left) = PartOf peek
+part (StoreCell peek place) = PartOf peek
+part (Advance peek target base) = PartOf peek
+part (Initialise number kind items) = Whole None
+part (Choose first second) = Whole None
+part (Test condition body) = Whole None
+part Return = Whole None
+part (ThrowWith tag) = Whole None
+part (OpenBy number lent items) = Whole None
+part (AliasOf number lent items) = Whole None
+part a = PartOf None
+
+abbrev pub part_of_place : AwaitingPlace → Part
+part_of_place (SwapLeft kind peek right) = Whole None
+part_of_place (SwapRight kind peek is_cell left) = Whole peek
+part_of_place a = PartOf None
+
+abbrev pub relied_by : Part → (around now : Relied) → Relied
+relied_by (Whole peek) around now = and_looked peek around
+relied_by (PartOf peek) around now = and_looked peek now
+
+-- What is relied on above this stack, where clauses rely on the first: what was looked at, and is still to be used, stays as it is.
+abbrev pub relied_at : Relied → List Entry → Relied
+relied_at q [] = q
+relied_at q (Needs a ∷ stack) = relied_by (part a) q (relied_at q stack)
+relied_at q (NeedsPlace a ∷ stack) = relied_by (part_of_place a) q (relied_at q stack)
+relied_at q (entry ∷ stack) = q
+
 -- these operands, the newest first, and then those of the second list
 abbrev pub turned : {A : Type 0} → List A → List A → List A
 turned [] rest = rest
@@ -151,9 +186,9 @@ regions_at_call h = record { written = h.constraints; live = regions.Heap ∷ re
 
 -- What the region variables of a callee stand for, and which of that is live there, is so here.
 pub record IsInstance (p : Source) (bs : List InScope) (h : Function) (these : ℕ → Life) (live : ℕ → Bool) : Type 0 where
-  pub stand : Stand p.reading (regions_at_call h) (Instance these live ∷ [])
-  pub lasting : (n : ℕ) → live n ≡ true → (r : Region) × IsThere bs r × (lives_in bs r ≡ these n)
-  pub named : (n : ℕ) → (r : Region) × (lives_in bs r ≡ these n)
+  pub stand : Stand p.reading (regions_at_call h) (Instance (frees_in bs) these live ∷ [])
+  pub lasting : (n : ℕ) → live n ≡ true → (r : Region) × (r ≢ regions.Unique) × IsThere bs r × (lives_in bs r ≡ these n)
+  pub named : (n : ℕ) → (r : Region) × (r ≢ regions.Unique) × (lives_in bs r ≡ these n)
 
 -- a call with arguments of these types gives this
 abbrev pub IsCalled : Source → List InScope → Callee → List RunTy → RunValue → Type 0
@@ -161,11 +196,11 @@ IsCalled p bs callees.Putchar ts r = (ts ≡ lives.Int ∷ []) × (r ≡ Value l
 IsCalled p bs callees.Getchar ts r = (ts ≡ []) × (r ≡ Value lives.Int)
 IsCalled p bs (callees.Function number) ts r =
     (h : Function) × (these : ℕ → Life) × (live : ℕ → Bool) × (slice_get p.program.functions number ≡ Some h) × IsInstance p bs h these live
-    × (ts ≡ map (at (lives_of these)) h.parameters) × (r ≡ value_at (lives_of these) (result_type h.result))
+    × (ts ≡ map (at (lives_of (frees_in bs) these)) h.parameters) × (r ≡ value_at (lives_of (frees_in bs) these) (result_type h.result))
 
 -- these are the types of the fields of a struct whose parameters stand for this, and no key is among them
 abbrev pub AreFields : Source → (struct : ℕ) → List Life → List RunTy → Type 0
-AreFields p n ls ts = (s : StructType) × (slice_get p.program.structs n ≡ Some s) × (length ls ≡ s.parameters) × (ts ≡ map (at (lives_among ls)) s.fields) × AreKeyless ts
+AreFields p n ls ts = (s : StructType) × (slice_get p.program.structs n ≡ Some s) × (length ls ≡ s.parameters) × (ts ≡ map (at (lives_among (frees_of p.reading) ls)) s.fields) × AreKeyless ts
 
 -- a local of this type may be declared next
 abbrev pub IsNew : Reading → Context → Ty → Type 0
@@ -200,81 +235,81 @@ pub record Repeats (m : Reading) (q : Relied) (c : Context) (level : ℕ) (kind 
   pub plain : is_key t ≡ false
 
 -- What waits for a value: with the types of the operands that wait in it, what it awaits, and what goes on then, in which scope.
-pub data Waits (p : Source) (x : Exits) (bs : List InScope) : Awaiting → List RunTy → RunValue → flow.State → List InScope → Want → Type 0 where
+pub data Waits (p : Source) (x : Exits) (q : Relied) (bs : List InScope) : Awaiting → List RunTy → RunValue → flow.State → List InScope → Want → Type 0 where
   converts : {from to : Kind} {target : Option Kind} (c : Context) (v : ValueType) (t : Ty) (f : flow.State) → AgreesWith c.regions (lives_in bs) → Converts c v t → from ≡ kind_of_value v → to ≡ kind_of t → target ≡ target_of_value v
-      → Waits p x bs (ConvertTo from to target) [] (read_value bs v) f bs (Val (Value (read bs t)) f)
-  negates : (f : flow.State) → Waits p x bs (Operate unary.Negate) [] (Value lives.Int) f bs (Val (Value lives.Int) f)
-  complements : (f : flow.State) → Waits p x bs (Operate unary.Complement) [] (Value lives.Int) f bs (Val (Value lives.Int) f)
-  denies : (v : ValueType) (f : flow.State) → is_tested v ≡ true → Waits p x bs (Operate unary.Not) [] (read_value bs v) f bs (Val (Value lives.Int) f)
-  chains : {os : Operations} (c : Context) (v : ValueType) (t : Ty) (f h : flow.State) → IsContext p x bs c → Computes p.reading x.relied c v os f t h
-      → Waits p x bs (Chain os) [] (read_value bs v) f bs (Val (Value (read bs t)) h)
-  applies : {o : Operator} {left : Operand} (f : flow.State) → Waits p x bs (Apply o left) (lives.Int ∷ []) (Value lives.Int) f bs (Val (Value lives.Int) f)
-  decides : (v : ValueType) (f h : flow.State) → is_tested v ≡ true → Implies f h → Waits p x bs Decide [] (read_value bs v) f bs (Val (Value lives.Int) h)
+      → Waits p x q bs (ConvertTo from to target) [] (read_value bs v) f bs (Val (Value (read bs t)) f)
+  negates : (f : flow.State) → Waits p x q bs (Operate unary.Negate) [] (Value lives.Int) f bs (Val (Value lives.Int) f)
+  complements : (f : flow.State) → Waits p x q bs (Operate unary.Complement) [] (Value lives.Int) f bs (Val (Value lives.Int) f)
+  denies : (v : ValueType) (f : flow.State) → is_tested v ≡ true → Waits p x q bs (Operate unary.Not) [] (read_value bs v) f bs (Val (Value lives.Int) f)
+  chains : {os : Operations} (c : Context) (v : ValueType) (t : Ty) (f h : flow.State) → IsContext p x bs c → Computes p.reading q c v os f t h
+      → Waits p x q bs (Chain os) [] (read_value bs v) f bs (Val (Value (read bs t)) h)
+  applies : {o : Operator} {left : Operand} (f : flow.State) → Waits p x q bs (Apply o left) (lives.Int ∷ []) (Value lives.Int) f bs (Val (Value lives.Int) f)
+  decides : (v : ValueType) (f h : flow.State) → is_tested v ≡ true → Implies f h → Waits p x q bs Decide [] (read_value bs v) f bs (Val (Value lives.Int) h)
   stores_local : (b : Bound) (t : Ty) (f : flow.State) → IsAmong (Variable b) bs → b.of_type ≡ read bs t
-      → Waits p x bs (Store (values.Thin b.object 0)) [] (Value (read bs t)) f bs (Val (read_value bs (assigned_type t)) (with_fullness Full f b.number))
-  stores_global : (number : ℕ) (t : Ty) (f : flow.State) → slice_get (map (λ (v : GlobalVariable). v.of_type) p.program.globals) number ≡ Some t → read bs t ≡ at as_heap t
-      → Waits p x bs (Store (values.Thin number 0)) [] (Value (read bs t)) f bs (Val (read_value bs (assigned_type t)) f)
+      → Waits p x q bs (Store (values.Thin b.object 0)) [] (Value (read bs t)) f bs (Val (read_value bs (assigned_type t)) (with_fullness Full f b.number))
+  stores_global : (number : ℕ) (t : Ty) (f : flow.State) → slice_get (map (λ (v : GlobalVariable). v.of_type) p.program.globals) number ≡ Some t → read bs t ≡ at (as_heap (frees_of p.reading)) t
+      → Waits p x q bs (Store (values.Thin number 0)) [] (Value (read bs t)) f bs (Val (read_value bs (assigned_type t)) f)
   points : {peek : Option ℕ} {o : PointerOperator} {left : Operand} (c : Context) (t : Ty) (v w : ValueType) (f : flow.State) → IsContext p x bs c → PointerOperation c o (types.Value t) v w
-      → Waits p x bs (ApplyPointer peek o left) (read bs t ∷ []) (read_value bs v) f bs (Val (read_value bs w) f)
+      → Waits p x q bs (ApplyPointer peek o left) (read bs t ∷ []) (read_value bs v) f bs (Val (read_value bs w) f)
   null_points : {peek : Option ℕ} {o : PointerOperator} (c : Context) (v w : ValueType) (f : flow.State) → PointerOperation c o types.Null v w
-      → Waits p x bs (ApplyPointer peek o null) (lives.Pointer marks.Nullable lives.Int heap_life ∷ []) (read_value bs v) f bs (Val (read_value bs w) f)
+      → Waits p x q bs (ApplyPointer peek o null) (lives.Pointer marks.Nullable lives.Int heap_life ∷ []) (read_value bs v) f bs (Val (read_value bs w) f)
   stores_cell : {peek : Option ℕ} {place : values.Value} (t : Ty) (r : Region) (f : flow.State) → IsThere bs r
-      → Waits p x bs (StoreCell peek place) (lives.Pointer marks.NonNull (read bs t) (lives_in bs r) ∷ []) (Value (read bs t)) f bs (Val (read_value bs (assigned_type t)) f)
+      → Waits p x q bs (StoreCell peek place) (lives.Pointer marks.NonNull (read bs t) (lives_in bs r) ∷ []) (Value (read bs t)) f bs (Val (read_value bs (assigned_type t)) f)
   follows : {k : Kind} {target : Option Kind} (m : PointerKind) (t : Ty) (r : Region) (f : flow.State) → k ≡ kind_of_mark m → target ≡ target_of t → IsThere bs r
-      → Waits p x bs (Follow k target) [] (Value (lives.Pointer m (read bs t) (lives_in bs r))) f bs (PlaceOf (read bs t) (lives_in bs r) f)
+      → Waits p x q bs (Follow k target) [] (Value (lives.Pointer m (read bs t) (lives_in bs r))) f bs (PlaceOf (read bs t) (lives_in bs r) f)
   follows_member : {k : Kind} {fields : List Kind} {field : ℕ} (m : PointerKind) (n : ℕ) (ls : List Life) (s : StructType) (t : Ty) (u : RunTy) (r : Region) (f : flow.State) → k ≡ kind_of_mark m
-      → slice_get p.program.structs n ≡ Some s → fields ≡ map values.kind_of s.fields → slice_get s.fields field ≡ Some t → (length ls ≡ s.parameters → at (lives_among ls) t ≡ u) → IsThere bs r
-      → Waits p x bs (FollowMember k fields field) [] (Value (lives.Pointer m (lives.Struct n ls) (lives_in bs r))) f bs (PlaceOf u (lives_in bs r) f)
-  indexes : {peek : Option ℕ} {target : Option Kind} {index : Expression} (c : Context) (t : Ty) (r : Region) (f h : flow.State) → IsContext p x bs c → Evaluates p.reading x.relied c index f (types.Value types.Int) h
-      → target ≡ target_of t → IsThere bs r → Waits p x bs (Index peek target index) [] (Value (lives.Pointer marks.Fat (read bs t) (lives_in bs r))) f bs (PlaceOf (read bs t) (lives_in bs r) h)
+      → slice_get p.program.structs n ≡ Some s → fields ≡ map values.kind_of s.fields → slice_get s.fields field ≡ Some t → (length ls ≡ s.parameters → at (lives_among (frees_of p.reading) ls) t ≡ u) → IsThere bs r
+      → Waits p x q bs (FollowMember k fields field) [] (Value (lives.Pointer m (lives.Struct n ls) (lives_in bs r))) f bs (PlaceOf u (lives_in bs r) f)
+  indexes : {peek : Option ℕ} {target : Option Kind} {index : Expression} (c : Context) (t : Ty) (r : Region) (f h : flow.State) → IsContext p x bs c → (is_reached f ≡ true → Evaluates p.reading (and_looked peek q) c index f (types.Value types.Int) h)
+      → target ≡ target_of t → IsThere bs r → Waits p x q bs (Index peek target index) [] (Value (lives.Pointer marks.Fat (read bs t) (lives_in bs r))) f bs (PlaceOf (read bs t) (lives_in bs r) h)
   advances : {peek : Option ℕ} {target : Option Kind} {base : Operand} (t : Ty) (r : Region) (f : flow.State) → target ≡ target_of t → IsThere bs r
-      → Waits p x bs (Advance peek target base) (lives.Pointer marks.Fat (read bs t) (lives_in bs r) ∷ []) (Value lives.Int) f bs (PlaceOf (read bs t) (lives_in bs r) f)
-  counts_elements : (t : RunTy) (l : Life) (f : flow.State) → Waits p x bs CountElements [] (Value (lives.Pointer marks.Fat t l)) f bs (Val (Value lives.Int) f)
-  places_by : {i : Initial} (c : Context) (m : PointerKind) (t : Ty) (r : Region) (f h : flow.State) → IsContext p x bs c → Makes p.reading x.relied c i m t f h → IsThere bs r
-      → Waits p x bs (PlaceBy i) [] (Value (lives.Handle (lives_in bs r))) f bs (Val (Value (lives.Pointer m (read bs t) (lives_in bs r))) h)
+      → Waits p x q bs (Advance peek target base) (lives.Pointer marks.Fat (read bs t) (lives_in bs r) ∷ []) (Value lives.Int) f bs (PlaceOf (read bs t) (lives_in bs r) f)
+  counts_elements : (t : RunTy) (l : Life) (f : flow.State) → Waits p x q bs CountElements [] (Value (lives.Pointer marks.Fat t l)) f bs (Val (Value lives.Int) f)
+  places_by : {i : Initial} (c : Context) (m : PointerKind) (t : Ty) (r : Region) (f h : flow.State) → IsContext p x bs c → Makes p.reading q c i m t f h → IsThere bs r
+      → Waits p x q bs (PlaceBy i) [] (Value (lives.Handle (lives_in bs r))) f bs (Val (Value (lives.Pointer m (read bs t) (lives_in bs r))) h)
   makes_plain : {owner : Owner} {kind : Kind} (t : Ty) (r : Region) (f : flow.State) → is_key t ≡ false → IsThere bs r → IsOwner (lives_in bs r) owner → kind ≡ kind_of t
-      → Waits p x bs (MakePlain owner kind) [] (Value (read bs t)) f bs (Val (Value (lives.Pointer marks.NonNull (read bs t) (lives_in bs r))) f)
+      → Waits p x q bs (MakePlain owner kind) [] (Value (read bs t)) f bs (Val (Value (lives.Pointer marks.NonNull (read bs t) (lives_in bs r))) f)
   makes_fields : {owner : Owner} {before : List Operand} {rest : Arguments} (c : Context) (done : List RunTy) (t : Ty) (ts : List Ty) (n : ℕ) (ls : List Life) (r : Region) (f h : flow.State)
-      → IsThere bs r → IsOwner (lives_in bs r) owner → IsContext p x bs c → Passes p.reading x.relied c ts rest f h → AreFields p n ls (turned (read bs t ∷ done) (map (read bs) ts))
-      → Waits p x bs (MakeFields owner before rest) done (Value (read bs t)) f bs (Val (Value (lives.Pointer marks.NonNull (lives.Struct n ls) (lives_in bs r))) h)
+      → IsThere bs r → IsOwner (lives_in bs r) owner → IsContext p x bs c → Passes p.reading q c ts rest f h → AreFields p n ls (turned (read bs t ∷ done) (map (read bs) ts))
+      → Waits p x q bs (MakeFields owner before rest) done (Value (read bs t)) f bs (Val (Value (lives.Pointer marks.NonNull (lives.Struct n ls) (lives_in bs r))) h)
   makes_array : {owner : Owner} {level : ℕ} {kind : Kind} {element : Expression} (c : Context) (t : Ty) (r : Region) (f : flow.State) → IsThere bs r → IsOwner (lives_in bs r) owner → IsContext p x bs c
-      → Repeats p.reading x.relied c level kind element t f
-      → Waits p x bs (MakeArray owner level kind element) [] (Value lives.Int) f bs (Val (Value (lives.Pointer marks.Fat (read bs t) (lives_in bs r))) f)
+      → Repeats p.reading q c level kind element t f
+      → Waits p x q bs (MakeArray owner level kind element) [] (Value lives.Int) f bs (Val (Value (lives.Pointer marks.Fat (read bs t) (lives_in bs r))) f)
   fills : {object count index level : ℕ} {kind : Kind} {element : Expression} (cs : List InScope) (c : Context) (t : Ty) (r : Region) (f h : flow.State) → (bs ≡ Level level ∷ cs) → IsThere cs r → IsContext p x cs c
-      → Repeats p.reading x.relied c level kind element t f → Implies h f
-      → Waits p x bs (FillElement object count index level kind element) (lives.Pointer marks.Fat (read cs t) (lives_in cs r) ∷ []) (Value (read cs t)) h cs (Val (Value (lives.Pointer marks.Fat (read cs t) (lives_in cs r))) f)
+      → Repeats p.reading q c level kind element t f → Implies h f
+      → Waits p x q bs (FillElement object count index level kind element) (lives.Pointer marks.Fat (read cs t) (lives_in cs r) ∷ []) (Value (read cs t)) h cs (Val (Value (lives.Pointer marks.Fat (read cs t) (lives_in cs r))) f)
   passes : {callee : Callee} {before : List Operand} {rest : Arguments} (c : Context) (done : List RunTy) (t : Ty) (ts : List Ty) (r : ValueType) (f h : flow.State)
-      → IsContext p x bs c → Passes p.reading x.relied c ts rest f h → IsCalled p bs callee (turned (read bs t ∷ done) (map (read bs) ts)) (read_value bs r)
-      → Waits p x bs (Pass callee before rest) done (Value (read bs t)) f bs (Val (read_value bs r) h)
+      → IsContext p x bs c → Passes p.reading q c ts rest f h → IsCalled p bs callee (turned (read bs t ∷ done) (map (read bs) ts)) (read_value bs r)
+      → Waits p x q bs (Pass callee before rest) done (Value (read bs t)) f bs (Val (read_value bs r) h)
   initialises : {number : ℕ} {kind : Kind} {js : Items} (cs : List InScope) (c : Context) (t : Ty) (f h : flow.State) → Within cs bs → IsContext p x bs c
-      → IsNew p.reading c t → number ≡ c.next_local → kind ≡ kind_of t → Continues p.reading x (with_local true t c) js (with_fullness Full f number) h → Waits p x bs (Initialise number kind js) [] (Value (read bs t)) f cs (Go h)
+      → IsNew p.reading c t → number ≡ c.next_local → kind ≡ kind_of t → Continues p.reading x (with_local true t c) js (with_fullness Full f number) h → Waits p x q bs (Initialise number kind js) [] (Value (read bs t)) f cs (Go h)
   chooses : {first second : Statement} (c d : Context) (v : ValueType) (f g h i : flow.State) → is_tested v ≡ true → IsContext p x bs c → IsContext p x bs d
-      → Executes p.reading x c first f g → Executes p.reading x d second f h → Implies g i → Implies h i → Waits p x bs (Choose first second) [] (read_value bs v) f bs (Go i)
+      → Executes p.reading x c first f g → Executes p.reading x d second f h → Implies g i → Implies h i → Waits p x q bs (Choose first second) [] (read_value bs v) f bs (Go i)
   tests : {condition : Expression} {body : Statement} (l : LoopExit) (v : ValueType) (f h : flow.State) → IsLoop p x bs l condition body v f h
-      → Waits p x bs (Test condition body) [] (read_value bs v) f bs (Go h)
-  returns : (t : Ty) (u : RunTy) (f h : flow.State) → x.result ≡ Some t → Value u ≡ x.gives → Waits p x bs Return [] (Value u) f bs (Go h)
-  closes_by_key : (r : Region) (f : flow.State) → Waits p x bs CloseByKey [] (Value (lives.Key (lives_in bs r))) f bs (Go f)
-  throws : {tag : ℕ} (f h : flow.State) → Waits p x bs (ThrowWith tag) [] (Value lives.Int) f bs (Go h)
+      → Waits p x q bs (Test condition body) [] (read_value bs v) f bs (Go h)
+  returns : (t : Ty) (u : RunTy) (f h : flow.State) → x.result ≡ Some t → Value u ≡ x.gives → Waits p x q bs Return [] (Value u) f bs (Go h)
+  closes_by_key : (r : Region) (f : flow.State) → Waits p x q bs CloseByKey [] (Value (lives.Key (lives_in bs r))) f bs (Go f)
+  throws : {tag : ℕ} (f h : flow.State) → Waits p x q bs (ThrowWith tag) [] (Value lives.Int) f bs (Go h)
   opens_by : {number lent : ℕ} {js : Items} (cs : List InScope) (c : Context) (b : Bound) (r : ℕ) (f h i : flow.State) → HasLoans p.reading → Within cs bs → IsContext p x bs c → IsAmong (Variable b) bs → b.number ≡ lent → b.of_type ≡ lives.Key (life_named bs r) → IsSet f lent
       → IsSpared x.relied lent → IsFullIn f lent → r < c.next_region → IsLive c (regions.Variable c.region) → number ≡ c.next_local
       → Continues p.reading (lending x lent) (with_local false (types.Handle (regions.Variable r)) (with_key_opened r c)) js (with_fullness Full (with_fullness Locked f lent) number) h
-      → Implies (with_fullness Full h lent) i → Waits p x bs (OpenBy number lent js) [] (Seen (lives.Key (life_named bs r))) f cs (Go i)
-  aliases : {number lent : ℕ} {js : Items} (cs : List InScope) (c : Context) (b : Bound) (u t : Ty) (f h i : flow.State) → HasLoans p.reading → Within cs bs → IsContext p x bs c → IsAmong (Variable b) bs → b.number ≡ lent → IsSet f lent
+      → Implies (with_fullness Full h lent) i → Waits p x q bs (OpenBy number lent js) [] (Seen (lives.Key (life_named bs r))) f cs (Go i)
+  aliases : {number lent : ℕ} {js : Items} (cs : List InScope) (c : Context) (b : Bound) (u t : Ty) (f h i : flow.State) → HasAliases p.reading → Within cs bs → IsContext p x bs c → IsAmong (Variable b) bs → b.number ≡ lent → IsSet f lent
       → IsSpared x.relied lent → IsFullIn f lent → is_unique u ≡ true → AllIn (IsKnown c.next_region) u → t ≡ with_region_of (regions.Variable c.next_region) u → IsLive c (regions.Variable c.region) → number ≡ c.next_local
       → Continues p.reading (lending x lent) (with_local true t (with_opened scopes.Alias c)) js (with_fullness Full (with_fullness Locked f lent) number) h
-      → Implies (with_fullness Full h lent) i → Waits p x bs (AliasOf number lent js) [] (Seen (read bs u)) f cs (Go i)
+      → Implies (with_fullness Full h lent) i → Waits p x q bs (AliasOf number lent js) [] (Seen (read bs u)) f cs (Go i)
 
 -- what waits for a place, of this type and there so long, and what goes on then
-pub data WaitsPlace (p : Source) (x : Exits) (bs : List InScope) : AwaitingPlace → RunTy → Life → flow.State → Want → Type 0 where
+pub data WaitsPlace (p : Source) (x : Exits) (q : Relied) (bs : List InScope) : AwaitingPlace → RunTy → Life → flow.State → Want → Type 0 where
   loads_from : {kind : Kind} (t : Ty) (r : Region) (f : flow.State) → IsThere bs r → is_struct t ≡ false → kind ≡ values.kind_of t
-      → WaitsPlace p x bs (LoadFrom kind) (read bs t) (lives_in bs r) f (Val (Value (read bs t)) f)
-  takes_address : (t : RunTy) (l : Life) (f : flow.State) → WaitsPlace p x bs TakeAddress t l f (Val (Value (lives.Pointer marks.NonNull t l)) f)
-  stores_to : {peek : Option ℕ} {from to : Kind} {a : Expression} (c : Context) (v : ValueType) (t : Ty) (r : Region) (f h : flow.State) → IsThere bs r → IsContext p x bs c → Evaluates p.reading x.relied c a f v h
-      → Converts c v t → from ≡ kind_of_value v → to ≡ kind_of t → WaitsPlace p x bs (StoreTo peek (Convert from to a)) (read bs t) (lives_in bs r) f (Val (read_value bs (assigned_type t)) h)
+      → WaitsPlace p x q bs (LoadFrom kind) (read bs t) (lives_in bs r) f (Val (Value (read bs t)) f)
+  takes_address : (t : RunTy) (l : Life) (f : flow.State) → WaitsPlace p x q bs TakeAddress t l f (Val (Value (lives.Pointer marks.NonNull t l)) f)
+  stores_to : {peek : Option ℕ} {from to : Kind} {a : Expression} (c : Context) (v : ValueType) (t : Ty) (r : Region) (f h : flow.State) → IsThere bs r → IsContext p x bs c → (is_reached f ≡ true → Evaluates p.reading (and_looked peek q) c a f v h)
+      → Converts c v t → from ≡ kind_of_value v → to ≡ kind_of t → WaitsPlace p x q bs (StoreTo peek (Convert from to a)) (read bs t) (lives_in bs r) f (Val (read_value bs (assigned_type t)) h)
   swaps_left : {kind : Kind} {peek : Option ℕ} {right : Side} (c : Context) (t : Ty) (r : Region) (f h : flow.State) → IsThere bs r → IsContext p x bs c → kind ≡ values.kind_of t → is_struct t ≡ false
-      → Finds p.reading x.relied c right f t h → WaitsPlace p x bs (SwapLeft kind peek right) (read bs t) (lives_in bs r) f (Go h)
+      → (is_reached f ≡ true → Finds p.reading (and_looked peek x.relied) c right f t h) → WaitsPlace p x q bs (SwapLeft kind peek right) (read bs t) (lives_in bs r) f (Go h)
   swaps_right : {kind : Kind} {peek : Option ℕ} {is_cell : Bool} {left : values.Value} (t : Ty) (r : Region) (f : flow.State) → IsThere bs r → kind ≡ values.kind_of t
-      → WaitsPlace p x bs (SwapRight kind peek is_cell left) (read bs t) (lives_in bs r) f (Go f)
+      → WaitsPlace p x q bs (SwapRight kind peek is_cell left) (read bs t) (lives_in bs r) f (Go f)
 
 -- ---- arrays
 
@@ -321,7 +356,7 @@ Keeps g i a (t ∷ ts) = AreOperands g (t ∷ ts) (held a) × AreClaimed g.own i
 -- A side of a swap whose place is found: a variable that holds something where this is known, or a cell that a pointer leads to.
 pub data IsSpot (p : Source) (g : Typing) (bs : List InScope) (t : Ty) (f : flow.State) : values.Value → Type 0 where
   of_local : (b : Bound) → IsAmong (Variable b) bs → b.of_type ≡ read bs t → IsSet f b.number → IsSpot p g bs t f (values.Thin b.object 0)
-  of_global : (number : ℕ) → slice_get (map (λ (v : GlobalVariable). v.of_type) p.program.globals) number ≡ Some t → read bs t ≡ at as_heap t
+  of_global : (number : ℕ) → slice_get (map (λ (v : GlobalVariable). v.of_type) p.program.globals) number ≡ Some t → read bs t ≡ at (as_heap (frees_of p.reading)) t
       → IsSpot p g bs t f (values.Thin number 0)
   of_cell : (place : values.Value) (r : Region) → IsThere bs r → HasType g (lives.Pointer marks.NonNull (read bs t) (lives_in bs r)) place → IsSpot p g bs t f place
 
@@ -351,8 +386,8 @@ IsBlocked (Some t) f = is_reached f ≡ false
 abbrev pub IsStack : Source → Typing → Exits → List InScope → Want → List Entry → Type 0
 IsStack p g x bs Nothing [] = Unit {0}
 IsStack p g x bs (Val r f) (Needs a ∷ k) =
-    (ts : List RunTy) × (cs : List InScope) × (next : Want) × Waits p x bs a ts r f cs next × Keeps g (operands_in k) a ts × IsStack p g x cs next k
-IsStack p g x bs (PlaceOf t l f) (NeedsPlace a ∷ k) = (next : Want) × WaitsPlace p x bs a t l f next × KeepsPlace p g bs a t f × IsStack p g x bs next k
+    (ts : List RunTy) × (cs : List InScope) × (next : Want) × Waits p x (relied_at x.relied k) bs a ts r f cs next × Keeps g (operands_in k) a ts × IsStack p g x cs next k
+IsStack p g x bs (PlaceOf t l f) (NeedsPlace a ∷ k) = (next : Want) × WaitsPlace p x (relied_at x.relied k) bs a t l f next × KeepsPlace p g bs a t f × IsStack p g x bs next k
 IsStack p g x bs (Val r f) (Discard ∷ k) = IsStack p g x bs (Go f) k
 IsStack p g x bs (Go f) (Discard ∷ k) = IsStack p g x bs (Go f) k
 -- the locals that a block declares are out of scope behind its items
@@ -438,9 +473,9 @@ IsBody x bs h = (x.loop ≡ None) × (x.locks ≡ []) × (x.relied ≡ []) × (x
 
 abbrev pub IsFocus : Source → Typing → Exits → List InScope → Focus → List Entry → Type 0
 IsFocus p g x bs (Evaluating a) k =
-    (c : Context) × (t : ValueType) × (f h : flow.State) × IsContext p x bs c × Holds g f bs × Evaluates p.reading x.relied c a f t h × IsStack p g x bs (Val (read_value bs t) h) k
+    (c : Context) × (t : ValueType) × (f h : flow.State) × IsContext p x bs c × Holds g f bs × Evaluates p.reading (relied_at x.relied k) c a f t h × IsStack p g x bs (Val (read_value bs t) h) k
 IsFocus p g x bs (Locating d) k =
-    (c : Context) × (t : Ty) × (r : Region) × (f h : flow.State) × IsContext p x bs c × Holds g f bs × Locates p.reading x.relied c d f t r h × IsStack p g x bs (PlaceOf (read bs t) (lives_in bs r) h) k
+    (c : Context) × (t : Ty) × (r : Region) × (f h : flow.State) × IsContext p x bs c × Holds g f bs × Locates p.reading (relied_at x.relied k) c d f t r h × IsStack p g x bs (PlaceOf (read bs t) (lives_in bs r) h) k
 IsFocus p g x bs (GivenPlace place) k =
     (t : RunTy) × (l : Life) × (f : flow.State) × Holds g f bs × HasType g (lives.Pointer marks.NonNull t l) place × IsStack p g x bs (PlaceOf t l f) k
 IsFocus p g x bs (Writing writes (Some v)) k =
@@ -449,10 +484,10 @@ IsFocus p g x bs (Writing writes None) k = (f : flow.State) × Holds g f bs × A
 IsFocus p g x bs (Swapping kind left right before) k =
     (t : Ty) × (f : flow.State) × Holds g f bs × (kind ≡ values.kind_of t) × (is_struct t ≡ false) × IsSpot p g bs t f left × IsSpot p g bs t f right × IsRead g (read bs t) before × IsStack p g x bs (Go f) k
 IsFocus p g x bs (Beginning owner count level kind element) k =
-    (c : Context) × (t : Ty) × (r : Region) × (f : flow.State) × IsContext p x bs c × Holds g f bs × IsThere bs r × IsOwner (lives_in bs r) owner × Repeats p.reading x.relied c level kind element t f
+    (c : Context) × (t : Ty) × (r : Region) × (f : flow.State) × IsContext p x bs c × Holds g f bs × IsThere bs r × IsOwner (lives_in bs r) owner × Repeats p.reading (relied_at x.relied k) c level kind element t f
     × IsStack p g x bs (Val (Value (lives.Pointer marks.Fat (read bs t) (lives_in bs r))) f) k
 IsFocus p g x bs (Repeating object count index level kind element) k =
-    (c : Context) × (t : Ty) × (r : Region) × (f : flow.State) × IsContext p x bs c × Holds g f bs × IsThere bs r × Repeats p.reading x.relied c level kind element t f
+    (c : Context) × (t : Ty) × (r : Region) × (f : flow.State) × IsContext p x bs c × Holds g f bs × IsThere bs r × Repeats p.reading (relied_at x.relied k) c level kind element t f
     × IsArray g (read bs t) (lives_in bs r) object count index × IsStack p g x bs (Val (Value (lives.Pointer marks.Fat (read bs t) (lives_in bs r))) f) k
 IsFocus p g x bs (Given v) k = (r : RunValue) × (f : flow.State) × Holds g f bs × IsResult g r v × Comes g r k × IsStack p g x bs (Val r f) k
 IsFocus p g x bs (Executing s) k =
@@ -461,7 +496,7 @@ IsFocus p g x bs Proceeding k = (f : flow.State) × Holds g f bs × IsStack p g 
 IsFocus p g x bs (Calling callee arguments) k =
     (ts : List RunTy) × (r : RunValue) × (f : flow.State) × Holds g f bs × IsCalled p bs callee (turned ts []) r × AreOperands g ts arguments × AreClaimed g.own (operands_in k) ts × IsStack p g x bs (Val r f) k
 IsFocus p g x bs (Entering h arguments) k =
-    (end : flow.State) × (these : ℕ → Life) × (live : ℕ → Bool) × IsAccepted p h end × IsBody x bs h × (bs ≡ Instance these live ∷ []) × Stand p.reading (regions_at_call h) bs
+    (end : flow.State) × (these : ℕ → Life) × (live : ℕ → Bool) × IsAccepted p h end × IsBody x bs h × ((frees : Bool) × (bs ≡ Instance frees these live ∷ [])) × Stand p.reading (regions_at_call h) bs
     × AreOperands g (map (read bs) h.parameters) arguments × AreGiven g.own (operands_in k) (map (read bs) h.parameters) × IsStack p g x bs (Go end) k
 IsFocus p g x bs (Binding number ts arguments body) k =
     (h : Function) × (end : flow.State) × (vs : List LocalInScope) × (cs : List InScope) × Within cs bs × IsAccepted p h end × IsBody x bs h × (body ≡ h.body) × (parameters_in_scope ts number vs ≡ parameters_in_scope h.parameters 0 [])

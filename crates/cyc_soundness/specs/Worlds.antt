@@ -9,7 +9,7 @@ use Rattle.cyc_meaning.specs.Values.{Operand, Cell}
 use Rattle.cyc_meaning.specs.Values as values
 use Rattle.cyc_meaning.specs.Operators.{Result, Gives, Raises, Misfits}
 use Rattle.cyc_meaning.specs.State.{Dynamic, Region, Owner, InRegion, Unique, Object, heap_number, globals_number, is_open}
-use Rattle.cyc_soundness.specs.Lives.{Life, OfRegion, OfObject, Kept, heap_life, RunTy, Int, Pointer, Handle, Key, Struct, RunValue, Void, Null, Value, Seen, Lives, kind_at}
+use Rattle.cyc_soundness.specs.Lives.{Life, OfRegion, OfObject, Owned, Kept, heap_life, RunTy, Int, Pointer, Handle, Key, Struct, RunValue, Void, Null, Value, Seen, Lives, kind_at}
 
 pub data IsAmong {A : Type 0} (a : A) : List A → Type 0 where
   first : (as' : List A) → IsAmong a (a ∷ as')
@@ -46,10 +46,16 @@ pub record Typing : Type 0 where
   pub depth : ℕ
   pub loans : ℕ
 
--- a dynamic region is one of this world
+-- what a region variable may stand for: a dynamic region is one of this world
 abbrev pub IsKnownLife : Typing → Life → Type 0
 IsKnownLife g (Kept region) = IsAmong region g.kept
+IsKnownLife g Owned = ⊥
 IsKnownLife g l = Unit {0}
+
+-- and what an object may have
+abbrev pub IsKnownOwner : Typing → Life → Type 0
+IsKnownOwner g (Kept region) = IsAmong region g.kept
+IsKnownOwner g l = Unit {0}
 
 -- at least so many cells of an object hold something
 abbrev pub IsFilled : Typing → (object count : ℕ) → Type 0
@@ -165,6 +171,7 @@ abbrev pub IsOwner : Life → Owner → Type 0
 IsOwner (OfRegion region around lent) (InRegion number) = region ≡ number
 IsOwner (OfRegion region around lent) (Unique live) = (region ≡ heap_number) × (live ≡ true)
 IsOwner (OfObject object) (Unique live) = Unit {0}
+IsOwner Owned (Unique live) = live ≡ true
 IsOwner (Kept region) (InRegion number) = region ≡ number
 IsOwner l o = ⊥
 
@@ -179,7 +186,7 @@ AreKeyless (t ∷ ts) = IsKeyless t × AreKeyless ts
 
 pub record IsObject (g : Typing) (filled : ℕ) (t : ObjectType) (x : Object) : Type 0 where
   pub owner : IsOwner t.life x.owner
-  pub known : IsKnownLife g t.life
+  pub known : IsKnownOwner g t.life
   pub keyless : t.is_hidden ≡ false → AreKeyless t.cells
   pub cells : AreCells g t.cells x.cells filled
 
@@ -207,6 +214,7 @@ pub record IsTyped (g : Typing) (regions : List Region) (objects : List Object) 
 abbrev pub IsOpenLife : List Region → Life → Type 0
 IsOpenLife regions (OfRegion number around lent) = is_open (slice_get regions number) ≡ true
 IsOpenLife regions (Kept number) = is_open (slice_get regions number) ≡ true
+IsOpenLife regions Owned = Unit {0}
 IsOpenLife regions l = ⊥
 
 -- ---- keys
