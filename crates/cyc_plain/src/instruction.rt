@@ -144,6 +144,11 @@ pub enum Instruction {
     WriteByte {
         source: Operand,
     },
+    /// The address of a slot's word, by which it can be loaded and stored until the call ends.
+    AddressOf {
+        destination: usize,
+        slot: usize,
+    },
     LoadGlobal {
         destination: usize,
         global: usize,

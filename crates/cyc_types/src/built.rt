@@ -70,12 +70,7 @@ fn stop(construct: Construct, name: Span) -> Result<(), Unbuilt>
 fn check_type(of_type: &Ty, span: Option<Span>) -> Result<(), Unbuilt>
     ensures { is_ok result ≡ is_built_type (view_ty of_type.now) }
 {
-    let construct = match of_type {
-        Ty::Handle { .. } => Construct::Handle,
-        Ty::Key { .. } => Construct::Key,
-        Ty::Int | Ty::Pointer { .. } | Ty::Struct { .. } => return Ok(()),
-    };
-    Err(Unbuilt { construct, span })
+    Ok(())
 }
 
 fn check_types(types: &[Ty], span: Option<Span>) -> Result<(), Unbuilt>
@@ -110,9 +105,7 @@ fn check_kind(kind: Kind, name: Span) -> Result<(), Unbuilt>
     ensures { is_ok result ≡ is_built_kind kind }
 {
     match kind {
-        Kind::Int | Kind::Nullable | Kind::NonNull | Kind::Fat => Ok(()),
-        Kind::Handle => stop(Construct::Handle, name),
-        Kind::Key => stop(Construct::Key, name),
+        Kind::Int | Kind::Nullable | Kind::NonNull | Kind::Fat | Kind::Handle | Kind::Key => Ok(()),
     }
 }
 
@@ -129,12 +122,13 @@ fn check_operator(operator: PointerOperator, of_type: &Ty, name: Span) -> Result
     }
 }
 
+#[cycle(expression)]
 fn check_placement(placement: &Placement, name: Span) -> Result<(), Unbuilt>
     ensures { is_ok result ≡ is_built_placement (view_placement placement.now) }
 {
     match placement {
         Placement::OnHeap | Placement::AsUnique => Ok(()),
-        Placement::ByHandle { .. } => stop(Construct::RegionNew, name),
+        Placement::ByHandle { handle } => check_expression(handle, name),
     }
 }
 
@@ -149,24 +143,16 @@ fn check_size(values: &[Converted], name: Span) -> Result<(), Unbuilt>
     }
 }
 
-/// What an expression is, of a form that is not built.
-fn form_of(expression: &Expr) -> Construct {
-    match expression {
-        Expr::HeapRegion => Construct::Handle,
-        Expr::FreeKey { .. } => Construct::FreeKey,
-        _ => Construct::AddressOf,
-    }
-}
-
 #[cycle(expression)]
 fn check_expression(expression: &Expr, name: Span) -> Result<(), Unbuilt>
     ensures { is_ok result ≡ is_built_expression (view_expression expression.now) }
 {
     match expression {
-        Expr::Number { .. } | Expr::NullPointer | Expr::Counter { .. } => Ok(()),
-        Expr::Copy { of_type, .. } | Expr::Move { of_type, .. } | Expr::Peek { of_type, .. } => {
-            check_type(of_type, Some(name))
-        }
+        Expr::Number { .. } | Expr::NullPointer | Expr::HeapRegion | Expr::Counter { .. } => Ok(()),
+        Expr::Copy { of_type, .. }
+        | Expr::Move { of_type, .. }
+        | Expr::Peek { of_type, .. }
+        | Expr::AddressOf { of_type, .. } => check_type(of_type, Some(name)),
         Expr::Load { source } => check_place(source, name),
         Expr::AddressOfCell { place, of_type } => {
             check_place(place, name)?;
@@ -175,6 +161,7 @@ fn check_expression(expression: &Expr, name: Span) -> Result<(), Unbuilt>
         Expr::NumberOfElements { pointer } | Expr::FreeUnique { pointer } => {
             check_expression(pointer, name)
         }
+        Expr::FreeKey { key } => check_expression(key, name),
         Expr::Call {
             arguments,
             result,
@@ -214,9 +201,6 @@ fn check_expression(expression: &Expr, name: Span) -> Result<(), Unbuilt>
             check_placement(placement, name)?;
             check_initial(initial, name)?;
             check_type(of_type, Some(name))
-        }
-        Expr::HeapRegion | Expr::AddressOf { .. } | Expr::FreeKey { .. } => {
-            stop(form_of(expression), name)
         }
     }
 }
@@ -416,7 +400,8 @@ fn check_items(items: &[Item], name: Span) -> Result<(), Unbuilt>
                 check_type(of_type, Some(name))?;
                 check_value(value, name)?;
             }
-            _ => return stop(Construct::Region, name),
+            Item::Region { .. } | Item::Open { .. } | Item::DynamicRegion { .. } => {}
+            Item::Alias { of_type, .. } => check_type(of_type, Some(name))?,
         }
     }
     Ok(())
