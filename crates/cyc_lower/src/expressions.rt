@@ -2,14 +2,14 @@
 //! else only the slots from `free` on are written, and those of locals that are assigned.
 ghost use Rattle.std.specs.Prelude.{◌≡◌, ◌+◌, ◌<◌, ◌≤◌, [], ◌∷◌, ◌++◌, None, length};
 ghost use Rattle.cyc_types.specs.Types.{Void};
-ghost use Rattle.cyc_types.specs.TypedTreeView.{view_dereference, view_initial, view_expression, view_converted, view_lvalue, arguments_of, operations_of};
+ghost use Rattle.cyc_types.specs.TypedTreeView.{view_dereference, view_initial, view_placement, view_expression, view_converted, view_lvalue, arguments_of, operations_of};
 ghost use Rattle.cyc_types.specs.TypedTrees.{Call};
 ghost use Rattle.cyc_meaning.specs.Values.{words_of_kind};
 ghost use Rattle.cyc_plain.specs.declared.instruction.Operand.TheVariants as operands;
 ghost use Rattle.cyc_plain.specs.declared.instruction.Instruction.TheVariants as instructions;
 ghost use Rattle.cyc_lower.specs.Lowering.{operand_of, operand_or, left_of, left_slot, value_operand, converted_operand, printed_operand, check_code, conversion_code, divisor_code, operator_code, truth_code, copy_code, all_passed, expression_code, arguments_code, converted_operand_code, printed_code, initial_code, assignment_code, assigned_operand, operations_code, discarded_code, condition_of, condition_code, first_two, index_code, pointer_instructions, made_code, address_code, place_operand, place_offset, place_code, addressed_by, reached_operand, pointer_of, pointer_slot, code_unless_slot, elements_code, last_element, span_of, saved_code};
 ghost use Rattle.cyc_lower.specs.Slots.{with_counter};
-ghost use Rattle.cyc_lower.specs.Emission.{Appends, Gives, HasRoom, HasRoomFor, most_locals, value_code, source_code, slot_code, print_code, converted_slot, converted_slot_code, left_code, operation_code, IsChain, zero_condition, view_starts, pointer_operation_code};
+ghost use Rattle.cyc_lower.specs.Emission.{Appends, Gives, HasRoom, HasRoomFor, most_locals, value_code, source_code, slot_code, print_code, converted_slot, converted_slot_code, left_code, operation_code, IsChain, zero_condition, view_starts, pointer_operation_code, new_code};
 
 use crate::checks::{DIVISION_BY_ZERO, NULL_EXCEPTION};
 use crate::emitter::Emitter;
@@ -19,7 +19,7 @@ use crate::locals::{counter_of, field_of, slot_of, with_counter};
 use crate::objects::last_element;
 use crate::operands::{
     Condition, are_as_wide, converts_there, index_of, is_in, null_of, operand_of, pointer_of,
-    slot_behind, span_in, span_of, takes_operand, value_slot,
+    slot_behind, span_in, span_of, takes_operand, value_slot, words_behind,
 };
 use crate::operators::{
     binary_operator, failing_comparison, left_kind, move_of, pointer_operator, test_jump,
@@ -219,7 +219,9 @@ impl Emitter {
                     free,
                 )
             }
-            Expr::AddressOf { place, .. } => self.address_variable(starts, *place, slot),
+            Expr::AddressOf { place, of_type } => {
+                self.address_variable(starts, *place, words_behind(of_type), slot)
+            }
             Expr::AddressOfCell { place, .. } => self.take_address(starts, place, slot, free),
             Expr::Store { target, value, .. } => {
                 self.take_address(starts, target, free, free)?;

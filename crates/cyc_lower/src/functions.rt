@@ -1,5 +1,6 @@
 //! The plain functions of a typed tree, and the program that it becomes.
-ghost use Rattle.std.specs.Prelude.{◌≡◌, ◌+◌, ◌≤◌, map, option_map, IfOk};
+ghost use Rattle.std.specs.Prelude.{◌≡◌, ◌+◌, ◌≤◌, ◌++◌, length, map, option_map, IfOk};
+ghost use Rattle.std.specs.List.{list_any};
 ghost use Rattle.cyc_syntax.specs.TokenRule.{max_tokens};
 ghost use Rattle.cyc_types.specs.TypeView.{view_ty};
 ghost use Rattle.cyc_types.specs.TypedTreeView.{items_of, view_struct, view_function, view_program};
@@ -7,7 +8,7 @@ ghost use Rattle.cyc_types.specs.typing.WellTyped.{IsWellTypedProgram};
 ghost use Rattle.cyc_types.specs.Weight.{program_weight};
 ghost use Rattle.cyc_plain.specs.Program.{routine_of};
 ghost use Rattle.cyc_meaning.specs.FrameCount.{frame_count, kept_by_items};
-ghost use Rattle.cyc_lower.specs.Lowering.{items_code, outside_loops, results_of, lower_function, lower_program};
+ghost use Rattle.cyc_lower.specs.Lowering.{items_code, outside_loops, results_of, lower_function, lower_program, is_handle, may_open, scopes_if, scopes_words};
 ghost use Rattle.cyc_lower.specs.Emission.{most_frame_count, most_locals, view_starts, HaveFewWords};
 ghost use Rattle.cyc_lower.specs.Lowered.{CanBeLowered};
 
@@ -43,7 +44,7 @@ fn lower_body(
     free: usize,
 ) -> Result<Emitter, AllocError>
     requires { free + kept_by_items (items_of function.now.body.items) ≤ most_locals }
-    ensures { IfOk result (λ made. made.code.items ≡ items_code (view_starts starts.now) (view_function function.now).body 0 (outside_loops free) free) }
+    ensures { IfOk result (λ made. made.code.items ≡ items_code (view_starts starts.now) (view_function function.now).body 0 outside_loops free) }
 {
     let mut emitter = Emitter::new(alloc);
     let exits = Exits {
@@ -65,7 +66,7 @@ fn lower_function(
     function: &typed::Function,
 ) -> Result<Function, AllocError>
     requires { frame_count (view_function function.now) ≤ most_frame_count }
-    ensures { IfOk result (λ f. routine_of f ≡ lower_function (map view_struct structs.now) globals.now (view_function function.now)) }
+    ensures { IfOk result (λ f. routine_of f ≡ lower_function (map view_struct structs.now) globals.now scopes (view_function function.now)) }
 {
     let (locals, free) = slots_of_locals(alloc, function)?;
     let anywhere = Starts {
@@ -108,7 +109,7 @@ fn lower_functions(
     functions: &[typed::Function],
 ) -> Result<Vec<Function>, AllocError>
     requires { HaveFewWords (map view_function functions.now) }
-    ensures { IfOk result (λ fs. map routine_of fs.items ≡ map (lower_function (map view_struct structs.now) globals.now) (map view_function functions.now)) }
+    ensures { IfOk result (λ fs. map routine_of fs.items ≡ map (lower_function (map view_struct structs.now) globals.now scopes) (map view_function functions.now)) }
 {
     let mut lowered = Vec::new(alloc);
     for function in functions {
@@ -147,7 +148,7 @@ fn add_scopes(
     globals: &mut Vec<u32>,
     functions: &[typed::Function],
 ) -> Result<Option<usize>, AllocError>
-    ensures { IfOk result (λ scopes. scopes_in (length globals.old.items) (map view_function functions.now) scopes globals.old.items globals.new.items) }
+    ensures { IfOk result (λ scopes. (scopes ≡ scopes_if (list_any may_open (map view_function functions.now)) (length globals.old.items)) × (globals.new.items ≡ globals.old.items ++ scopes_words scopes)) }
 {
     if !may_open(functions) {
         return Ok(None);

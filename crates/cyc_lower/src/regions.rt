@@ -132,19 +132,21 @@ impl Emitter {
         })
     }
 
-    /// The address of a variable comes to a slot.
+    /// The address of a variable of so many words comes to a slot.
     pub(crate) fn address_variable(
         &mut self,
         starts: &Starts,
         place: Lvalue,
+        words: usize,
         slot: usize,
     ) -> Result<(), AllocError>
-        ensures { Appends result self.old self.new (address_of_code (view_starts starts.now) (view_lvalue place) slot) }
+        ensures { Appends result self.old self.new (address_of_code (view_starts starts.now) (view_lvalue place) words slot) }
     {
         match place {
             Lvalue::Local { number, .. } => self.emit(Instruction::AddressOf {
                 destination: slot,
                 slot: slot_of(starts, number),
+                count: words,
             }),
             Lvalue::Global { number } => {
                 let before = (global_of(starts, number) as u32).wrapping_mul(4);

@@ -3,7 +3,7 @@ ghost use Rattle.std.specs.Prelude.{◌≡◌, ◌+◌, ◌≤◌, ◌<◌, [], 
 ghost use Rattle.cyc_types.specs.TypedTrees.{NoClauses};
 ghost use Rattle.cyc_types.specs.TypedTreeView.{view_converted, view_expression, view_statement, items_of, clauses_of, default_of};
 ghost use Rattle.cyc_meaning.specs.FrameCount.{kept_by, kept_by_items, kept_by_clauses};
-ghost use Rattle.cyc_lower.specs.Lowering.{leave_code, other_jump, goes_on, clauses_code, caught_code, break_target, continue_target, inside_loop, return_code, declaration_code, statement_code, items_code};
+ghost use Rattle.cyc_lower.specs.Lowering.{nothing_opened, outermost, with_handler, with_mark, inside_try, inside_region, leave_code, other_jump, goes_on, clauses_code, caught_code, break_target, continue_target, inside_loop, return_code, declaration_code, statement_code, items_code};
 ghost use Rattle.cyc_lower.specs.Emission.{Appends, most_locals, throw_code, case_code, BeginClauses, item_code, kept_by_item, loop_code, view_starts};
 
 use crate::emitter::Emitter;
@@ -19,7 +19,7 @@ use std::alloc::AllocError;
 /// of the mark of the outermost lexical region.
 #[derive(Clone, Copy)]
 pub(crate) struct Opened {
-    pub(crate) record: Option<usize>,
+    pub(crate) handler: Option<usize>,
     pub(crate) mark: Option<usize>,
 }
 
@@ -28,7 +28,7 @@ pub(crate) fn nothing_opened() -> Opened
     ensures { result ≡ nothing_opened }
 {
     Opened {
-        record: None,
+        handler: None,
         mark: None,
     }
 }
@@ -44,11 +44,11 @@ fn outermost(opened: Option<usize>, slot: usize) -> Option<usize>
 }
 
 /// A handler was opened too, whose record begins with this slot.
-fn with_record(opened: Opened, slot: usize) -> Opened
-    ensures { result ≡ with_record opened slot }
+fn with_handler(opened: Opened, slot: usize) -> Opened
+    ensures { result ≡ with_handler opened slot }
 {
     Opened {
-        record: outermost(opened.record, slot),
+        handler: outermost(opened.handler, slot),
         mark: opened.mark,
     }
 }
@@ -58,7 +58,7 @@ fn with_mark(opened: Opened, slot: usize) -> Opened
     ensures { result ≡ with_mark opened slot }
 {
     Opened {
-        record: opened.record,
+        handler: opened.handler,
         mark: outermost(opened.mark, slot),
     }
 }
@@ -80,8 +80,8 @@ fn inside_try(exits: Exits, slot: usize) -> Exits
 {
     Exits {
         head: exits.head,
-        in_loop: with_record(exits.in_loop, slot),
-        in_function: with_record(exits.in_function, slot),
+        in_loop: with_handler(exits.in_loop, slot),
+        in_function: with_handler(exits.in_function, slot),
     }
 }
 
@@ -101,7 +101,7 @@ impl Emitter {
     fn lower_leave(&mut self, starts: &Starts, opened: Opened) -> Result<(), AllocError>
         ensures { Appends result self.old self.new (leave_code (view_starts starts.now) opened) }
     {
-        if let Some(first) = opened.record {
+        if let Some(first) = opened.handler {
             self.emit(Instruction::Leave { first })?;
         }
         match opened.mark {

@@ -100,6 +100,7 @@ impl Emitter {
             Instruction::AddressOf {
                 destination,
                 slot,
+                ..
             } => self.address_of(frame, destination, slot),
             Instruction::Load {
                 destination,

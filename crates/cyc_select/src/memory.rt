@@ -1,6 +1,6 @@
 //! The lines that load and store words of memory.
 ghost use Rattle.std.specs.Prelude.{◌≡◌, ◌+◌, ◌≤◌, OnOk};
-ghost use Rattle.cyc_select.specs.Selection.{ordinary, far_plan, address_code, address_register, near_half, at_address, address_count, load_word, store_word};
+ghost use Rattle.cyc_select.specs.Selection.{ordinary, address_of, far_plan, address_code, address_register, near_half, at_address, address_count, load_word, store_word};
 ghost use Rattle.cyc_select.specs.Emission.{AddsLines, IsReached, IsFound};
 
 use crate::constants::{FIRST, FRAME, SECOND};
