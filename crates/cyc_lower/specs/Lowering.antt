@@ -642,17 +642,18 @@ leave_code starts opened = handlers_code opened.handler ++ marks_code starts ope
 
 -- ---- handlers
 
--- A `try` keeps in slot t how many lexical regions are open, where a program has any, and the record of its handler begins behind that.
-abbrev pub record_slot_in : Option ℕ → (t : ℕ) → ℕ
-record_slot_in None t = t
-record_slot_in (Some global) t = t + 1
+-- A `try` has the record of its handler in the slots from t on. Behind it it keeps how many lexical regions are open, where a program has
+-- any.
+abbrev pub behind_record_in : Option ℕ → (t : ℕ) → ℕ
+behind_record_in None t = t + RECORD_WORDS
+behind_record_in (Some global) t = t + RECORD_WORDS + 1
 
-abbrev pub record_slot : Starts → (t : ℕ) → ℕ
-record_slot starts t = record_slot_in starts.scopes t
+abbrev pub behind_record : Starts → (t : ℕ) → ℕ
+behind_record starts t = behind_record_in starts.scopes t
 
 abbrev pub kept_code_in : Option ℕ → (t : ℕ) → List Instruction
 kept_code_in None t = []
-kept_code_in (Some global) t = instructions.LoadGlobal t global ∷ []
+kept_code_in (Some global) t = instructions.LoadGlobal (t + RECORD_WORDS) global ∷ []
 
 abbrev pub kept_code : Starts → (t : ℕ) → List Instruction
 kept_code starts t = kept_code_in starts.scopes t
@@ -660,7 +661,7 @@ kept_code starts t = kept_code_in starts.scopes t
 -- where an exception comes to it, the lexical regions are closed that were opened in it
 abbrev pub restored_code_in : Starts → Option ℕ → (t : ℕ) → List Instruction
 restored_code_in starts None t = []
-restored_code_in starts (Some global) t = closed_code starts t
+restored_code_in starts (Some global) t = closed_code starts (t + RECORD_WORDS)
 
 abbrev pub restored_code : Starts → (t : ℕ) → List Instruction
 restored_code starts t = restored_code_in starts starts.scopes t
@@ -1031,15 +1032,15 @@ module _ (starts : Starts) where
     statement_code Continue p exits t = leave_code starts exits.in_loop ++ instructions.Jump (continue_target exits.head) ∷ []
     statement_code (Throw n v) p exits t = thrown_code v p t ++ instructions.Throw (tag_operand n) (thrown_operand v t) ∷ []
     statement_code (Try s cs) p exits t =
-        kept_code starts t ++ handled_code s cs (p + length (kept_code starts t)) exits t (record_slot starts t)
+        kept_code starts t ++ handled_code s cs (p + length (kept_code starts t)) exits t
 
-    -- the rest of a `try` at place p, with its record in slot r
-    pub handled_code : Statement → Clauses → (p : ℕ) → Exits → (t r : ℕ) → List Instruction
-    handled_code s cs p exits t r =
-        try_code r (statement_code s (p + 1) (inside_try exits r) (r + RECORD_WORDS) ++ instructions.Leave r ∷ [])
+    -- the rest of a `try` at place p
+    pub handled_code : Statement → Clauses → (p : ℕ) → Exits → (t : ℕ) → List Instruction
+    handled_code s cs p exits t =
+        try_code t (statement_code s (p + 1) (inside_try exits t) (behind_record starts t) ++ instructions.Leave t ∷ [])
         (restored_code starts t
-        ++ clauses_code cs (p + 1 + length (statement_code s (p + 1) (inside_try exits r) (r + RECORD_WORDS) ++ instructions.Leave r ∷ []) + 1 + length (restored_code starts t))
-        (p + 1 + length (statement_code s (p + 1) (inside_try exits r) (r + RECORD_WORDS) ++ instructions.Leave r ∷ [])) exits r)
+        ++ clauses_code cs (p + 1 + length (statement_code s (p + 1) (inside_try exits t) (behind_record starts t) ++ instructions.Leave t ∷ []) + 1 + length (restored_code starts t))
+        (p + 1 + length (statement_code s (p + 1) (inside_try exits t) (behind_record starts t) ++ instructions.Leave t ∷ [])) exits t)
         p
 
     pub items_code : Items → (p : ℕ) → Exits → (t : ℕ) → List Instruction
