@@ -11,7 +11,7 @@ use crate::frame_count::words_of;
 use crate::locals::slot_of;
 use crate::operators::{failing_jump, goes_on, other_jump, tag_operand};
 use crate::starts::Starts;
-use cyc_plain::{Instruction, Operand, RECORD_WORDS};
+use cyc_plain::{Instruction, Operand};
 use cyc_types::typed::{Body, Clause, Converted, Expr, Item, Stmt};
 use std::alloc::AllocError;
 
@@ -393,14 +393,13 @@ impl Emitter {
                 clauses,
                 default,
             } => {
-                let first = self.begin_try(starts, free)?;
+                let behind = self.begin_try(starts, free)?;
                 let opening = self.reserve()?;
-                let inside = inside_try(exits, first);
-                self.lower_statement(starts, body, inside, first + RECORD_WORDS)?;
-                let out = self.end_body(opening, first)?;
+                self.lower_statement(starts, body, inside_try(exits, free), behind)?;
+                let out = self.end_body(opening, free)?;
                 self.restore_scopes(starts, free)?;
-                self.lower_clauses(starts, clauses, out, exits, first)?;
-                self.lower_default(starts, default, exits, first)?;
+                self.lower_clauses(starts, clauses, out, exits, free)?;
+                self.lower_default(starts, default, exits, free)?;
                 self.jump_here(out);
                 Ok(())
             }
