@@ -1041,7 +1041,6 @@ module _ (starts : Starts) where
     statement_code Continue p exits t = leave_code starts exits.in_loop ++ instructions.Jump (continue_target exits.head) ∷ []
     statement_code (Throw n v) p exits t = thrown_code v p t ++ instructions.Throw (tag_operand n) (thrown_operand v t) ∷ []
     statement_code (Try s cs) p exits t =
-    statement_code (Try s cs) p exits t =
         kept_code starts t
         ++ handled_code starts (λ q. statement_code s q (inside_try exits t) (behind_record starts t)) (λ q out. clauses_code cs q out exits t) (p + length (kept_code starts t)) t
 
