@@ -70,11 +70,11 @@ module _ (source : Program) where
   record_there loop g [] first is = absurd (none-some first is)
   record_there true g (Loop condition body ∷ k) first is = absurd (none-some first is)
   record_there false g (Loop condition body ∷ k) first is = record_there false g k first is
-  record_there loop g (Handler handler ∷ k) first is = by (opened_by source loop g k).handler refl is
+  record_there loop g (Handler handler ∷ k) first is = by (opened_by source loop g k).handler (record_there loop g k) is
     where
-      by : (o : Option ℕ) → (opened_by source loop g k).handler ≡ o → outermost o (floor source g k) ≡ Some first → first < floor source g (Handler handler ∷ k)
-      by None none is = omega (arith, same_Some (floor source g k) first is, record_below source g k)
-      by (Some outer) there is = omega (arith, record_there loop g k outer there, same_Some outer first is, record_below source g k)
+      by : (o : Option ℕ) → ((outer : ℕ) → o ≡ Some outer → outer < floor source g k) → outermost o (floor source g k) ≡ Some first → first < floor source g (Handler handler ∷ k)
+      by None below is = omega (arith, same_Some (floor source g k) first is, record_below source g k)
+      by (Some outer) below is = omega (arith, below outer refl, same_Some outer first is, record_below source g k)
   record_there loop g (CloseLexical region ∷ k) first is = omega (arith, record_there loop g k first is)
   record_there loop g (Caller e ∷ k) first is = absurd (none-some first is)
   record_there loop g (Main ∷ k) first is = absurd (none-some first is)
@@ -111,22 +111,21 @@ module _ (source : Program) where
   left_closed loop c [] first (Handler handler ∷ k) is stand = absurd stand
   left_closed loop c (plain.Caught ∷ handlers) first (Handler handler ∷ k) is stand = absurd stand
   left_closed loop c (plain.Open index slot contents ∷ handlers) first (Handler handler ∷ k) is (slot_is, same, kept, catches, rest) =
-      by (opened_by source loop c.active.function k).handler refl is
+      by (opened_by source loop c.active.function k).handler (record_there loop c.active.function k) (none_left loop c.active.function c.active.slots handlers c.frames k)
+      (λ there. left_closed loop c handlers first k there rest) is
     where
       own : ℕ
       own = floor source c.active.function k
 
-      by : (o : Option ℕ) → (opened_by source loop c.active.function k).handler ≡ o → outermost o own ≡ Some first → IsClosed loop c (plain.Open index slot contents ∷ handlers) first (Handler handler ∷ k)
-      by None none is = (
-        handlers,
-        closes_here c first index slot contents handlers (slot_is ∙ same_Some own first is) same,
-        none_left loop c.active.function c.active.slots handlers c.frames k none rest,
-      )
-      by (Some outer) there is =
+      by : (o : Option ℕ) → ((outer : ℕ) → o ≡ Some outer → outer < own)
+          → (o ≡ None → HandlersStand source c.active.function c.active.slots handlers c.frames k → HandlersStand source c.active.function c.active.slots handlers c.frames (left_by loop k))
+          → (o ≡ Some first → IsClosed loop c handlers first k) → outermost o own ≡ Some first → IsClosed loop c (plain.Open index slot contents ∷ handlers) first (Handler handler ∷ k)
+      by None below left closed is = (handlers, closes_here c first index slot contents handlers (slot_is ∙ same_Some own first is) same, left refl rest)
+      by (Some outer) below left closed is =
           let outer_is = same_Some outer first is in
-          let (others, closed, stand) = left_closed loop c handlers first k (there ∙ is) rest in
-          let apart : (slot == first) ≡ false = false_from_ne_true (slot == first) (λ equal. omega (arith, eqb-true slot first equal, slot_is, outer_is, record_there loop c.active.function k outer there)) in
-          (others, closes_later c first index slot contents handlers apart ∙ closed, stand)
+          let (others, gone, stand) = closed is in
+          let apart : (slot == first) ≡ false = false_from_ne_true (slot == first) (λ equal. omega (arith, eqb-true slot first equal, slot_is, outer_is, below outer refl)) in
+          (others, closes_later c first index slot contents handlers apart ∙ gone, stand)
   left_closed loop c handlers first (Caller e ∷ k) is stand = absurd (none-some first is)
   left_closed loop c handlers first (Main ∷ k) is stand = absurd (none-some first is)
   left_closed loop c handlers first (CloseLexical region ∷ k) is stand = absurd stand

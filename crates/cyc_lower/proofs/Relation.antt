@@ -31,9 +31,9 @@ use Rattle.cyc_plain.specs.State.{Words, Activation, Frame, Configuration}
 use Rattle.cyc_plain.specs.Step.{operand_word, throws}
 use Rattle.cyc_plain.specs.State as plain
 use Rattle.cyc_plain.specs.Straight.{At}
-use Rattle.cyc_meaning.specs.Values.{Fat, Value, Null, Thin, Operand as Kinded, Cell, kinds_of, words_of_kind, is_thin}
+use Rattle.cyc_meaning.specs.Values.{Fat, Value, Null, Thin, Handle, Operand as Kinded, Cell, kinds_of, words_of_kind, is_thin}
 use Rattle.cyc_meaning.specs.Allocation.{writes_from, blanks_of}
-use Rattle.cyc_meaning.specs.State.{Owner, InRegion, Unique, Object, World, heap_number, globals_number, Environment, ConvertTo, Operate, Chain, Apply, ApplyPointer, Follow, LoadFrom, Decide, Store, Pass, MakePlain, MakeFields, MakeArray, FillElement, Initialise, Choose, Test, Return, Entry, Needs, NeedsPlace, Discard, Rest, Join, Loop, CloseRegion, CloseLexical, EndLoan, Handler, Caller, Main, calls_in, Focus, Evaluating, Locating, Given, Executing, Proceeding, Calling, Entering, Binding, Writing, Beginning, Repeating, Breaking, Continuing, Returning, Throwing, State, Running, Ended, GivenPlace, FollowMember, TakeAddress, StoreTo, StoreCell, FreeObject, SwapLeft, SwapRight, Write, Swapping, ThrowWith, Naming, Catching, CountElements, Index, Advance}
+use Rattle.cyc_meaning.specs.State.{Owner, InRegion, Unique, Object, World, heap_number, globals_number, Environment, ConvertTo, Operate, Chain, Apply, ApplyPointer, Follow, LoadFrom, Decide, Store, Pass, PlaceBy, BesideHandle, MakePlain, MakeFields, MakeArray, FillElement, Initialise, Choose, Test, Return, Entry, Needs, NeedsPlace, Discard, Rest, Join, Loop, CloseRegion, CloseLexical, EndLoan, Handler, Caller, Main, calls_in, Focus, Evaluating, Locating, Given, Executing, Proceeding, Calling, Entering, Binding, Writing, Beginning, Repeating, Breaking, Continuing, Returning, Throwing, State, Running, Ended, GivenPlace, FollowMember, TakeAddress, StoreTo, StoreCell, FreeObject, CloseByKey, SwapLeft, SwapRight, Write, Swapping, ThrowWith, Naming, Catching, CountElements, Index, Advance}
 use Rattle.cyc_meaning.specs.Step.{object_of}
 use Rattle.cyc_meaning.specs.Operators.{null_exception, is_zero}
 use Rattle.cyc_meaning.specs.FrameCount.{words_of_all}
@@ -42,8 +42,8 @@ use Rattle.cyc_lower.specs.declared.statements.Opened.{Opened}
 use Rattle.cyc_meaning.specs.Pointers.{result_kind as operator_kind}
 use Rattle.cyc_lower.specs.Slots.{Types, Starts, starts_of, slot_of, global_of, global_types}
 use Rattle.cyc_lower.specs.Lowering.{most_elements, unary_operator, failing_comparison, operand_of, move_of, low_byte, converts_there, all_passed, compared_of, break_target, continue_target, results_of, lower_program, outside_loops, slot_types, raises_of, right_slot, tag_operand, followed_operand, reached_operand, globals_of, scopes_of, nothing_opened, with_handler, with_mark, inside_try, behind_record_in}
-use Rattle.cyc_lower.proofs.Widths.{kind_of_result, given, called_kind, HasRoom, Outside, chain_kind, HasGlobal}
-use Rattle.cyc_lower.proofs.Stands.{BegunAt, ElementsAt, CheckAt, ConversionAt, PlaceAt, OperatorAt, TruthAt, CopyAt, ExpressionAt, ArgumentsAt, OperationsAt, ValueAt, ConditionAt, FailingAt, ComparesAt, DiscardedAt, StatementAt, ItemsAt, PointerAt, StoresAt, ObjectAt, AddressAt, ConvertedOperandAt, FreedAt, HasSide, SideAt, ReadAt, WriteAt, ExchangeAt, LeaveAt, ClausesAt, CountAt, SavedAt, LoadedAt, FollowedAt, ReachedAt, GlobalAt, RestoredAt}
+use Rattle.cyc_lower.proofs.Widths.{kind_of_result, given, called_kind, HasRoom, Outside, chain_kind, HasGlobal, made_kind}
+use Rattle.cyc_lower.proofs.Stands.{BegunAt, ElementsAt, CheckAt, ConversionAt, PlaceAt, OperatorAt, TruthAt, CopyAt, ExpressionAt, ArgumentsAt, OperationsAt, ValueAt, ConditionAt, FailingAt, ComparesAt, DiscardedAt, StatementAt, ItemsAt, PointerAt, StoresAt, ObjectAt, AddressAt, ConvertedOperandAt, FreedAt, HasSide, SideAt, ReadAt, WriteAt, ExchangeAt, LeaveAt, ClausesAt, CountAt, SavedAt, LoadedAt, FollowedAt, ReachedAt, GlobalAt, RestoredAt, MadeAt}
 
 -- ---- values in slots
 
@@ -99,6 +99,9 @@ held (Needs (Store place) ∷ k) = held k
 -- the address of the cell waits for what is stored in it
 held (Needs (StoreCell peek place) ∷ k) = record { kind = kinds.NonNull; value = place } ∷ held k
 held (Needs (Pass callee before rest) ∷ k) = before ++ held k
+held (Needs (PlaceBy initial) ∷ k) = held k
+-- the handle stays while what is made is evaluated
+held (Needs (BesideHandle region) ∷ k) = record { kind = kinds.Handle; value = Handle region } ∷ held k
 held (Needs (MakePlain owner kind) ∷ k) = held k
 held (Needs (MakeFields owner before fields) ∷ k) = before ++ held k
 held (Needs (MakeArray owner level kind element) ∷ k) = held k
@@ -109,6 +112,7 @@ held (Needs (Test condition body) ∷ k) = []
 held (Needs Return ∷ k) = []
 held (Needs (Follow pointer target) ∷ k) = held k
 held (Needs FreeObject ∷ k) = held k
+held (Needs CloseByKey ∷ k) = held k
 held (Needs (Index peek target index) ∷ k) = held k
 held (Needs (Advance peek target base) ∷ k) = base ∷ held k
 held (Needs (FollowMember pointer fields field) ∷ k) = held k
@@ -117,6 +121,11 @@ held (NeedsPlace (SwapRight kind peek false left) ∷ k) = []
 held (NeedsPlace (SwapRight kind peek true left) ∷ k) = record { kind = kinds.NonNull; value = left } ∷ []
 held (NeedsPlace a ∷ k) = held k
 held (entry ∷ k) = []
+
+-- What stays where a value is handed on: a handle that only what is made needed does not.
+abbrev pub kept : List Entry → List Kinded
+kept (Needs (BesideHandle region) ∷ k) = kept k
+kept k = held k
 
 -- The slots of the counters of the running call, the outermost first: each is the index of the pointer that an array holds.
 abbrev pub counters_of : (base : ℕ) → List Entry → List ℕ
@@ -131,6 +140,8 @@ counters_of base (Needs CountElements ∷ k) = counters_of base k
 counters_of base (Needs (Store place) ∷ k) = counters_of base k
 counters_of base (Needs (StoreCell peek place) ∷ k) = counters_of base k
 counters_of base (Needs (Pass callee before rest) ∷ k) = counters_of base k
+counters_of base (Needs (PlaceBy initial) ∷ k) = counters_of base k
+counters_of base (Needs (BesideHandle region) ∷ k) = counters_of base k
 counters_of base (Needs (MakePlain owner kind) ∷ k) = counters_of base k
 counters_of base (Needs (MakeFields owner before fields) ∷ k) = counters_of base k
 counters_of base (Needs (MakeArray owner level kind element) ∷ k) = counters_of base k
@@ -138,6 +149,7 @@ counters_of base (Needs (FillElement object count index level kind element) ∷ 
 counters_of base (Needs (Follow pointer target) ∷ k) = counters_of base k
 counters_of base (Needs (FollowMember pointer fields field) ∷ k) = counters_of base k
 counters_of base (Needs FreeObject ∷ k) = counters_of base k
+counters_of base (Needs CloseByKey ∷ k) = counters_of base k
 counters_of base (Needs (Index peek target index) ∷ k) = counters_of base k
 counters_of base (Needs (Advance peek target pointer) ∷ k) = counters_of base k
 counters_of base (NeedsPlace (LoadFrom cell) ∷ k) = counters_of base k
@@ -162,11 +174,19 @@ AreCounted counters (entry ∷ k) = AreCounted counters k
 
 -- ---- new objects
 
--- the handle of the region where an object with this owner is made
-abbrev pub IsHandleOf : Owner → (handle : ℕ) → Type 0
-IsHandleOf (InRegion region) handle = (region ≡ heap_number) × (handle ≡ HEAP)
-IsHandleOf (Unique true) handle = handle ≡ UNIQUE
-IsHandleOf (Unique false) handle = ⊥
+-- The handle of the region where an object with this owner is made, above these entries and from this slot on: a word, or the slot before,
+-- where the newest entry keeps it.
+abbrev pub IsHandleOf : Owner → (handle : Operand) → (t : ℕ) → List Entry → Type 0
+IsHandleOf (InRegion region) (operands.Word n) t k = (region ≡ heap_number) × (n ≡ HEAP)
+IsHandleOf (InRegion region) (operands.Slot n) t (Needs (BesideHandle beside) ∷ k) = (region ≡ beside) × (suc n ≡ t)
+IsHandleOf (Unique true) (operands.Word n) t k = n ≡ UNIQUE
+IsHandleOf owner handle t k = ⊥
+
+-- and the word that it is
+abbrev pub HasHandle : Tables → Owner → (word : ℕ) → Type 0
+HasHandle t (InRegion region) word = slice_get t.handles region ≡ Some (Some word)
+HasHandle t (Unique true) word = word ≡ UNIQUE
+HasHandle t (Unique false) word = ⊥
 
 -- a new object has cells of these kinds, which stand from this address on
 pub record IsObject (t : Tables) (object address : ℕ) (kinds : List Kind) : Type 0 where
@@ -382,6 +402,10 @@ module _ (source : Program) where
   abbrev pub top : ℕ → List Entry → ℕ
   top g k = height (floor g k) (held k)
 
+  -- and of one that is handed on
+  abbrev pub ground : ℕ → List Entry → ℕ
+  ground g k = height (floor g k) (kept k)
+
   -- ---- data
 
   -- the calls that wait, whose objects lie apart by order: those of an older call have smaller numbers
@@ -517,62 +541,66 @@ module _ (source : Program) where
         (q : ℕ) × ConversionAt (code_of g) (bounds_at g) (types_on g k) from to (option_map words_of_kind target) o (top g k) p q × ValueStack g locals to o q frames k
     ValueStack g locals kind o p frames (Needs (Operate operator) ∷ k) =
         Yields ((d : ℕ) × At (code_of g) p (instructions.Unary (unary_operator operator) d o)
-        × Lands (base_of g) (top g k) d 1 (ValueStack g locals kinds.Int (operands.Slot d) (p + 1) frames k) (AheadStack g locals kinds.Int d (p + 1) frames k))
+        × Lands (base_of g) (ground g k) d 1 (ValueStack g locals kinds.Int (operands.Slot d) (p + 1) frames k) (AheadStack g locals kinds.Int d (p + 1) frames k))
         ((operator ≡ unary.Not) × ConditionStack g comparisons.NotEqual o (operands.Word 0) p frames k)
     ValueStack g locals kind o p frames (Needs (Chain NoOperations) ∷ k) = ValueStack g locals kind o p frames k
     ValueStack g locals kind o p frames (Needs (Chain operations) ∷ k) =
         Yields ((d : ℕ) × (q : ℕ) × OperationsAt (code_of g) (bounds_at g) (types_on g k) operations o d (top g k) p q
-        × Lands (base_of g) (top g k) d (words_of_kind (chain_kind kind operations)) (ValueStack g locals (chain_kind kind operations) (operands.Slot d) q frames k) (AheadStack g locals (chain_kind kind operations) d q frames k))
+        × Lands (base_of g) (ground g k) d (words_of_kind (chain_kind kind operations)) (ValueStack g locals (chain_kind kind operations) (operands.Slot d) q frames k) (AheadStack g locals (chain_kind kind operations) d q frames k))
         ((failing : Comparison) × (r : Operand) × (q : ℕ) × ComparesAt (code_of g) (bounds_at g) (types_on g k) operations failing o r (top g k) p q × ConditionStack g failing o r q frames k)
     ValueStack g locals kind o p frames (Needs (Apply operator left) ∷ k) =
         Yields ((d : ℕ) × (q : ℕ) × OperatorAt (code_of g) (bounds_at g) (types_on g k) operator d (operands.Slot (top g k)) o p q
-        × Lands (base_of g) (top g k) d 1 (ValueStack g locals kinds.Int (operands.Slot d) q frames k) (AheadStack g locals kinds.Int d q frames k))
+        × Lands (base_of g) (ground g k) d 1 (ValueStack g locals kinds.Int (operands.Slot d) q frames k) (AheadStack g locals kinds.Int d q frames k))
         ((failing : Comparison) × (failing_comparison operator ≡ Some failing) × ConditionStack g failing (operands.Slot (top g k)) o p frames k)
     ValueStack g locals kind o p frames (Needs (ApplyPointer peek operator left) ∷ k) =
         (d : ℕ) × (q : ℕ) × PointerAt (code_of g) (bounds_at g) (types_on g k) operator o (top g k) d p q
-        × Lands (base_of g) (top g k) d (words_of_kind (operator_kind operator)) (ValueStack g locals (operator_kind operator) (operands.Slot d) q frames k)
+        × Lands (base_of g) (ground g k) d (words_of_kind (operator_kind operator)) (ValueStack g locals (operator_kind operator) (operands.Slot d) q frames k)
         (AheadStack g locals (operator_kind operator) d q frames k)
     ValueStack g locals kind o p frames (Needs CountElements ∷ k) =
         (d : ℕ) × (q : ℕ) × CountAt (code_of g) (bounds_at g) (types_on g k) o d p q
-        × Lands (base_of g) (top g k) d 1 (ValueStack g locals kinds.Int (operands.Slot d) q frames k) (AheadStack g locals kinds.Int d q frames k)
+        × Lands (base_of g) (ground g k) d 1 (ValueStack g locals kinds.Int (operands.Slot d) q frames k) (AheadStack g locals kinds.Int d q frames k)
     ValueStack g locals kind o p frames (Needs Decide ∷ k) =
         (d : ℕ) × (q : ℕ) × (o ≡ operands.Slot (top g k)) × TruthAt (code_of g) (bounds_at g) (types_on g k) (top g k) d p q
-        × Lands (base_of g) (top g k) d 1 (ValueStack g locals kinds.Int (operands.Slot d) q frames k) (AheadStack g locals kinds.Int d q frames k)
+        × Lands (base_of g) (ground g k) d 1 (ValueStack g locals kinds.Int (operands.Slot d) q frames k) (AheadStack g locals kinds.Int d q frames k)
     ValueStack g locals kind o p frames (Needs (Store place) ∷ k) =
         (l : Lvalue) × (to : Operand) × (q : ℕ) × StoreAt g kind l o to p q × IsPlaceOf locals l place
         × HandsOn (code_of g) (words_of_kind kind) to q (DroppedStack g q frames k) (ValueStack g locals kind to q frames k)
-        (λ d r. Lands (base_of g) (top g k) d (words_of_kind kind) (ValueStack g locals kind (operands.Slot d) r frames k) (AheadStack g locals kind d r frames k))
+        (λ d r. Lands (base_of g) (ground g k) d (words_of_kind kind) (ValueStack g locals kind (operands.Slot d) r frames k) (AheadStack g locals kind d r frames k))
     ValueStack g locals kind o p frames (Needs (StoreCell peek place) ∷ k) =
         (q : ℕ) × SavedAt (code_of g) (bounds_at g) (types_on g k) (words_of_kind kind) (top g k) o p q
         × HandsOn (code_of g) (words_of_kind kind) o q (DroppedStack g q frames k) (ValueStack g locals kind o q frames k)
-        (λ d r. Lands (base_of g) (top g k) d (words_of_kind kind) (ValueStack g locals kind (operands.Slot d) r frames k) (AheadStack g locals kind d r frames k))
+        (λ d r. Lands (base_of g) (ground g k) d (words_of_kind kind) (ValueStack g locals kind (operands.Slot d) r frames k) (AheadStack g locals kind d r frames k))
     ValueStack g locals kind o p frames (Needs (Pass callees.Putchar before arguments) ∷ k) =
         (before ≡ []) × (arguments ≡ NoArguments) × At (code_of g) p (instructions.WriteByte o)
         × Prints (code_of g) o (p + 1) (DroppedStack g (p + 1) frames k)
-        (λ d. Lands (base_of g) (top g k) d 1 (ValueStack g locals kinds.Int (operands.Slot d) (p + 1 + 1) frames k) (AheadStack g locals kinds.Int d (p + 1 + 1) frames k))
+        (λ d. Lands (base_of g) (ground g k) d 1 (ValueStack g locals kinds.Int (operands.Slot d) (p + 1 + 1) frames k) (AheadStack g locals kinds.Int d (p + 1 + 1) frames k))
     ValueStack g locals kind o p frames (Needs (Pass callee before arguments) ∷ k) =
         (d : ℕ) × (m : ℕ) × (q : ℕ) × (all : ℕ) × (o ≡ operands.Slot (height (floor g k) (before ++ held k)))
         × ArgumentsAt (code_of g) (bounds_at g) (types_on g k) arguments (height (floor g k) (before ++ held k) + words_of_kind kind) p m
         × CallAt g callee all (top g k) d m q × (words_held before + (words_of_kind kind + all_passed arguments) ≡ all)
-        × Lands (base_of g) (top g k) d (words_of_kind (called_at g callee)) (ValueStack g locals (called_at g callee) (operands.Slot d) q frames k) (AheadStack g locals (called_at g callee) d q frames k)
+        × Lands (base_of g) (ground g k) d (words_of_kind (called_at g callee)) (ValueStack g locals (called_at g callee) (operands.Slot d) q frames k) (AheadStack g locals (called_at g callee) d q frames k)
+    ValueStack g locals kind o p frames (Needs (PlaceBy initial) ∷ k) =
+        (d : ℕ) × (q : ℕ) × (o ≡ operands.Slot (top g k)) × MadeAt (code_of g) (bounds_at g) (types_on g k) initial o d (suc (top g k)) p q
+        × Lands (base_of g) (ground g k) d (words_of_kind (made_kind initial)) (ValueStack g locals (made_kind initial) (operands.Slot d) q frames k) (AheadStack g locals (made_kind initial) d q frames k)
+    ValueStack g locals kind o p frames (Needs (BesideHandle region) ∷ k) = ValueStack g locals kind o p frames k
     ValueStack g locals kind o p frames (Needs (MakePlain owner wanted) ∷ k) =
-        (handle : ℕ) × (d : ℕ) × (q : ℕ) × IsHandleOf owner handle × (o ≡ operands.Slot (top g k)) × ObjectAt (code_of g) (bounds_at g) (types_on g k) handle 1 (words_of_kind kind) (top g k) d p q
-        × Lands (base_of g) (top g k) d 1 (ValueStack g locals kinds.NonNull (operands.Slot d) q frames k) (AheadStack g locals kinds.NonNull d q frames k)
+        (handle : Operand) × (d : ℕ) × (q : ℕ) × IsHandleOf owner handle (top g k) k × (o ≡ operands.Slot (top g k)) × ObjectAt (code_of g) (bounds_at g) (types_on g k) handle 1 (words_of_kind kind) (top g k) d p q
+        × Lands (base_of g) (ground g k) d 1 (ValueStack g locals kinds.NonNull (operands.Slot d) q frames k) (AheadStack g locals kinds.NonNull d q frames k)
     ValueStack g locals kind o p frames (Needs (MakeFields owner before fields) ∷ k) =
-        (handle : ℕ) × (d : ℕ) × (m : ℕ) × (q : ℕ) × (all : ℕ) × IsHandleOf owner handle × (o ≡ operands.Slot (height (floor g k) (before ++ held k)))
+        (handle : Operand) × (d : ℕ) × (m : ℕ) × (q : ℕ) × (all : ℕ) × IsHandleOf owner handle (top g k) k × (o ≡ operands.Slot (height (floor g k) (before ++ held k)))
         × ArgumentsAt (code_of g) (bounds_at g) (types_on g k) fields (height (floor g k) (before ++ held k) + words_of_kind kind) p m
         × ObjectAt (code_of g) (bounds_at g) (types_on g k) handle (length before + suc (argument_count fields)) all (top g k) d m q
         × (words_held before + (words_of_kind kind + all_passed fields) ≡ all)
-        × Lands (base_of g) (top g k) d 1 (ValueStack g locals kinds.NonNull (operands.Slot d) q frames k) (AheadStack g locals kinds.NonNull d q frames k)
+        × Lands (base_of g) (ground g k) d 1 (ValueStack g locals kinds.NonNull (operands.Slot d) q frames k) (AheadStack g locals kinds.NonNull d q frames k)
     ValueStack g locals kind o p frames (Needs (MakeArray owner level wanted element) ∷ k) =
-        (handle : ℕ) × (d : ℕ) × (h : ℕ) × (r : ℕ) × (s : ℕ) × (q : ℕ) × IsHandleOf owner handle × (o ≡ operands.Slot (top g k))
+        (handle : Operand) × (d : ℕ) × (h : ℕ) × (r : ℕ) × (s : ℕ) × (q : ℕ) × IsHandleOf owner handle (top g k) k × (o ≡ operands.Slot (top g k))
         × BegunAt (code_of g) (bounds_at g) (types_on g k) handle (words_of_kind wanted) (top g k) p h
         × (level ≡ length (counters_of (floor g k) k)) × ElementsAt (code_of g) (bounds_at g) (types_on g k) element (words_of_kind wanted) (top g k) d h r s q
-        × Lands (base_of g) (top g k) d 3 (ValueStack g locals kinds.Fat (operands.Slot d) q frames k) (AheadStack g locals kinds.Fat d q frames k)
+        × Lands (base_of g) (ground g k) d 3 (ValueStack g locals kinds.Fat (operands.Slot d) q frames k) (AheadStack g locals kinds.Fat d q frames k)
     ValueStack g locals kind o p frames (Needs (FillElement object count index level wanted element) ∷ k) =
         (d : ℕ) × (h : ℕ) × (s : ℕ) × (q : ℕ) × (o ≡ operands.Slot (top g k + 3)) × (index < count) × (count * words_of_kind wanted ≤ MOST_BLOCK_WORDS)
         × (level ≡ length (counters_of (floor g k) k)) × ElementsAt (code_of g) (bounds_at g) (types_on g k) element (words_of_kind wanted) (top g k) d h p s q
-        × Lands (base_of g) (top g k) d 3 (ValueStack g locals kinds.Fat (operands.Slot d) q frames k) (AheadStack g locals kinds.Fat d q frames k)
+        × Lands (base_of g) (ground g k) d 3 (ValueStack g locals kinds.Fat (operands.Slot d) q frames k) (AheadStack g locals kinds.Fat d q frames k)
     ValueStack g locals kind o p frames (Needs (Initialise number wanted items) ∷ k) =
         (exits : Exits) × (q : ℕ) × At (code_of g) p (move_of (words_of_kind kind) (slot_of (starts_at g) number) o) × HasRoom (types_at g) number kind
         × ItemsAt (code_of g) (bounds_at g) (types_at g) items exits (floor g k) (p + 1) q × StatementStack g exits q frames k
@@ -586,7 +614,10 @@ module _ (source : Program) where
         × StatementStack g exits q frames k
     ValueStack g locals kind o p frames (Needs FreeObject ∷ k) =
         (d : ℕ) × (q : ℕ) × FreedAt (code_of g) (bounds_at g) (types_on g k) o p q
-        × Lands (base_of g) (top g k) d 1 (ValueStack g locals kinds.Int (operands.Slot d) q frames k) (AheadStack g locals kinds.Int d q frames k)
+        × Lands (base_of g) (ground g k) d 1 (ValueStack g locals kinds.Int (operands.Slot d) q frames k) (AheadStack g locals kinds.Int d q frames k)
+    ValueStack g locals kind o p frames (Needs CloseByKey ∷ k) =
+        (d : ℕ) × (q : ℕ) × At (code_of g) p (instructions.Ask (requests.CloseDynamic o)) × (p + 1 ≡ q)
+        × Lands (base_of g) (ground g k) d 1 (ValueStack g locals kinds.Int (operands.Slot d) q frames k) (AheadStack g locals kinds.Int d q frames k)
     ValueStack g locals kind o p frames (Needs (ThrowWith tag) ∷ k) =
         (exits : Exits) × (q : ℕ) × IsNumber tag × At (code_of g) p (instructions.Throw (tag_operand tag) o) × StatementStack g exits q frames k
     ValueStack g locals kind o p frames (Needs (Follow pointer target) ∷ k) =
@@ -614,17 +645,17 @@ module _ (source : Program) where
     -- the same for a place, whose address is the word of an operand and so many bytes more
     pub PlaceStack : (g : ℕ) → (ℕ → Option ℕ) → Operand → (c p : ℕ) → List Frame → List Entry → Type 0
     PlaceStack g locals o c p frames (NeedsPlace (LoadFrom cell) ∷ k) =
-        (d : ℕ) × (q : ℕ) × LoadedAt (code_of g) (words_of_kind cell) o c d p q
-        × Lands (base_of g) (top g k) d (words_of_kind cell) (ValueStack g locals cell (operands.Slot d) q frames k) (AheadStack g locals cell d q frames k)
+        (d : ℕ) × (q : ℕ) × LoadedAt (code_of g) (words_of_kind cell) o c d (top g k) p q
+        × Lands (base_of g) (ground g k) d (words_of_kind cell) (ValueStack g locals cell (operands.Slot d) q frames k) (AheadStack g locals cell d q frames k)
     PlaceStack g locals o c p frames (NeedsPlace TakeAddress ∷ k) =
         (d : ℕ) × (q : ℕ) × AddressAt (code_of g) o c d p q
-        × Lands (base_of g) (top g k) d 1 (ValueStack g locals kinds.NonNull (operands.Slot d) q frames k) (AheadStack g locals kinds.NonNull d q frames k)
+        × Lands (base_of g) (ground g k) d 1 (ValueStack g locals kinds.NonNull (operands.Slot d) q frames k) (AheadStack g locals kinds.NonNull d q frames k)
     PlaceStack g locals o c p frames (NeedsPlace (StoreTo peek (Convert from to a)) ∷ k) =
         (x : Operand) × (s : ℕ) × (u : ℕ) × (q : ℕ) × AddressAt (code_of g) o c (top g k) p s
         × ConvertedOperandAt (code_of g) (bounds_at g) (types_on g k) (Convert from to a) (top g k + 1) x s u
         × SavedAt (code_of g) (bounds_at g) (types_on g k) (words_of_kind to) (top g k) x u q
         × HandsOn (code_of g) (words_of_kind to) x q (DroppedStack g q frames k) (ValueStack g locals to x q frames k)
-        (λ d r. Lands (base_of g) (top g k) d (words_of_kind to) (ValueStack g locals to (operands.Slot d) r frames k) (AheadStack g locals to d r frames k))
+        (λ d r. Lands (base_of g) (ground g k) d (words_of_kind to) (ValueStack g locals to (operands.Slot d) r frames k) (AheadStack g locals to d r frames k))
     PlaceStack g locals o c p frames (NeedsPlace (SwapLeft kind peek right) ∷ k) =
         (exits : Exits) × (x : Dereference) × (m : ℕ) × (r : ℕ) × (q : ℕ) × HasSide (code_of g) (bounds_at g) (types_at g) right kind
         × AddressAt (code_of g) o c (floor g k) p m × SideAt (code_of g) (bounds_at g) (types_at g) right (floor g k + 1) m r
@@ -651,11 +682,12 @@ module _ (source : Program) where
     pub AheadStack : (g : ℕ) → (ℕ → Option ℕ) → Kind → (n p : ℕ) → List Frame → List Entry → Type 0
     AheadStack g locals kind n p frames (Needs (ConvertTo from to target) ∷ k) = (converts_there from to ≡ true) × AheadStack g locals to n p frames k
     AheadStack g locals kind n p frames (Needs (Chain NoOperations) ∷ k) = AheadStack g locals kind n p frames k
+    AheadStack g locals kind n p frames (Needs (BesideHandle region) ∷ k) = AheadStack g locals kind n p frames k
     AheadStack g locals kind n p frames (Needs (Store place) ∷ k) =
         (number : ℕ) × (object : ℕ) × (place ≡ Thin object 0) × (locals number ≡ Some object) × (slot_of (starts_at g) number ≡ n)
         × HasRoom (types_at g) number kind
         × HandsOn (code_of g) (words_of_kind kind) (operands.Slot n) p (DroppedStack g p frames k) (ValueStack g locals kind (operands.Slot n) p frames k)
-        (λ d r. Lands (base_of g) (top g k) d (words_of_kind kind) (ValueStack g locals kind (operands.Slot d) r frames k) (AheadStack g locals kind d r frames k))
+        (λ d r. Lands (base_of g) (ground g k) d (words_of_kind kind) (ValueStack g locals kind (operands.Slot d) r frames k) (AheadStack g locals kind d r frames k))
     AheadStack g locals kind n p frames (Needs (Initialise number wanted items) ∷ k) =
         (exits : Exits) × (q : ℕ) × (slot_of (starts_at g) number ≡ n) × HasRoom (types_at g) number kind × ItemsAt (code_of g) (bounds_at g) (types_at g) items exits (floor g k) p q × StatementStack g exits q frames k
     AheadStack g locals kind n p frames k = ⊥
@@ -674,7 +706,7 @@ module _ (source : Program) where
         × StatementStack g outer q frames k
     StatementStack g exits p frames (Caller e ∷ k) =
         (s : ℕ) × At (code_of g) p (instructions.Finish s) × IsOutside exits
-        × Below frames (λ f rest. Lands (base_of f.caller.function) (top f.caller.function k) f.result (words_of_kind (returned_at g))
+        × Below frames (λ f rest. Lands (base_of f.caller.function) (ground f.caller.function k) f.result (words_of_kind (returned_at g))
         (ValueStack f.caller.function e.locals (returned_at g) (operands.Slot f.result) f.caller.next rest k)
         (AheadStack f.caller.function e.locals (returned_at g) f.result f.caller.next rest k))
     StatementStack g exits p frames (Main ∷ k) = (s : ℕ) × At (code_of g) p (instructions.Finish s) × IsOutside exits × IsLast frames k
@@ -683,7 +715,7 @@ module _ (source : Program) where
   -- a value of a kind comes to slot d, and what is done with it stands from place p on
   abbrev pub LandsStack : (g : ℕ) → (ℕ → Option ℕ) → Kind → (d p : ℕ) → List Frame → List Entry → Type 0
   LandsStack g locals kind d p frames k =
-      Lands (base_of g) (top g k) d (words_of_kind kind) (ValueStack g locals kind (operands.Slot d) p frames k) (AheadStack g locals kind d p frames k)
+      Lands (base_of g) (ground g k) d (words_of_kind kind) (ValueStack g locals kind (operands.Slot d) p frames k) (AheadStack g locals kind d p frames k)
 
   abbrev pub HandsOnStack : (g : ℕ) → (ℕ → Option ℕ) → Kind → Operand → (p : ℕ) → List Frame → List Entry → Type 0
   HandsOnStack g locals kind o p frames k =
@@ -773,8 +805,8 @@ module _ (source : Program) where
       × At (code_of g) m (instructions.Move d (operands.Slot address)) × (m + 1 ≡ q)
       × Holds t slots (floor g k) (held k) × LandsStack g locals kinds.NonNull d q frames k
   FocusAt t (Beginning owner count level wanted element) k locals g p slots frames =
-      (handle : ℕ) × (d : ℕ) × (h : ℕ) × (r : ℕ) × (s : ℕ) × (q : ℕ) × IsHandleOf owner handle
-      × At (code_of g) p (instructions.Ask (requests.Allocate (top g k) (operands.Word handle) (operands.Slot (top g k + 3)))) × (p + 1 ≡ h)
+      (handle : Operand) × (d : ℕ) × (h : ℕ) × (r : ℕ) × (s : ℕ) × (q : ℕ) × IsHandleOf owner handle (top g k) k
+      × At (code_of g) p (instructions.Ask (requests.Allocate (top g k) handle (operands.Slot (top g k + 3)))) × (p + 1 ≡ h)
       × (count * words_of_kind wanted ≤ MOST_BLOCK_WORDS) × (slots (top g k + 1) ≡ count) × (slots (top g k + 2) ≡ 0) × (slots (top g k + 3) ≡ max 1 (count * words_of_kind wanted))
       × (level ≡ length (counters_of (floor g k) k)) × ElementsAt (code_of g) (bounds_at g) (types_on g k) element (words_of_kind wanted) (top g k) d h r s q
       × Holds t slots (floor g k) (held k) × LandsStack g locals kinds.Fat d q frames k
@@ -862,10 +894,10 @@ module _ (source : Program) where
   -- where a value stands that is handed on; one that is only tested is the comparison of two operands
   pub data GivenAt (t : Tables) (v : Kinded) (k : List Entry) (e : Environment) (w : World) (c : Configuration) : Type 0 where
     in_operand : (o : Operand) → DataIn t c.active.slots k e w c → IsIn t v c.active.slots o
-        → Holds t c.active.slots (floor c.active.function k) (held k) → ValueStack c.active.function e.locals v.kind o c.active.next c.frames k → GivenAt t v k e w c
+        → Holds t c.active.slots (floor c.active.function k) (kept k) → ValueStack c.active.function e.locals v.kind o c.active.next c.frames k → GivenAt t v k e w c
     nowhere : DataIn t c.active.slots k e w c → DroppedStack c.active.function c.active.next c.frames k → GivenAt t v k e w c
     ahead : (n : ℕ) → DataBut t n (words_of_kind v.kind) k e w c → Is t v.kind v.value c.active.slots n
-        → Holds t c.active.slots (floor c.active.function k) (held k) → AheadStack c.active.function e.locals v.kind n c.active.next c.frames k → GivenAt t v k e w c
+        → Holds t c.active.slots (floor c.active.function k) (kept k) → AheadStack c.active.function e.locals v.kind n c.active.next c.frames k → GivenAt t v k e w c
     compared : (failing : Comparison) → (l r : Operand) → DataIn t c.active.slots k e w c
         → is_zero v.value ≡ Some (compares failing (operand_word c.active.slots l) (operand_word c.active.slots r))
         → ConditionStack c.active.function failing l r c.active.next c.frames k → GivenAt t v k e w c

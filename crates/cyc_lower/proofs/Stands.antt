@@ -9,7 +9,7 @@ use Rattle.cyc_types.specs.declared.typed.Operator.{Operator}
 use Rattle.cyc_types.specs.declared.typed.Operator.TheVariants as operators
 use Rattle.cyc_types.specs.declared.typed.PointerOperator.{PointerOperator}
 use Rattle.cyc_types.specs.declared.typed.PointerOperator.TheVariants as pointers
-use Rattle.cyc_types.specs.TypedTrees.{Array, Counter, type_of_place, Load, Dereference, Target, Lvalue, Local, Global, Expression, Number, NullPointer, Copy, Call, Unary, Binary, Assign, Converted, Convert, Arguments, NoArguments, MoreArguments, Operations, NoOperations, ThenCompute, ThenTest, ThenPointer, Statement, Block, Empty, Evaluate, If, While, Return, Break, Continue, Items, NoItems, MoreItems, Execute, Declare, Move, Peek, ThenPointerPeek, New, OnHeap, Initial, Plain, Fields, AddressOfCell, Store, Member, AsUnique, FreeUnique, Side, VariableSide, CellSide, Swap, Throw, Try, Clauses, NoClauses, Default, Case, NumberOfElements, Element}
+use Rattle.cyc_types.specs.TypedTrees.{Array, Counter, type_of_place, Load, Dereference, Target, Lvalue, Local, Global, Expression, Number, NullPointer, Copy, Call, Unary, Binary, Assign, Converted, Convert, Arguments, NoArguments, MoreArguments, Operations, NoOperations, ThenCompute, ThenTest, ThenPointer, Statement, Block, Empty, Evaluate, If, While, Return, Break, Continue, Items, NoItems, MoreItems, Execute, Declare, Move, Peek, ThenPointerPeek, New, OnHeap, Initial, Plain, Fields, AddressOfCell, Store, Member, AsUnique, ByHandle, FreeUnique, FreeKey, HeapRegion, Side, VariableSide, CellSide, Swap, Throw, Try, Clauses, NoClauses, Default, Case, NumberOfElements, Element}
 use Rattle.cyc_types.specs.Types.{words_of}
 use Rattle.cyc_types.specs.typing.Expressions.{type_of_side}
 use Rattle.cyc_types.specs.Numbered.{Numbering, argument_count}
@@ -60,16 +60,17 @@ module _ (code : List Instruction) where
   AddressAt o zero d p q = CopyAt 1 o d p q
   AddressAt o (suc bytes) d p q = At code p (instructions.Binary plain_binary.Add d o (operands.Word (suc bytes))) × (p + 1 ≡ q)
 
--- a cell comes to a slot and those behind it, whose address stands in an operand but for so many bytes
+-- A cell comes to a slot and those behind it, whose address stands in an operand but for so many bytes. Where it has more words than one,
+-- the address comes to slot t.
 module _ (code : List Instruction) where
-  abbrev pub LoadedBy : (narrow : Bool) → Operand → (bytes d p q : ℕ) → Type 0
-  LoadedBy true o bytes d p q = At code p (instructions.Load d o bytes) × (p + 1 ≡ q)
-  LoadedBy false o bytes d p q =
-      (r : ℕ) × AddressAt code o bytes d p r × At code r (instructions.Load (d + 2) (operands.Slot d) 8) × At code (r + 1) (instructions.Load (d + 1) (operands.Slot d) 4)
-      × At code (r + 1 + 1) (instructions.Load d (operands.Slot d) 0) × (r + 1 + 1 + 1 ≡ q)
+  abbrev pub LoadedBy : (narrow : Bool) → Operand → (bytes d t p q : ℕ) → Type 0
+  LoadedBy true o bytes d t p q = At code p (instructions.Load d o bytes) × (p + 1 ≡ q)
+  LoadedBy false o bytes d t p q =
+      (r : ℕ) × AddressAt code o bytes t p r × At code r (instructions.Load (d + 2) (operands.Slot t) 8) × At code (r + 1) (instructions.Load (d + 1) (operands.Slot t) 4)
+      × At code (r + 1 + 1) (instructions.Load d (operands.Slot t) 0) × (r + 1 + 1 + 1 ≡ q)
 
-  abbrev pub LoadedAt : (words : ℕ) → Operand → (bytes d p q : ℕ) → Type 0
-  LoadedAt words o bytes d p q = LoadedBy (words == 1) o bytes d p q
+  abbrev pub LoadedAt : (words : ℕ) → Operand → (bytes d t p q : ℕ) → Type 0
+  LoadedAt words o bytes d t p q = LoadedBy (words == 1) o bytes d t p q
 
 -- In a code of a function with these bounds, whose locals have these types, from p to q stands the code of this, with temporaries from
 -- slot t on.
@@ -198,14 +199,14 @@ module _ (code : List Instruction) (bounds : Numbering) (types : Types) where
       At code p (instructions.Store (operands.Slot address) offset (operands.Slot slot)) × StoresAt many address (offset + 4) (suc slot) (p + 1) q
 
   -- a new array, whose length is in slot t, begins
-  abbrev pub BegunAt : (handle words t p q : ℕ) → Type 0
+  abbrev pub BegunAt : (handle : Operand) → (words t p q : ℕ) → Type 0
   BegunAt handle words t p q =
       (m : ℕ) × GuardAt array_size comparisons.GreaterOrEqualUnsigned (operands.Slot t) (operands.Word (most_elements words + 1)) p m
       × At code m (instructions.Move (t + 1) (operands.Slot t)) × At code (m + 1) (instructions.Move (t + 2) (operands.Word 0))
       × At code (m + 1 + 1) (instructions.Binary plain_binary.Multiply t (operands.Slot t) (operands.Word words))
       × At code (m + 1 + 1 + 1) (instructions.Unary plain_unary.Not (t + 3) (operands.Slot t))
       × At code (m + 1 + 1 + 1 + 1) (instructions.Binary plain_binary.Add (t + 3) (operands.Slot (t + 3)) (operands.Slot t))
-      × At code (m + 1 + 1 + 1 + 1 + 1) (instructions.Ask (requests.Allocate t (operands.Word handle) (operands.Slot (t + 3)))) × (m + 6 ≡ q)
+      × At code (m + 1 + 1 + 1 + 1 + 1) (instructions.Ask (requests.Allocate t handle (operands.Slot (t + 3)))) × (m + 6 ≡ q)
 
   -- an element is written, and the next one is evaluated
   abbrev pub FilledAt : (words t head p q : ℕ) → Type 0
@@ -228,10 +229,10 @@ module _ (code : List Instruction) (bounds : Numbering) (types : Types) where
   SavedAt words address (operands.Word n) p q = At code p (instructions.Store (operands.Slot address) 0 (operands.Word n)) × (p + 1 ≡ q)
 
   -- An object of so many cells is made, of the words that stand in the slots from t on. Its address comes to slot d.
-  abbrev pub ObjectAt : (handle cells words t d p q : ℕ) → Type 0
+  abbrev pub ObjectAt : (handle : Operand) → (cells words t d p q : ℕ) → Type 0
   ObjectAt handle cells words t d p q =
       (m : ℕ) × (cells ≤ words) × (1 ≤ words) × (words ≤ MOST_BLOCK_WORDS)
-      × At code p (instructions.Ask (requests.Allocate (t + words) (operands.Word handle) (operands.Word (max 1 words))))
+      × At code p (instructions.Ask (requests.Allocate (t + words) handle (operands.Word (max 1 words))))
       × StoresAt words (t + words) 0 t (p + 1) m × At code m (instructions.Move d (operands.Slot (t + words))) × (m + 1 ≡ q)
 
   -- the block at the address in an operand is freed, where that is not 0
@@ -244,6 +245,7 @@ module _ (code : List Instruction) (bounds : Numbering) where
     pub ExpressionAt : (types : Types) → Expression → (d t p q : ℕ) → Type 0
     ExpressionAt types (Number n) d t p q = At code p (instructions.Move d (operands.Word n)) × (p + 1 ≡ q)
     ExpressionAt types NullPointer d t p q = At code p (instructions.Move d (operands.Word 0)) × (p + 1 ≡ q)
+    ExpressionAt types HeapRegion d t p q = At code p (instructions.Move d (operands.Word HEAP)) × (p + 1 ≡ q)
     ExpressionAt types (Counter l) d t p q =
         (slot : ℕ) × (slice_get types.counters l ≡ Some slot) × At code p (instructions.Move d (operands.Slot slot)) × (p + 1 ≡ q)
     ExpressionAt types (Copy l ty) d t p q = LoadAt code bounds types (words_of ty) l d p q
@@ -271,11 +273,16 @@ module _ (code : List Instruction) (bounds : Numbering) where
         × ((r : ℕ) × ConvertedOperandAt types c t o p r × HasGlobal types n (passed_kind c) × GlobalAt code (passed_words c) (global_of (starts_of types) n) o r m)
         × CopyAt code (passed_words c) o d m q
     ExpressionAt types (Load x) d t p q =
-        (o : Operand) × (c : ℕ) × (r : ℕ) × PlaceAt types x o c t p r × LoadedAt code (words_of (type_of_place x)) o c d r q
+        (o : Operand) × (c : ℕ) × (r : ℕ) × PlaceAt types x o c t p r × LoadedAt code (words_of (type_of_place x)) o c d t r q
     ExpressionAt types (FreeUnique a) d t p q =
         (o : Operand) × (m : ℕ) × OperandBy code bounds types (operand_of (starts_of types) a) (ExpressionAt types a (value_slot (starts_of types) a t) t p m) (value_slot (starts_of types) a t) o p m × FreedAt code bounds types o m q
-    ExpressionAt types (New OnHeap i ty) d t p q = MadeAt types i HEAP d t p q
-    ExpressionAt types (New AsUnique i ty) d t p q = MadeAt types i UNIQUE d t p q
+    ExpressionAt types (FreeKey a) d t p q =
+        (o : Operand) × (m : ℕ) × OperandBy code bounds types (operand_of (starts_of types) a) (ExpressionAt types a (value_slot (starts_of types) a t) t p m) (value_slot (starts_of types) a t) o p m
+        × At code m (instructions.Ask (requests.CloseDynamic o)) × (m + 1 ≡ q)
+    ExpressionAt types (New OnHeap i ty) d t p q = MadeAt types i (operands.Word HEAP) d t p q
+    ExpressionAt types (New AsUnique i ty) d t p q = MadeAt types i (operands.Word UNIQUE) d t p q
+    -- the handle stays in slot t
+    ExpressionAt types (New (ByHandle a) i ty) d t p q = (m : ℕ) × ExpressionAt types a t t p m × MadeAt types i (operands.Slot t) d (suc t) m q
     ExpressionAt types (AddressOfCell x ty) d t p q = (o : Operand) × (c : ℕ) × (r : ℕ) × PlaceAt types x o c t p r × AddressAt code o c d r q
     ExpressionAt types (Store x v ty) d t p q =
         (o : Operand) × (m : ℕ)
@@ -285,7 +292,7 @@ module _ (code : List Instruction) (bounds : Numbering) where
     ExpressionAt types a d t p q = ⊥
 
     -- a new object in the region of this handle
-    pub MadeAt : (types : Types) → Initial → (handle d t p q : ℕ) → Type 0
+    pub MadeAt : (types : Types) → Initial → (handle : Operand) → (d t p q : ℕ) → Type 0
     MadeAt types (Plain kind a) handle d t p q =
         (m : ℕ) × ExpressionAt types a t t p m × (words_of_kind (given bounds.functions a) ≡ words_of_kind kind) × ObjectAt code bounds types handle 1 (words_of_kind kind) t d m q
     MadeAt types (Fields cs) handle d t p q = (m : ℕ) × ArgumentsAt types cs t p m × ObjectAt code bounds types handle (argument_count cs) (all_passed cs) t d m q
