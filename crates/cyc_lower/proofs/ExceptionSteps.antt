@@ -123,7 +123,7 @@ module _ (source : Program) (pages calls : ℕ) where
       inside_one : (choice : Choice) → Matches source pages calls (Running (Executing s) (Handler handler ∷ k) e w) (opens choice begun t)
       inside_one choice =
           let (written, others) = data_written source shared.tables c.active.function w.objects e.locals k c.active.slots (recorded choice) c.active.handlers c.globals c.frames t (suc RECORD_WORDS) (omega arith) (elsewhere choice) facts in
-          let is_kept = kept_same (scopes_of source) kept (recorded choice) slot (scopes_in k) (beside choice slot (inr (omega arith))) (kept_there (scopes_of source) c slot (scopes_in k) shared.counters.2) in (
+          let is_kept = kept_same (scopes_of source) kept (recorded choice) slot (scopes_in k) (beside choice slot (inr (omega arith))) (kept_there (scopes_of source) c slot (scopes_in k) shared.counters.1) in (
             shared,
             (written, (refl, whole choice, is_kept, (exits, m + 1 + 1, u, m + 1, q, opening, restoring, clauses, over, stack), others)),
             (inside_try exits t, m, body, (exits, q, refl, leave, over, stack)),

@@ -11,7 +11,7 @@ use Rattle.cyc_types.specs.declared.typed.Callee.TheVariants as callees
 use Rattle.cyc_types.specs.Types.{Ty}
 use Rattle.cyc_types.specs.TypedTrees.{Lvalue, Local, Global, Expression, NoArguments, NoOperations, Statement, Function, Program, Convert, Dereference, Side, VariableSide, CellSide, Clauses}
 use Rattle.cyc_types.specs.Numbered.{Numbering, argument_count, numbering_of, signatures_of}
-use Rattle.cyc_store.specs.State.{StoreState, demand, lexical_count}
+use Rattle.cyc_store.specs.State.{StoreState, demand}
 use Rattle.cyc_store.specs.declared.range.TheConstants.{HEAP, UNIQUE, MOST_BLOCK_WORDS}
 use Rattle.cyc_objects.specs.Tables.{Variable, Placed, Tables}
 use Rattle.cyc_objects.specs.Words.{words_of_kinds, InRange, Is, Points, before}
@@ -244,9 +244,9 @@ scopes_in [] = 0
 scopes_in (CloseLexical region ∷ k) = suc (scopes_in k)
 scopes_in (entry ∷ k) = scopes_in k
 
--- so many are told, where there is a word for it
+-- so many are told by the word for it: where there is none, none is ever opened
 abbrev pub IsTold : (scopes : Option ℕ) → Words → (many : ℕ) → Type 0
-IsTold None words many = Unit {0}
+IsTold None words many = many ≡ 0
 IsTold (Some place) words many = words place ≡ many
 
 -- a call that waits: its locals, its first temporary by the end of its locals, and the values that it holds
@@ -848,11 +848,11 @@ module _ (source : Program) where
   -- ---- states
 
   -- what is said of the counters of arrays and of the lexical regions that are open
-  abbrev pub CountsAt : Environment → List Entry → (globals : Words) → StoreState → Type 0
-  CountsAt e k globals store = AreCounted e.counters k × (lexical_count store.regions ≡ scopes_in k) × IsTold (scopes_of source) globals (scopes_in k)
+  abbrev pub CountsAt : Environment → List Entry → (globals : Words) → Type 0
+  CountsAt e k globals = AreCounted e.counters k × IsTold (scopes_of source) globals (scopes_in k)
 
   abbrev pub SharedAt : (pages calls : ℕ) → List Entry → Environment → World → Configuration → Type 0
-  SharedAt pages calls k e w c = Shared pages calls w (e.home ∷ homes k) (CountsAt e k c.globals c.store) c.output c.input c.store (length c.frames)
+  SharedAt pages calls k e w c = Shared pages calls w (e.home ∷ homes k) (CountsAt e k c.globals) c.output c.input c.store (length c.frames)
 
   -- what stands where a handler catches an exception: it was opened by this instruction, and its clauses end where all goes on
   abbrev pub CatchesAt : (g : ℕ) → Clauses → (index : ℕ) → List Frame → List Entry → Type 0
