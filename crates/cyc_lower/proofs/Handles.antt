@@ -10,9 +10,9 @@ use Rattle.cyc_objects.specs.Tables.{Tables}
 use Rattle.cyc_lower.proofs.Relation.{Holds, held, height, kept, IsHandleOf, HasHandle}
 
 -- less is kept than is held
-pub kept_holds : {t : Tables} {slots : Words} {base : ℕ} (k : List Entry) → Holds t slots base (held k) → Holds t slots base (kept k)
-kept_holds {t} {slots} {base} (Needs (BesideHandle region) ∷ k) (is, holds) = kept_holds {t} {slots} {base} k holds
-kept_holds k holds = holds
+pub kept_holds : (t : Tables) (slots : Words) (base : ℕ) (k : List Entry) → Holds t slots base (held k) → Holds t slots base (kept k)
+kept_holds t slots base (Needs (BesideHandle region) ∷ k) (is, holds) = kept_holds t slots base k holds
+kept_holds t slots base k holds = holds
 
 pub kept_low : (base : ℕ) (k : List Entry) → height base (kept k) ≤ height base (held k)
 kept_low base (Needs (BesideHandle region) ∷ k) = omega (arith, kept_low base k)

@@ -29,8 +29,9 @@ use Rattle.cyc_store.specs.declared.range.TheConstants.{MOST_BLOCK_WORDS, HEAP, 
 use Rattle.cyc_meaning.specs.Operators.{array_size, null_exception, division_by_zero, array_bounds}
 use Rattle.cyc_meaning.specs.Values.{is_thin, words_of_kind, kind_of}
 use Rattle.cyc_lower.specs.declared.statements.Exits.{Exits}
+use Rattle.cyc_lower.specs.declared.statements.Opened.{Opened}
 use Rattle.cyc_lower.specs.Slots.{counted, Types, starts_of, slot_of, field_of, global_of}
-use Rattle.cyc_lower.specs.Lowering.{most_elements, unary_operator, binary_operator, operand_of, source_of, source_slot, failing_comparison, left_with, left_of, value_slot, next_slot, slot_with, left_slot, is_in, jump_if_nonzero, move_of, test_jump, are_as_wide, converts_there, passed_words, all_passed, compared_of, low_byte, break_target, continue_target, results_of, behind_left, inside_loop, pointer_operator, raising, jump_if_zero, right_slot, tag_operand, other_jump, goes_on, span_of, span_in, followed_operand, scale_of, pointer_of, reached_operand, load_word, store_word, load_at}
+use Rattle.cyc_lower.specs.Lowering.{most_elements, unary_operator, binary_operator, operand_of, source_of, source_slot, failing_comparison, left_with, left_of, value_slot, next_slot, slot_with, left_slot, is_in, jump_if_nonzero, move_of, test_jump, are_as_wide, converts_there, passed_words, all_passed, compared_of, low_byte, break_target, continue_target, results_of, behind_left, inside_loop, inside_try, behind_record_in, pointer_operator, raising, jump_if_zero, right_slot, tag_operand, other_jump, goes_on, span_of, span_in, followed_operand, scale_of, pointer_of, reached_operand, load_word, store_word, load_at}
 use Rattle.cyc_lower.proofs.Widths.{kind_of_result, given, passed_kind, HasRoom, HasField, HasGlobal}
 
 -- ---- expressions
@@ -454,19 +455,42 @@ module _ (code : List Instruction) (bounds : Numbering) (types : Types) where
 
   -- ---- statements
 
-  -- handlers are closed whose records stand from a slot on, where there are some
-  abbrev pub LeaveBy : (none : Bool) → (first p q : ℕ) → Type 0
-  LeaveBy true first p q = p ≡ q
-  LeaveBy false first p q = At code p (instructions.Leave first) × (p + 1 ≡ q)
+  -- handlers are closed from the outermost on, where there are some
+  abbrev pub HandlersAt : Option ℕ → (p q : ℕ) → Type 0
+  HandlersAt None p q = p ≡ q
+  HandlersAt (Some first) p q = At code p (instructions.Leave first) × (p + 1 ≡ q)
 
-  abbrev pub LeaveAt : (first t p q : ℕ) → Type 0
-  LeaveAt first t p q = LeaveBy (first == t) first p q
+  -- it is told how many lexical regions are open, where there is a word for it
+  abbrev pub ToldAt : (scopes : Option ℕ) → Operand → (p q : ℕ) → Type 0
+  ToldAt None o p q = p ≡ q
+  ToldAt (Some global) o p q = At code p (instructions.StoreGlobal global o) × (p + 1 ≡ q)
+
+  -- lexical regions are closed down to the mark in a slot
+  abbrev pub ClosedAt : (mark p q : ℕ) → Type 0
+  ClosedAt mark p q = At code p (instructions.Ask (requests.CloseTo (operands.Slot mark))) × ToldAt types.scopes (operands.Slot mark) (p + 1) q
+
+  abbrev pub MarksAt : Option ℕ → (p q : ℕ) → Type 0
+  MarksAt None p q = p ≡ q
+  MarksAt (Some mark) p q = ClosedAt mark p q
+
+  -- what was opened is closed
+  abbrev pub LeaveAt : Opened → (p q : ℕ) → Type 0
+  LeaveAt opened p q = (r : ℕ) × HandlersAt opened.handler p r × MarksAt opened.mark r q
+
+  -- a `try` keeps in a slot how many lexical regions are open, and closes the others where an exception comes to it
+  abbrev pub KeptAt : (scopes : Option ℕ) → (slot p q : ℕ) → Type 0
+  KeptAt None slot p q = p ≡ q
+  KeptAt (Some global) slot p q = At code p (instructions.LoadGlobal slot global) × (p + 1 ≡ q)
+
+  abbrev pub RestoredAt : (scopes : Option ℕ) → (slot p q : ℕ) → Type 0
+  RestoredAt None slot p q = p ≡ q
+  RestoredAt (Some global) slot p q = ClosedAt slot p q
 
   abbrev pub ReturnAt : Option Converted → Exits → (t p : ℕ) → Type 0
-  ReturnAt None exits t p = (s : ℕ) × (m : ℕ) × LeaveAt exits.first_record t p m × At code m (instructions.Finish s)
+  ReturnAt None exits t p = (s : ℕ) × (m : ℕ) × LeaveAt exits.in_function p m × At code m (instructions.Finish s)
   ReturnAt (Some (Convert from to a)) exits t p =
       (s : ℕ) × (m : ℕ) × (r : ℕ) × (u : ℕ) × ReturnedAt code bounds types (source_of (starts_of types) (Convert from to a)) (ExpressionAt code bounds types a t t p m) t s p m × ConversionAt code bounds types from to (span_of a) (operands.Slot s) t m r
-      × LeaveAt exits.first_record t r u × At code u (instructions.Finish s) × (results_of bounds.result ≡ words_of_kind to) × (to ≡ kind_of_result bounds.result)
+      × LeaveAt exits.in_function r u × At code u (instructions.Finish s) × (results_of bounds.result ≡ words_of_kind to) × (to ≡ kind_of_result bounds.result)
 
   abbrev pub DeclarationAt : ℕ → Option Converted → (t p q : ℕ) → Type 0
   DeclarationAt n None t p q = (n < bounds.locals) × (p ≡ q)
@@ -495,15 +519,16 @@ module _ (code : List Instruction) (bounds : Numbering) (types : Types) where
         × At code r (instructions.Jump q) × StatementAt u exits t (r + 1) q
     StatementAt (While w a s) exits t p q =
         (x : Operand) × (y : Operand) × (m : ℕ) × (r : ℕ) × At code p (instructions.Jump (continue_target p)) × At code (break_target p) (instructions.Jump q)
-        × ConditionAt a x y t (continue_target p) m × FailingAt a x y m (break_target p) × StatementAt s (inside_loop p t exits) t (m + 1) r
+        × ConditionAt a x y t (continue_target p) m × FailingAt a x y m (break_target p) × StatementAt s (inside_loop p exits) t (m + 1) r
         × At code r (instructions.Jump (continue_target p)) × (r + 1 ≡ q) × (break_target p < q)
     StatementAt (Return v) exits t p q = ReturnAt v exits t p
-    StatementAt Break exits t p q = (m : ℕ) × LeaveAt exits.loop_record t p m × At code m (instructions.Jump (break_target exits.head))
-    StatementAt Continue exits t p q = (m : ℕ) × LeaveAt exits.loop_record t p m × At code m (instructions.Jump (continue_target exits.head))
+    StatementAt Break exits t p q = (m : ℕ) × LeaveAt exits.in_loop p m × At code m (instructions.Jump (break_target exits.head))
+    StatementAt Continue exits t p q = (m : ℕ) × LeaveAt exits.in_loop p m × At code m (instructions.Jump (continue_target exits.head))
     StatementAt (Throw tag v) exits t p q = IsWord tag × (o : Operand) × (m : ℕ) × ThrownAt v o t p m × At code m (instructions.Throw (tag_operand tag) o)
     StatementAt (Try s cs) exits t p q =
-        (m : ℕ) × At code p (instructions.Try t (m + 1 + 1)) × StatementAt s exits (t + RECORD_WORDS) (p + 1) m × At code m (instructions.Leave t)
-        × At code (m + 1) (instructions.Jump q) × ClausesAt cs (m + 1) exits t (m + 1 + 1) q
+        (r : ℕ) × (m : ℕ) × (u : ℕ) × KeptAt types.scopes (t + RECORD_WORDS) p r × At code r (instructions.Try t (m + 1 + 1))
+        × StatementAt s (inside_try exits t) (behind_record_in types.scopes t) (r + 1) m × At code m (instructions.Leave t)
+        × At code (m + 1) (instructions.Jump q) × RestoredAt types.scopes (t + RECORD_WORDS) (m + 1 + 1) u × ClausesAt cs (m + 1) exits t u q
 
     pub ItemsAt : Items → Exits → (t p q : ℕ) → Type 0
     ItemsAt NoItems exits t p q = p ≡ q
