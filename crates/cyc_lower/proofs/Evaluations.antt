@@ -43,14 +43,9 @@ use Rattle.cyc_lower.proofs.Weights.{weight, stack_weight, expression_weight, ar
 use Rattle.cyc_lower.proofs.Stands.{CopyBy, CopyAt, OperandBy, InitialBy, ExpressionAt, ArgumentsAt, ObjectAt, MadeAt, ValueAt, PairAt, ConditionAt, AssignmentAt, PrintedAt, DiscardedAt, StoredAt, CountAt, LoadedAt, ReturnedAt, ReachedAt, EachAt}
 use Rattle.cyc_objects.specs.Tables.{Tables}
 use Rattle.cyc_objects.specs.Words.{Is}
-<<<<<<< HEAD
 use Rattle.cyc_lower.proofs.Relation.{counters_of, types_on, starts_on, IsIn, types_at, starts_at, given_at, called_at, words_held, height, Holds, held, kept, contents, callers, in_temporary, in_local, drops, leaves, copies, prints_only, gives_byte, DataIn, SharedAt, CallAt, to_slot, to_jump, ValueStack, PlaceStack, ConditionStack, DroppedStack, AheadStack, LandsStack, HandsOnStack, PrintsStack, RightAt, EvaluatingAt, as_operand, into_slot, for_effect, as_right, as_condition, in_operand, ahead, with_left, Related, Matches, code_of, bounds_in, bounds_at, base_of, top, IsHandleOf, floor, IsLow}
 use Rattle.cyc_lower.proofs.Handles.{kept_holds, kept_low}
-use Rattle.cyc_lower.proofs.Data.{IsWord-is, height-least, Holds-same, Holds-above, data_above, behind-least, data_written}
-=======
-use Rattle.cyc_lower.proofs.Relation.{counters_of, types_on, starts_on, IsIn, types_at, starts_at, given_at, called_at, words_held, height, Holds, held, contents, callers, in_temporary, in_local, drops, leaves, copies, prints_only, gives_byte, DataIn, SharedAt, CallAt, to_slot, to_jump, ValueStack, PlaceStack, ConditionStack, DroppedStack, AheadStack, LandsStack, HandsOnStack, PrintsStack, RightAt, EvaluatingAt, as_operand, into_slot, for_effect, as_right, as_condition, in_operand, ahead, with_left, Related, Matches, code_of, bounds_in, bounds_at, base_of, top, IsHandleOf, floor, IsLow}
 use Rattle.cyc_lower.proofs.Data.{IsWord-is, height-least, Holds-same, Holds-above, data_above, floor-least, data_written}
->>>>>>> base24
 use Rattle.cyc_types.specs.Numbered.{Numbering}
 use Rattle.cyc_meaning.specs.FrameCount.{words_of_all}
 use Rattle.cyc_lower.proofs.Accesses.{IsWell, is_loaded}
@@ -87,11 +82,7 @@ module _ (source : Program) (pages calls : ℕ) where
         shared,
         ahead d (c.active.slots, λ m out. sym (same m out), facts)
             is
-<<<<<<< HEAD
-            (Holds-above shared.tables c.active.slots after base (kept k) (λ m above. same m (inr (omega (arith, below, above, behind-least k (base_of source c.active.function))))) (kept_holds _ _ _ k holds))
-=======
-            (Holds-above shared.tables c.active.slots after base (held k) (λ m above. same m (inr (omega (arith, below, above, floor-least source c.active.function k)))) holds)
->>>>>>> base24
+            (Holds-above shared.tables c.active.slots after base (kept k) (λ m above. same m (inr (omega (arith, below, above, floor-least source c.active.function k)))) (kept_holds _ _ _ k holds))
             (subst (λ r. AheadStack source c.active.function e.locals v.kind d r c.frames k) (sym end) stack),
       )
 
