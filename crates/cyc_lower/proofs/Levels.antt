@@ -151,7 +151,7 @@ module _ (source : Program) where
     statement_arrays g exits p frames (Join ∷ k) (q, at, stack) = statement_arrays g exits q frames k stack
     statement_arrays g exits p frames (Loop a s ∷ k) (outer, q, at, jump, stack) = statement_arrays g outer q frames k stack
     statement_arrays g exits p frames (CloseRegion r h ∷ k) (q, at, stack) = statement_arrays g exits q frames k stack
-    statement_arrays g exits p frames (Handler handler ∷ k) (q, leave, jump, stack) = statement_arrays g exits q frames k stack
+    statement_arrays g exits p frames (Handler handler ∷ k) (outer, q, is, leave, jump, stack) = statement_arrays g outer q frames k stack
     statement_arrays g exits p frames (Caller e ∷ k) stack = refl
     statement_arrays g exits p [] (Main ∷ []) (s, at, outside, last) = refl
     statement_arrays g exits p (f ∷ frames) (Main ∷ k) (s, at, outside, last) = absurd last

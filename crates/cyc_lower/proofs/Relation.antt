@@ -122,9 +122,10 @@ held (NeedsPlace (SwapRight kind peek true left) ∷ k) = record { kind = kinds.
 held (NeedsPlace a ∷ k) = held k
 held (entry ∷ k) = []
 
--- What stays where a value is handed on: a handle that only what is made needed does not.
+-- What stays where a value is handed on: a handle that only what was made needed does not.
 abbrev pub kept : List Entry → List Kinded
 kept (Needs (BesideHandle region) ∷ k) = kept k
+kept (Needs (Chain NoOperations) ∷ k) = kept k
 kept k = held k
 
 -- The slots of the counters of the running call, the outermost first: each is the index of the pointer that an array holds.
