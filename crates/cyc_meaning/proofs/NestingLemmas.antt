@@ -80,17 +80,17 @@ home_found regions home (entry ∷ stack) is h = home_found regions home stack i
 -- ---- lexical regions
 
 -- whether a region is one of some
-abbrev is_one : ℕ → List ℕ → Bool
+abbrev pub is_one : ℕ → List ℕ → Bool
 is_one number ns = list_any (λ (n : ℕ). n == number) ns
 
-one_here : (number n : ℕ) (ns : List ℕ) → n ≡ number → is_one number (n ∷ ns) ≡ true
+pub one_here : (number n : ℕ) (ns : List ℕ) → n ≡ number → is_one number (n ∷ ns) ≡ true
 one_here number n ns same = ap (λ (b : Bool). b || is_one number ns) (eq-eqb n number same)
 
-one_there : (number n : ℕ) (ns : List ℕ) → n ≢ number → is_one number (n ∷ ns) ≡ is_one number ns
+pub one_there : (number n : ℕ) (ns : List ℕ) → n ≢ number → is_one number (n ∷ ns) ≡ is_one number ns
 one_there number n ns other = ap (λ (b : Bool). b || is_one number ns) (false_from_ne_true (n == number) (λ e. other (eqb-true n number e)))
 
 -- those that end are below a region that was opened later
-none_above : (stack : List Entry) (bound number : ℕ) → AreBelow bound (ends_of stack) → bound ≤ number → is_one number (lexicals_of stack) ≡ false
+pub none_above : (stack : List Entry) (bound number : ℕ) → AreBelow bound (ends_of stack) → bound ≤ number → is_one number (lexicals_of stack) ≡ false
 none_above [] bound number below less = refl
 none_above (CloseLexical region ∷ stack) bound number (lower, below) less =
     one_there number region (lexicals_of stack) (λ e. (let same : region ≡ number = e in absurd (omega (arith, lower, less, same))))
@@ -206,13 +206,19 @@ nested_closed region home r stack e w ((found, open_all), (less, below), (same, 
   scopes_less w.regions region (record r { is_open = false }) (lexicals_of stack) (shut_none r) (none_above stack region region below (omega arith)) (λ number other. are number),
 )
 
+-- the innermost of them closes
+pub scopes_closed : (region : ℕ) (r : Region) (stack : List Entry) (regions : List Region) → AreBelow region (ends_of stack) → AreScopes regions (region ∷ lexicals_of stack)
+    → AreScopes (set regions region (record r { is_open = false })) (lexicals_of stack)
+scopes_closed region r stack regions below are =
+    scopes_less regions region (record r { is_open = false }) (lexicals_of stack) (shut_none r) (none_above stack region region below (omega arith))
+    (λ number other. are number ∙ one_there number region (lexicals_of stack) other)
+
 pub nested_closed_lexical : (region : ℕ) (r : Region) (stack : List Entry) (e : Environment) (w : World) → IsNested (CloseLexical region ∷ stack) e w → IsNested stack e (closed w region r)
 nested_closed_lexical region r stack e w ((found, open_all), (less, below), is, are) = (
   open_below w.regions region (record r { is_open = false }) (ends_of stack) below open_all,
   below_closed region region r (ends_of stack) w below (less, below),
   is,
-  scopes_less w.regions region (record r { is_open = false }) (lexicals_of stack) (shut_none r) (none_above stack region region below (omega arith))
-      (λ number other. are number ∙ one_there number region (lexicals_of stack) other),
+  scopes_closed region r stack w.regions below are,
 )
 
 -- a region that no scope ends is closed
