@@ -44,7 +44,7 @@ use Rattle.cyc_lower.proofs.Stands.{CopyBy, CopyAt, OperandBy, InitialBy, Expres
 use Rattle.cyc_objects.specs.Tables.{Tables}
 use Rattle.cyc_objects.specs.Words.{Is}
 use Rattle.cyc_lower.proofs.Relation.{counters_of, types_on, starts_on, IsIn, types_at, starts_at, given_at, called_at, words_held, height, Holds, held, contents, callers, in_temporary, in_local, drops, leaves, copies, prints_only, gives_byte, DataIn, SharedAt, CallAt, to_slot, to_jump, ValueStack, PlaceStack, ConditionStack, DroppedStack, AheadStack, LandsStack, HandsOnStack, PrintsStack, RightAt, EvaluatingAt, as_operand, into_slot, for_effect, as_right, as_condition, in_operand, ahead, with_left, Related, Matches, code_of, bounds_in, bounds_at, base_of, top, IsHandleOf, floor, IsLow}
-use Rattle.cyc_lower.proofs.Data.{IsWord-is, height-least, Holds-same, Holds-above, data_above, behind-least, data_written}
+use Rattle.cyc_lower.proofs.Data.{IsWord-is, height-least, Holds-same, Holds-above, data_above, floor-least, data_written}
 use Rattle.cyc_types.specs.Numbered.{Numbering}
 use Rattle.cyc_meaning.specs.FrameCount.{words_of_all}
 use Rattle.cyc_lower.proofs.Accesses.{IsWell, is_loaded}
@@ -81,7 +81,7 @@ module _ (source : Program) (pages calls : ℕ) where
         shared,
         ahead d (c.active.slots, λ m out. sym (same m out), facts)
             is
-            (Holds-above shared.tables c.active.slots after base (held k) (λ m above. same m (inr (omega (arith, below, above, behind-least k (base_of source c.active.function))))) holds)
+            (Holds-above shared.tables c.active.slots after base (held k) (λ m above. same m (inr (omega (arith, below, above, floor-least source c.active.function k)))) holds)
             (subst (λ r. AheadStack source c.active.function e.locals v.kind d r c.frames k) (sym end) stack),
       )
 
@@ -683,7 +683,7 @@ module _ (source : Program) (pages calls : ℕ) where
             x,
             q,
             refl,
-            operand_low (types_on source g k) a (top source g k) (operands.Slot n) (omega (arith, height-least (floor source g k) (held k), behind-least k (base_of source g))) (counters_low (floor source g k) k)
+            operand_low (types_on source g k) a (top source g k) (operands.Slot n) (omega (arith, height-least (floor source g k) (held k), floor-least source g k)) (counters_low (floor source g k) k)
                 (operand_is (code_of source g) (bounds_at source g) (types_on source g k) a (top source g k) c.active.next m (operands.Slot n) at_pointer),
             i_is ∙ ap Some (sym y_is),
             subst (λ p. CodeAt (code_of source g) p (instructions.Binary plain_binary.Add (top source g k + 2) (operands.Slot (n + 2)) x)) (sym ends) sum,
@@ -697,7 +697,7 @@ module _ (source : Program) (pages calls : ℕ) where
       let g = c.active.function in
       let there = subst (λ b. PlaceStack source g e.locals (followed_operand (is_thin pointer) (span_in t) x (top source g k)) b q c.frames k) none (subst (λ y. PlaceStack source g e.locals y offset q c.frames k) is place) in
       silently source pages calls (Running (Locating (Target pointer a t)) k e w) (Running (Evaluating a) (Needs (Follow pointer (target_of t)) ∷ k) e w) (plain.Running c) refl
-      (shared, facts, as_operand x m at_a holds (q, operand_low (types_on source g k) a (top source g k) x (omega (arith, height-least (floor source g k) (held k), behind-least k (base_of source g))) (counters_low (floor source g k) k) (operand_is (code_of source g) (bounds_at source g) (types_on source g k) a (top source g k) c.active.next m x at_a), access, there))
+      (shared, facts, as_operand x m at_a holds (q, operand_low (types_on source g k) a (top source g k) x (omega (arith, height-least (floor source g k) (held k), floor-least source g k)) (counters_low (floor source g k) k) (operand_is (code_of source g) (bounds_at source g) (types_on source g k) a (top source g k) c.active.next m x at_a), access, there))
       (omega arith)
   locating (Member pointer a s field t) k e w c well (shared, facts, (o, offset, q, (m, at_a, thin, check, (st, there, inside), is), holds, place)) =
       let fields = map kind_of st.fields in

@@ -21,7 +21,7 @@ use Rattle.cyc_types.specs.declared.typed.LogicalOperator.{LogicalOperator}
 use Rattle.cyc_types.specs.declared.typed.LogicalOperator.TheVariants as logical
 use Rattle.cyc_types.specs.Types.{Ty, Handle, words_of}
 use Rattle.cyc_types.specs.typing.Expressions.{type_of_side}
-use Rattle.cyc_types.specs.TypedTrees.{Array, Counter, Load, New, OnHeap, Initial, Plain, Fields, Dereference, Target, Lvalue, Local, Global, Expression, Number, NullPointer, Copy, Call, Unary, Binary, Assign, Converted, Convert, Arguments, NoArguments, MoreArguments, Operations, NoOperations, ThenCompute, ThenTest, ThenPointer, ThenPointerPeek, Statement, Block, Empty, Evaluate, If, While, Return, Break, Continue, Items, NoItems, MoreItems, Execute, Declare, DeclareRegion, OpenRegion, DeclareAlias, DeclareKey, Constant, Word, Null, GlobalVariable, StructType, Function, Program, Move, Peek, AddressOfCell, Store, Member, Element, AsUnique, FreeUnique, Side, VariableSide, CellSide, Swap, Throw, Try, Clauses, NoClauses, Default, Case, NumberOfElements, type_of_place, HeapRegion, AddressOf, FreeKey, Placement, ByHandle}
+use Rattle.cyc_types.specs.TypedTrees.{Array, Counter, Load, New, OnHeap, Initial, Plain, Fields, Dereference, Target, Lvalue, Local, Global, Expression, Number, NullPointer, Copy, Call, Unary, Binary, Assign, Converted, Convert, Arguments, NoArguments, MoreArguments, Operations, NoOperations, ThenCompute, ThenTest, ThenPointer, ThenPointerPeek, Statement, Block, Empty, Evaluate, If, While, Return, Break, Continue, Items, NoItems, MoreItems, Execute, Declare, DeclareRegion, OpenRegion, DeclareAlias, DeclareKey, Constant, Word, Null, GlobalVariable, StructType, Function, Program, Move, Peek, AddressOfCell, Store, Member, Element, AsUnique, FreeUnique, Side, VariableSide, CellSide, Swap, Throw, Try, Clauses, NoClauses, Default, Case, NumberOfElements, type_of_place, HeapRegion, AddressOf, FreeKey, ByHandle}
 use Rattle.cyc_plain.specs.declared.instruction.UnaryOperator.{UnaryOperator as PlainUnary}
 use Rattle.cyc_plain.specs.declared.instruction.UnaryOperator.TheVariants as plain_unary
 use Rattle.cyc_plain.specs.declared.instruction.BinaryOperator.{BinaryOperator as PlainBinary}
@@ -678,6 +678,15 @@ try_code t body clauses p =
     ++ instructions.Jump (p + 1 + length body + 1 + length clauses)
     ∷ clauses
 
+-- The rest of a `try` at place p, with its record in slot t. The code of its body is made for its place, and that of its clauses for theirs
+-- and for the place of the jump over them.
+abbrev pub handled_code : Starts → (body : ℕ → List Instruction) → (clauses : (p out : ℕ) → List Instruction) → (p t : ℕ) → List Instruction
+handled_code starts body clauses p t =
+    try_code t (body (p + 1) ++ instructions.Leave t ∷ [])
+    (restored_code starts t
+    ++ clauses (p + 1 + length (body (p + 1) ++ instructions.Leave t ∷ []) + 1 + length (restored_code starts t)) (p + 1 + length (body (p + 1) ++ instructions.Leave t ∷ [])))
+    p
+
 -- the jump over a clause, where the number of the exception in slot t is another
 abbrev pub other_jump : (tag t target : ℕ) → Instruction
 other_jump tag t target = instructions.Branch comparisons.NotEqual (operands.Slot t) (tag_operand tag) target
@@ -1032,16 +1041,8 @@ module _ (starts : Starts) where
     statement_code Continue p exits t = leave_code starts exits.in_loop ++ instructions.Jump (continue_target exits.head) ∷ []
     statement_code (Throw n v) p exits t = thrown_code v p t ++ instructions.Throw (tag_operand n) (thrown_operand v t) ∷ []
     statement_code (Try s cs) p exits t =
-        kept_code starts t ++ handled_code s cs (p + length (kept_code starts t)) exits t
-
-    -- the rest of a `try` at place p
-    pub handled_code : Statement → Clauses → (p : ℕ) → Exits → (t : ℕ) → List Instruction
-    handled_code s cs p exits t =
-        try_code t (statement_code s (p + 1) (inside_try exits t) (behind_record starts t) ++ instructions.Leave t ∷ [])
-        (restored_code starts t
-        ++ clauses_code cs (p + 1 + length (statement_code s (p + 1) (inside_try exits t) (behind_record starts t) ++ instructions.Leave t ∷ []) + 1 + length (restored_code starts t))
-        (p + 1 + length (statement_code s (p + 1) (inside_try exits t) (behind_record starts t) ++ instructions.Leave t ∷ [])) exits t)
-        p
+        kept_code starts t
+        ++ handled_code starts (λ q. statement_code s q (inside_try exits t) (behind_record starts t)) (λ q out. clauses_code cs q out exits t) (p + length (kept_code starts t)) t
 
     pub items_code : Items → (p : ℕ) → Exits → (t : ℕ) → List Instruction
     items_code NoItems p exits t = []
