@@ -43,7 +43,7 @@ use Rattle.cyc_lower.proofs.Weights.{weight, stack_weight, expression_weight, ar
 use Rattle.cyc_lower.proofs.Stands.{CopyBy, CopyAt, OperandBy, InitialBy, ExpressionAt, ArgumentsAt, ObjectAt, MadeAt, ValueAt, PairAt, ConditionAt, AssignmentAt, PrintedAt, DiscardedAt, StoredAt, CountAt, LoadedAt, ReturnedAt, ReachedAt, EachAt}
 use Rattle.cyc_objects.specs.Tables.{Tables}
 use Rattle.cyc_objects.specs.Words.{Is}
-use Rattle.cyc_lower.proofs.Relation.{counters_of, types_on, starts_on, IsIn, types_at, starts_at, given_at, called_at, words_held, height, Holds, held, kept, contents, callers, in_temporary, in_local, drops, leaves, copies, prints_only, gives_byte, DataIn, SharedAt, CallAt, to_slot, to_jump, ValueStack, PlaceStack, ConditionStack, DroppedStack, AheadStack, LandsStack, HandsOnStack, PrintsStack, RightAt, EvaluatingAt, as_operand, into_slot, for_effect, as_right, as_condition, in_operand, ahead, with_left, Related, Matches, code_of, bounds_in, bounds_at, base_of, top, IsHandleOf, floor, IsLow}
+use Rattle.cyc_lower.proofs.Relation.{counters_of, types_on, starts_on, IsIn, types_at, starts_at, given_at, called_at, words_held, height, Holds, held, kept, contents, callers, in_temporary, in_local, drops, leaves, copies, prints_only, gives_byte, DataIn, SharedAt, CallAt, to_slot, to_jump, ValueStack, PlaceStack, ConditionStack, DroppedStack, AheadStack, LandsStack, LandsMade, HandsOnStack, PrintsStack, RightAt, EvaluatingAt, as_operand, into_slot, for_effect, as_right, as_condition, in_operand, ahead, with_left, Related, Matches, code_of, bounds_in, bounds_at, base_of, top, IsHandleOf, floor, IsLow}
 use Rattle.cyc_lower.proofs.Handles.{kept_holds, kept_low}
 use Rattle.cyc_lower.proofs.Data.{IsWord-is, height-least, Holds-same, Holds-above, data_above, floor-least, data_written}
 use Rattle.cyc_types.specs.Numbered.{Numbering}
@@ -63,21 +63,21 @@ module _ (source : Program) (pages calls : ℕ) where
   IsStep focus k e w c = IsWell (step source (Running focus k e w)) → Related source pages calls focus k e w c → IsMatched source pages calls (Running focus k e w) (plain.Running c)
 
   -- a value comes to a slot and those behind it, and the next instruction is the one behind
-  pub landed : (v : Kinded) (after : Words) (d : ℕ) (k : List Entry) (e : Environment) (w : World) (c : Configuration) (q : ℕ) (shared : SharedAt source pages calls k e w c) → Is shared.tables v.kind v.value after d
+  landed_made : (v : Kinded) (after : Words) (d : ℕ) (k : List Entry) (e : Environment) (w : World) (c : Configuration) (q : ℕ) (shared : SharedAt source pages calls k e w c) → Is shared.tables v.kind v.value after d
       → ((m : ℕ) → Outside d (words_of_kind v.kind) m → after m ≡ c.active.slots m)
       → DataIn source shared.tables c.active.slots k e w c → Holds shared.tables c.active.slots (floor source c.active.function k) (held k)
-      → c.active.next + 1 ≡ q → LandsStack source c.active.function e.locals v.kind d q c.frames k
+      → c.active.next + 1 ≡ q → LandsMade source c.active.function e.locals v.kind d q c.frames k
       → Related source pages calls (Given v) k e w (advanced (with_slots c after))
-  landed v after d k e w c q shared is same facts holds end (in_temporary least stack) =
+  landed_made v after d k e w c q shared is same facts holds end (in_temporary least stack) =
       let base = floor source c.active.function k in (
         shared,
         in_operand (operands.Slot d)
             (data_written source shared.tables c.active.function w.objects e.locals k c.active.slots after c.active.handlers c.globals c.frames d (words_of_kind v.kind) (omega (arith, least, height-least base (kept k))) same facts)
             is
-            (Holds-same shared.tables c.active.slots after base (kept k) (λ m below. same m (inl (omega (arith, below, least)))) (kept_holds _ _ _ k holds))
+            (Holds-same shared.tables c.active.slots after base (kept k) (λ m below. same m (inl (omega (arith, below, least)))) (kept_holds shared.tables c.active.slots base k holds))
             (subst (λ r. ValueStack source c.active.function e.locals v.kind (operands.Slot d) r c.frames k) (sym end) stack),
       )
-  landed v after d k e w c q shared is same facts holds end (in_local below stack) =
+  landed_made v after d k e w c q shared is same facts holds end (in_local below stack) =
       let base = floor source c.active.function k in (
         shared,
         ahead d (c.active.slots, λ m out. sym (same m out), facts)
@@ -85,6 +85,18 @@ module _ (source : Program) (pages calls : ℕ) where
             (Holds-above shared.tables c.active.slots after base (kept k) (λ m above. same m (inr (omega (arith, below, above, floor-least source c.active.function k)))) (kept_holds _ _ _ k holds))
             (subst (λ r. AheadStack source c.active.function e.locals v.kind d r c.frames k) (sym end) stack),
       )
+
+  pub lands_made : (g : ℕ) (locals : ℕ → Option ℕ) (kind : Kind) (d q : ℕ) (frames : List Frame) (k : List Entry) → LandsStack source g locals kind d q frames k → LandsMade source g locals kind d q frames k
+  lands_made g locals kind d q frames k (in_temporary least stack) = in_temporary (omega (arith, least, kept_low (floor source g k) k)) stack
+  lands_made g locals kind d q frames k (in_local below stack) = in_local below stack
+
+  pub landed : (v : Kinded) (after : Words) (d : ℕ) (k : List Entry) (e : Environment) (w : World) (c : Configuration) (q : ℕ) (shared : SharedAt source pages calls k e w c) → Is shared.tables v.kind v.value after d
+      → ((m : ℕ) → Outside d (words_of_kind v.kind) m → after m ≡ c.active.slots m)
+      → DataIn source shared.tables c.active.slots k e w c → Holds shared.tables c.active.slots (floor source c.active.function k) (held k)
+      → c.active.next + 1 ≡ q → LandsStack source c.active.function e.locals v.kind d q c.frames k
+      → Related source pages calls (Given v) k e w (advanced (with_slots c after))
+  landed v after d k e w c q shared is same facts holds end lands =
+      landed_made v after d k e w c q shared is same facts holds end (lands_made c.active.function e.locals v.kind d q c.frames k lands)
 
   -- the same for an int
   pub landed_word : (a word d : ℕ) (k : List Entry) (e : Environment) (w : World) (c : Configuration) (q : ℕ) → word ≡ a
@@ -96,15 +108,22 @@ module _ (source : Program) (pages calls : ℕ) where
       (λ m out. put_elsewhere c.active.slots d word 1 m (omega arith) out) facts holds end lands
 
   -- a value that is moved from an operand
+  pub made_moved : (v : Kinded) (o : Operand) (d : ℕ) (k : List Entry) (e : Environment) (w : World) (c : Configuration) (q : ℕ) (choice : Choice) (shared : SharedAt source pages calls k e w c) → IsIn shared.tables v c.active.slots o
+      → DataIn source shared.tables c.active.slots k e w c → Holds shared.tables c.active.slots (floor source c.active.function k) (held k)
+      → c.active.next + 1 ≡ q → LandsMade source c.active.function e.locals v.kind d q c.frames k
+      → Matches source pages calls (Running (Given v) k e w) (performed (lower_program source) choice c (move_of (words_of_kind v.kind) d o))
+  made_moved v o d k e w c q choice shared is facts holds end lands =
+      let words = words_of_kind v.kind in
+      subst (Matches source pages calls (Running (Given v) k e w)) (sym (moves (lower_program source) choice c words d o))
+      (landed_made v (moved_slots c.active.slots words d o) d k e w c q shared (moved_is shared.tables v c.active.slots d o is)
+      (λ m out. moved_elsewhere c.active.slots words d o m (kind_positive v.kind) out) facts holds end lands)
+
   pub landed_moved : (v : Kinded) (o : Operand) (d : ℕ) (k : List Entry) (e : Environment) (w : World) (c : Configuration) (q : ℕ) (choice : Choice) (shared : SharedAt source pages calls k e w c) → IsIn shared.tables v c.active.slots o
       → DataIn source shared.tables c.active.slots k e w c → Holds shared.tables c.active.slots (floor source c.active.function k) (held k)
       → c.active.next + 1 ≡ q → LandsStack source c.active.function e.locals v.kind d q c.frames k
       → Matches source pages calls (Running (Given v) k e w) (performed (lower_program source) choice c (move_of (words_of_kind v.kind) d o))
   landed_moved v o d k e w c q choice shared is facts holds end lands =
-      let words = words_of_kind v.kind in
-      subst (Matches source pages calls (Running (Given v) k e w)) (sym (moves (lower_program source) choice c words d o))
-      (landed v (moved_slots c.active.slots words d o) d k e w c q shared (moved_is shared.tables v c.active.slots d o is)
-      (λ m out. moved_elsewhere c.active.slots words d o m (kind_positive v.kind) out) facts holds end lands)
+      made_moved v o d k e w c q choice shared is facts holds end (lands_made c.active.function e.locals v.kind d q c.frames k lands)
 
   -- what stands behind a slot, at an equal place
   pub lands_at : (g : ℕ) (locals : ℕ → Option ℕ) (kind : Kind) (d p q : ℕ) (frames : List Frame) (k : List Entry) → p ≡ q → LandsStack source g locals kind d q frames k
@@ -247,7 +266,7 @@ module _ (source : Program) (pages calls : ℕ) where
       → EvaluatingAt source t a e.locals c.active.function c.active.next c.active.slots c.frames k
   brought t typed.NullPointer k e w c o m at holds stack = as_operand o m at holds stack
   brought t a k e w c o m (is, at) holds stack =
-      into_slot (top source c.active.function k) m at holds (in_temporary (kept_low (floor source c.active.function k) k) (subst (λ x. ValueStack source c.active.function e.locals (given_at source c.active.function a) x m c.frames k) is stack))
+      into_slot (top source c.active.function k) m at holds (in_temporary (omega arith) (subst (λ x. ValueStack source c.active.function e.locals (given_at source c.active.function a) x m c.frames k) is stack))
 
   -- a value that is to be converted: in an operand, or in a temporary where its words change
   pub sources : (t : Tables) (from to : Kind) (a : Expression) (k : List Entry) (e : Environment) (w : World) (c : Configuration) (o : Operand) (m : ℕ)
@@ -350,7 +369,7 @@ module _ (source : Program) (pages calls : ℕ) where
   chain_begins None a os t k e w c l m (well, shared, facts, holds) (is, at) stack =
       let g = c.active.function in
       silently source pages calls (Running (Evaluating (Binary a os t)) k e w) (Running (Evaluating a) (Needs (Chain os) ∷ k) e w) (plain.Running c) refl
-      (shared, facts, into_slot (top source g k) m at holds (in_temporary (kept_low (floor source g k) (Needs (Chain os) ∷ k)) (subst (λ x. ValueStack source g e.locals (given_at source g a) x m c.frames (Needs (Chain os) ∷ k)) is stack)))
+      (shared, facts, into_slot (top source g k) m at holds (in_temporary (omega arith) (subst (λ x. ValueStack source g e.locals (given_at source g a) x m c.frames (Needs (Chain os) ∷ k)) is stack)))
       (omega arith)
 
   -- the value of a local is moved
@@ -373,7 +392,7 @@ module _ (source : Program) (pages calls : ℕ) where
       → IsHandleOf owner handle (top source c.active.function k) k → (shared : SharedAt source pages calls k e w c) → DataIn source shared.tables c.active.slots k e w c
       → Holds shared.tables c.active.slots (floor source c.active.function k) (held k)
       → MadeAt (code_of source c.active.function) (bounds_at source c.active.function) (types_on source c.active.function k) i handle d (top source c.active.function k) c.active.next q
-      → LandsStack source c.active.function e.locals (made_kind i) d q c.frames k → IsMatched source pages calls (Running focus k₀ e w) (plain.Running c)
+      → LandsMade source c.active.function e.locals (made_kind i) d q c.frames k → IsMatched source pages calls (Running focus k₀ e w) (plain.Running c)
   made_of focus k₀ owner handle (typed.Plain kind a) k e w c d q does lighter owned shared facts holds (m, at_a, wide, object) lands =
       let g = c.active.function in
       silently source pages calls (Running focus k₀ e w) (Running (Evaluating a) (Needs (MakePlain owner kind) ∷ k) e w) (plain.Running c) does (
@@ -482,9 +501,9 @@ module _ (source : Program) (pages calls : ℕ) where
       (shared, facts, as_operand o m at_a holds (d, q, here, end, lands))
       (omega arith)
   comes (typed.New typed.OnHeap i t) k e w c d q (well, shared, facts, holds) at lands =
-      made_of (Evaluating (typed.New typed.OnHeap i t)) k (InRegion heap_number) (operands.Word HEAP) i k e w c d q refl (omega arith) (refl, refl) shared facts holds at lands
+      made_of (Evaluating (typed.New typed.OnHeap i t)) k (InRegion heap_number) (operands.Word HEAP) i k e w c d q refl (omega arith) (refl, refl) shared facts holds at (lands_made c.active.function e.locals (made_kind i) d q c.frames k lands)
   comes (typed.New typed.AsUnique i t) k e w c d q (well, shared, facts, holds) at lands =
-      made_of (Evaluating (typed.New typed.AsUnique i t)) k (Unique true) (operands.Word UNIQUE) i k e w c d q refl (omega arith) refl shared facts holds at lands
+      made_of (Evaluating (typed.New typed.AsUnique i t)) k (Unique true) (operands.Word UNIQUE) i k e w c d q refl (omega arith) refl shared facts holds at (lands_made c.active.function e.locals (made_kind i) d q c.frames k lands)
   comes (typed.New (typed.ByHandle a) i t) k e w c d q (well, shared, facts, holds) (m, at_a, at) lands =
       silently source pages calls (Running (Evaluating (typed.New (typed.ByHandle a) i t)) k e w) (Running (Evaluating a) (Needs (PlaceBy i) ∷ k) e w) (plain.Running c) refl
       (shared, facts, into_slot (top source c.active.function k) m at_a holds (in_temporary (omega arith) (d, q, refl, at, lands)))
@@ -500,7 +519,7 @@ module _ (source : Program) (pages calls : ℕ) where
       × ExpressionAt (code_of source c.active.function) (bounds_at source c.active.function) (types_on source c.active.function k) a (top source c.active.function k) (top source c.active.function k) c.active.next q
       → ValueStack source c.active.function e.locals (given_at source c.active.function a) o q c.frames k → IsBegun a k e w c
   in_top a k e w c o q known (is, at) stack =
-      comes a k e w c (top source c.active.function k) q known at (in_temporary (kept_low (floor source c.active.function k) k) (subst (λ x. ValueStack source c.active.function e.locals (given_at source c.active.function a) x q c.frames k) is stack))
+      comes a k e w c (top source c.active.function k) q known at (in_temporary (omega arith) (subst (λ x. ValueStack source c.active.function e.locals (given_at source c.active.function a) x q c.frames k) is stack))
 
   operand : (a : Expression) (k : List Entry) (e : Environment) (w : World) (c : Configuration) (o : Operand) (q : ℕ) → At_step a k e w c
       → ValueAt (code_of source c.active.function) (bounds_at source c.active.function) (types_on source c.active.function k) a (top source c.active.function k) o c.active.next q

@@ -5,20 +5,17 @@ use Rattle.cyc_plain.specs.declared.instruction.Operand.{Operand}
 use Rattle.cyc_plain.specs.declared.instruction.Operand.TheVariants as operands
 use Rattle.cyc_plain.specs.State.{Words}
 use Rattle.cyc_plain.specs.Step.{operand_word}
-use Rattle.cyc_types.specs.TypedTrees.{NoOperations}
-use Rattle.cyc_meaning.specs.State.{Owner, InRegion, Unique, heap_number, Chain, BesideHandle, Entry, Needs}
+use Rattle.cyc_meaning.specs.State.{Owner, InRegion, Unique, heap_number, BesideHandle, Entry, Needs}
 use Rattle.cyc_objects.specs.Tables.{Tables}
 use Rattle.cyc_lower.proofs.Relation.{Holds, held, height, kept, IsHandleOf, HasHandle}
 
 -- less is kept than is held
 pub kept_holds : (t : Tables) (slots : Words) (base : ℕ) (k : List Entry) → Holds t slots base (held k) → Holds t slots base (kept k)
 kept_holds t slots base (Needs (BesideHandle region) ∷ k) (is, holds) = kept_holds t slots base k holds
-kept_holds t slots base (Needs (Chain NoOperations) ∷ k) holds = kept_holds t slots base k holds
 kept_holds t slots base k holds = holds
 
 pub kept_low : (base : ℕ) (k : List Entry) → height base (kept k) ≤ height base (held k)
 kept_low base (Needs (BesideHandle region) ∷ k) = omega (arith, kept_low base k)
-kept_low base (Needs (Chain NoOperations) ∷ k) = kept_low base k
 kept_low base k = omega arith
 
 -- the word of the handle of the region where an object is made
