@@ -12,6 +12,9 @@ pub mod Relation
 pub mod Matched
 pub mod Handling
 pub mod Paths
+pub mod Asking
+pub mod Scoped
+pub mod RegionSteps
 pub mod GlobalSteps
 pub mod Stands
 pub mod Fitting
