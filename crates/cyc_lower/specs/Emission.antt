@@ -17,7 +17,7 @@ use Rattle.cyc_plain.specs.declared.instruction.Operand.TheVariants.{Slot, Word}
 use Rattle.cyc_plain.specs.declared.instruction.Instruction.{Instruction}
 use Rattle.cyc_plain.specs.declared.instruction.Instruction.TheVariants.{WriteByte, Throw}
 use Rattle.cyc_lower.specs.Slots.{Starts, slot_of}
-use Rattle.cyc_lower.specs.Lowering.{operand_of, source_of, source_slot, code_unless, slot_or, code_unless_slot, printed_operand, conversion_code, printed_code, left_of, value_slot, left_slot, value_operand, expression_code, compute_code, test_code, condition_code, failing_jump, while_code, statement_code, declaration_code, condition_of, behind_left, pointer_code, inside_loop, tag_operand, clause_code, thrown_operand, thrown_code, caught_code, items_code, clauses_code, span_of, made_code, opened_code, named_code, dynamic_code}
+use Rattle.cyc_lower.specs.Lowering.{operand_of, source_of, source_slot, code_unless, slot_or, code_unless_slot, printed_operand, conversion_code, printed_code, left_of, value_slot, left_slot, value_operand, expression_code, compute_code, test_code, condition_code, failing_jump, while_code, statement_code, declaration_code, condition_of, behind_left, pointer_code, inside_loop, tag_operand, clause_code, thrown_operand, thrown_code, caught_code, items_code, clauses_code, span_of, made_code, opened_code, named_code, dynamic_code, inside_region}
 use Rattle.cyc_meaning.specs.FrameCount.{operand_words, argument_words, arguments_need, expression_need, initial_need, statement_need, kept_by, frame_count}
 use Rattle.cyc_plain.specs.declared.instruction.Comparison.{Comparison}
 use Rattle.cyc_lower.specs.declared.emitter.Emitter.{Emitter}
@@ -145,6 +145,15 @@ module _ (starts : Starts) where
   abbrev pub loop_code : Expression → Statement → (p : ℕ) → Exits → (t : ℕ) → List Instruction
   loop_code a s p exits t =
       while_code (condition_code starts a (p + 2) t) (failing_jump (condition_of starts a t)) (statement_code starts s (p + 2 + length (condition_code starts a (p + 2) t) + 1) (inside_loop p exits) t) p
+
+-- behind an item of a block: the ways out, and the first slot for temporaries
+abbrev pub exits_behind : Item → Exits → (t : ℕ) → Exits
+exits_behind (item.Region r n) exits t = inside_region exits t
+exits_behind i exits t = exits
+
+abbrev pub free_behind : Item → (t : ℕ) → ℕ
+free_behind (item.Region r n) t = t + 1
+free_behind i t = t
 
 -- So many words a frame has at most, where its function is one of a program that is short enough to be read.
 abbrev pub most_frame_count : ℕ

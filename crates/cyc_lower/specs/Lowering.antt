@@ -21,7 +21,7 @@ use Rattle.cyc_types.specs.declared.typed.LogicalOperator.{LogicalOperator}
 use Rattle.cyc_types.specs.declared.typed.LogicalOperator.TheVariants as logical
 use Rattle.cyc_types.specs.Types.{Ty, Handle, words_of}
 use Rattle.cyc_types.specs.typing.Expressions.{type_of_side}
-use Rattle.cyc_types.specs.TypedTrees.{Array, Counter, Load, New, OnHeap, Initial, Plain, Fields, Dereference, Target, Lvalue, Local, Global, Expression, Number, NullPointer, Copy, Call, Unary, Binary, Assign, Converted, Convert, Arguments, NoArguments, MoreArguments, Operations, NoOperations, ThenCompute, ThenTest, ThenPointer, ThenPointerPeek, Statement, Block, Empty, Evaluate, If, While, Return, Break, Continue, Items, NoItems, MoreItems, Execute, Declare, DeclareRegion, OpenRegion, DeclareAlias, DeclareKey, Constant, Word, Null, GlobalVariable, StructType, Function, Program, Move, Peek, AddressOfCell, Store, Member, Element, AsUnique, FreeUnique, Side, VariableSide, CellSide, Swap, Throw, Try, Clauses, NoClauses, Default, Case, NumberOfElements, type_of_place, HeapRegion, AddressOf, FreeKey, Placement, ByHandle}
+use Rattle.cyc_types.specs.TypedTrees.{Array, Counter, Load, New, OnHeap, Initial, Plain, Fields, Dereference, Target, Lvalue, Local, Global, Expression, Number, NullPointer, Copy, Call, Unary, Binary, Assign, Converted, Convert, Arguments, NoArguments, MoreArguments, Operations, NoOperations, ThenCompute, ThenTest, ThenPointer, ThenPointerPeek, Statement, Block, Empty, Evaluate, If, While, Return, Break, Continue, Items, NoItems, MoreItems, Execute, Declare, DeclareRegion, OpenRegion, DeclareAlias, DeclareKey, Constant, Word, Null, GlobalVariable, StructType, Function, Program, Move, Peek, AddressOfCell, Store, Member, Element, AsUnique, FreeUnique, Side, VariableSide, CellSide, Swap, Throw, Try, Clauses, NoClauses, Default, Case, NumberOfElements, type_of_place, HeapRegion, AddressOf, FreeKey, ByHandle}
 use Rattle.cyc_plain.specs.declared.instruction.UnaryOperator.{UnaryOperator as PlainUnary}
 use Rattle.cyc_plain.specs.declared.instruction.UnaryOperator.TheVariants as plain_unary
 use Rattle.cyc_plain.specs.declared.instruction.BinaryOperator.{BinaryOperator as PlainBinary}
@@ -642,17 +642,18 @@ leave_code starts opened = handlers_code opened.handler ++ marks_code starts ope
 
 -- ---- handlers
 
--- A `try` keeps in slot t how many lexical regions are open, where a program has any, and the record of its handler begins behind that.
-abbrev pub record_slot_in : Option ℕ → (t : ℕ) → ℕ
-record_slot_in None t = t
-record_slot_in (Some global) t = t + 1
+-- A `try` has the record of its handler in the slots from t on. Behind it it keeps how many lexical regions are open, where a program has
+-- any.
+abbrev pub behind_record_in : Option ℕ → (t : ℕ) → ℕ
+behind_record_in None t = t + RECORD_WORDS
+behind_record_in (Some global) t = t + RECORD_WORDS + 1
 
-abbrev pub record_slot : Starts → (t : ℕ) → ℕ
-record_slot starts t = record_slot_in starts.scopes t
+abbrev pub behind_record : Starts → (t : ℕ) → ℕ
+behind_record starts t = behind_record_in starts.scopes t
 
 abbrev pub kept_code_in : Option ℕ → (t : ℕ) → List Instruction
 kept_code_in None t = []
-kept_code_in (Some global) t = instructions.LoadGlobal t global ∷ []
+kept_code_in (Some global) t = instructions.LoadGlobal (t + RECORD_WORDS) global ∷ []
 
 abbrev pub kept_code : Starts → (t : ℕ) → List Instruction
 kept_code starts t = kept_code_in starts.scopes t
@@ -660,7 +661,7 @@ kept_code starts t = kept_code_in starts.scopes t
 -- where an exception comes to it, the lexical regions are closed that were opened in it
 abbrev pub restored_code_in : Starts → Option ℕ → (t : ℕ) → List Instruction
 restored_code_in starts None t = []
-restored_code_in starts (Some global) t = closed_code starts t
+restored_code_in starts (Some global) t = closed_code starts (t + RECORD_WORDS)
 
 abbrev pub restored_code : Starts → (t : ℕ) → List Instruction
 restored_code starts t = restored_code_in starts starts.scopes t
@@ -676,6 +677,15 @@ try_code t body clauses p =
     ∷ body
     ++ instructions.Jump (p + 1 + length body + 1 + length clauses)
     ∷ clauses
+
+-- The rest of a `try` at place p, with its record in slot t. The code of its body is made for its place, and that of its clauses for theirs
+-- and for the place of the jump over them.
+abbrev pub handled_code : Starts → (body : ℕ → List Instruction) → (clauses : (p out : ℕ) → List Instruction) → (p t : ℕ) → List Instruction
+handled_code starts body clauses p t =
+    try_code t (body (p + 1) ++ instructions.Leave t ∷ [])
+    (restored_code starts t
+    ++ clauses (p + 1 + length (body (p + 1) ++ instructions.Leave t ∷ []) + 1 + length (restored_code starts t)) (p + 1 + length (body (p + 1) ++ instructions.Leave t ∷ [])))
+    p
 
 -- the jump over a clause, where the number of the exception in slot t is another
 abbrev pub other_jump : (tag t target : ℕ) → Instruction
@@ -1031,16 +1041,8 @@ module _ (starts : Starts) where
     statement_code Continue p exits t = leave_code starts exits.in_loop ++ instructions.Jump (continue_target exits.head) ∷ []
     statement_code (Throw n v) p exits t = thrown_code v p t ++ instructions.Throw (tag_operand n) (thrown_operand v t) ∷ []
     statement_code (Try s cs) p exits t =
-        kept_code starts t ++ handled_code s cs (p + length (kept_code starts t)) exits t (record_slot starts t)
-
-    -- the rest of a `try` at place p, with its record in slot r
-    pub handled_code : Statement → Clauses → (p : ℕ) → Exits → (t r : ℕ) → List Instruction
-    handled_code s cs p exits t r =
-        try_code r (statement_code s (p + 1) (inside_try exits r) (r + RECORD_WORDS) ++ instructions.Leave r ∷ [])
-        (restored_code starts t
-        ++ clauses_code cs (p + 1 + length (statement_code s (p + 1) (inside_try exits r) (r + RECORD_WORDS) ++ instructions.Leave r ∷ []) + 1 + length (restored_code starts t))
-        (p + 1 + length (statement_code s (p + 1) (inside_try exits r) (r + RECORD_WORDS) ++ instructions.Leave r ∷ [])) exits r)
-        p
+        kept_code starts t
+        ++ handled_code starts (λ q. statement_code s q (inside_try exits t) (behind_record starts t)) (λ q out. clauses_code cs q out exits t) (p + length (kept_code starts t)) t
 
     pub items_code : Items → (p : ℕ) → Exits → (t : ℕ) → List Instruction
     items_code NoItems p exits t = []

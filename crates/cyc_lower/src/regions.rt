@@ -1,14 +1,14 @@
 //! The code of regions: handles are words, and the marks by which lexical regions are closed stand in slots.
 ghost use Rattle.std.specs.Prelude.{◌≡◌, ◌+◌, ◌≤◌, IfOk, length};
-ghost use Rattle.cyc_lower.specs.Lowering.{closed_code, closing_code, dynamic_code, kept_code, named_code, opened_code, record_slot, restored_code, scopes_code};
-ghost use Rattle.cyc_lower.specs.Emission.{Appends, Gives, view_starts};
+ghost use Rattle.cyc_lower.specs.Lowering.{behind_record, closed_code, closing_code, dynamic_code, kept_code, named_code, opened_code, restored_code, scopes_code};
+ghost use Rattle.cyc_lower.specs.Emission.{Appends, Gives, most_locals, view_starts};
 
 use crate::emitter::Emitter;
 use crate::locals::slot_of;
 use crate::operands::slot_behind;
 use crate::operators::move_of;
 use crate::starts::Starts;
-use cyc_plain::{BinaryOperator, Instruction, Operand, Request};
+use cyc_plain::{BinaryOperator, Instruction, Operand, RECORD_WORDS, Request};
 use cyc_types::typed::Kind;
 use std::alloc::AllocError;
 
@@ -81,27 +81,30 @@ impl Emitter {
         self.keep_scopes(starts, mark)
     }
 
-    /// A `try` keeps in the slot `free` how many lexical regions are open, where a program has any. The slot for the record of its
-    /// handler is answered.
+    /// A `try` has the record of its handler in the slots from `free` on, and behind it keeps how many lexical regions are open, where a
+    /// program has any. The slot behind both is answered.
     pub(crate) fn begin_try(&mut self, starts: &Starts, free: usize) -> Result<usize, AllocError>
-        ensures { Gives (record_slot (view_starts starts.now) free) result self.old self.new (kept_code (view_starts starts.now) free) }
+        requires { free ≤ most_locals }
+        ensures { Gives (behind_record (view_starts starts.now) free) result self.old self.new (kept_code (view_starts starts.now) free) }
     {
+        let behind = free + RECORD_WORDS;
         let Some(global) = starts.scopes else {
-            return Ok(free);
+            return Ok(behind);
         };
         self.emit(Instruction::LoadGlobal {
-            destination: free,
+            destination: behind,
             global,
         })?;
-        slot_behind(free, Kind::Int)
+        Ok(behind + 1)
     }
 
     /// Where an exception comes to a `try`, the lexical regions are closed that were opened in it.
     pub(crate) fn restore_scopes(&mut self, starts: &Starts, free: usize) -> Result<(), AllocError>
+        requires { free ≤ most_locals }
         ensures { Appends result self.old self.new (restored_code (view_starts starts.now) free) }
     {
         match starts.scopes {
-            Some(_) => self.close_lexical(starts, free),
+            Some(_) => self.close_lexical(starts, free + RECORD_WORDS),
             None => Ok(()),
         }
     }

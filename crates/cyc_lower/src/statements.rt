@@ -4,14 +4,14 @@ ghost use Rattle.cyc_types.specs.TypedTrees.{NoClauses};
 ghost use Rattle.cyc_types.specs.TypedTreeView.{view_converted, view_expression, view_statement, items_of, clauses_of, default_of};
 ghost use Rattle.cyc_meaning.specs.FrameCount.{kept_by, kept_by_items, kept_by_clauses};
 ghost use Rattle.cyc_lower.specs.Lowering.{nothing_opened, outermost, with_handler, with_mark, inside_try, inside_region, leave_code, other_jump, goes_on, clauses_code, caught_code, break_target, continue_target, inside_loop, return_code, declaration_code, statement_code, items_code};
-ghost use Rattle.cyc_lower.specs.Emission.{Appends, most_locals, throw_code, case_code, BeginClauses, item_code, kept_by_item, loop_code, view_starts};
+ghost use Rattle.cyc_lower.specs.Emission.{Appends, most_locals, throw_code, case_code, BeginClauses, item_code, exits_behind, free_behind, kept_by_item, loop_code, view_starts};
 
 use crate::emitter::Emitter;
 use crate::frame_count::words_of;
 use crate::locals::slot_of;
 use crate::operators::{failing_jump, goes_on, other_jump, tag_operand};
 use crate::starts::Starts;
-use cyc_plain::{Instruction, Operand, RECORD_WORDS};
+use cyc_plain::{Instruction, Operand};
 use cyc_types::typed::{Body, Clause, Converted, Expr, Item, Stmt};
 use std::alloc::AllocError;
 
@@ -93,6 +93,35 @@ fn inside_region(exits: Exits, slot: usize) -> Exits
         head: exits.head,
         in_loop: with_mark(exits.in_loop, slot),
         in_function: with_mark(exits.in_function, slot),
+    }
+}
+
+/// The ways out behind an item of a block, whose temporaries began at this slot.
+fn exits_behind(item: &Item, exits: Exits, free: usize) -> Exits
+    ensures { result ≡ exits_behind item.now exits free }
+{
+    match item {
+        Item::Region { .. } => inside_region(exits, free),
+        Item::Execute { .. }
+        | Item::Local { .. }
+        | Item::Open { .. }
+        | Item::Alias { .. }
+        | Item::DynamicRegion { .. } => exits,
+    }
+}
+
+/// The first slot for temporaries behind such an item: behind a region they begin behind its mark.
+fn free_behind(item: &Item, free: usize) -> usize
+    requires { free + kept_by_item item.now ≤ most_locals }
+    ensures { result ≡ free_behind item.now free }
+{
+    match item {
+        Item::Region { .. } => free + 1,
+        Item::Execute { .. }
+        | Item::Local { .. }
+        | Item::Open { .. }
+        | Item::Alias { .. }
+        | Item::DynamicRegion { .. } => free,
     }
 }
 
@@ -364,14 +393,13 @@ impl Emitter {
                 clauses,
                 default,
             } => {
-                let first = self.begin_try(starts, free)?;
+                let behind = self.begin_try(starts, free)?;
                 let opening = self.reserve()?;
-                let inside = inside_try(exits, first);
-                self.lower_statement(starts, body, inside, first + RECORD_WORDS)?;
-                let out = self.end_body(opening, first)?;
+                self.lower_statement(starts, body, inside_try(exits, free), behind)?;
+                let out = self.end_body(opening, free)?;
                 self.restore_scopes(starts, free)?;
-                self.lower_clauses(starts, clauses, out, exits, first)?;
-                self.lower_default(starts, default, exits, first)?;
+                self.lower_clauses(starts, clauses, out, exits, free)?;
+                self.lower_default(starts, default, exits, free)?;
                 self.jump_here(out);
                 Ok(())
             }
@@ -418,8 +446,7 @@ impl Emitter {
         }
     }
 
-    /// The items of a block. Behind each lexical region the temporaries begin behind its mark, and at the end of the block each is
-    /// closed, the newest first.
+    /// The items of a block. At its end each lexical region is closed that it opened, the newest first.
     #[cycle(statement)]
     pub(crate) fn lower_items(
         &mut self,
@@ -436,10 +463,8 @@ impl Emitter {
         let mut behind = free;
         for item in items {
             self.lower_item(starts, item, inside, behind)?;
-            if matches!(item, Item::Region { .. }) {
-                inside = inside_region(inside, behind);
-                behind += 1;
-            }
+            inside = exits_behind(item, inside, behind);
+            behind = free_behind(item, behind);
         }
         while behind > free {
             behind -= 1;
