@@ -34,7 +34,7 @@ use Rattle.cyc_lower.specs.Slots.{with_counter, starts_of, slot_of, Starts, glob
 use Rattle.cyc_store.specs.declared.range.TheConstants.{HEAP, UNIQUE}
 use Rattle.cyc_meaning.specs.Values.{kind_of, words_of_kind, is_thin}
 use Rattle.cyc_lower.proofs.Widths.{kind_few, type_words}
-use Rattle.cyc_lower.specs.Lowering.{begun_code, filled_code, ended_code, elements_code, types_of, converts_there, passed_words, all_passed, source_of, source_slot, converted_by, moved_by, move_of, unary_operator, binary_operator, operand_of, operand_or, code_unless, slot_or, code_unless_slot, left_of, value_slot, next_slot, left_slot, value_operand, converted_operand, printed_operand, conversion_code, divisor_code, checked_code, operator_code, truth_code, load_code, low_byte, test_code, is_in, copy_code, expression_code, arguments_code, converted_code, converted_operand_code, printed_code, initial_code, assignment_code, operations_code, discarded_code, failing_comparison, compared_or, left_with, slot_with, first_code, second_code, pair_code, condition_code, condition_of, failing_jump, break_target, continue_target, return_code, declaration_code, statement_code, items_code, first_temporary, jump_if_zero, jump_if_nonzero, lower_function, behind_left, pointer_code, outside_loops, inside_loop, pointer_operator, index_of, first_two, pointer_instructions, stores_code, object_code, made_code, place_operand, place_offset, place_code, address_code, store_address_code, blocks, free_code, right_slot, side_code, read_side, write_side, exchange_code, swap_code, leave_code, tag_operand, other_jump, clause_code, caught_code, clauses_code, element_by, count_code, span_of, tested_code, widened_code, conversion_by, tested_by, check_code, are_as_wide, saved_code, loaded_code, bounds_code, stepped_code, bounded_code, past_bounded, thinned_code, reached_code, followed_code, followed_operand, followed_by, span_in, pointer_of, pointer_slot, reached_operand, word_by_word, load_word, store_word, global_code, starts_with, raises_of, load_at, opened_code, closed_code, named_code, dynamic_code, closing_code, scopes_code, scopes_code_in, handlers_code, marks_code, kept_code, kept_code_in, restored_code, restored_code_in, record_slot, inside_try, inside_region}
+use Rattle.cyc_lower.specs.Lowering.{begun_code, filled_code, ended_code, elements_code, types_of, converts_there, passed_words, all_passed, source_of, source_slot, converted_by, moved_by, move_of, unary_operator, binary_operator, operand_of, operand_or, code_unless, slot_or, code_unless_slot, left_of, value_slot, next_slot, left_slot, value_operand, converted_operand, printed_operand, conversion_code, divisor_code, checked_code, operator_code, truth_code, load_code, low_byte, test_code, is_in, copy_code, expression_code, arguments_code, converted_code, converted_operand_code, printed_code, initial_code, assignment_code, operations_code, discarded_code, failing_comparison, compared_or, left_with, slot_with, first_code, second_code, pair_code, condition_code, condition_of, failing_jump, break_target, continue_target, return_code, declaration_code, statement_code, items_code, first_temporary, jump_if_zero, jump_if_nonzero, lower_function, behind_left, pointer_code, outside_loops, inside_loop, pointer_operator, index_of, first_two, pointer_instructions, stores_code, object_code, made_code, place_operand, place_offset, place_code, address_code, store_address_code, blocks, free_code, right_slot, side_code, read_side, write_side, exchange_code, swap_code, leave_code, tag_operand, other_jump, clause_code, caught_code, clauses_code, element_by, count_code, span_of, tested_code, widened_code, conversion_by, tested_by, check_code, are_as_wide, saved_code, loaded_code, bounds_code, stepped_code, bounded_code, past_bounded, thinned_code, reached_code, followed_code, followed_operand, followed_by, span_in, pointer_of, pointer_slot, reached_operand, word_by_word, load_word, store_word, global_code, starts_with, raises_of, load_at, opened_code, closed_code, named_code, dynamic_code, closing_code, scopes_code, scopes_code_in, handlers_code, marks_code, kept_code, kept_code_in, restored_code, restored_code_in, behind_record, handled_code, inside_try, inside_region}
 use Rattle.cyc_meaning.specs.Operators.{null_exception}
 use Rattle.cyc_lower.specs.Lowered.{size_per_weight}
 use Rattle.cyc_lower.specs.declared.statements.Opened.{Opened}
@@ -305,7 +305,7 @@ kept_size (Some global) t = omega arith
 
 restored_size : (starts : Starts) (scopes : Option ℕ) (t : ℕ) → code_size (restored_code_in starts scopes t) ≤ 10
 restored_size starts None t = omega arith
-restored_size starts (Some global) t = closed_size starts t
+restored_size starts (Some global) t = closed_size starts (t + RECORD_WORDS)
 
 -- a list of arguments with a comma before each has at most one token more
 more_weight : (cs : Arguments) → more_arguments_weight cs ≤ arguments_weight cs + 1
@@ -757,15 +757,14 @@ module _ (starts : Starts) where
     statement_size (Throw n v) p exits d = throw_size n v p exits d
     statement_size (Try s cs) p exits t =
         let kept = kept_code starts t in
-        let r = record_slot starts t in
         let m = p + length kept in
-        let body = statement_code starts s (m + 1) (inside_try exits r) (r + RECORD_WORDS) in
-        let close = instructions.Leave r ∷ [] in
+        let body = statement_code starts s (m + 1) (inside_try exits t) (behind_record starts t) in
+        let close = instructions.Leave t ∷ [] in
         let out = m + 1 + length (body ++ close) in
         let restored = restored_code starts t in
-        let clauses = clauses_code starts cs (out + 1 + length restored) out exits r in
+        let clauses = clauses_code starts cs (out + 1 + length restored) out exits t in
         let over = instructions.Jump (out + 1 + length (restored ++ clauses)) in
-        let begin = instructions.Try r (out + 1) in
+        let begin = instructions.Try t (out + 1) in
         omega (
           arith,
           both kept (begin ∷ ((body ++ close) ++ over ∷ (restored ++ clauses))),
@@ -776,8 +775,8 @@ module _ (starts : Starts) where
           both restored clauses,
           kept_size starts.scopes t,
           restored_size starts starts.scopes t,
-          statement_size s (m + 1) (inside_try exits r) (r + RECORD_WORDS),
-          clauses_size cs (out + 1 + length restored) out exits r,
+          statement_size s (m + 1) (inside_try exits t) (behind_record starts t),
+          clauses_size cs (out + 1 + length restored) out exits t,
         )
 
     items_size : (js : Items) (p : ℕ) (exits : Exits) (d : ℕ) → code_size (items_code starts js p exits d) ≤ size_per_weight * items_weight js

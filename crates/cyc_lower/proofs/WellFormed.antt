@@ -38,7 +38,7 @@ use Rattle.cyc_meaning.specs.Pointers.{result_kind as operator_kind}
 use Rattle.cyc_objects.proofs.NumberLemmas.{slice_get-there}
 use Rattle.cyc_lower.proofs.Counters.{found_last}
 use Rattle.cyc_lower.specs.Slots.{counted, starts_of, slot_of, Types, global_of, global_types}
-use Rattle.cyc_lower.specs.Lowering.{begun_code, filled_code, ended_code, elements_code, counter_operand, types_of, spare_slots, are_as_wide, converts_there, passed_words, all_passed, source_of, source_slot, moved_by, move_of, unary_operator, binary_operator, operand_of, operand_or, code_unless, slot_or, code_unless_slot, left_with, left_of, value_slot, next_slot, slot_with, left_slot, value_operand, converted_operand, printed_operand, check_code, conversion_code, divisor_code, checked_code, operator_code, truth_code, load_code, low_byte, test_code, is_in, copy_code, expression_code, arguments_code, converted_code, converted_operand_code, printed_code, initial_code, assignment_code, operations_code, discarded_code, failing_comparison, compared_or, first_operand, first_code, second_code, pair_code, condition_code, condition_of, failing_jump, break_target, continue_target, return_code, declaration_code, statement_code, items_code, first_temporary, results_of, lower_function, lower_global, lower_program, pointer_operator, left_kind, behind_left, pointer_code, outside_loops, inside_loop, index_code, pointer_instructions, stores_code, object_code, made_code, place_operand, place_offset, place_code, address_code, addressed_by, store_address_code, store_code, guard_code, blocks, free_code, right_slot, side_code, read_side, write_side, exchange_code, swap_code, leave_code, tag_operand, other_jump, goes_on, clause_code, thrown_code, thrown_operand, caught_code, clauses_code, count_code, span_of, null_of, tested_code, widened_code, conversion_by, tested_by, saved_code, loaded_code, bounds_code, stepped_code, bounded_code, past_bounded, thinned_code, reached_code, followed_code, followed_operand, span_in, pointer_of, pointer_slot, reached_operand, word_by_word, load_word, store_word, global_code, globals_of, lower_globals, load_at, opened_code, closed_code, named_code, dynamic_code, scopes_code, scopes_code_in, handlers_code, marks_code, kept_code, kept_code_in, restored_code, restored_code_in, record_slot, record_slot_in, inside_try, inside_region, outermost, scopes_of, scopes_if, scopes_words, may_open}
+use Rattle.cyc_lower.specs.Lowering.{begun_code, filled_code, ended_code, elements_code, counter_operand, types_of, spare_slots, are_as_wide, converts_there, passed_words, all_passed, source_of, source_slot, moved_by, move_of, unary_operator, binary_operator, operand_of, operand_or, code_unless, slot_or, code_unless_slot, left_with, left_of, value_slot, next_slot, slot_with, left_slot, value_operand, converted_operand, printed_operand, check_code, conversion_code, divisor_code, checked_code, operator_code, truth_code, load_code, low_byte, test_code, is_in, copy_code, expression_code, arguments_code, converted_code, converted_operand_code, printed_code, initial_code, assignment_code, operations_code, discarded_code, failing_comparison, compared_or, first_operand, first_code, second_code, pair_code, condition_code, condition_of, failing_jump, break_target, continue_target, return_code, declaration_code, statement_code, items_code, first_temporary, results_of, lower_function, lower_global, lower_program, pointer_operator, left_kind, behind_left, pointer_code, outside_loops, inside_loop, index_code, pointer_instructions, stores_code, object_code, made_code, place_operand, place_offset, place_code, address_code, addressed_by, store_address_code, store_code, guard_code, blocks, free_code, right_slot, side_code, read_side, write_side, exchange_code, swap_code, leave_code, tag_operand, other_jump, goes_on, clause_code, thrown_code, thrown_operand, caught_code, clauses_code, count_code, span_of, null_of, tested_code, widened_code, conversion_by, tested_by, saved_code, loaded_code, bounds_code, stepped_code, bounded_code, past_bounded, thinned_code, reached_code, followed_code, followed_operand, span_in, pointer_of, pointer_slot, reached_operand, word_by_word, load_word, store_word, global_code, globals_of, lower_globals, load_at, opened_code, closed_code, named_code, dynamic_code, scopes_code, scopes_code_in, handlers_code, marks_code, kept_code, kept_code_in, restored_code, restored_code_in, behind_record, behind_record_in, handled_code, inside_try, inside_region, outermost, scopes_of, scopes_if, scopes_words, may_open}
 use Rattle.cyc_lower.proofs.Widths.{kind_positive, kind_few, type_words, kind_of_result, result_kind, given, passed_kind, words_in, chain_kind, made_kind, wide_kind, same_kind, more_words, HasGlobal, HasRoom}
 use Rattle.cyc_lower.proofs.Fitting.{FitsPlace, FitsCell, Fits, FitsConverted, FitArguments, FitOperations, FitsReturn, FitsInitial, FitsStatement, FitItems, AreFitting, IsFitting, FitsObject, FitsSide, FitsThrown, FitsCaught, FitClauses}
 use Rattle.cyc_lower.specs.Words.{AreOfWordsItems, AreOfWordsFunctions, IsOfWordsProgram}
@@ -1068,15 +1068,15 @@ module _ (program : PlainProgram) (r : Routine) (b : Numbering) (types : Types) 
   leave_in opened (record_inside, mark_inside) = append program r b types locals levels globals called results behind (handlers_code opened.handler) (marks_code (starts_of types) opened.mark) (handlers_in opened.handler record_inside) (marks_in opened.mark mark_inside)
 
   -- what a `try` keeps
-  kept_in : (known : Option ℕ) (t : ℕ) → types.scopes ≡ known → t < r.slots → AreIn program r b types locals levels globals called results behind (kept_code_in known t)
+  kept_in : (known : Option ℕ) (t : ℕ) → types.scopes ≡ known → t + RECORD_WORDS < r.slots → AreIn program r b types locals levels globals called results behind (kept_code_in known t)
   kept_in None t is free = tt
   kept_in (Some global) t is free = ((free, globals.inside global is), tt)
 
-  restored_in : (known : Option ℕ) (t : ℕ) → t < r.slots → AreIn program r b types locals levels globals called results behind (restored_code_in (starts_of types) known t)
+  restored_in : (known : Option ℕ) (t : ℕ) → t + RECORD_WORDS < r.slots → AreIn program r b types locals levels globals called results behind (restored_code_in (starts_of types) known t)
   restored_in None t free = tt
-  restored_in (Some global) t free = closed_in t free
+  restored_in (Some global) t free = closed_in (t + RECORD_WORDS) free
 
-  record_near : (known : Option ℕ) (t : ℕ) → record_slot_in known t ≤ t + 1
+  record_near : (known : Option ℕ) (t : ℕ) → behind_record_in known t ≤ t + RECORD_WORDS + 1
   record_near None t = omega arith
   record_near (Some global) t = omega arith
 
@@ -1271,29 +1271,30 @@ module _ (program : PlainProgram) (r : Routine) (b : Numbering) (types : Types) 
     statement_in (Try s cs) in_loop p exits t (numbered_s, numbered) around outside few short =
         let starts = starts_of types in
         let kept = kept_code starts t in
-        let s_in = record_slot starts t in
-        let near : s_in ≤ t + 1 = record_near types.scopes t in
+        let d = behind_record starts t in
+        let near : d ≤ t + RECORD_WORDS + 1 = record_near types.scopes t in
         let m = p + length kept in
-        let body = statement_code starts s (m + 1) (inside_try exits s_in) (s_in + RECORD_WORDS) in
-        let close = instructions.Leave s_in ∷ [] in
+        let body = statement_code starts s (m + 1) (inside_try exits t) d in
+        let close = instructions.Leave t ∷ [] in
         let out = m + 1 + length (body ++ close) in
         let restored = restored_code starts t in
-        let clauses = clauses_code starts cs (out + 1 + length restored) out exits s_in in
+        let clauses = clauses_code starts cs (out + 1 + length restored) out exits t in
         let over = instructions.Jump (out + 1 + length (restored ++ clauses)) ∷ (restored ++ clauses) in
-        let begin = instructions.Try s_in (out + 1) ∷ ((body ++ close) ++ over) in
+        let begin = instructions.Try t (out + 1) ∷ ((body ++ close) ++ over) in
         let long_kept = length-append kept begin in
         let long = length-append (body ++ close) over in
         let long_body = length-append body close in
         let long_clauses = length-append restored clauses in
-        let free : t < r.slots = omega (arith, few) in
-        let room : s_in + RECORD_WORDS ≤ r.slots = omega (arith, few, near) in
+        let free : t + RECORD_WORDS < r.slots = omega (arith, few) in
+        let room : t + RECORD_WORDS ≤ r.slots = omega (arith, few) in
         append program r b types locals levels globals called results behind kept begin (kept_in types.scopes t refl free) (
           record { record_in_range = room; handler_in_range = omega (arith, short, long_kept, long); no_return = no_return },
           append program r b types locals levels globals called results behind (body ++ close) over
-              (append program r b types locals levels globals called results behind body close (statement_in s in_loop (m + 1) (inside_try exits s_in) (s_in + RECORD_WORDS) numbered_s around (exits_inside exits s_in outside room) (omega (arith, few, near)) (omega (arith, short, long_kept, long, long_body))) (room, tt))
-              (omega (arith, short, long_kept, long),
-              append program r b types locals levels globals called results behind restored clauses (restored_in types.scopes t free)
-              (clauses_in cs in_loop (out + 1 + length restored) out exits s_in numbered around outside (omega (arith, few, near)) (omega (arith, short, long_kept, long)) (omega (arith, short, long_kept, long, long_clauses)))),
+              (append program r b types locals levels globals called results behind body close (statement_in s in_loop (m + 1) (inside_try exits t) d numbered_s around (exits_inside exits t outside room) (omega (arith, few, near)) (omega (arith, short, long_kept, long, long_body))) (room, tt)) (
+                omega (arith, short, long_kept, long),
+                append program r b types locals levels globals called results behind restored clauses (restored_in types.scopes t free)
+                    (clauses_in cs in_loop (out + 1 + length restored) out exits t numbered around outside (omega (arith, few)) (omega (arith, short, long_kept, long)) (omega (arith, short, long_kept, long, long_clauses))),
+              ),
         )
 
     items_in : (js : Items) (in_loop : Bool) (p : ℕ) (exits : Exits) (t : ℕ) → FitItems b types in_loop js → (in_loop ≡ true → exits.head + 2 < length r.code) → HasExits exits → t + kept_by_items js + items_need js + spare_slots ≤ r.slots → p + length (items_code (starts_of types) js p exits t) < length r.code → AreIn program r b types locals levels globals called results behind (items_code (starts_of types) js p exits t)

@@ -33,7 +33,7 @@ use Rattle.cyc_types.specs.Types.{words_of, Ty}
 use Rattle.cyc_types.specs.Numbered.{argument_count}
 use Rattle.cyc_store.specs.declared.range.TheConstants.{HEAP, UNIQUE}
 use Rattle.cyc_meaning.specs.Values.{words_of_kind, is_thin, kind_of}
-use Rattle.cyc_lower.specs.Lowering.{begun_code, filled_code, ended_code, elements_code, counter_operand, types_of, are_as_wide, converts_there, passed_words, source_of, source_slot, converted_by, moved_by, move_of, operand_of, operand_or, code_unless, slot_or, code_unless_slot, left_with, left_of, value_slot, next_slot, left_slot, value_operand, converted_operand, printed_operand, check_code, conversion_code, divisor_code, checked_code, operator_code, truth_code, load_code, test_code, is_in, copy_code, expression_code, arguments_code, converted_code, converted_operand_code, printed_code, initial_code, assignment_code, operations_code, discarded_code, failing_comparison, compared_or, compared_of, slot_with, first_code, second_code, pair_code, condition_code, condition_of, return_code, declaration_code, statement_code, items_code, first_temporary, initial_word, lower_function, lower_global, lower_program, behind_left, pointer_code, outside_loops, inside_loop, index_of, first_two, pointer_instructions, stores_code, object_code, made_code, place_operand, place_offset, place_code, address_code, addressed_by, store_address_code, store_code, guard_code, blocks, leave_code, clause_code, caught_code, clauses_code, function_code, break_target, continue_target, right_slot, side_code, read_side, write_side, exchange_code, swap_code, element_by, count_code, span_of, null_of, tested_code, widened_code, conversion_by, tested_by, saved_code, loaded_code, all_passed, bounds_code, stepped_code, bounded_code, thinned_code, reached_code, followed_code, followed_operand, followed_by, span_in, pointer_of, pointer_slot, reached_operand, word_by_word, load_word, store_word, global_code, globals_of, lower_globals, starts_with, raises_of, asked_code, load_at, opened_code, closed_code, named_code, dynamic_code, scopes_code, scopes_code_in, handlers_code, marks_code, kept_code, kept_code_in, restored_code, restored_code_in, record_slot, inside_try, inside_region, scopes_of, scopes_words}
+use Rattle.cyc_lower.specs.Lowering.{begun_code, filled_code, ended_code, elements_code, counter_operand, types_of, are_as_wide, converts_there, passed_words, source_of, source_slot, converted_by, moved_by, move_of, operand_of, operand_or, code_unless, slot_or, code_unless_slot, left_with, left_of, value_slot, next_slot, left_slot, value_operand, converted_operand, printed_operand, check_code, conversion_code, divisor_code, checked_code, operator_code, truth_code, load_code, test_code, is_in, copy_code, expression_code, arguments_code, converted_code, converted_operand_code, printed_code, initial_code, assignment_code, operations_code, discarded_code, failing_comparison, compared_or, compared_of, slot_with, first_code, second_code, pair_code, condition_code, condition_of, return_code, declaration_code, statement_code, items_code, first_temporary, initial_word, lower_function, lower_global, lower_program, behind_left, pointer_code, outside_loops, inside_loop, index_of, first_two, pointer_instructions, stores_code, object_code, made_code, place_operand, place_offset, place_code, address_code, addressed_by, store_address_code, store_code, guard_code, blocks, leave_code, clause_code, caught_code, clauses_code, function_code, break_target, continue_target, right_slot, side_code, read_side, write_side, exchange_code, swap_code, element_by, count_code, span_of, null_of, tested_code, widened_code, conversion_by, tested_by, saved_code, loaded_code, all_passed, bounds_code, stepped_code, bounded_code, thinned_code, reached_code, followed_code, followed_operand, followed_by, span_in, pointer_of, pointer_slot, reached_operand, word_by_word, load_word, store_word, global_code, globals_of, lower_globals, starts_with, raises_of, asked_code, load_at, opened_code, closed_code, named_code, dynamic_code, scopes_code, scopes_code_in, handlers_code, marks_code, kept_code, kept_code_in, restored_code, restored_code_in, behind_record, handled_code, inside_try, inside_region, scopes_of, scopes_words}
 use Rattle.cyc_lower.proofs.Widths.{kind_few, type_words}
 use Rattle.cyc_lower.specs.declared.statements.Opened.{Opened}
 
@@ -626,7 +626,7 @@ module _ (starts : Starts) where
 
   restored_words : (scopes : Option ℕ) (t : ℕ) → HaveWords (restored_code_in starts scopes t)
   restored_words None t = tt
-  restored_words (Some global) t = closed_words t
+  restored_words (Some global) t = closed_words (t + RECORD_WORDS)
 
   return_words : (v : Option Converted) (p : ℕ) (exits : Exits) (t : ℕ) → IsOfWordsInitial v → HaveWords (return_code starts v p exits t)
   return_words None p exits t words = append (leave_code starts exits.in_function) _ (leave_words exits.in_function) (tt, tt)
@@ -716,17 +716,16 @@ module _ (starts : Starts) where
     statement_words (Throw tag v) p exits t words = throw_words tag v p exits t words
     statement_words (Try s cs) p exits t (first, rest) =
         let kept = kept_code starts t in
-        let r = record_slot starts t in
         let m = p + length kept in
-        let body = statement_code starts s (m + 1) (inside_try exits r) (r + RECORD_WORDS) in
-        let close = instructions.Leave r ∷ [] in
+        let body = statement_code starts s (m + 1) (inside_try exits t) (behind_record starts t) in
+        let close = instructions.Leave t ∷ [] in
         let out = m + 1 + length (body ++ close) in
         let restored = restored_code starts t in
-        let clauses = clauses_code starts cs (out + 1 + length restored) out exits r in
+        let clauses = clauses_code starts cs (out + 1 + length restored) out exits t in
         append kept _ (kept_words starts.scopes t) (
           tt,
-          append (body ++ close) (_ ∷ restored ++ clauses) (append body close (statement_words s (m + 1) (inside_try exits r) (r + RECORD_WORDS) first) (tt, tt))
-              (tt, append restored clauses (restored_words starts.scopes t) (clauses_words cs (out + 1 + length restored) out exits r rest)),
+          append (body ++ close) (_ ∷ restored ++ clauses) (append body close (statement_words s (m + 1) (inside_try exits t) (behind_record starts t) first) (tt, tt))
+              (tt, append restored clauses (restored_words starts.scopes t) (clauses_words cs (out + 1 + length restored) out exits t rest)),
         )
 
     items_words : (js : Items) (p : ℕ) (exits : Exits) (t : ℕ) → AreOfWordsItems js → HaveWords (items_code starts js p exits t)
