@@ -1,7 +1,8 @@
 -- Steps of the source that call the store by their first instruction.
 use Rattle.std.proofs.Common.{◌≡◌, ◌≢◌, ℕ, zero, suc, ◌+◌, ◌<◌, Bool, true, false, List, [], ◌∷◌, None, Some, refl, sym, ap, subst, ◌∙◌, arith}
-use Rattle.std.specs.Prelude.{Contains, if◌then◌else◌}
+use Rattle.std.specs.Prelude.{Contains, nat_le, nat_lt, ◌&&◌, if◌then◌else◌}
 use Rattle.std.specs.List.{AllByRecursion}
+use Rattle.std.proofs.lemmas.Bool.{leb-true, ltb-true, false_from_ne_true}
 use Rattle.cyc_words.specs.Ending.{Full}
 use Rattle.cyc_words.specs.Simulation.{IsDistinct}
 use Rattle.cyc_types.specs.TypedTrees.{Program}
@@ -17,11 +18,12 @@ use Rattle.cyc_plain.specs.State.{Configuration}
 use Rattle.cyc_plain.specs.Step.{served_to}
 use Rattle.cyc_plain.specs.Step as plain_step
 use Rattle.cyc_plain.specs.Straight.{At, places_behind}
-use Rattle.cyc_plain.proofs.Steps.{step_serves}
-use Rattle.cyc_meaning.specs.State.{World, Environment, Entry, Focus, State, Running}
+use Rattle.cyc_plain.proofs.Steps.{step_serves, step_full}
+use Rattle.cyc_meaning.specs.State.{World, Environment, Entry, Focus, State, Running, Ended}
 use Rattle.cyc_meaning.specs.Step.{step}
+use Rattle.cyc_meaning.specs.Run.{is_within, limited_step}
 use Rattle.cyc_lower.specs.Lowering.{lower_program}
-use Rattle.cyc_lower.proofs.Relation.{SharedAt, code_of}
+use Rattle.cyc_lower.proofs.Relation.{SharedAt, Matches, code_of}
 use Rattle.cyc_lower.proofs.Matched.{IsMatched, Executes, by_places, shared_way, place_in, known}
 
 -- ---- places that follow one another
@@ -34,12 +36,11 @@ pub in_order : (function first count : ℕ) → IsDistinct (places_behind functi
 in_order function first zero = tt
 in_order function first (suc count) = (later function first (first + 1) count (omega arith), in_order function (first + 1) count)
 
-module _ (source : Program) (pages calls : ℕ) where
-  -- instructions stand at the places from one on
-  abbrev pub Follow : (function first : ℕ) → List Instruction → Type 0
-  Follow function first [] = Unit {0}
-  Follow function first (i ∷ is) = At (code_of source function) first i × Follow function (first + 1) is
+-- what is more than all pages is not within them
+pub past_pages : (pages n : ℕ) (b : Bool) → nat_lt pages n ≡ true → (nat_le n pages && b) ≡ false
+past_pages pages n b over = ap (λ x. x && b) (false_from_ne_true (nat_le n pages) (λ h. absurd (omega (arith, leb-true n pages h, ltb-true pages n over))))
 
+module _ (source : Program) (pages calls : ℕ) where
   -- The store is called, which serves the call, and then come instructions that stand behind.
   pub asks_then : (focus : Focus) (k : List Entry) (e : Environment) (w : World) (c : Configuration) (next : State) (request : Request) (count : ℕ)
       → step source (Running focus k e w) ≡ next → SharedAt source pages calls k e w c
@@ -60,3 +61,28 @@ module _ (source : Program) (pages calls : ℕ) where
             let (choice, served, is) = step_serves (lower_program source) pages calls c request u here stepped free (λ choice served. (goes choice served).1) in
             subst (Executes source pages calls (Running focus k e w) next rest) (sym is) (goes choice served).0,
       )
+
+  -- There is no room: both runs are full.
+  pub by_full : (focus : Focus) (k : List Entry) (e : Environment) (w : World) (c : Configuration) (next : State) (request : Request)
+      → step source (Running focus k e w) ≡ next → is_within pages calls next ≡ false → SharedAt source pages calls k e w c
+      → At (code_of source c.active.function) c.active.next (instructions.Ask request)
+      → refusal c.store (plain_step.call_in c.active.slots request) ≡ Some services.Full
+      → IsMatched source pages calls (Running focus k e w) (plain.Running c)
+  by_full focus k e w c next request does over shared here full =
+      let source_full : limited_step source pages calls (Running focus k e w) ≡ Ended Full w.output w.input =
+      ap (λ (b : Bool). if b then step source (Running focus k e w) else Ended Full w.output w.input) (ap (is_within pages calls) does ∙ over) in
+      record {
+        places = place_in source pages calls c ∷ [];
+        distinct = (tt, tt);
+        inside = (known source pages calls c (instructions.Ask request) here, tt);
+        comes = (
+          refl,
+          shared_way source pages calls focus k e w c shared,
+          λ u stepped. record {
+            next = Ended Full w.output w.input;
+            step = sym source_full;
+            matches = subst (Matches source pages calls (Ended Full w.output w.input)) (sym (step_full (lower_program source) pages calls c request u here stepped full)) (refl, shared.same_output);
+            lighter = λ none. absurd (omega (arith, none));
+          },
+        );
+      }

@@ -534,8 +534,10 @@ module _ (source : Program) where
       )
   handlers_same g slots other handlers frames (Caller e ∷ k) same stand = stand
   handlers_same g slots other handlers frames (Main ∷ k) same stand = stand
-  handlers_same g slots other handlers frames (CloseLexical region ∷ k) same stand = absurd stand
-  handlers_same g slots other handlers frames (EndLoan lent ∷ k) same stand = absurd stand
+  handlers_same g slots other handlers frames (CloseLexical region ∷ k) same (mark, stand) = (
+    same (floor source g k) (floor-least source g k) (omega arith) ∙ mark,
+    handlers_same g slots other handlers frames k (λ n from to. same n from (omega (arith, to))) stand,
+  )
   handlers_same g slots other handlers frames (entry ∷ k) same stand = handlers_same g slots other handlers frames k same stand
 
   -- a local is written
@@ -565,8 +567,7 @@ module _ (source : Program) where
   calls_counted g slots handlers [] (Main ∷ []) (none, last) = refl
   calls_counted g slots handlers [] (Main ∷ entry ∷ k) (none, last) = absurd last
   calls_counted g slots handlers (f ∷ frames) (Main ∷ k) (none, last) = absurd last
-  calls_counted g slots handlers frames (CloseLexical region ∷ k) stand = absurd stand
-  calls_counted g slots handlers frames (EndLoan lent ∷ k) stand = absurd stand
+  calls_counted g slots handlers frames (CloseLexical region ∷ k) (mark, stand) = calls_counted g slots handlers frames k stand
   calls_counted g slots handlers frames (entry ∷ k) stand = calls_counted g slots handlers frames k stand
 
 -- as many calls are under way where entries of one are left

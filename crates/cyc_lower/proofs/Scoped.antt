@@ -20,7 +20,7 @@ use Rattle.cyc_lower.specs.Slots.{global_types, global_of}
 use Rattle.cyc_lower.specs.Lowering.{lower_globals, may_open, scopes_if, scopes_of}
 use Rattle.cyc_lower.proofs.Slots.{global-room, global-inside}
 use Rattle.cyc_lower.proofs.Widths.{Outside, HasGlobal}
-use Rattle.cyc_lower.proofs.WellFormed.{globals_counted}
+use Rattle.cyc_lower.proofs.GlobalWords.{globals_counted}
 use Rattle.cyc_lower.proofs.Relation.{silent, scopes_in, IsTold, Waiting, GlobalsHold, DataAt, types_at, starts_at}
 use Rattle.cyc_lower.proofs.Data.{Is-same}
 
@@ -35,7 +35,7 @@ counted_entries (entry ∷ k) = counted_entries k
 pub scopes_open : (k : List Entry) (e : Environment) (w : World) → IsNested k e w → scopes w.regions ≡ scopes_in k
 scopes_open k e w nested = scopes-counted k e w nested ∙ counted_entries k
 
-module _ {t : Tables} {w : World} {s : StoreState} (related : objects.Related t (silent w) s) where
+module _ (t : Tables) (w : World) (s : StoreState) (related : objects.Related t (silent w) s) where
   -- and the store has as many
   pub scopes_there : (k : List Entry) (e : Environment) → IsNested k e w → lexical_count s.regions ≡ scopes_in k
   scopes_there k e nested = scopes-same related.regions ∙ scopes_open k e w nested

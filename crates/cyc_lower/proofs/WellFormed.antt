@@ -38,7 +38,7 @@ use Rattle.cyc_meaning.specs.Pointers.{result_kind as operator_kind}
 use Rattle.cyc_objects.proofs.NumberLemmas.{slice_get-there}
 use Rattle.cyc_lower.proofs.Counters.{found_last}
 use Rattle.cyc_lower.specs.Slots.{counted, starts_of, slot_of, Types, global_of, global_types}
-use Rattle.cyc_lower.specs.Lowering.{begun_code, filled_code, ended_code, elements_code, counter_operand, types_of, spare_slots, are_as_wide, converts_there, passed_words, all_passed, source_of, source_slot, moved_by, move_of, unary_operator, binary_operator, operand_of, operand_or, code_unless, slot_or, code_unless_slot, left_with, left_of, value_slot, next_slot, slot_with, left_slot, value_operand, converted_operand, printed_operand, check_code, conversion_code, divisor_code, checked_code, operator_code, truth_code, load_code, low_byte, test_code, is_in, copy_code, expression_code, arguments_code, converted_code, converted_operand_code, printed_code, initial_code, assignment_code, operations_code, discarded_code, failing_comparison, compared_or, first_operand, first_code, second_code, pair_code, condition_code, condition_of, failing_jump, break_target, continue_target, return_code, declaration_code, statement_code, items_code, first_temporary, results_of, lower_function, lower_global, lower_program, pointer_operator, left_kind, behind_left, pointer_code, outside_loops, inside_loop, index_code, pointer_instructions, stores_code, object_code, made_code, place_operand, place_offset, place_code, address_code, addressed_by, store_address_code, store_code, guard_code, blocks, free_code, right_slot, side_code, read_side, write_side, exchange_code, swap_code, leave_code, tag_operand, other_jump, goes_on, clause_code, thrown_code, thrown_operand, caught_code, clauses_code, count_code, span_of, null_of, tested_code, widened_code, conversion_by, tested_by, saved_code, loaded_code, bounds_code, stepped_code, bounded_code, past_bounded, thinned_code, reached_code, followed_code, followed_operand, span_in, pointer_of, pointer_slot, reached_operand, word_by_word, load_word, store_word, global_code, globals_of, lower_globals, load_at, opened_code, closed_code, named_code, dynamic_code, scopes_code, scopes_code_in, handlers_code, marks_code, kept_code, kept_code_in, restored_code, restored_code_in, behind_record, behind_record_in, handled_code, inside_try, inside_region, outermost, scopes_of, scopes_if, scopes_words, may_open}
+use Rattle.cyc_lower.specs.Lowering.{begun_code, filled_code, ended_code, elements_code, counter_operand, types_of, spare_slots, are_as_wide, converts_there, passed_words, all_passed, source_of, source_slot, moved_by, move_of, unary_operator, binary_operator, operand_of, operand_or, code_unless, slot_or, code_unless_slot, left_with, left_of, value_slot, next_slot, slot_with, left_slot, value_operand, converted_operand, printed_operand, check_code, conversion_code, divisor_code, checked_code, operator_code, truth_code, load_code, low_byte, test_code, is_in, copy_code, expression_code, arguments_code, converted_code, converted_operand_code, printed_code, initial_code, assignment_code, operations_code, discarded_code, failing_comparison, compared_or, first_operand, first_code, second_code, pair_code, condition_code, condition_of, failing_jump, break_target, continue_target, return_code, declaration_code, statement_code, items_code, first_temporary, results_of, lower_function, lower_program, pointer_operator, left_kind, behind_left, pointer_code, outside_loops, inside_loop, index_code, pointer_instructions, stores_code, object_code, made_code, place_operand, place_offset, place_code, address_code, addressed_by, store_address_code, store_code, guard_code, blocks, free_code, right_slot, side_code, read_side, write_side, exchange_code, swap_code, leave_code, tag_operand, other_jump, goes_on, clause_code, thrown_code, thrown_operand, caught_code, clauses_code, count_code, span_of, null_of, tested_code, widened_code, conversion_by, tested_by, saved_code, loaded_code, bounds_code, stepped_code, bounded_code, past_bounded, thinned_code, reached_code, followed_code, followed_operand, span_in, pointer_of, pointer_slot, reached_operand, word_by_word, load_word, store_word, global_code, globals_of, lower_globals, load_at, opened_code, closed_code, named_code, dynamic_code, scopes_code, scopes_code_in, handlers_code, marks_code, kept_code, kept_code_in, restored_code, restored_code_in, behind_record, behind_record_in, handled_code, inside_try, inside_region, outermost, scopes_of, scopes_if, scopes_words, may_open}
 use Rattle.cyc_lower.proofs.Widths.{kind_positive, kind_few, type_words, kind_of_result, result_kind, given, passed_kind, words_in, chain_kind, made_kind, wide_kind, same_kind, more_words, HasGlobal, HasRoom}
 use Rattle.cyc_lower.proofs.Fitting.{FitsPlace, FitsCell, Fits, FitsConverted, FitArguments, FitOperations, FitsReturn, FitsInitial, FitsStatement, FitItems, AreFitting, IsFitting, FitsObject, FitsSide, FitsThrown, FitsCaught, FitClauses}
 use Rattle.cyc_lower.specs.Words.{AreOfWordsItems, AreOfWordsFunctions, IsOfWordsProgram}
@@ -47,8 +47,8 @@ use Rattle.cyc_lower.specs.Lowerable.{is_converted, is_pointer}
 use Rattle.cyc_lower.proofs.Lengths.{body_long, past_long}
 use Rattle.cyc_types.specs.typing.Expressions.{type_of_side}
 use Rattle.cyc_lower.proofs.Values.{as_wide}
+use Rattle.cyc_lower.proofs.GlobalWords.{globals_counted}
 use Rattle.cyc_lower.proofs.Slots.{words_positive, slot-room, slot_types-many, slots-few, global-room, global-inside}
-use Rattle.std.proofs.lemmas.List.{length-replicate}
 use Rattle.cyc_lower.specs.declared.statements.Opened.{Opened}
 
 -- ---- lists
@@ -1346,10 +1346,6 @@ signatures_known structs globals scopes (h ∷ hs) zero s there =
     (omega arith, ap (λ (x : Signature). words_of_all x.parameters) same, ap (λ (x : Signature). results_of x.result) same)
 signatures_known structs globals scopes (h ∷ hs) (suc n) s there =
     let (few, parameters, results) = signatures_known structs globals scopes hs n s there in (omega (arith, few), parameters, results)
-
-pub globals_counted : (gs : List GlobalVariable) → words_of_all (global_types gs) ≡ length (lower_globals gs)
-globals_counted [] = refl
-globals_counted (g ∷ gs) = omega (arith, length-append (lower_global g) (lower_globals gs), length-replicate {A = ℕ} (words_of g.of_type - 1) 0, words_positive g.of_type, globals_counted gs)
 
 -- and so many are all words of the program's globals
 pub all_counted : (source : Program) → length (lower_program source).globals ≡ words_of_all (global_types source.globals) + length (scopes_words (scopes_of source))
