@@ -24,7 +24,7 @@ use Rattle.cyc_meaning.specs.Step.{step}
 use Rattle.cyc_meaning.specs.Run.{is_within, limited_step}
 use Rattle.cyc_lower.specs.Lowering.{lower_program}
 use Rattle.cyc_lower.proofs.Relation.{SharedAt, Matches, code_of}
-use Rattle.cyc_lower.proofs.Matched.{IsMatched, Executes, by_places, shared_way, place_in, known}
+use Rattle.cyc_lower.proofs.Matched.{IsMatched, Executes, by_places, shared_way, output_way, place_in, known}
 
 -- ---- places that follow one another
 
@@ -43,7 +43,7 @@ past_pages pages n b over = ap (λ x. x && b) (false_from_ne_true (nat_le n page
 module _ (source : Program) (pages calls : ℕ) where
   -- The store is called, which serves the call, and then come instructions that stand behind.
   pub asks_then : (focus : Focus) (k : List Entry) (e : Environment) (w : World) (c : Configuration) (next : State) (request : Request) (count : ℕ)
-      → step source (Running focus k e w) ≡ next → SharedAt source pages calls k e w c
+      → step source (Running focus k e w) ≡ next → c.output ≡ w.output
       → At (code_of source c.active.function) c.active.next (instructions.Ask request)
       → AllByRecursion (Contains (places_of (lower_program source))) (places_behind c.active.function (c.active.next + 1) count)
       → refusal c.store (plain_step.call_in c.active.slots request) ≡ None
@@ -51,12 +51,12 @@ module _ (source : Program) (pages calls : ℕ) where
       → Executes source pages calls (Running focus k e w) next (places_behind c.active.function (c.active.next + 1) count) (plain.Running (served_to choice c (plain_requests.destination_of request) (plain_step.call_in c.active.slots request)))
       × (plain_step.is_within pages calls (plain.Running (served_to choice c (plain_requests.destination_of request) (plain_step.call_in c.active.slots request))) ≡ true))
       → IsMatched source pages calls (Running focus k e w) (plain.Running c)
-  asks_then focus k e w c next request count does shared here inside free goes =
+  asks_then focus k e w c next request count does same here inside free goes =
       let rest = places_behind c.active.function (c.active.next + 1) count in
       by_places source pages calls (Running focus k e w) next (place_in source pages calls c) rest (plain.Running c) does
       (in_order c.active.function c.active.next (suc count)) (known source pages calls c (instructions.Ask request) here, inside) (
         refl,
-        shared_way source pages calls focus k e w c shared,
+        output_way source pages calls focus k e w c same,
         λ u stepped.
             let (choice, served, is) = step_serves (lower_program source) pages calls c request u here stepped free (λ choice served. (goes choice served).1) in
             subst (Executes source pages calls (Running focus k e w) next rest) (sym is) (goes choice served).0,

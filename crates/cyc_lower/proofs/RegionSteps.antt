@@ -4,7 +4,7 @@ use Rattle.std.specs.Prelude.{nat_lt, ◌%◌, ◌^◌, if◌then◌else◌}
 use Rattle.std.proofs.lemmas.Bool.{cases_Bool}
 use Rattle.cyc_words.specs.Word.{add_of}
 use Rattle.cyc_types.specs.declared.typed.Kind.TheVariants as kinds
-use Rattle.cyc_types.specs.TypedTrees.{Items, MoreItems, DeclareRegion, Program}
+use Rattle.cyc_types.specs.TypedTrees.{Items, MoreItems, DeclareRegion, Function, Program}
 use Rattle.cyc_store.specs.State.{StoreState, demand, lexical_count}
 use Rattle.cyc_store.specs.Services as services
 use Rattle.cyc_store.specs.Services.{OpenLexical, CloseTo, served, full_at, refusal}
@@ -17,14 +17,14 @@ use Rattle.cyc_plain.specs.declared.instruction.Instruction.{Instruction}
 use Rattle.cyc_plain.specs.declared.instruction.Instruction.TheVariants as instructions
 use Rattle.cyc_plain.specs.Program.{CodePlace}
 use Rattle.cyc_plain.specs.State as plain
-use Rattle.cyc_plain.specs.State.{Words, put, Configuration}
+use Rattle.cyc_plain.specs.State.{Words, put, Configuration, Frame}
 use Rattle.cyc_plain.specs.Step.{Choice, at, with_slots, advanced, served_to, performed}
 use Rattle.cyc_plain.specs.Step as plain_step
 use Rattle.cyc_plain.specs.Straight.{At}
 use Rattle.cyc_plain.proofs.SlotLaws.{put-same, put-other}
 use Rattle.cyc_meaning.specs.Values.{Handle, Operand as Kinded}
 use Rattle.cyc_meaning.specs.Effects.{pages_of}
-use Rattle.cyc_meaning.specs.State.{Lexical, Dynamic, World, opened_as, globals_number, Environment, Entry, Rest, CloseLexical, Focus, Proceeding, Naming, State, Running}
+use Rattle.cyc_meaning.specs.State.{Lexical, Dynamic, World, opened_as, globals_number, Environment, Entry, Rest, CloseLexical, Focus, Proceeding, Naming, State, Running, Object, closed, EndLoan}
 use Rattle.cyc_meaning.specs.Nesting.{IsNested}
 use Rattle.cyc_meaning.specs.Step.{step}
 use Rattle.cyc_objects.specs.Tables.{Tables, with_handle, Grows}
@@ -34,16 +34,30 @@ use Rattle.cyc_objects.proofs.Variables.{handle-made}
 use Rattle.cyc_objects.proofs.Services.{opened-lexical, refusal-lexical}
 use Rattle.cyc_lower.specs.declared.statements.Exits.{Exits}
 use Rattle.cyc_lower.specs.Lowering.{lower_program, inside_region, scopes_of}
+use Rattle.cyc_lower.proofs.Slots.{slot_types-many}
 use Rattle.cyc_lower.proofs.Widths.{Outside}
-use Rattle.cyc_lower.proofs.Stands.{ItemsAt}
-use Rattle.cyc_lower.proofs.Relation.{silent, homes, callers, scopes_in, IsTold, DataAt, HandlersStand, SharedAt, StatementStack, Related, Matches, DataIn, code_of, bounds_at, types_at, floor}
+use Rattle.cyc_lower.proofs.Stands.{ToldAt, NamedAt, ClosedAt, ItemsAt}
+use Rattle.cyc_lower.proofs.Relation.{silent, homes, callers, scopes_in, IsTold, DataAt, HandlersStand, SharedAt, StatementStack, Related, Matches, DataIn, code_of, bounds_in, bounds_at, types_in, types_at, floor, Shared, AreCounted, Waiting, behind_statement}
 use Rattle.cyc_lower.proofs.Data.{data_written, data_grows, variables_grow}
-use Rattle.cyc_lower.proofs.Matched.{IsMatched, silently, Executes, place_in, known}
+use Rattle.cyc_lower.proofs.Matched.{IsMatched, silently, Executes, shared_within, matches_within_below, place_in, known}
 use Rattle.cyc_lower.proofs.Paths.{Link, is_quiet, runs}
 use Rattle.cyc_lower.proofs.Asking.{past_pages, asks_then, by_full}
-use Rattle.cyc_lower.proofs.Scoped.{scopes_there, scopes_small, data_told}
+use Rattle.cyc_lower.proofs.Scoped.{scopes_there, scopes_small, data_told, scopes_open}
+use Rattle.cyc_objects.proofs.Closing.{scopes-same, related-unclosed, closed-behind, closed-at_once, refusal-close_to}
+use Rattle.cyc_objects.proofs.Scopes.{ends-newest}
+use Rattle.cyc_objects.specs.Related.{scopes, closed_to}
+use Rattle.cyc_store.specs.Soundness.{IsSound}
+use Rattle.cyc_meaning.specs.Regions.{closing_lexical}
 
 module _ (source : Program) (pages calls : ℕ) where
+  locals_in : (h : Option Function) → (bounds_in source h).locals ≡ length (types_in source h).locals
+  locals_in None = refl
+  locals_in (Some h) = sym (slot_types-many h)
+
+  -- a local of a function, in its bounds
+  local_there : (g n : ℕ) → n < (bounds_at source g).locals → n < length (types_at source g).locals
+  local_there g n few = omega (arith, few, locals_in (slice_get source.functions g))
+
   -- ---- a lexical region is opened
 
   module _ (k : List Entry) (e : Environment) (w : World) (c : Configuration) (shared : SharedAt source pages calls k e w c) (facts : DataIn source shared.tables c.active.slots k e w c) (nested : IsNested k e w)
@@ -130,3 +144,177 @@ module _ (source : Program) (pages calls : ℕ) where
               (data_grows shared.tables grown grows source g w.objects e.locals (callers k) told.active.slots c.globals c.frames written),
           (mark_is, stand),
         )
+
+  -- where its handle is named, and behind it its items
+  named_at : (n : ℕ) (js : Items) (k : List Entry) (e : Environment) (w : World) (c : Configuration) (exits : Exits) (global m u q : ℕ)
+      → (shared : SharedAt source pages calls k e w c) (facts : DataIn source shared.tables c.active.slots k e w c) (nested : IsNested k e w)
+      (free : refusal c.store OpenLexical ≡ None) (choice : services.Choice) (served_it : plain_step.IsServed c.store OpenLexical choice) (told_there : scopes_of source ≡ Some global)
+      → NamedAt (code_of source c.active.function) (bounds_at source c.active.function) (types_at source c.active.function) n kinds.Handle (operands.Slot (floor source c.active.function k + 1)) (c.active.next + 1 + 1 + 1 + 1) m
+      → ItemsAt (code_of source c.active.function) (bounds_at source c.active.function) (types_at source c.active.function) js (inside_region exits (floor source c.active.function k)) (floor source c.active.function k + 1) m u
+      → ClosedAt (code_of source c.active.function) (bounds_at source c.active.function) (types_at source c.active.function) (floor source c.active.function k) u q
+      → StatementStack source c.active.function exits q c.frames k
+      → Matches source pages calls (Running (Naming n (record { kind = kinds.Handle; value = Handle (length w.regions) }) js) (CloseLexical (length w.regions) ∷ k) e (opened_as Lexical w))
+      (plain.Running (told k e w c shared facts nested free choice served_it global told_there))
+  named_at n js k e w c exits global m u q shared facts nested free choice served_it told_there (few, room, move, end) items close stack =
+      let g = c.active.function in
+      let t = floor source g k in (
+        shared_told k e w c shared facts nested free choice served_it global told_there,
+        data_opened k e w c shared facts nested free choice served_it global told_there,
+        (
+          inside_region exits t,
+          u,
+          operands.Slot (t + 1),
+          move,
+          handle-made shared.related (Some choice.handle) ∙ ap (λ h. Some (Some h)) (sym (handle_is k e w c shared facts nested free choice served_it global told_there)),
+          local_there g n few,
+          room,
+          subst (λ p. ItemsAt (code_of source g) (bounds_at source g) (types_at source g) js (inside_region exits t) (t + 1) p u) (sym end) items,
+          (exits, q, refl, close, stack),
+        ),
+      )
+
+  pub opens_region : (r n : ℕ) (js : Items) (k : List Entry) (e : Environment) (w : World) (c : Configuration) (exits : Exits) (q : ℕ)
+      → (shared : SharedAt source pages calls k e w c) → DataIn source shared.tables c.active.slots k e w c → IsNested k e w
+      → ItemsAt (code_of source c.active.function) (bounds_at source c.active.function) (types_at source c.active.function) (MoreItems (DeclareRegion r n) js) exits (floor source c.active.function k) c.active.next q
+      → StatementStack source c.active.function exits q c.frames k → IsMatched source pages calls (Running Proceeding (Rest (MoreItems (DeclareRegion r n) js) ∷ k) e w) (plain.Running c)
+  opens_region r n js k e w c exits q shared facts nested (m, u, (global, told_there, ask, move, add, store, named), items, close) stack =
+      let old = Rest (MoreItems (DeclareRegion r n) js) ∷ k in
+      let t = floor source c.active.function k in
+      let new = opened_as Lexical w in
+      let next = Running (Naming n (record { kind = kinds.Handle; value = Handle (length w.regions) }) js) (CloseLexical (length w.regions) ∷ k) e new in
+      elim (cases_Bool (nat_lt c.store.pages (pages_of new))) [
+        | inl over ↦
+            by_full source pages calls Proceeding old e w c next (requests.OpenLexical (t + 1)) refl
+            (past_pages pages (pages_of new) _ (subst (λ p. nat_lt p (pages_of new) ≡ true) shared.same_pages over))
+            shared ask (refusal-lexical shared.related ∙ ap full_at over)
+        | inr room ↦
+            let free = refusal-lexical shared.related ∙ ap full_at room in
+            asks_then source pages calls Proceeding old e w c next (requests.OpenLexical (t + 1)) 3 refl shared.same_output ask
+            (known source pages calls (at c (c.active.next + 1)) _ move, (known source pages calls (at c (c.active.next + 1 + 1)) _ add, (known source pages calls (at c (c.active.next + 1 + 1 + 1)) _ store, tt)))
+            free
+            (λ choice served_it.
+            let a = asked k e w c shared facts nested free choice served_it global told_there in
+            let b = marked k e w c shared facts nested free choice served_it global told_there in
+            let d = added k e w c shared facts nested free choice served_it global told_there in
+            let within = shared_within source pages calls (CloseLexical (length w.regions) ∷ k) e new (told k e w c shared facts nested free choice served_it global told_there) (shared_told k e w c shared facts nested free choice served_it global told_there) in (
+              runs source pages calls Proceeding old e w next a
+                  (record { instruction = instructions.Move t (operands.Slot (t + 2)); behind = b } ∷ record { instruction = instructions.Binary plain_binary.Add (t + 2) (operands.Slot t) (operands.Word 1); behind = d } ∷ [])
+                  (instructions.StoreGlobal global (operands.Slot (t + 2))) within shared.same_output
+                  (move, (λ later. refl), omega arith, is_quiet a b.active, (add, (λ later. refl), omega arith, is_quiet b d.active, tt)) store
+                  (λ later. named_at n js k e w c exits global m u q shared facts nested free choice served_it told_there named items close stack),
+              within,
+            ))
+      ]
+
+  -- ---- a lexical region is closed
+
+  -- the word for it tells how many are left
+  abbrev pub left_globals : (scopes : Option ℕ) → Words → (many : ℕ) → Words
+  left_globals None globals many = globals
+  left_globals (Some place) globals many = put globals place many
+
+  -- so is the plain program then
+  abbrev pub after_closing : services.Choice → Configuration → (mark q : ℕ) → Configuration
+  after_closing choice c mark q = record c {
+    active = record c.active { next = q };
+    globals = left_globals (scopes_of source) c.globals (c.active.slots mark);
+    store = served c.store (CloseTo (c.active.slots mark)) choice;
+  }
+
+  -- the store closes lexical regions down to a mark, and how many are left is told
+  pub closes_to : (focus : Focus) (old : List Entry) (e : Environment) (w : World) (c : Configuration) (next : State) (mark q : ℕ)
+      → step source (Running focus old e w) ≡ next → c.output ≡ w.output
+      → ClosedAt (code_of source c.active.function) (bounds_at source c.active.function) (types_at source c.active.function) mark c.active.next q
+      → refusal c.store (CloseTo (c.active.slots mark)) ≡ None
+      → ((choice : services.Choice) → plain_step.IsServed c.store (CloseTo (c.active.slots mark)) choice → Matches source pages calls next (plain.Running (after_closing choice c mark q)))
+      → IsMatched source pages calls (Running focus old e w) (plain.Running c)
+  closes_to focus old e w c next mark q does same (ask, tells) free goes = by (scopes_of source) tells goes
+    where
+      n : ℕ
+      n = c.active.slots mark
+
+      closed_in : Option ℕ → services.Choice → Configuration
+      closed_in scopes choice = record c { active = record c.active { next = q }; globals = left_globals scopes c.globals n; store = served c.store (CloseTo n) choice }
+
+      by : (scopes : Option ℕ) → ToldAt (code_of source c.active.function) (bounds_at source c.active.function) (types_at source c.active.function) scopes (operands.Slot mark) (c.active.next + 1) q
+          → ((choice : services.Choice) → plain_step.IsServed c.store (CloseTo n) choice → Matches source pages calls next (plain.Running (closed_in scopes choice)))
+          → IsMatched source pages calls (Running focus old e w) (plain.Running c)
+      by None end goes =
+          asks_then source pages calls focus old e w c next (requests.CloseTo (operands.Slot mark)) 0 does same ask tt free
+          (λ choice served_it.
+          let m = subst (λ p. Matches source pages calls next (plain.Running (record (closed_in None choice) { active = record c.active { next = p } }))) (sym end) (goes choice served_it) in
+          (m, matches_within_below source pages calls next (plain.Running (record (closed_in None choice) { active = record c.active { next = c.active.next + 1 } })) m))
+      by (Some place) (store, end) goes =
+          asks_then source pages calls focus old e w c next (requests.CloseTo (operands.Slot mark)) 1 does same ask (known source pages calls (at c (c.active.next + 1)) _ store, tt) free
+          (λ choice served_it.
+          let a = served_to choice c 0 (CloseTo n) in
+          let m = subst (λ p. Matches source pages calls next (plain.Running (record (closed_in (Some place) choice) { active = record c.active { next = p } }))) (sym end) (goes choice served_it) in
+          let within = matches_within_below source pages calls next (plain.Running (record (closed_in (Some place) choice) { active = record c.active { next = c.active.next + 1 + 1 } })) m in
+          (runs source pages calls focus old e w next a [] (instructions.StoreGlobal place (operands.Slot mark)) within same tt store (λ later. m), within))
+
+  -- what is shared then, where the source has closed these regions
+  abbrev pub shared_after : (k : List Entry) (e : Environment) (w : World) (c : Configuration) (mark q : ℕ) (counting : Type 0)
+      → Shared pages calls w (e.home ∷ homes k) counting c.output c.input (closed_to c.store (c.active.slots mark)) (length c.frames)
+      → AreCounted e.counters k → IsSound c.store → (choice : services.Choice) → refusal c.store (CloseTo (c.active.slots mark)) ≡ None → plain_step.IsServed c.store (CloseTo (c.active.slots mark)) choice
+      → IsTold (scopes_of source) (left_globals (scopes_of source) c.globals (c.active.slots mark)) (scopes_in k) → SharedAt source pages calls k e w (after_closing choice c mark q)
+  shared_after k e w c mark q counting s counted sound choice free served_it told = record {
+    tables = s.tables;
+    same_output = s.same_output;
+    same_input = s.same_input;
+    same_pages = s.same_pages;
+    related = closed-at_once (c.active.slots mark) choice sound s.related free served_it.allowed;
+    globals = s.globals;
+    variables = s.variables;
+    few_pages = omega (arith, (served-sound c.store (CloseTo (c.active.slots mark)) choice sound free served_it.allowed).demand, s.same_pages);
+    fits = s.fits;
+    counters = (counted, told);
+  }
+
+  pub told_left : (scopes : Option ℕ) (globals : Words) (many left : ℕ) → left ≡ many → IsTold scopes globals (suc many) → IsTold scopes (left_globals scopes globals left) many
+  told_left None globals many left same told = absurd (omega (arith, told))
+  told_left (Some place) globals many left same told = put-same globals place left ∙ same
+
+  pub data_left : (scopes : Option ℕ) (t : Tables) (g : ℕ) (objects : List Object) (locals : ℕ → Option ℕ) (outer : List Waiting) (slots globals : Words) (frames : List Frame) (left : ℕ) → scopes_of source ≡ scopes
+      → DataAt source t g objects locals outer slots globals frames → DataAt source t g objects locals outer slots (left_globals scopes globals left) frames
+  data_left None t g objects locals outer slots globals frames left is facts = facts
+  data_left (Some place) t g objects locals outer slots globals frames left is facts = data_told source t g objects locals outer slots globals frames place left is facts
+
+  -- the end of a block closes its regions, newest first
+  pub closes_region : (number : ℕ) (k : List Entry) (e : Environment) (w : World) (c : Configuration) (exits : Exits)
+      → (shared : SharedAt source pages calls (CloseLexical number ∷ k) e w c) → DataIn source shared.tables c.active.slots (CloseLexical number ∷ k) e w c → IsNested (CloseLexical number ∷ k) e w
+      → StatementStack source c.active.function exits c.active.next c.frames (CloseLexical number ∷ k) → IsMatched source pages calls (Running Proceeding (CloseLexical number ∷ k) e w) (plain.Running c)
+  closes_region number k e w c exits shared (facts, (mark_is, stand)) nested (outer, q, inside, close, stack) =
+      let g = c.active.function in
+      let t = floor source g k in
+      let ends = ends-newest number k e w nested in
+      let r = ends.region in
+      let new = closed w number r in
+      let many : scopes w.regions ≡ suc (c.active.slots t) = scopes_open (CloseLexical number ∷ k) e w nested ∙ ap suc (sym mark_is) in
+      let s = c.store in
+      let related = closed-behind s (c.active.slots t) number r (subst (λ n. objects.Related shared.tables (silent w) (closed_to s n)) many (related-unclosed shared.related)) many ends.there ends.scope ends.newest in
+      let free = refusal-close_to s (c.active.slots t) (omega (arith, scopes-same shared.related.regions, many)) in
+      let closing : Shared pages calls new (e.home ∷ homes k) (Unit {0}) c.output c.input (closed_to s (c.active.slots t)) (length c.frames) = record {
+        tables = shared.tables;
+        same_output = shared.same_output;
+        same_input = shared.same_input;
+        same_pages = shared.same_pages;
+        related = related;
+        globals = shared.globals;
+        variables = shared.variables;
+        few_pages = omega (arith, related.sound.demand, shared.same_pages);
+        fits = shared.fits;
+        counters = tt;
+      } in
+      closes_to Proceeding (CloseLexical number ∷ k) e w c (Running Proceeding k e new) t q (ap (λ a. closing_lexical a Proceeding number k e w) ends.found) shared.same_output close free
+      (λ choice served_it. (
+        shared_after k e new c t q (Unit {0}) closing shared.counters.0 shared.related.sound choice free served_it (told_left (scopes_of source) c.globals (scopes_in k) (c.active.slots t) mark_is shared.counters.1),
+        behind_statement outer
+            (data_left (scopes_of source) shared.tables g w.objects e.locals (callers k) c.active.slots c.globals c.frames (c.active.slots t) refl facts, stand) stack,
+      ))
+
+  -- what was lent comes back
+  pub ends_loan : (lent : ℕ) (k : List Entry) (e : Environment) (w : World) (c : Configuration) (exits : Exits)
+      → (shared : SharedAt source pages calls (EndLoan lent ∷ k) e w c) → DataIn source shared.tables c.active.slots (EndLoan lent ∷ k) e w c
+      → StatementStack source c.active.function exits c.active.next c.frames (EndLoan lent ∷ k) → IsMatched source pages calls (Running Proceeding (EndLoan lent ∷ k) e w) (plain.Running c)
+  ends_loan lent k e w c exits shared facts stack =
+      silently source pages calls (Running Proceeding (EndLoan lent ∷ k) e w) (Running Proceeding k e w) (plain.Running c) refl (shared, behind_statement exits facts stack) (omega arith)
