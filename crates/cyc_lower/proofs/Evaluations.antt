@@ -225,7 +225,7 @@ module _ (source : Program) (pages calls : ℕ) where
   known_operand : (a : Expression) (o : Operand) (k : List Entry) (e : Environment) (w : World) (c : Configuration) (q : ℕ) → operand_of (starts_on source c.active.function k) a ≡ Some o → c.active.next ≡ q → At_step a k e w c
       → ValueStack source c.active.function e.locals (given_at source c.active.function a) o q c.frames k → IsBegun a k e w c
   known_operand a o k e w c q known end (well, shared, facts, holds) stack =
-      let found = reads shared.tables a o k e w c known well (counters_hold shared.tables e.counters c.active.slots (floor source c.active.function k) k shared.counters holds) facts in
+      let found = reads shared.tables a o k e w c known well (counters_hold shared.tables e.counters c.active.slots (floor source c.active.function k) k shared.counters.0 holds) facts in
       silently source pages calls (Running (Evaluating a) k e w) (Running (Given found.value) k e w) (plain.Running c) found.gives (
         shared,
         in_operand o facts found.is holds
@@ -417,7 +417,7 @@ module _ (source : Program) (pages calls : ℕ) where
       let v : Kinded = record { kind = kinds.Nullable; value = Null } in
       by_one source pages calls refl shared at (λ choice. landed_moved v (operands.Word 0) d k e w c q choice shared refl facts holds end lands)
   comes (typed.Counter l) k e w c d q (well, shared, facts, holds) (slot, there, at, end) lands =
-      let (index, now, is) = counters_hold shared.tables e.counters c.active.slots (floor source c.active.function k) k shared.counters holds l slot there in
+      let (index, now, is) = counters_hold shared.tables e.counters c.active.slots (floor source c.active.function k) k shared.counters.0 holds l slot there in
       by_one source pages calls (ap (λ (i : Option ℕ). counts i k e w) now) shared at
       (λ choice. landed_word index (c.active.slots slot) d k e w c q is shared facts holds end lands)
   comes (Copy (Local p n) t) k e w c d q (well, shared, facts, holds) (at, end) lands = comes_from (Copy (Local p n) t) n t k e w c d q refl well shared facts holds at end lands
@@ -552,12 +552,12 @@ module _ (source : Program) (pages calls : ℕ) where
   beside_left : (a : Expression) (k : List Entry) (e : Environment) (w : World) (c : Configuration) → IsWell (step source (Running (Evaluating a) k e w)) → (shared : SharedAt source pages calls k e w c) → DataIn source shared.tables c.active.slots k e w c
       → RightAt source shared.tables a e.locals c.active.function c.active.next c.active.slots c.frames k → IsBegun a k e w c
   beside_left a (Needs (Apply u left) ∷ k) e w c well shared facts (l, r, known, is_left, holds, applied) =
-      let found = reads shared.tables a r (Needs (Apply u left) ∷ k) e w c known well (counters_hold shared.tables e.counters c.active.slots (floor source c.active.function k) k shared.counters holds) facts in
+      let found = reads shared.tables a r (Needs (Apply u left) ∷ k) e w c known well (counters_hold shared.tables e.counters c.active.slots (floor source c.active.function k) k shared.counters.0 holds) facts in
       silently source pages calls (Running (Evaluating a) (Needs (Apply u left) ∷ k) e w) (Running (Given found.value) (Needs (Apply u left) ∷ k) e w) (plain.Running c) found.gives
       (shared, with_left facts (l, r, is_left, found.is, holds, applied))
       (omega (arith, found.some))
   beside_left a (Needs (Advance peek target base) ∷ k) e w c well shared facts (n, x, q, known, is_base, low, holds, advances) =
-      let found = reads shared.tables a x (Needs (Advance peek target base) ∷ k) e w c known well (counters_hold shared.tables e.counters c.active.slots (floor source c.active.function k) k shared.counters holds) facts in
+      let found = reads shared.tables a x (Needs (Advance peek target base) ∷ k) e w c known well (counters_hold shared.tables e.counters c.active.slots (floor source c.active.function k) k shared.counters.0 holds) facts in
       silently source pages calls (Running (Evaluating a) (Needs (Advance peek target base) ∷ k) e w) (Running (Given found.value) (Needs (Advance peek target base) ∷ k) e w) (plain.Running c) found.gives
       (shared, with_left facts (n, x, q, found.is, is_base, low, holds, advances))
       (omega (arith, found.some))

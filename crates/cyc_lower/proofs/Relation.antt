@@ -11,11 +11,13 @@ use Rattle.cyc_types.specs.declared.typed.Callee.TheVariants as callees
 use Rattle.cyc_types.specs.Types.{Ty}
 use Rattle.cyc_types.specs.TypedTrees.{Lvalue, Local, Global, Expression, NoArguments, NoOperations, Statement, Function, Program, Convert, Dereference, Side, VariableSide, CellSide, Clauses}
 use Rattle.cyc_types.specs.Numbered.{Numbering, argument_count, numbering_of, signatures_of}
-use Rattle.cyc_store.specs.State.{StoreState, demand}
+use Rattle.cyc_store.specs.State.{StoreState, demand, lexical_count}
+use Rattle.cyc_store.specs.Soundness.{IsSound}
 use Rattle.cyc_store.specs.declared.range.TheConstants.{HEAP, UNIQUE, MOST_BLOCK_WORDS}
 use Rattle.cyc_objects.specs.Tables.{Variable, Placed, Tables}
 use Rattle.cyc_objects.specs.Words.{words_of_kinds, InRange, Is, Points, before}
 use Rattle.cyc_objects.specs.Related as objects
+use Rattle.cyc_objects.specs.Related.{scopes, closed_to}
 use Rattle.cyc_plain.specs.declared.instruction.BinaryOperator.TheVariants as plain_binary
 use Rattle.cyc_plain.specs.declared.instruction.Comparison.{Comparison}
 use Rattle.cyc_plain.specs.declared.instruction.Comparison.TheVariants as comparisons
@@ -324,6 +326,16 @@ pub record Shared (pages calls : ℕ) (w : World) (regions : List ℕ) (counting
   pub fits : suc waiting ≤ calls
   -- the counters of arrays, and the lexical regions that are open
   pub counters : counting
+
+-- While lexical regions are left the source closes one at a step, and the store all at the end: it is ahead of what is matched by so many
+-- regions as are still open.
+abbrev pub store_by : (closing : Option ℕ) → StoreState → (many : ℕ) → StoreState
+store_by None store many = store
+store_by (Some mark) store many = closed_to store many
+
+-- the store still has those regions that the source has closed
+abbrev pub IsAhead : StoreState → (many : ℕ) → Type 0
+IsAhead store many = IsSound store × (many ≤ lexical_count store.regions)
 
 module _ (source : Program) where
   -- ---- functions of the program
@@ -847,12 +859,22 @@ module _ (source : Program) where
 
   -- ---- states
 
-  -- what is said of the counters of arrays and of the lexical regions that are open
-  abbrev pub CountsAt : Environment → List Entry → (globals : Words) → Type 0
-  CountsAt e k globals = AreCounted e.counters k × IsTold (scopes_of source) globals (scopes_in k)
+  -- What is said of the counters of arrays, and of the lexical regions that are open: so many entries end them, and so many the source has
+  -- open.
+  abbrev pub ScopesBy : (closing : Option ℕ) → (globals : Words) → StoreState → (ended open : ℕ) → Type 0
+  ScopesBy None globals store ended open = IsTold (scopes_of source) globals ended
+  ScopesBy (Some mark) globals store ended open = IsAhead store open
+
+  abbrev pub CountsBy : (closing : Option ℕ) → Environment → List Entry → (globals : Words) → StoreState → (open : ℕ) → Type 0
+  CountsBy closing e k globals store open = AreCounted e.counters k × ScopesBy closing globals store (scopes_in k) open
+
+  -- what is shared while lexical regions are left, or not
+  abbrev pub SharedBy : (closing : Option ℕ) → (pages calls : ℕ) → List Entry → Environment → World → Configuration → Type 0
+  SharedBy closing pages calls k e w c =
+      Shared pages calls w (e.home ∷ homes k) (CountsBy closing e k c.globals c.store (scopes w.regions)) c.output c.input (store_by closing c.store (scopes w.regions)) (length c.frames)
 
   abbrev pub SharedAt : (pages calls : ℕ) → List Entry → Environment → World → Configuration → Type 0
-  SharedAt pages calls k e w c = Shared pages calls w (e.home ∷ homes k) (CountsAt e k c.globals) c.output c.input c.store (length c.frames)
+  SharedAt pages calls k e w c = SharedBy None pages calls k e w c
 
   -- what stands where a handler catches an exception: it was opened by this instruction, and its clauses end where all goes on
   abbrev pub CatchesAt : (g : ℕ) → Clauses → (index : ℕ) → List Frame → List Entry → Type 0
@@ -918,7 +940,7 @@ module _ (source : Program) where
 
   abbrev pub Throws : (pages calls : ℕ) → (tag value : ℕ) → List Entry → Environment → World → Configuration → Type 0
   Throws pages calls tag value k e w c =
-      (shared : SharedAt pages calls k e w c) × (calls_in k ≤ calls) × IsNumber tag
+      (shared : SharedBy (scopes_of source) pages calls k e w c) × (calls_in k ≤ calls) × IsNumber tag
       × (x : Operand) × (o : Operand) × At (code_of c.active.function) c.active.next (instructions.Throw x o) × (operand_word c.active.slots x ≡ tag) × (operand_word c.active.slots o ≡ value)
       × (a : Activation) × (rest : List Frame) × (length rest ≤ length c.frames) × (throws c tag value c.active c.frames ≡ throws c tag value a rest)
       × DataAt shared.tables a.function w.objects e.locals (callers k) a.slots c.globals rest × CaughtBy a rest k
