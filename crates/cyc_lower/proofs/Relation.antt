@@ -36,6 +36,7 @@ use Rattle.cyc_plain.specs.Straight.{At}
 use Rattle.cyc_meaning.specs.Values.{Fat, Value, Null, Thin, Handle, Operand as Kinded, Cell, kinds_of, words_of_kind, is_thin}
 use Rattle.cyc_meaning.specs.Allocation.{writes_from, blanks_of}
 use Rattle.cyc_meaning.specs.State.{Owner, InRegion, Unique, Object, World, heap_number, globals_number, Environment, ConvertTo, Operate, Chain, Apply, ApplyPointer, Follow, LoadFrom, Decide, Store, Pass, PlaceBy, BesideHandle, MakePlain, MakeFields, MakeArray, FillElement, Initialise, Choose, Test, Return, Entry, Needs, NeedsPlace, Discard, Rest, Join, Loop, CloseRegion, CloseLexical, EndLoan, Handler, Caller, Main, calls_in, Focus, Evaluating, Locating, Given, Executing, Proceeding, Calling, Entering, Binding, Writing, Beginning, Repeating, Breaking, Continuing, Returning, Throwing, State, Running, Ended, GivenPlace, FollowMember, TakeAddress, StoreTo, StoreCell, FreeObject, CloseByKey, SwapLeft, SwapRight, Write, Swapping, ThrowWith, Naming, Catching, CountElements, Index, Advance}
+use Rattle.cyc_meaning.specs.Nesting.{lexicals_of}
 use Rattle.cyc_meaning.specs.Step.{object_of}
 use Rattle.cyc_meaning.specs.Operators.{null_exception, is_zero}
 use Rattle.cyc_meaning.specs.FrameCount.{words_of_all}
@@ -242,9 +243,7 @@ behind_records (entry ∷ k) scopes slot = behind_records k scopes slot
 
 -- how many lexical regions are open, of all calls
 abbrev pub scopes_in : List Entry → ℕ
-scopes_in [] = 0
-scopes_in (CloseLexical region ∷ k) = suc (scopes_in k)
-scopes_in (entry ∷ k) = scopes_in k
+scopes_in k = length (lexicals_of k)
 
 -- so many are told by the word for it: where there is none, none is ever opened
 abbrev pub IsTold : (scopes : Option ℕ) → Words → (many : ℕ) → Type 0
@@ -333,9 +332,13 @@ abbrev pub store_by : (closing : Option ℕ) → StoreState → (many : ℕ) →
 store_by None store many = store
 store_by (Some mark) store many = closed_to store many
 
--- the store still has those regions that the source has closed
-abbrev pub IsAhead : StoreState → (many : ℕ) → Type 0
-IsAhead store many = IsSound store × (many ≤ lexical_count store.regions)
+-- The store still has those regions that the source has closed. There is a word then that tells how many are open.
+abbrev pub HasScopes : Option ℕ → Type 0
+HasScopes None = ⊥
+HasScopes (Some place) = Unit {0}
+
+abbrev pub IsAhead : (scopes : Option ℕ) → StoreState → (many : ℕ) → Type 0
+IsAhead place store many = HasScopes place × IsSound store × (many ≤ lexical_count store.regions)
 
 module _ (source : Program) where
   -- ---- functions of the program
@@ -861,12 +864,12 @@ module _ (source : Program) where
 
   -- What is said of the counters of arrays, and of the lexical regions that are open: so many entries end them, and so many the source has
   -- open.
-  abbrev pub ScopesBy : (closing : Option ℕ) → (globals : Words) → StoreState → (ended open : ℕ) → Type 0
-  ScopesBy None globals store ended open = IsTold (scopes_of source) globals ended
-  ScopesBy (Some mark) globals store ended open = IsAhead store open
+  abbrev pub ScopesBy : (closing : Option ℕ) → (globals : Words) → StoreState → (ended now : ℕ) → Type 0
+  ScopesBy None globals store ended now = IsTold (scopes_of source) globals ended
+  ScopesBy (Some mark) globals store ended now = IsAhead (scopes_of source) store now
 
-  abbrev pub CountsBy : (closing : Option ℕ) → Environment → List Entry → (globals : Words) → StoreState → (open : ℕ) → Type 0
-  CountsBy closing e k globals store open = AreCounted e.counters k × ScopesBy closing globals store (scopes_in k) open
+  abbrev pub CountsBy : (closing : Option ℕ) → Environment → List Entry → (globals : Words) → StoreState → (now : ℕ) → Type 0
+  CountsBy closing e k globals store now = AreCounted e.counters k × ScopesBy closing globals store (scopes_in k) now
 
   -- what is shared while lexical regions are left, or not
   abbrev pub SharedBy : (closing : Option ℕ) → (pages calls : ℕ) → List Entry → Environment → World → Configuration → Type 0

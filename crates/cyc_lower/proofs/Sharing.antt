@@ -15,7 +15,8 @@ use Rattle.cyc_store.proofs.CountLemmas.{demand-part}
 use Rattle.cyc_store.proofs.HolderLemmas.{IsPart-down_to}
 use Rattle.cyc_objects.proofs.Values.{Grows-row, Grows-handle}
 use Rattle.cyc_objects.proofs.Variables.{declared, assigned, opened-variables, closed-variables, handle-made}
-use Rattle.cyc_lower.proofs.Relation.{homes, SharedAt, SharedBy, ScopesBy, store_by, scopes_in, silent}
+use Rattle.cyc_lower.proofs.Relation.{homes, HasScopes, SharedAt, SharedBy, ScopesBy, store_by, scopes_in, silent}
+use Rattle.cyc_lower.specs.Lowering.{scopes_of}
 use Rattle.cyc_lower.proofs.Counters.{counted_less}
 use Rattle.cyc_lower.proofs.Data.{append_seam, variables_grow}
 
@@ -81,11 +82,11 @@ shared_closed source closing pages calls k e w c number home r there s = record 
   tables = s.tables;
   same_output = s.same_output;
   same_input = s.same_input;
-  same_pages = subst (λ open. (store_by closing c.store open).pages ≡ pages) same s.same_pages;
-  related = subst (λ open. Related s.tables (silent (closed w number r)) (store_by closing c.store open)) same after;
+  same_pages = subst (λ now. (store_by closing c.store now).pages ≡ pages) same s.same_pages;
+  related = subst (λ now. Related s.tables (silent (closed w number r)) (store_by closing c.store now)) same after;
   globals = s.globals;
   variables = s.variables.1.1;
-  few_pages = subst (λ open. demand (store_by closing c.store open) ≤ pages) same s.few_pages;
+  few_pages = subst (λ now. demand (store_by closing c.store now) ≤ pages) same s.few_pages;
   fits = s.fits;
   counters = (s.counters.0, subst (ScopesBy source closing c.globals c.store (scopes_in k)) same s.counters.1);
 }
@@ -97,9 +98,9 @@ shared_closed source closing pages calls k e w c number home r there s = record 
     same = sym (scopes-same s.related.regions) ∙ scopes-same after.regions
 
 -- Lexical regions are to be left: the source may close them one by one, and the store still has them.
-abbrev pub shared_ahead : (source : Program) (closing : Option ℕ) (pages calls : ℕ) (k : List Entry) (e : Environment) (w : World) (c : Configuration) → SharedAt source pages calls k e w c
-    → SharedBy source closing pages calls k e w c
-shared_ahead source closing pages calls k e w c s = record {
+abbrev pub shared_ahead : (source : Program) (closing : Option ℕ) (pages calls : ℕ) (k : List Entry) (e : Environment) (w : World) (c : Configuration)
+    → ((mark : ℕ) → closing ≡ Some mark → HasScopes (scopes_of source)) → SharedAt source pages calls k e w c → SharedBy source closing pages calls k e w c
+shared_ahead source closing pages calls k e w c known s = record {
   tables = s.tables;
   same_output = s.same_output;
   same_input = s.same_input;
@@ -109,7 +110,7 @@ shared_ahead source closing pages calls k e w c s = record {
   variables = s.variables;
   few_pages = omega (arith, fewer closing, s.few_pages);
   fits = s.fits;
-  counters = (s.counters.0, counted closing);
+  counters = (s.counters.0, counted closing known);
 }
   where
     pages_same : (o : Option ℕ) → (store_by o c.store (scopes w.regions)).pages ≡ c.store.pages
@@ -124,9 +125,9 @@ shared_ahead source closing pages calls k e w c s = record {
     fewer None = omega arith
     fewer (Some mark) = demand-part (IsPart-down_to (scopes w.regions) c.store.regions) c.store.classes
 
-    counted : (o : Option ℕ) → ScopesBy source o c.globals c.store (scopes_in k) (scopes w.regions)
-    counted None = s.counters.1
-    counted (Some mark) = (s.related.sound, omega (arith, scopes-same s.related.regions))
+    counted : (o : Option ℕ) → ((mark : ℕ) → o ≡ Some mark → HasScopes (scopes_of source)) → ScopesBy source o c.globals c.store (scopes_in k) (scopes w.regions)
+    counted None there = s.counters.1
+    counted (Some mark) there = (there mark refl, s.related.sound, omega (arith, scopes-same s.related.regions))
 
 -- a call is left by an exception
 abbrev pub shared_left : (source : Program) (closing : Option ℕ) (pages calls : ℕ) (k : List Entry) (e outer : Environment) (w : World) (c : Configuration) → SharedBy source closing pages calls (Caller outer ∷ k) e w c

@@ -47,7 +47,7 @@ use Rattle.cyc_lower.specs.Lowerable.{is_converted, is_pointer}
 use Rattle.cyc_lower.proofs.Lengths.{body_long, past_long}
 use Rattle.cyc_types.specs.typing.Expressions.{type_of_side}
 use Rattle.cyc_lower.proofs.Values.{as_wide}
-use Rattle.cyc_lower.proofs.Slots.{words_positive, slot-room, slot_types-many, slots-few, global-room, global-inside}
+use Rattle.cyc_lower.proofs.Slots.{words_positive, slot-room, slot_types-many, slots-few, global-room, global-inside, globals_counted}
 use Rattle.std.proofs.lemmas.List.{length-replicate}
 
 -- ---- lists
@@ -1255,10 +1255,6 @@ signatures_known structs globals (h ∷ hs) zero s there =
     (omega arith, ap (λ (x : Signature). words_of_all x.parameters) same, ap (λ (x : Signature). results_of x.result) same)
 signatures_known structs globals (h ∷ hs) (suc n) s there =
     let (few, parameters, results) = signatures_known structs globals hs n s there in (omega (arith, few), parameters, results)
-
-pub globals_counted : (gs : List GlobalVariable) → words_of_all (global_types gs) ≡ length (lower_globals gs)
-globals_counted [] = refl
-globals_counted (g ∷ gs) = omega (arith, length-append (lower_global g) (lower_globals gs), length-replicate {A = ℕ} (words_of g.of_type - 1) 0, words_positive g.of_type, globals_counted gs)
 
 module _ (source : Program) (is_fitting : IsFitting source) where
   known_functions : (n : ℕ) (s : Signature) → slice_get (signatures_of source.functions) n ≡ Some s → IsKnown (lower_program source) n s
