@@ -125,7 +125,7 @@ held (NeedsPlace (SwapRight kind peek true left) ∷ k) = record { kind = kinds.
 held (NeedsPlace a ∷ k) = held k
 held (entry ∷ k) = []
 
--- What stays where a value is handed on: a handle that only what is made needed does not.
+-- What stays where a value is handed on: a handle that only what was made needed does not.
 abbrev pub kept : List Entry → List Kinded
 kept (Needs (BesideHandle region) ∷ k) = kept k
 kept k = held k
@@ -417,7 +417,7 @@ module _ (source : Program) where
   abbrev pub top : ℕ → List Entry → ℕ
   top g k = height (floor g k) (held k)
 
-  -- and of one that is handed on
+  -- and of a value that is handed on
   abbrev pub ground : ℕ → List Entry → ℕ
   ground g k = height (floor g k) (kept k)
 
@@ -556,47 +556,47 @@ module _ (source : Program) where
         (q : ℕ) × ConversionAt (code_of g) (bounds_at g) (types_on g k) from to (option_map words_of_kind target) o (top g k) p q × ValueStack g locals to o q frames k
     ValueStack g locals kind o p frames (Needs (Operate operator) ∷ k) =
         Yields ((d : ℕ) × At (code_of g) p (instructions.Unary (unary_operator operator) d o)
-        × Lands (base_of g) (ground g k) d 1 (ValueStack g locals kinds.Int (operands.Slot d) (p + 1) frames k) (AheadStack g locals kinds.Int d (p + 1) frames k))
+        × Lands (base_of g) (top g k) d 1 (ValueStack g locals kinds.Int (operands.Slot d) (p + 1) frames k) (AheadStack g locals kinds.Int d (p + 1) frames k))
         ((operator ≡ unary.Not) × ConditionStack g comparisons.NotEqual o (operands.Word 0) p frames k)
     ValueStack g locals kind o p frames (Needs (Chain NoOperations) ∷ k) = ValueStack g locals kind o p frames k
     ValueStack g locals kind o p frames (Needs (Chain operations) ∷ k) =
         Yields ((d : ℕ) × (q : ℕ) × OperationsAt (code_of g) (bounds_at g) (types_on g k) operations o d (top g k) p q
-        × Lands (base_of g) (ground g k) d (words_of_kind (chain_kind kind operations)) (ValueStack g locals (chain_kind kind operations) (operands.Slot d) q frames k) (AheadStack g locals (chain_kind kind operations) d q frames k))
+        × Lands (base_of g) (top g k) d (words_of_kind (chain_kind kind operations)) (ValueStack g locals (chain_kind kind operations) (operands.Slot d) q frames k) (AheadStack g locals (chain_kind kind operations) d q frames k))
         ((failing : Comparison) × (r : Operand) × (q : ℕ) × ComparesAt (code_of g) (bounds_at g) (types_on g k) operations failing o r (top g k) p q × ConditionStack g failing o r q frames k)
     ValueStack g locals kind o p frames (Needs (Apply operator left) ∷ k) =
         Yields ((d : ℕ) × (q : ℕ) × OperatorAt (code_of g) (bounds_at g) (types_on g k) operator d (operands.Slot (top g k)) o p q
-        × Lands (base_of g) (ground g k) d 1 (ValueStack g locals kinds.Int (operands.Slot d) q frames k) (AheadStack g locals kinds.Int d q frames k))
+        × Lands (base_of g) (top g k) d 1 (ValueStack g locals kinds.Int (operands.Slot d) q frames k) (AheadStack g locals kinds.Int d q frames k))
         ((failing : Comparison) × (failing_comparison operator ≡ Some failing) × ConditionStack g failing (operands.Slot (top g k)) o p frames k)
     ValueStack g locals kind o p frames (Needs (ApplyPointer peek operator left) ∷ k) =
         (d : ℕ) × (q : ℕ) × PointerAt (code_of g) (bounds_at g) (types_on g k) operator o (top g k) d p q
-        × Lands (base_of g) (ground g k) d (words_of_kind (operator_kind operator)) (ValueStack g locals (operator_kind operator) (operands.Slot d) q frames k)
+        × Lands (base_of g) (top g k) d (words_of_kind (operator_kind operator)) (ValueStack g locals (operator_kind operator) (operands.Slot d) q frames k)
         (AheadStack g locals (operator_kind operator) d q frames k)
     ValueStack g locals kind o p frames (Needs CountElements ∷ k) =
         (d : ℕ) × (q : ℕ) × CountAt (code_of g) (bounds_at g) (types_on g k) o d p q
-        × Lands (base_of g) (ground g k) d 1 (ValueStack g locals kinds.Int (operands.Slot d) q frames k) (AheadStack g locals kinds.Int d q frames k)
+        × Lands (base_of g) (top g k) d 1 (ValueStack g locals kinds.Int (operands.Slot d) q frames k) (AheadStack g locals kinds.Int d q frames k)
     ValueStack g locals kind o p frames (Needs Decide ∷ k) =
         (d : ℕ) × (q : ℕ) × (o ≡ operands.Slot (top g k)) × TruthAt (code_of g) (bounds_at g) (types_on g k) (top g k) d p q
-        × Lands (base_of g) (ground g k) d 1 (ValueStack g locals kinds.Int (operands.Slot d) q frames k) (AheadStack g locals kinds.Int d q frames k)
+        × Lands (base_of g) (top g k) d 1 (ValueStack g locals kinds.Int (operands.Slot d) q frames k) (AheadStack g locals kinds.Int d q frames k)
     ValueStack g locals kind o p frames (Needs (Store place) ∷ k) =
         (l : Lvalue) × (to : Operand) × (q : ℕ) × StoreAt g kind l o to p q × IsPlaceOf locals l place
         × HandsOn (code_of g) (words_of_kind kind) to q (DroppedStack g q frames k) (ValueStack g locals kind to q frames k)
-        (λ d r. Lands (base_of g) (ground g k) d (words_of_kind kind) (ValueStack g locals kind (operands.Slot d) r frames k) (AheadStack g locals kind d r frames k))
+        (λ d r. Lands (base_of g) (top g k) d (words_of_kind kind) (ValueStack g locals kind (operands.Slot d) r frames k) (AheadStack g locals kind d r frames k))
     ValueStack g locals kind o p frames (Needs (StoreCell peek place) ∷ k) =
         (q : ℕ) × SavedAt (code_of g) (bounds_at g) (types_on g k) (words_of_kind kind) (top g k) o p q
         × HandsOn (code_of g) (words_of_kind kind) o q (DroppedStack g q frames k) (ValueStack g locals kind o q frames k)
-        (λ d r. Lands (base_of g) (ground g k) d (words_of_kind kind) (ValueStack g locals kind (operands.Slot d) r frames k) (AheadStack g locals kind d r frames k))
+        (λ d r. Lands (base_of g) (top g k) d (words_of_kind kind) (ValueStack g locals kind (operands.Slot d) r frames k) (AheadStack g locals kind d r frames k))
     ValueStack g locals kind o p frames (Needs (Pass callees.Putchar before arguments) ∷ k) =
         (before ≡ []) × (arguments ≡ NoArguments) × At (code_of g) p (instructions.WriteByte o)
         × Prints (code_of g) o (p + 1) (DroppedStack g (p + 1) frames k)
-        (λ d. Lands (base_of g) (ground g k) d 1 (ValueStack g locals kinds.Int (operands.Slot d) (p + 1 + 1) frames k) (AheadStack g locals kinds.Int d (p + 1 + 1) frames k))
+        (λ d. Lands (base_of g) (top g k) d 1 (ValueStack g locals kinds.Int (operands.Slot d) (p + 1 + 1) frames k) (AheadStack g locals kinds.Int d (p + 1 + 1) frames k))
     ValueStack g locals kind o p frames (Needs (Pass callee before arguments) ∷ k) =
         (d : ℕ) × (m : ℕ) × (q : ℕ) × (all : ℕ) × (o ≡ operands.Slot (height (floor g k) (before ++ held k)))
         × ArgumentsAt (code_of g) (bounds_at g) (types_on g k) arguments (height (floor g k) (before ++ held k) + words_of_kind kind) p m
         × CallAt g callee all (top g k) d m q × (words_held before + (words_of_kind kind + all_passed arguments) ≡ all)
-        × Lands (base_of g) (ground g k) d (words_of_kind (called_at g callee)) (ValueStack g locals (called_at g callee) (operands.Slot d) q frames k) (AheadStack g locals (called_at g callee) d q frames k)
+        × Lands (base_of g) (top g k) d (words_of_kind (called_at g callee)) (ValueStack g locals (called_at g callee) (operands.Slot d) q frames k) (AheadStack g locals (called_at g callee) d q frames k)
     ValueStack g locals kind o p frames (Needs (PlaceBy initial) ∷ k) =
         (d : ℕ) × (q : ℕ) × (o ≡ operands.Slot (top g k)) × MadeAt (code_of g) (bounds_at g) (types_on g k) initial o d (suc (top g k)) p q
-        × Lands (base_of g) (ground g k) d (words_of_kind (made_kind initial)) (ValueStack g locals (made_kind initial) (operands.Slot d) q frames k) (AheadStack g locals (made_kind initial) d q frames k)
+        × Lands (base_of g) (top g k) d (words_of_kind (made_kind initial)) (ValueStack g locals (made_kind initial) (operands.Slot d) q frames k) (AheadStack g locals (made_kind initial) d q frames k)
     ValueStack g locals kind o p frames (Needs (BesideHandle region) ∷ k) = ValueStack g locals kind o p frames k
     ValueStack g locals kind o p frames (Needs (MakePlain owner wanted) ∷ k) =
         (handle : Operand) × (d : ℕ) × (q : ℕ) × IsHandleOf owner handle (top g k) k × (o ≡ operands.Slot (top g k)) × ObjectAt (code_of g) (bounds_at g) (types_on g k) handle 1 (words_of_kind kind) (top g k) d p q
@@ -629,10 +629,10 @@ module _ (source : Program) where
         × StatementStack g exits q frames k
     ValueStack g locals kind o p frames (Needs FreeObject ∷ k) =
         (d : ℕ) × (q : ℕ) × FreedAt (code_of g) (bounds_at g) (types_on g k) o p q
-        × Lands (base_of g) (ground g k) d 1 (ValueStack g locals kinds.Int (operands.Slot d) q frames k) (AheadStack g locals kinds.Int d q frames k)
+        × Lands (base_of g) (top g k) d 1 (ValueStack g locals kinds.Int (operands.Slot d) q frames k) (AheadStack g locals kinds.Int d q frames k)
     ValueStack g locals kind o p frames (Needs CloseByKey ∷ k) =
         (d : ℕ) × (q : ℕ) × At (code_of g) p (instructions.Ask (requests.CloseDynamic o)) × (p + 1 ≡ q)
-        × Lands (base_of g) (ground g k) d 1 (ValueStack g locals kinds.Int (operands.Slot d) q frames k) (AheadStack g locals kinds.Int d q frames k)
+        × Lands (base_of g) (top g k) d 1 (ValueStack g locals kinds.Int (operands.Slot d) q frames k) (AheadStack g locals kinds.Int d q frames k)
     ValueStack g locals kind o p frames (Needs (ThrowWith tag) ∷ k) =
         (exits : Exits) × (q : ℕ) × IsNumber tag × At (code_of g) p (instructions.Throw (tag_operand tag) o) × StatementStack g exits q frames k
     ValueStack g locals kind o p frames (Needs (Follow pointer target) ∷ k) =
@@ -661,16 +661,16 @@ module _ (source : Program) where
     pub PlaceStack : (g : ℕ) → (ℕ → Option ℕ) → Operand → (c p : ℕ) → List Frame → List Entry → Type 0
     PlaceStack g locals o c p frames (NeedsPlace (LoadFrom cell) ∷ k) =
         (d : ℕ) × (q : ℕ) × LoadedAt (code_of g) (words_of_kind cell) o c d (top g k) p q
-        × Lands (base_of g) (ground g k) d (words_of_kind cell) (ValueStack g locals cell (operands.Slot d) q frames k) (AheadStack g locals cell d q frames k)
+        × Lands (base_of g) (top g k) d (words_of_kind cell) (ValueStack g locals cell (operands.Slot d) q frames k) (AheadStack g locals cell d q frames k)
     PlaceStack g locals o c p frames (NeedsPlace TakeAddress ∷ k) =
         (d : ℕ) × (q : ℕ) × AddressAt (code_of g) o c d p q
-        × Lands (base_of g) (ground g k) d 1 (ValueStack g locals kinds.NonNull (operands.Slot d) q frames k) (AheadStack g locals kinds.NonNull d q frames k)
+        × Lands (base_of g) (top g k) d 1 (ValueStack g locals kinds.NonNull (operands.Slot d) q frames k) (AheadStack g locals kinds.NonNull d q frames k)
     PlaceStack g locals o c p frames (NeedsPlace (StoreTo peek (Convert from to a)) ∷ k) =
         (x : Operand) × (s : ℕ) × (u : ℕ) × (q : ℕ) × AddressAt (code_of g) o c (top g k) p s
         × ConvertedOperandAt (code_of g) (bounds_at g) (types_on g k) (Convert from to a) (top g k + 1) x s u
         × SavedAt (code_of g) (bounds_at g) (types_on g k) (words_of_kind to) (top g k) x u q
         × HandsOn (code_of g) (words_of_kind to) x q (DroppedStack g q frames k) (ValueStack g locals to x q frames k)
-        (λ d r. Lands (base_of g) (ground g k) d (words_of_kind to) (ValueStack g locals to (operands.Slot d) r frames k) (AheadStack g locals to d r frames k))
+        (λ d r. Lands (base_of g) (top g k) d (words_of_kind to) (ValueStack g locals to (operands.Slot d) r frames k) (AheadStack g locals to d r frames k))
     PlaceStack g locals o c p frames (NeedsPlace (SwapLeft kind peek right) ∷ k) =
         (exits : Exits) × (x : Dereference) × (m : ℕ) × (r : ℕ) × (q : ℕ) × HasSide (code_of g) (bounds_at g) (types_at g) right kind
         × AddressAt (code_of g) o c (floor g k) p m × SideAt (code_of g) (bounds_at g) (types_at g) right (floor g k + 1) m r
@@ -702,7 +702,7 @@ module _ (source : Program) where
         (number : ℕ) × (object : ℕ) × (place ≡ Thin object 0) × (locals number ≡ Some object) × (slot_of (starts_at g) number ≡ n)
         × HasRoom (types_at g) number kind
         × HandsOn (code_of g) (words_of_kind kind) (operands.Slot n) p (DroppedStack g p frames k) (ValueStack g locals kind (operands.Slot n) p frames k)
-        (λ d r. Lands (base_of g) (ground g k) d (words_of_kind kind) (ValueStack g locals kind (operands.Slot d) r frames k) (AheadStack g locals kind d r frames k))
+        (λ d r. Lands (base_of g) (top g k) d (words_of_kind kind) (ValueStack g locals kind (operands.Slot d) r frames k) (AheadStack g locals kind d r frames k))
     AheadStack g locals kind n p frames (Needs (Initialise number wanted items) ∷ k) =
         (exits : Exits) × (q : ℕ) × (slot_of (starts_at g) number ≡ n) × HasRoom (types_at g) number kind × ItemsAt (code_of g) (bounds_at g) (types_at g) items exits (floor g k) p q × StatementStack g exits q frames k
     AheadStack g locals kind n p frames k = ⊥
@@ -721,7 +721,7 @@ module _ (source : Program) where
         × StatementStack g outer q frames k
     StatementStack g exits p frames (Caller e ∷ k) =
         (s : ℕ) × At (code_of g) p (instructions.Finish s) × IsOutside exits
-        × Below frames (λ f rest. Lands (base_of f.caller.function) (ground f.caller.function k) f.result (words_of_kind (returned_at g))
+        × Below frames (λ f rest. Lands (base_of f.caller.function) (top f.caller.function k) f.result (words_of_kind (returned_at g))
         (ValueStack f.caller.function e.locals (returned_at g) (operands.Slot f.result) f.caller.next rest k)
         (AheadStack f.caller.function e.locals (returned_at g) f.result f.caller.next rest k))
     StatementStack g exits p frames (Main ∷ k) = (s : ℕ) × At (code_of g) p (instructions.Finish s) × IsOutside exits × IsLast frames k
@@ -730,6 +730,11 @@ module _ (source : Program) where
   -- a value of a kind comes to slot d, and what is done with it stands from place p on
   abbrev pub LandsStack : (g : ℕ) → (ℕ → Option ℕ) → Kind → (d p : ℕ) → List Frame → List Entry → Type 0
   LandsStack g locals kind d p frames k =
+      Lands (base_of g) (top g k) d (words_of_kind kind) (ValueStack g locals kind (operands.Slot d) p frames k) (AheadStack g locals kind d p frames k)
+
+  -- the same for the pointer to what is made, which may come to the slot of its region's handle
+  abbrev pub LandsMade : (g : ℕ) → (ℕ → Option ℕ) → Kind → (d p : ℕ) → List Frame → List Entry → Type 0
+  LandsMade g locals kind d p frames k =
       Lands (base_of g) (ground g k) d (words_of_kind kind) (ValueStack g locals kind (operands.Slot d) p frames k) (AheadStack g locals kind d p frames k)
 
   abbrev pub HandsOnStack : (g : ℕ) → (ℕ → Option ℕ) → Kind → Operand → (p : ℕ) → List Frame → List Entry → Type 0
@@ -818,17 +823,17 @@ module _ (source : Program) where
       × IsObject t object (slots address) (done ++ kinds_of (blanks_of values)) × (length values ≤ words_held values)
       × HoldsFrom t slots slot values × StoresAt (code_of g) (bounds_at g) (types_on g k) (words_held values) address (4 * words_of_kinds done) slot p m
       × At (code_of g) m (instructions.Move d (operands.Slot address)) × (m + 1 ≡ q)
-      × Holds t slots (floor g k) (held k) × LandsStack g locals kinds.NonNull d q frames k
+      × Holds t slots (floor g k) (held k) × LandsMade g locals kinds.NonNull d q frames k
   FocusAt t (Beginning owner count level wanted element) k locals g p slots frames =
       (handle : Operand) × (d : ℕ) × (h : ℕ) × (r : ℕ) × (s : ℕ) × (q : ℕ) × IsHandleOf owner handle (top g k) k
       × At (code_of g) p (instructions.Ask (requests.Allocate (top g k) handle (operands.Slot (top g k + 3)))) × (p + 1 ≡ h)
       × (count * words_of_kind wanted ≤ MOST_BLOCK_WORDS) × (slots (top g k + 1) ≡ count) × (slots (top g k + 2) ≡ 0) × (slots (top g k + 3) ≡ max 1 (count * words_of_kind wanted))
       × (level ≡ length (counters_of (floor g k) k)) × ElementsAt (code_of g) (bounds_at g) (types_on g k) element (words_of_kind wanted) (top g k) d h r s q
-      × Holds t slots (floor g k) (held k) × LandsStack g locals kinds.Fat d q frames k
+      × Holds t slots (floor g k) (held k) × LandsMade g locals kinds.Fat d q frames k
   FocusAt t (Repeating object count index level wanted element) k locals g p slots frames =
       (d : ℕ) × (r : ℕ) × (s : ℕ) × (q : ℕ) × Is t kinds.Fat (Fat object 0 count index) slots (top g k) × (index ≤ count) × (count * words_of_kind wanted ≤ MOST_BLOCK_WORDS)
       × (level ≡ length (counters_of (floor g k) k)) × ElementsAt (code_of g) (bounds_at g) (types_on g k) element (words_of_kind wanted) (top g k) d p r s q
-      × Holds t slots (floor g k) (held k) × LandsStack g locals kinds.Fat d q frames k
+      × Holds t slots (floor g k) (held k) × LandsMade g locals kinds.Fat d q frames k
   FocusAt t (Writing writes None) k locals g p slots frames =
       (exits : Exits) × (q : ℕ) × WritesAt t locals g slots writes p q × StatementStack g exits q frames k
   FocusAt t (Swapping kind (Thin object offset) (Thin other beside) None) k locals g p slots frames =
