@@ -39,6 +39,7 @@ pub mod Accesses
 pub mod Branching
 pub mod Handlers
 pub mod Conditions
+pub mod Handles
 pub mod Counters
 pub mod Calls
 pub mod ExceptionSteps

@@ -114,5 +114,5 @@ shared_less source pages calls a k e w c s = record {
   variables = s.variables;
   few_pages = s.few_pages;
   fits = s.fits;
-  counters = counted_less e.counters a k s.counters;
+  counters = (counted_less e.counters a k s.counters.0, s.counters.1);
 }

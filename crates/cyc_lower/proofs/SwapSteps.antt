@@ -33,7 +33,7 @@ use Rattle.cyc_lower.proofs.Moves.{put_elsewhere, moved_slots, moves, moved_else
 use Rattle.cyc_lower.proofs.Weights.{focus_weight, stack_weight}
 use Rattle.cyc_lower.proofs.Stands.{EachAt, StoresAt, HasSide, SideAt, ReadAt, WriteAt, ExchangeAt, SwapAt, PlaceAt}
 use Rattle.cyc_lower.proofs.Relation.{base_of, floor, IsWord, Holds, held, contents, content_of, content_of_cell, with_kind, callers, behind_statement, IsSideAt, IsLeft, WritesAt, StatementStack, DataIn, SharedAt, Related, Matches, code_of, bounds_at, types_at, starts_at, base_of}
-use Rattle.cyc_lower.proofs.Data.{Is-same, one_word, IsWord-is, data_written, data_assigned, data_assigned_global, handlers_beside, behind-least}
+use Rattle.cyc_lower.proofs.Data.{Is-same, one_word, IsWord-is, data_written, data_assigned, data_assigned_global, handlers_beside, floor-least}
 use Rattle.cyc_lower.proofs.Sharing.{shared_written}
 use Rattle.cyc_lower.proofs.Accesses.{IsWell, is_fitting, is_stored, written_here, written_elsewhere, written_length}
 use Rattle.cyc_lower.proofs.CellWrites.{cell_is_there, saves_there, shared_saved, data_saved}
@@ -231,7 +231,7 @@ module _ (source : Program) (pages calls : ℕ) where
       let base = floor source g k in
       let words = words_of_kind kind in
       let d = base + 2 + words in
-      let above = behind-least k (base_of source g) in
+      let above = floor-least source g k in
       let found = is_swapped kind (cell_at w other beside) (Thin object offset) (Thin other beside) (Some before) k e w well in
       let reads = reads_side b (right_slot a base) d m other beside kind found.value k e w c shared facts found.at found.there found.same found.has (omega (arith, right_below base a)) is_b has_b read in
       let writes : List Write = record { place = Thin object offset; operand = record { kind = kind; value = found.value } } ∷ record { place = Thin other beside; operand = before } ∷ [] in

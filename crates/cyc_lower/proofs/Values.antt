@@ -60,7 +60,7 @@ use Rattle.cyc_objects.specs.Tables.{Variable, with_row}
 use Rattle.cyc_objects.proofs.Values.{Grows-row, Is-grows}
 use Rattle.cyc_lower.proofs.Sharing.{shared_declared, row_declared, shared_written}
 use Rattle.cyc_lower.proofs.Relation.{types_on, starts_on, IsWord, IsIn, with_kind, types_at, starts_at, Holds, held, contents, callers, in_place, by_jump, in_temporary, in_local, drops, leaves, copies, DataIn, SharedAt, StoreAt, to_slot, to_jump, ValueStack, ConditionStack, DroppedStack, AheadStack, LandsStack, HandsOnStack, AppliedStack, ReadyAt, as_operand, into_slot, as_right, in_operand, nowhere, ahead, compared, with_left, behind_statement, Related, Matches, code_of, bounds_at, base_of, top, floor, PlaceStack}
-use Rattle.cyc_lower.proofs.Data.{in_words, IsWord-is, one_word, height-least, Holds-same, Holds-above, data_above, data_assigned, data_assigned_global, data_declared, data_grows, null_is, points_in, null_at, points_at, behind-least, handlers_beside, data_written}
+use Rattle.cyc_lower.proofs.Data.{in_words, IsWord-is, one_word, height-least, Holds-same, Holds-above, data_above, data_assigned, data_assigned_global, data_declared, data_grows, null_is, points_in, null_at, points_at, floor-least, handlers_beside, data_written}
 use Rattle.cyc_lower.proofs.Accesses.{IsWell, is_fitting, is_stored, written_here, written_elsewhere, written_length, is_declared, home_there, is_member}
 use Rattle.cyc_lower.proofs.PlaceWords.{stays, member_there, cell_kind, word_is}
 use Rattle.cyc_lower.proofs.CellWrites.{cell_is_there, saves_there, shared_saved, data_saved}
@@ -854,7 +854,7 @@ module _ (source : Program) (pages calls : ℕ) where
           handlers_beside source g c.active.slots slots c.active.handlers c.frames k slot words (omega (arith, inside, room)) elsewhere facts.1,
         ),
         subst (IsIn shared.tables v slots) (sym there) moved,
-        Holds-above shared.tables c.active.slots slots (floor source g k) (held k) (λ m above. elsewhere m (inr (omega (arith, inside, room, above, behind-least k (base_of source g))))) holds,
+        Holds-above shared.tables c.active.slots slots (floor source g k) (held k) (λ m above. elsewhere m (inr (omega (arith, inside, room, above, floor-least source g k)))) holds,
       ) hands)
   stores object v (Global n) o to k e w c q found well (shared, facts, is, holds) (at_c, there, room) hands =
       let g = c.active.function in
