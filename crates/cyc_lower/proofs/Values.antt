@@ -59,7 +59,8 @@ use Rattle.cyc_objects.proofs.Pointers.{not-null, part-not-null, pointer-word}
 use Rattle.cyc_objects.specs.Tables.{Variable, with_row}
 use Rattle.cyc_objects.proofs.Values.{Grows-row, Is-grows}
 use Rattle.cyc_lower.proofs.Sharing.{shared_declared, row_declared, shared_written}
-use Rattle.cyc_lower.proofs.Relation.{types_on, starts_on, IsWord, IsIn, with_kind, types_at, starts_at, Holds, held, contents, callers, in_place, by_jump, in_temporary, in_local, drops, leaves, copies, DataIn, SharedAt, StoreAt, to_slot, to_jump, ValueStack, ConditionStack, DroppedStack, AheadStack, LandsStack, HandsOnStack, AppliedStack, ReadyAt, as_operand, into_slot, as_right, in_operand, nowhere, ahead, compared, with_left, behind_statement, Related, Matches, code_of, bounds_at, base_of, top, floor, PlaceStack}
+use Rattle.cyc_lower.proofs.Relation.{types_on, starts_on, IsWord, IsIn, with_kind, types_at, starts_at, Holds, held, kept, contents, callers, in_place, by_jump, in_temporary, in_local, drops, leaves, copies, DataIn, SharedAt, StoreAt, to_slot, to_jump, ValueStack, ConditionStack, DroppedStack, AheadStack, LandsStack, HandsOnStack, AppliedStack, ReadyAt, as_operand, into_slot, as_right, in_operand, nowhere, ahead, compared, with_left, behind_statement, Related, Matches, code_of, bounds_at, base_of, top, floor, PlaceStack}
+use Rattle.cyc_lower.proofs.Handles.{kept_holds}
 use Rattle.cyc_lower.proofs.Data.{in_words, IsWord-is, one_word, height-least, Holds-same, Holds-above, data_above, data_assigned, data_assigned_global, data_declared, data_grows, null_is, points_in, null_at, points_at, floor-least, handlers_beside, data_written}
 use Rattle.cyc_lower.proofs.Accesses.{IsWell, is_fitting, is_stored, written_here, written_elsewhere, written_length, is_declared, home_there, is_member}
 use Rattle.cyc_lower.proofs.PlaceWords.{stays, member_there, cell_kind, word_is}
@@ -308,7 +309,7 @@ module _ (source : Program) (pages calls : ℕ) where
       → c.active.next ≡ q → ValueStack source c.active.function e.locals to o q c.frames k → GoesBehind (of_kind i v) (Needs (ConvertTo from to target) ∷ k) e w c
   kept_value from to target i v o k e w c q gives does (shared, facts, is, holds) end stack =
       silently source pages calls (Running (Given (of_kind i v)) (Needs (ConvertTo from to target) ∷ k) e w) (Running (Given (of_kind to v)) k e w) (plain.Running c) does
-      (shared, in_operand o facts (kept_in shared.tables i to v c.active.slots o gives is) holds (subst (λ r. ValueStack source c.active.function e.locals to o r c.frames k) (sym end) stack))
+      (shared, in_operand o facts (kept_in shared.tables i to v c.active.slots o gives is) (kept_holds _ _ _ k holds) (subst (λ r. ValueStack source c.active.function e.locals to o r c.frames k) (sym end) stack))
       (omega arith)
 
   -- a value is converted from its own kind
@@ -337,7 +338,7 @@ module _ (source : Program) (pages calls : ℕ) where
   converted from kinds.NonNull target i (Thin object offset) o k e w c well does wide (shared, facts, is, holds) (q, check, stack) =
       guard_passes (Running (Given (of_kind kinds.NonNull (Thin object offset))) k e w) null_exception comparisons.Equal o (operands.Word 0) e w c q does shared check
       (not_zero shared.tables i object offset c.active.slots o is)
-      (shared, in_operand o facts (kept_in shared.tables i kinds.NonNull (Thin object offset) c.active.slots o refl is) holds stack)
+      (shared, in_operand o facts (kept_in shared.tables i kinds.NonNull (Thin object offset) c.active.slots o refl is) (kept_holds _ _ _ k holds) stack)
   converted from kinds.Fat target i (Thin object offset) o k e w c well does wide (shared, facts, is, holds) stack =
       let (words, p, same, is_it) = in_words shared.tables (of_kind i (Thin object offset)) c.active.slots o is in
       absurd (not_widened shared.tables i object offset words p is_it wide)
@@ -709,7 +710,7 @@ module _ (source : Program) (pages calls : ℕ) where
       → ValueStack source c.active.function e.locals v.kind o c.active.next c.frames (Needs (Chain os) ∷ k) → GoesBehind v (Needs (Chain os) ∷ k) e w c
   chains NoOperations v o k e w c well (shared, facts, is, holds) stack =
       silently source pages calls (Running (Given v) (Needs (Chain NoOperations) ∷ k) e w) (Running (Given v) k e w) (plain.Running c) refl
-      (shared, in_operand o facts is holds stack)
+      (shared, in_operand o facts is (kept_holds _ _ _ k holds) stack)
       (omega arith)
   chains (ThenCompute u b os) v o k e w c well stands (to_slot (d, q, (r, m, s, at_b, at, ops), lands)) =
       chain_goes_on (operand_of (starts_on source c.active.function k) b) u b os v o k e w c r m well refl stands at_b
@@ -753,10 +754,10 @@ module _ (source : Program) (pages calls : ℕ) where
   pub landed_there : (v : Kinded) (d : ℕ) (k : List Entry) (e : Environment) (w : World) (c : Configuration) (q : ℕ) → Stands v (operands.Slot d) k e w c → c.active.next ≡ q
       → LandsStack source c.active.function e.locals v.kind d q c.frames k → Related source pages calls (Given v) k e w c
   landed_there v d k e w c q (shared, facts, is, holds) end (in_temporary least stack) =
-      (shared, in_operand (operands.Slot d) facts is holds (subst (λ r. ValueStack source c.active.function e.locals v.kind (operands.Slot d) r c.frames k) (sym end) stack))
+      (shared, in_operand (operands.Slot d) facts is (kept_holds _ _ _ k holds) (subst (λ r. ValueStack source c.active.function e.locals v.kind (operands.Slot d) r c.frames k) (sym end) stack))
   landed_there v d k e w c q (shared, facts, is, holds) end (in_local below stack) = (
     shared,
-    ahead d (c.active.slots, λ m out. refl, facts) is holds (subst (λ r. AheadStack source c.active.function e.locals v.kind d r c.frames k) (sym end) stack),
+    ahead d (c.active.slots, λ m out. refl, facts) is (kept_holds _ _ _ k holds) (subst (λ r. AheadStack source c.active.function e.locals v.kind d r c.frames k) (sym end) stack),
   )
 
   copied : (b : Bool) (v : Kinded) (o : Operand) (d : ℕ) (k : List Entry) (e : Environment) (w : World) (c : Configuration) (q : ℕ) → is_in o d ≡ b → Stands v o k e w c
@@ -772,7 +773,7 @@ module _ (source : Program) (pages calls : ℕ) where
   handed v o k e w c q here (shared, facts, is, holds) (drops stack) =
       at_once (shared, nowhere facts (subst (λ r. DroppedStack source c.active.function r c.frames k) (sym here) stack))
   handed v o k e w c q here (shared, facts, is, holds) (leaves stack) =
-      at_once (shared, in_operand o facts is holds (subst (λ r. ValueStack source c.active.function e.locals v.kind o r c.frames k) (sym here) stack))
+      at_once (shared, in_operand o facts is (kept_holds _ _ _ k holds) (subst (λ r. ValueStack source c.active.function e.locals v.kind o r c.frames k) (sym here) stack))
   handed v o k e w c q here stands (copies d r copy lands) =
       copied (is_in o d) v o d k e w c r refl stands (subst (λ x. CopyAt (code_of source c.active.function) (words_of_kind v.kind) o d x r) (sym here) copy) lands
 
@@ -1225,8 +1226,13 @@ module _ (source : Program) (pages calls : ℕ) where
   follows_member pointer fields field i (Handle region) o k e w c well stands stack = absurd (goes_wrong (is_kind i pointer) w well)
   follows_member pointer fields field i (Key region) o k e w c well stands stack = absurd (goes_wrong (is_kind i pointer) w well)
 
+  -- what is known of one that is handed on
+  abbrev IsGiven : Kinded → Operand → List Entry → Environment → World → Configuration → Type 0
+  IsGiven v o k e w c = (shared : SharedAt source pages calls k e w c) × DataIn source shared.tables c.active.slots k e w c × IsIn shared.tables v c.active.slots o
+      × Holds shared.tables c.active.slots (floor source c.active.function k) (kept k)
+
   -- where the value stands in an operand
-  stands_given : (v : Kinded) (o : Operand) (k : List Entry) (e : Environment) (w : World) (c : Configuration) → HasWords (lower_program source) → plain.HoldsWords (plain.Running c) → IsWell (step source (Running (Given v) k e w)) → Stands v o k e w c
+  stands_given : (v : Kinded) (o : Operand) (k : List Entry) (e : Environment) (w : World) (c : Configuration) → HasWords (lower_program source) → plain.HoldsWords (plain.Running c) → IsWell (step source (Running (Given v) k e w)) → IsGiven v o k e w c
       → ValueStack source c.active.function e.locals v.kind o c.active.next c.frames k → GoesBehind v k e w c
   stands_given v o [] e w c of_words words well stands stack = absurd stack
   stands_given v o (Needs (ConvertTo from to target) ∷ k) e w c of_words words well stands stack = converts from to target v o k e w c well stands stack
@@ -1277,16 +1283,16 @@ module _ (source : Program) (pages calls : ℕ) where
 
   ahead_given : (v : Kinded) (n : ℕ) (old : Words) (k : List Entry) (e : Environment) (w : World) (c : Configuration) → IsWell (step source (Running (Given v) k e w)) → (shared : SharedAt source pages calls k e w c)
       → ((m : ℕ) → Outside n (words_of_kind v.kind) m → old m ≡ c.active.slots m) → DataIn source shared.tables old k e w c
-      → Is shared.tables v.kind v.value c.active.slots n → Holds shared.tables c.active.slots (floor source c.active.function k) (held k)
+      → Is shared.tables v.kind v.value c.active.slots n → Holds shared.tables c.active.slots (floor source c.active.function k) (kept k)
       → AheadStack source c.active.function e.locals v.kind n c.active.next c.frames k → GoesBehind v k e w c
   ahead_given v n old (Needs (ConvertTo from to target) ∷ k) e w c well shared same facts is holds (quiet, stack) =
       let (does, now, wide) = converts_ahead shared.tables from to target v n k e w c well quiet is in
       silently source pages calls (Running (Given v) (Needs (ConvertTo from to target) ∷ k) e w) (Running (Given (of_kind to v.value)) k e w) (plain.Running c) does
-      (shared, ahead n (old, subst (λ many. (m : ℕ) → Outside n many m → old m ≡ c.active.slots m) wide same, facts) now holds stack)
+      (shared, ahead n (old, subst (λ many. (m : ℕ) → Outside n many m → old m ≡ c.active.slots m) wide same, facts) now (kept_holds _ _ _ k holds) stack)
       (omega arith)
   ahead_given v n old (Needs (Chain NoOperations) ∷ k) e w c well shared same facts is holds stack =
       silently source pages calls (Running (Given v) (Needs (Chain NoOperations) ∷ k) e w) (Running (Given v) k e w) (plain.Running c) refl
-      (shared, ahead n (old, same, facts) is holds stack)
+      (shared, ahead n (old, same, facts) is (kept_holds _ _ _ k holds) stack)
       (omega arith)
   ahead_given v n old (Needs (Store place) ∷ k) e w c well shared same facts is holds (number, object, place_is, found, there, room, hands) =
       subst (λ p. GoesBehind v (Needs (Store p) ∷ k) e w c) (sym place_is)
@@ -1323,6 +1329,6 @@ module _ (source : Program) (pages calls : ℕ) where
   pub given : (v : Kinded) (k : List Entry) (e : Environment) (w : World) (c : Configuration) → HasWords (lower_program source) → plain.HoldsWords (plain.Running c) → IsStep source pages calls (Given v) k e w c
   given v k e w c of_words words well (shared, in_operand o facts is holds stack) = stands_given v o k e w c of_words words well (shared, facts, is, holds) stack
   given v k e w c of_words words well (shared, nowhere facts stack) = dropped_given v k e w c shared facts stack
-  given v k e w c of_words words well (shared, ahead n (old, same, facts) is holds stack) = ahead_given v n old k e w c well shared same facts is holds stack
+  given v k e w c of_words words well (shared, ahead n (old, same, facts) is (kept_holds _ _ _ k holds) stack) = ahead_given v n old k e w c well shared same facts is holds stack
   given v k e w c of_words words well (shared, compared failing l r facts fails stack) = compared_given v failing l r k e w c shared facts fails stack
   given v k e w c of_words words well (shared, with_left facts ready) = left_given v k e w c well shared facts ready
