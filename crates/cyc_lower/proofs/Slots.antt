@@ -1,6 +1,6 @@
 -- The slots of locals are apart, in their order, and none is left out.
 use Rattle.std.specs.Prelude.{unwrap_or}
-use Rattle.std.proofs.Common.{◌≡◌, ◌≢◌, ◌⊎◌, ℕ, zero, suc, ◌+◌, ◌≤◌, ◌<◌, List, [], ◌∷◌, ◌++◌, length, Some, slice_get, refl, sym, ap, ◌∙◌, arith, inl, inr, length-append, append_assoc}
+use Rattle.std.proofs.Common.{◌≡◌, ◌≢◌, ◌⊎◌, ℕ, zero, suc, ◌+◌, ◌≤◌, ◌<◌, List, [], ◌∷◌, ◌++◌, length, Option, Some, None, slice_get, refl, sym, ap, ◌∙◌, arith, inl, inr, length-append, append_assoc}
 use Rattle.std.specs.List.{AllByRecursion}
 use Rattle.std.proofs.lemmas.Option.{same_Some, none-some}
 use Rattle.std.proofs.lemmas.Bool.{cases_lt}
@@ -148,7 +148,7 @@ room-inside ts n kind room = has-words ts.locals n (omega (arith, room, kind_pos
 
 -- their words follow one another as the slots of locals do
 abbrev as_locals : Types → Types
-as_locals ts = record { locals = ts.globals; structs = ts.structs; raises = ts.raises; counters = []; globals = [] }
+as_locals ts = record { locals = ts.globals; structs = ts.structs; raises = ts.raises; counters = []; globals = []; scopes = None }
 
 pub global-room : (ts : Types) (n : ℕ) → n < length ts.globals → global_of (starts_of ts) n + words_in ts.globals n ≤ words_of_all ts.globals
 global-room ts n inside = slot-room (as_locals ts) n inside
@@ -166,16 +166,16 @@ global-inside ts n kind room = room-inside (as_locals ts) n kind room
 -- ---- parameters
 
 -- the slot of a parameter is behind the words of those before it
-pub slot-parameter : (structs : List StructType) (raises : ℕ) (globals : List Ty) (first rest : List Ty) (t : Ty) (more : List Ty)
-    → slot_of (starts_of (record { locals = (first ++ t ∷ rest) ++ more; structs = structs; raises = raises; counters = []; globals = globals })) (length first) ≡ words_of_all first
-slot-parameter structs raises globals first rest t more =
+pub slot-parameter : (structs : List StructType) (raises : ℕ) (globals : List Ty) (scopes : Option ℕ) (first rest : List Ty) (t : Ty) (more : List Ty)
+    → slot_of (starts_of (record { locals = (first ++ t ∷ rest) ++ more; structs = structs; raises = raises; counters = []; globals = globals; scopes = scopes })) (length first) ≡ words_of_all first
+slot-parameter structs raises globals scopes first rest t more =
     let ts = (first ++ t ∷ rest) ++ more in
     let long : length ts ≡ length (first ++ t ∷ rest) + length more = length-append (first ++ t ∷ rest) more in
     let shorter : length (first ++ t ∷ rest) ≡ length first + length (t ∷ rest) = length-append first (t ∷ rest) in
     let next : length first + 0 ≡ length first = omega arith in
     let at : slot_in ts (length first) ≡ words_of_all first + 0
     = ap (λ (us : List Ty). slot_in us (length first)) (append_assoc first (t ∷ rest) more) ∙ ap (slot_in (first ++ (t ∷ rest ++ more))) (sym next) ∙ slot-append first (t ∷ rest ++ more) 0 in
-    omega (arith, starts-are (record { locals = ts; structs = structs; raises = raises; counters = []; globals = globals }) (length first) (omega (arith, long, shorter)), at)
+    omega (arith, starts-are (record { locals = ts; structs = structs; raises = raises; counters = []; globals = globals; scopes = scopes }) (length first) (omega (arith, long, shorter)), at)
 
 pub words-parameter : (first rest : List Ty) (t : Ty) (more : List Ty) → words_in ((first ++ t ∷ rest) ++ more) (length first) ≡ words_of t
 words-parameter [] rest t more = refl
