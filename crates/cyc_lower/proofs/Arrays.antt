@@ -505,7 +505,7 @@ module _ (source : Program) (pages calls : ℕ) where
             variables = shared.variables;
             few_pages = shared.few_pages;
             fits = shared.fits;
-            counters = ((nested, levels, counter_same e.counters level index), counted_before e.counters level index k (omega (arith, nested)) shared.counters);
+            counters = (((nested, levels, counter_same e.counters level index), counted_before e.counters level index k (omega (arith, nested)) shared.counters.0), shared.counters.1);
           } in
           by_one source pages calls
           (ap (λ (b : Bool). if b then gives kinds.Fat (Fat object 0 count 0) k e w else Running (Evaluating element) stack inner w) told) shared branch
@@ -551,7 +551,7 @@ module _ (source : Program) (pages calls : ℕ) where
     entry = Needs (FillElement object count index level wanted element)
 
     abbrev shared : SharedAt source pages calls k e w c
-    shared = shared_less source pages calls (FillElement object count index level wanted element) k e w c shared₀
+    shared = shared_less source None pages calls (FillElement object count index level wanted element) k e w c shared₀
 
     abbrev new : World
     new = written w object index cell v.value

@@ -47,7 +47,7 @@ use Rattle.cyc_lower.specs.Lowerable.{is_converted, is_pointer}
 use Rattle.cyc_lower.proofs.Lengths.{body_long, past_long}
 use Rattle.cyc_types.specs.typing.Expressions.{type_of_side}
 use Rattle.cyc_lower.proofs.Values.{as_wide}
-use Rattle.cyc_lower.proofs.Slots.{words_positive, slot-room, slot_types-many, slots-few, global-room, global-inside}
+use Rattle.cyc_lower.proofs.Slots.{words_positive, slot-room, slot_types-many, slots-few, global-room, global-inside, globals_counted}
 use Rattle.std.proofs.lemmas.List.{length-replicate}
 use Rattle.cyc_lower.specs.declared.statements.Opened.{Opened}
 
@@ -1348,11 +1348,7 @@ signatures_known structs globals scopes (h ∷ hs) zero s there =
 signatures_known structs globals scopes (h ∷ hs) (suc n) s there =
     let (few, parameters, results) = signatures_known structs globals scopes hs n s there in (omega (arith, few), parameters, results)
 
-pub globals_counted : (gs : List GlobalVariable) → words_of_all (global_types gs) ≡ length (lower_globals gs)
-globals_counted [] = refl
-globals_counted (g ∷ gs) = omega (arith, length-append (lower_global g) (lower_globals gs), length-replicate {A = ℕ} (words_of g.of_type - 1) 0, words_positive g.of_type, globals_counted gs)
-
--- and so many are all words of the program's globals
+-- so many are all words of the program's globals
 pub all_counted : (source : Program) → length (lower_program source).globals ≡ words_of_all (global_types source.globals) + length (scopes_words (scopes_of source))
 all_counted source = omega (arith, length-append (lower_globals source.globals) (scopes_words (scopes_of source)), globals_counted source.globals)
 
