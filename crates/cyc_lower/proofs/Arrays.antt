@@ -554,7 +554,7 @@ module _ (source : Program) (pages calls : ℕ) where
     entry = Needs (FillElement object count index level wanted element)
 
     abbrev shared : SharedAt source pages calls k e w c
-    shared = shared_less source pages calls (FillElement object count index level wanted element) k e w c shared₀
+    shared = shared_less source None pages calls (FillElement object count index level wanted element) k e w c shared₀
 
     abbrev new : World
     new = written w object index cell v.value
