@@ -11,6 +11,7 @@ use Rattle.cyc_types.specs.declared.typed.Kind.{Kind}
 use Rattle.cyc_types.specs.declared.typed.Kind.TheVariants as kinds
 use Rattle.cyc_types.specs.TypedTrees.{Arguments, NoArguments, MoreArguments, Convert, Program}
 use Rattle.cyc_store.specs.State.{StoreState, demand}
+use Rattle.cyc_store.specs.State as store_state
 use Rattle.cyc_store.specs.Services as services
 use Rattle.cyc_store.specs.Services.{Allocate, IsAllowed, served, refusal, full_at, is_size}
 use Rattle.cyc_store.specs.declared.range.TheConstants.{HEAP, UNIQUE, MOST_BLOCK_WORDS}
@@ -111,6 +112,14 @@ pub record Makes (t : Tables) (w : World) (s : StoreState) (owner : Owner) (hand
   pub related : (choice : services.Choice) → refusal s (Allocate handle (block_size cells)) ≡ None → IsAllowed s (Allocate handle (block_size cells)) choice
       → objects.Related (with_row t (Placed choice.address (kinds_of cells))) (silent new) (served s (Allocate handle (block_size cells)) choice)
 
+-- a store has as many pages with a block more
+asked_pages : (s : StoreState) (handle words : ℕ) (choice : services.Choice) → (served s (Allocate handle words) choice).pages ≡ s.pages
+asked_pages s handle words choice = by (handle == UNIQUE)
+  where
+    by : (unique : Bool) → (if unique then store_state.made_unique s (services.block_of handle words choice) else store_state.made_in s handle (services.block_of handle words choice)).pages ≡ s.pages
+    by true = refl
+    by false = refl
+
 -- a region where something is made is open
 region_there : (a : Access Region) (region : ℕ) (cells : List Cell) (w new : World) → created_in w region a cells ≡ Found new → (r : Region) × (a ≡ Found r)
 region_there (Found r) region cells w new found = (r, refl)
@@ -129,7 +138,7 @@ module _ {t : Tables} {w : World} {s : StoreState} (related : objects.Related t 
         joined = refl;
         output = refl;
         input = refl;
-        pages = λ choice. refl;
+        pages = λ choice. asked_pages s handle (block_size cells) choice;
         refuses = refusal-allocate related region handle r cells there kept entry (cells_sized cells few);
         related = λ choice free allowed. allocated related region handle r cells there kept entry choice blank free allowed;
       }
