@@ -43,7 +43,7 @@ use Rattle.cyc_meaning.specs.Pointers.{takes_kind, followed, result_kind as oper
 use Rattle.cyc_meaning.specs.Places.{arrives, member_of}
 use Rattle.cyc_meaning.specs.Conversion.{conversion}
 use Rattle.cyc_meaning.specs.Allocation.{makes_by}
-use Rattle.cyc_meaning.specs.State.{Region, World, Environment, with_local, made, variable, written, region_at, Awaiting, ConvertTo, Operate, Chain, Apply, ApplyPointer, Follow, Decide, Store, Pass, MakePlain, MakeFields, MakeArray, FillElement, Initialise, Choose, Test, Return, Entry, Needs, Discard, Rest, Join, Loop, Focus, Evaluating, Given, GivenPlace, Executing, Proceeding, Calling, Returning, Throwing, State, Running, cell_at, FollowMember, StoreCell, calls_in, FreeObject, ThrowWith, CountElements, Index, Advance, InRegion, PlaceBy, BesideHandle}
+use Rattle.cyc_meaning.specs.State.{Region, World, Environment, with_local, made, variable, written, region_at, Awaiting, ConvertTo, Operate, Chain, Apply, ApplyPointer, Follow, Decide, Store, Pass, MakePlain, MakeFields, MakeArray, FillElement, Initialise, Choose, Test, Return, Entry, Needs, Discard, Rest, Join, Loop, Focus, Evaluating, Given, GivenPlace, Executing, Proceeding, Calling, Returning, Throwing, State, Running, cell_at, FollowMember, StoreCell, calls_in, FreeObject, ThrowWith, CountElements, Index, Advance, InRegion, PlaceBy, BesideHandle, CloseByKey}
 use Rattle.cyc_meaning.specs.Step.{leads_to, wrong, object_of, computed, stored_at, declared, passes, tested, awaits_right, chosen, looped, step}
 use Rattle.cyc_meaning.specs.Allocation.{makes_by}
 use Rattle.cyc_meaning.specs.State.{status_of}
@@ -73,6 +73,7 @@ use Rattle.cyc_lower.proofs.Matched.{IsMatched, silently, by_one, by_two, by_thr
 use Rattle.cyc_lower.proofs.Handling.{leaving, record_left, raised}
 use Rattle.cyc_lower.proofs.PointerSteps.{applies_pointers, right_follows}
 use Rattle.cyc_lower.proofs.UniqueBlocks.{frees_value}
+use Rattle.cyc_lower.proofs.Keys.{closes_by_key}
 use Rattle.cyc_lower.proofs.FatSteps.{counts, widens}
 use Rattle.cyc_lower.proofs.ThinSteps.{narrows}
 use Rattle.cyc_lower.proofs.Elements.{follows_parts, follows_fat, indexes_pointer, advances_pointer}
@@ -1288,6 +1289,7 @@ module _ (source : Program) (pages calls : ℕ) where
       (λ handlers stand. (shared, (facts.0, stand), (exits, q, s, here, subst (IsIn shared.tables v c.active.slots) there is, single, stack)))
   stands_given v o (Needs (ThrowWith tag) ∷ k) e w c of_words words well stands stack = throws_with tag v.kind v.value o k e w c well stands stack
   stands_given v o (Needs FreeObject ∷ k) e w c of_words words well (shared, facts, is, holds) stack = frees_value source pages calls v.kind v.value o k e w c well shared facts is stack
+  stands_given v o (Needs CloseByKey ∷ k) e w c of_words words well (shared, facts, is, holds) stack = closes_by_key source pages calls v.kind v.value o k e w c well shared facts is stack
   stands_given v o (Needs (Follow pointer target) ∷ k) e w c of_words words well stands stack = follows pointer target v o k e w c well stands stack
   stands_given v o (Needs (Index peek target i) ∷ k) e w c of_words words well (shared, facts, is, holds) stack = indexes_pointer source pages calls peek target i v o k e w c well shared facts is holds stack
   stands_given v o (Needs (Advance peek target base) ∷ k) e w c of_words words well (shared, facts, is, (is_base, holds)) (q, sum, reached, place) =
