@@ -13,7 +13,7 @@ use Rattle.cyc_types.specs.declared.typed.PointerOperator.TheVariants as pointer
 use Rattle.cyc_types.specs.declared.typed.LogicalOperator.{LogicalOperator}
 use Rattle.cyc_types.specs.declared.typed.LogicalOperator.TheVariants as logical
 use Rattle.cyc_types.specs.Types.{Ty, words_of, ValueType, Void, Null, Value}
-use Rattle.cyc_types.specs.TypedTrees.{Counter, Load, New, OnHeap, AsUnique, ByHandle, Initial, Plain, Fields, Array, Dereference, Target, type_of_place, Lvalue, Local, Global, Expression, Number, NullPointer, Copy, Call, Unary, Binary, Assign, Converted, Convert, Arguments, NoArguments, MoreArguments, Operations, NoOperations, ThenCompute, ThenTest, ThenPointer, type_of, Statement, Block, Empty, Evaluate, If, While, Return, Break, Continue, Items, NoItems, MoreItems, Execute, Declare, GlobalVariable, Signature, StructType, Function, Program, Move, Peek, ThenPointerPeek, AddressOfCell, Store, Member, FreeUnique, Side, VariableSide, CellSide, Swap, Throw, Try, Clauses, NoClauses, Default, Case, NumberOfElements, Element}
+use Rattle.cyc_types.specs.TypedTrees.{Counter, Load, New, OnHeap, AsUnique, ByHandle, Initial, Plain, Fields, Array, Dereference, Target, type_of_place, Lvalue, Local, Global, Expression, Number, NullPointer, Copy, Call, Unary, Binary, Assign, Converted, Convert, Arguments, NoArguments, MoreArguments, Operations, NoOperations, ThenCompute, ThenTest, ThenPointer, type_of, Statement, Block, Empty, Evaluate, If, While, Return, Break, Continue, Items, NoItems, MoreItems, Execute, Declare, GlobalVariable, Signature, StructType, Function, Program, Move, Peek, ThenPointerPeek, AddressOfCell, Store, Member, FreeUnique, Side, VariableSide, CellSide, Swap, Throw, Try, Clauses, NoClauses, Default, Case, NumberOfElements, Element, HeapRegion}
 use Rattle.cyc_types.specs.typing.WellTyped.{signature_of}
 use Rattle.cyc_types.specs.Numbered.{Numbering, argument_count, signatures_of, numbering_of}
 use Rattle.cyc_plain.specs.declared.instruction.Comparison.{Comparison}
@@ -208,6 +208,7 @@ module _ (program : PlainProgram) (r : Routine) (b : Numbering) (types : Types) 
   value_room : (a : Expression) (t : ℕ) → Fits b types a → t + words_of_kind (kind_at a) ≤ r.slots → HasOperand (value_operand (starts_of types) a t) (words_of_kind (kind_at a))
   value_room (Number n) t numbered few = tt
   value_room NullPointer t numbered few = tt
+  value_room HeapRegion t numbered few = tt
   value_room (Copy (Local w n) ty) t (within, room) few = omega (arith, locals n within, room)
   value_room (Move w n ty) t (within, room) few = omega (arith, locals n within, room)
   value_room (Peek w n ty) t (within, room) few = omega (arith, locals n within, room)
@@ -301,11 +302,11 @@ module _ (program : PlainProgram) (r : Routine) (b : Numbering) (types : Types) 
   first_left_in a (ThenPointerPeek n o c os) ty d t left (wide, numbered, rest) few = omega (arith, few, wide)
 
   -- where operators follow, there is room for a value
-  abbrev HasRoom : Operations → ℕ → Type 0
-  HasRoom NoOperations t = Unit {0}
-  HasRoom os t = t < r.slots
+  abbrev RoomFor : Operations → ℕ → Type 0
+  RoomFor NoOperations t = Unit {0}
+  RoomFor os t = t < r.slots
 
-  has_room : (os : Operations) (ty : Ty) (t left : ℕ) → FitOperations b types left ty os → 1 ≤ left → t + operations_need os ty left ≤ r.slots → HasRoom os t
+  has_room : (os : Operations) (ty : Ty) (t left : ℕ) → FitOperations b types left ty os → 1 ≤ left → t + operations_need os ty left ≤ r.slots → RoomFor os t
   has_room NoOperations ty t left numbered some few = tt
   has_room (ThenCompute o a os) ty t left numbered some few = omega (arith, few, some)
   has_room (ThenTest o a os) ty t left numbered some few = omega (arith, few, some)
@@ -325,7 +326,7 @@ module _ (program : PlainProgram) (r : Routine) (b : Numbering) (types : Types) 
   LeftRoom NoOperations a t = Unit {0}
   LeftRoom os a t = t + words_of_kind (kind_at a) ≤ r.slots
 
-  left_room : (os : Operations) (a : Expression) (t : ℕ) → Fits b types a → t + expression_need a ≤ r.slots → HasRoom os t → LeftRoom os a t
+  left_room : (os : Operations) (a : Expression) (t : ℕ) → Fits b types a → t + expression_need a ≤ r.slots → RoomFor os t → LeftRoom os a t
   left_room NoOperations a t numbered few room = tt
   left_room os a t numbered few room = omega (arith, few, room, given_needs a numbered)
 
@@ -1313,7 +1314,7 @@ module _ (program : PlainProgram) (r : Routine) (b : Numbering) (types : Types) 
         (items_in js in_loop (p + length front) exits t rest around outside (omega (arith, few)) (omega (arith, short, long)))
     items_in js in_loop p exits t numbered around outside few short = absurd numbered
 
-    clauses_in : (cs : Clauses) (in_loop : Bool) (p out : ℕ) (exits : Exits) (t : ℕ) → FitClauses b types in_loop cs → (in_loop ≡ true → exits.head + 2 < length r.code) → HasExits exits t
+    clauses_in : (cs : Clauses) (in_loop : Bool) (p out : ℕ) (exits : Exits) (t : ℕ) → FitClauses b types in_loop cs → (in_loop ≡ true → exits.head + 2 < length r.code) → HasExits exits
         → t + kept_by_clauses cs + clauses_need cs + spare_slots ≤ r.slots → out < length r.code → p + length (clauses_code (starts_of types) cs p out exits t) < length r.code → AreIn program r b types locals levels globals called results behind (clauses_code (starts_of types) cs p out exits t)
     clauses_in NoClauses in_loop p out exits t numbered around outside few there short = ((omega (arith, few), omega (arith, few)), tt)
     clauses_in (Default n js) in_loop p out exits t numbered around outside few there short = items_in js in_loop p exits t numbered around outside few short
@@ -1395,7 +1396,7 @@ module _ (source : Program) (is_fitting : IsFitting source) where
         last = subst (λ (o : Option Instruction). IsSomeAnd o (λ i. leaves i ≡ true)) (sym (last_behind body end (omega arith))) refl;
       }
 
-  functions_well : (hs : List Function) → AreOfWordsFunctions hs → AreFitting source.structs source.globals (signatures_of source.functions) hs → AllByRecursion (IsRoutine (lower_program source)) (map (lower_function source.structs (globals_of source) (scopes_of source)) hs)
+  functions_well : (hs : List Function) → AreOfWordsFunctions hs → AreFitting source.structs source.globals (scopes_of source) (signatures_of source.functions) hs → AllByRecursion (IsRoutine (lower_program source)) (map (lower_function source.structs (globals_of source) (scopes_of source)) hs)
   functions_well [] words numbered_all = tt
   functions_well (h ∷ hs) (own, others) (first, rest) = (function_well h own first, functions_well hs others rest)
 
