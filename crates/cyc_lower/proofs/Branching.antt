@@ -54,12 +54,12 @@ behind_one starts j js p exits t rest =
 items_opened : (starts : Starts) (js : List ItemCode) (p : ℕ) (exits : Exits) (t : ℕ) → items_code starts (items_of js) p exits t ≡ opened_items starts js p (exits, t) ++ closed_items starts (regions_in js) t
 items_opened starts [] p exits t = refl
 items_opened starts (item.Region r n ∷ js) p exits t =
-    let open = opened_code starts n t in
-    let front = opened_items starts js (p + length open) (inside_region exits t, t + 1) in
+    let first = opened_code starts n t in
+    let front = opened_items starts js (p + length first) (inside_region exits t, t + 1) in
     let back = closed_items starts (regions_in js) (t + 1) in
-    ap (λ (l : List Instruction). open ++ (l ++ closed_code starts t)) (items_opened starts js (p + length open) (inside_region exits t) (t + 1))
-    ∙ ap (λ (l : List Instruction). open ++ l) (append_assoc front back (closed_code starts t))
-    ∙ sym (append_assoc open front (back ++ closed_code starts t))
+    ap (λ (l : List Instruction). first ++ (l ++ closed_code starts t)) (items_opened starts js (p + length first) (inside_region exits t) (t + 1))
+    ∙ ap (λ (l : List Instruction). first ++ l) (append_assoc front back (closed_code starts t))
+    ∙ sym (append_assoc first front (back ++ closed_code starts t))
 items_opened starts (item.Execute s ∷ js) p exits t = behind_one starts (item.Execute s) js p exits t (items_opened starts js _ exits t)
 items_opened starts (item.Local n ty v ∷ js) p exits t = behind_one starts (item.Local n ty v) js p exits t (items_opened starts js _ exits t)
 items_opened starts (item.Open r n w k ∷ js) p exits t = behind_one starts (item.Open r n w k) js p exits t (items_opened starts js _ exits t)

@@ -28,7 +28,7 @@ use Rattle.cyc_store.specs.declared.range.TheConstants.{MOST_BLOCK_WORDS}
 use Rattle.cyc_meaning.specs.Values.{kind_of, is_thin, words_of_kind, is_kind}
 use Rattle.cyc_meaning.specs.FrameCount.{result_words, words_of_all, operand_words}
 use Rattle.cyc_lower.specs.Slots.{Types, counted, global_types}
-use Rattle.cyc_lower.specs.Lowering.{types_of, are_as_wide, passed_words, all_passed, results_of, left_kind}
+use Rattle.cyc_lower.specs.Lowering.{types_of, are_as_wide, passed_words, all_passed, results_of, left_kind, scopes_of}
 use Rattle.cyc_lower.proofs.Widths.{kind_of_result, result_kind, called_kind, given, passed_kind, type_words, HasRoom, HasGlobal, chain_kind, HasField}
 use Rattle.cyc_lower.proofs.Slots.{words-there, words_positive}
 use Rattle.cyc_plain.proofs.Placed.{below_of_get}
@@ -142,13 +142,13 @@ module _ (b : Numbering) (types : Types) where
     FitClauses l (Default r js) = FitItems l js
     FitClauses l (Case tag x r js cs) = IsWord tag × FitsCaught x × FitItems l js × FitClauses l cs
 
-abbrev pub AreFitting : List StructType → List GlobalVariable → List Signature → List Function → Type 0
-AreFitting structs globals functions [] = Unit {0}
-AreFitting structs globals functions (h ∷ hs) =
-    FitItems (numbering_of (length globals) functions h) (types_of structs (global_types globals) h) false h.body × AreFitting structs globals functions hs
+abbrev pub AreFitting : List StructType → List GlobalVariable → (scopes : Option ℕ) → List Signature → List Function → Type 0
+AreFitting structs globals scopes functions [] = Unit {0}
+AreFitting structs globals scopes functions (h ∷ hs) =
+    FitItems (numbering_of (length globals) functions h) (types_of structs (global_types globals) scopes h) false h.body × AreFitting structs globals scopes functions hs
 
 pub record IsFitting (p : Program) : Type 0 where
-  pub functions : AreFitting p.structs p.globals (signatures_of p.functions) p.functions
+  pub functions : AreFitting p.structs p.globals (scopes_of p) (signatures_of p.functions) p.functions
   pub globals : AreWellTypedGlobals p.globals
   pub main : slice_get (signatures_of p.functions) p.main ≡ Some (signature_of_ints [])
 
@@ -605,10 +605,10 @@ module _ (b : Numbering) (types : Types) where
 
 -- ---- programs
 
-functions_fit : (p : Program) (hs : List Function) → AreLowerableFunctions (length p.globals) (signatures_of p.functions) hs → AreWellTypedFunctions p hs → AreFitting p.structs p.globals (signatures_of p.functions) hs
+functions_fit : (p : Program) (hs : List Function) → AreLowerableFunctions (length p.globals) (signatures_of p.functions) hs → AreWellTypedFunctions p hs → AreFitting p.structs p.globals (scopes_of p) (signatures_of p.functions) hs
 functions_fit p [] numbered well = tt
 functions_fit p (h ∷ hs) (one, all) (well, rest) =
-    (body_fits (numbering_of (length p.globals) (signatures_of p.functions) h) (types_of p.structs (global_types p.globals) h) h.body (body_context p h) refl refl refl refl refl refl one well.body, functions_fit p hs all rest)
+    (body_fits (numbering_of (length p.globals) (signatures_of p.functions) h) (types_of p.structs (global_types p.globals) (scopes_of p) h) h.body (body_context p h) refl refl refl refl refl refl one well.body, functions_fit p hs all rest)
 
 pub is_fitting_program : (p : Program) → IsLowerableProgram p → IsWellTypedProgram p → IsFitting p
 is_fitting_program p numbered well = record {

@@ -1,14 +1,13 @@
 -- The words of globals and where they begin, as far as they are given.
-use Rattle.std.proofs.Common.{◌≡◌, ℕ, zero, suc, ◌+◌, ◌-◌, ◌<◌, ◌≤◌, List, [], ◌∷◌, ◌++◌, length, map, get_or, drop, refl, sym, ap, ◌∙◌, arith, append_assoc, append-nil, length-append}
+use Rattle.std.proofs.Common.{◌≡◌, ℕ, zero, suc, ◌+◌, ◌-◌, ◌<◌, ◌≤◌, List, [], ◌∷◌, ◌++◌, length, map, get_or, drop, refl, sym, ap, ◌∙◌, arith, append_assoc, append-nil}
 use Rattle.std.specs.Prelude.{replicate}
-use Rattle.std.proofs.lemmas.List.{drop_all, drop_more, length-replicate}
+use Rattle.std.proofs.lemmas.List.{drop_all, drop_more}
 use Rattle.cyc_types.specs.declared.typed.Global.{Global}
 use Rattle.cyc_types.specs.Types.{Ty, words_of}
 use Rattle.cyc_types.specs.TypedTrees.{GlobalVariable}
 use Rattle.cyc_types.specs.TypedTreeView.{view_global}
 use Rattle.cyc_meaning.specs.FrameCount.{words_of_all}
 use Rattle.cyc_lower.specs.Slots.{global_types, starts_from}
-use Rattle.cyc_lower.proofs.Slots.{words_positive}
 use Rattle.cyc_lower.specs.Lowering.{initial_word, lower_global, lower_globals}
 
 -- those from one on
@@ -87,8 +86,3 @@ words_more gs i words new x inside at is made =
 
 pub words_end : (gs : List Global) (i : ℕ) (words : List ℕ) → length gs ≤ i → WordsLeft gs i words → words ≡ lower_globals (map view_global gs)
 words_end gs i words done made = sym (append-nil words) ∙ ap (λ (l : List GlobalVariable). words ++ lower_globals l) (sym (none_behind gs i done)) ∙ made
-
--- as many words as their types have
-pub globals_counted : (gs : List GlobalVariable) → words_of_all (global_types gs) ≡ length (lower_globals gs)
-globals_counted [] = refl
-globals_counted (g ∷ gs) = omega (arith, length-append (lower_global g) (lower_globals gs), length-replicate {A = ℕ} (words_of g.of_type - 1) 0, words_positive g.of_type, globals_counted gs)

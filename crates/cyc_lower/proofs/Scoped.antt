@@ -1,28 +1,21 @@
 -- The lexical regions that are open: how many the store has, and the word behind all globals that tells it.
-use Rattle.std.proofs.Common.{◌≡◌, ℕ, zero, suc, ◌+◌, ◌≤◌, ◌<◌, Bool, true, false, List, [], ◌∷◌, length, Option, None, Some, refl, sym, ap, subst, ◌∙◌, inl, inr, arith}
+use Rattle.std.proofs.Common.{◌≡◌, ℕ, suc, ◌+◌, ◌≤◌, List, [], ◌∷◌, length, Option, Some, refl, ap, ◌∙◌, arith}
 use Rattle.std.specs.Prelude.{◌%◌, ◌^◌}
-use Rattle.std.specs.List.{list_any}
-use Rattle.std.proofs.lemmas.Option.{same_Some, none-some}
-use Rattle.cyc_types.specs.TypedTrees.{GlobalVariable, Program}
+use Rattle.cyc_types.specs.TypedTrees.{Program}
 use Rattle.cyc_store.specs.State.{StoreState, lexical_count}
-use Rattle.cyc_store.specs.declared.range.TheConstants.{MOST_PAGES}
 use Rattle.cyc_plain.specs.State.{Words, put, Frame}
 use Rattle.cyc_plain.proofs.SlotLaws.{put-other}
 use Rattle.cyc_meaning.specs.State.{Object, World, Environment, Entry, CloseLexical}
-use Rattle.cyc_meaning.specs.FrameCount.{words_of_all}
 use Rattle.cyc_meaning.specs.Nesting.{lexicals_of, IsNested}
 use Rattle.cyc_objects.specs.Tables.{Tables}
 use Rattle.cyc_objects.specs.Related as objects
 use Rattle.cyc_objects.specs.Related.{scopes}
 use Rattle.cyc_objects.proofs.Closing.{scopes-same}
 use Rattle.cyc_objects.proofs.Scopes.{scopes-counted, lexicals-within}
-use Rattle.cyc_lower.specs.Slots.{global_types, global_of}
-use Rattle.cyc_lower.specs.Lowering.{lower_globals, may_open, scopes_if, scopes_of}
-use Rattle.cyc_lower.proofs.Slots.{global-room, global-inside}
-use Rattle.cyc_lower.proofs.Widths.{Outside, HasGlobal}
-use Rattle.cyc_lower.proofs.GlobalWords.{globals_counted}
-use Rattle.cyc_lower.proofs.Relation.{silent, scopes_in, IsTold, Waiting, GlobalsHold, DataAt, types_at, starts_at}
-use Rattle.cyc_lower.proofs.Data.{Is-same}
+use Rattle.cyc_lower.specs.Lowering.{scopes_of}
+use Rattle.cyc_lower.proofs.Slots.{scopes_behind}
+use Rattle.cyc_lower.proofs.Relation.{silent, scopes_in, Waiting, DataAt}
+use Rattle.cyc_lower.proofs.Data.{data_behind}
 
 -- ---- of the source
 
@@ -48,33 +41,9 @@ module _ (t : Tables) (w : World) (s : StoreState) (related : objects.Related t 
 
 -- ---- the word that tells how many are open
 
-module _ (source : Program) where
-  told_if : (b : Bool) (words place : ℕ) → scopes_if b words ≡ Some place → place ≡ words
-  told_if true words place is = sym (same_Some words place is)
-  told_if false words place is = absurd (none-some place is)
-
-  -- it stands behind the words of all globals
-  pub behind_globals : (place : ℕ) → scopes_of source ≡ Some place → place ≡ words_of_all (global_types source.globals)
-  behind_globals place is = told_if (list_any may_open source.functions) (length (lower_globals source.globals)) place is ∙ sym (globals_counted source.globals)
-
-  -- so it stays where a global is written
-  pub told_beside : (scopes : Option ℕ) (g number words many : ℕ) (globals after : Words) → scopes_of source ≡ scopes → number < length (types_at source g).globals
-      → global_of (starts_at source g) number + words ≤ words_of_all (types_at source g).globals
-      → ((m : ℕ) → Outside (global_of (starts_at source g) number) words m → after m ≡ globals m) → IsTold scopes globals many → IsTold scopes after many
-  told_beside None g number words many globals after is few room same told = told
-  told_beside (Some place) g number words many globals after is few room same told = same place (inr (omega (arith, room, behind_globals place is))) ∙ told
-
-  -- and where it is written the globals stay
-  pub data_told : (t : Tables) (g : ℕ) (objects : List Object) (locals : ℕ → Option ℕ) (outer : List Waiting) (slots globals : Words) (frames : List Frame) (place word : ℕ) → scopes_of source ≡ Some place
-      → DataAt source t g objects locals outer slots globals frames → DataAt source t g objects locals outer slots (put globals place word) frames
-  data_told t g objects locals outer slots globals frames place word is (low, below, hold, waiting, words) = (low, below, hold, waiting, stay)
-    where
-      stay : GlobalsHold t (types_at source g) objects (put globals place word)
-      stay number few =
-          let (row, holds) = words number few in (
-            row,
-            λ v has.
-                let (there, room) = holds v has in
-                let first = global_of (starts_at source g) number in
-                (Is-same t v.kind v.value globals (put globals place word) first first (λ i short. put-other globals place (first + i) word (λ same. omega (arith, same, short, global-room (types_at source g) number few, room, behind_globals place is))) there, room),
-          )
+-- where it is written the globals stay
+pub data_told : (source : Program) (t : Tables) (g : ℕ) (objects : List Object) (locals : ℕ → Option ℕ) (outer : List Waiting) (slots globals : Words) (frames : List Frame) (place word : ℕ) → scopes_of source ≡ Some place
+    → DataAt source t g objects locals outer slots globals frames → DataAt source t g objects locals outer slots (put globals place word) frames
+data_told source t g objects locals outer slots globals frames place word is facts =
+    data_behind t source g objects locals outer slots globals (put globals place word) frames
+    (λ m less. put-other globals place m word (λ same. omega (arith, same, less, scopes_behind source place is))) facts

@@ -2,14 +2,14 @@
 //! else only the slots from `free` on are written, and those of locals that are assigned.
 ghost use Rattle.std.specs.Prelude.{◌≡◌, ◌+◌, ◌<◌, ◌≤◌, [], ◌∷◌, ◌++◌, None, length};
 ghost use Rattle.cyc_types.specs.Types.{Void};
-ghost use Rattle.cyc_types.specs.TypedTreeView.{view_dereference, view_initial, view_placement, view_expression, view_converted, view_lvalue, arguments_of, operations_of};
+ghost use Rattle.cyc_types.specs.TypedTreeView.{view_dereference, view_initial, view_expression, view_converted, view_lvalue, arguments_of, operations_of};
 ghost use Rattle.cyc_types.specs.TypedTrees.{Call};
 ghost use Rattle.cyc_meaning.specs.Values.{words_of_kind};
 ghost use Rattle.cyc_plain.specs.declared.instruction.Operand.TheVariants as operands;
 ghost use Rattle.cyc_plain.specs.declared.instruction.Instruction.TheVariants as instructions;
 ghost use Rattle.cyc_lower.specs.Lowering.{operand_of, operand_or, left_of, left_slot, value_operand, converted_operand, printed_operand, check_code, conversion_code, divisor_code, operator_code, truth_code, copy_code, all_passed, expression_code, arguments_code, converted_operand_code, printed_code, initial_code, assignment_code, assigned_operand, operations_code, discarded_code, condition_of, condition_code, first_two, index_code, pointer_instructions, made_code, address_code, place_operand, place_offset, place_code, addressed_by, reached_operand, pointer_of, pointer_slot, code_unless_slot, elements_code, last_element, span_of, saved_code};
 ghost use Rattle.cyc_lower.specs.Slots.{with_counter};
-ghost use Rattle.cyc_lower.specs.Emission.{Appends, Gives, HasRoom, HasRoomFor, most_locals, value_code, source_code, slot_code, print_code, converted_slot, converted_slot_code, left_code, operation_code, IsChain, zero_condition, view_starts, pointer_operation_code, new_code};
+ghost use Rattle.cyc_lower.specs.Emission.{Appends, Gives, HasRoom, HasRoomFor, most_locals, value_code, source_code, slot_code, print_code, converted_slot, converted_slot_code, left_code, operation_code, IsChain, zero_condition, view_starts, pointer_operation_code};
 
 use crate::checks::{DIVISION_BY_ZERO, NULL_EXCEPTION};
 use crate::emitter::Emitter;
@@ -239,7 +239,20 @@ impl Emitter {
                 placement,
                 initial,
                 ..
-            } => self.lower_new(starts, placement, initial, slot, free),
+            } => match placement {
+                Placement::OnHeap => {
+                    self.lower_object(starts, initial, Operand::Word { word: HEAP }, slot, free)
+                }
+                Placement::AsUnique => {
+                    self.lower_object(starts, initial, Operand::Word { word: UNIQUE }, slot, free)
+                }
+                // The handle waits in the first free slot while the object's values are evaluated.
+                Placement::ByHandle { handle } => {
+                    self.lower_expression(starts, handle, free, free)?;
+                    let behind = slot_behind(free, Kind::Handle)?;
+                    self.lower_object(starts, initial, Operand::Slot { number: free }, slot, behind)
+                }
+            },
             Expr::Move {
                 span,
                 number,
@@ -262,35 +275,6 @@ impl Emitter {
                     number: counter_of(starts, *level),
                 },
             }),
-        }
-    }
-
-    /// A new object. The handle of its region, where that is a value, waits in `free` while its values are evaluated.
-    #[cycle(expression)]
-    fn lower_new(
-        &mut self,
-        starts: &Starts,
-        placement: &Placement,
-        initial: &Initial,
-        slot: usize,
-        free: usize,
-    ) -> Result<(), AllocError>
-        requires { free ≤ most_locals + length self.old.code.items }
-        ensures { Appends result self.old self.new (new_code (view_starts starts.now) (view_placement placement.now) (view_initial initial.now) (length self.old.code.items) slot free) }
-    {
-        match placement {
-            Placement::OnHeap => {
-                self.lower_object(starts, initial, Operand::Word { word: HEAP }, slot, free)
-            }
-            Placement::AsUnique => {
-                self.lower_object(starts, initial, Operand::Word { word: UNIQUE }, slot, free)
-            }
-            Placement::ByHandle { handle } => {
-                self.lower_expression(starts, handle, free, free)?;
-                let behind = slot_behind(free, Kind::Handle)?;
-                let handle = Operand::Slot { number: free };
-                self.lower_object(starts, initial, handle, slot, behind)
-            }
         }
     }
 
