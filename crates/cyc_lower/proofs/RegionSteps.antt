@@ -4,10 +4,10 @@ use Rattle.std.specs.Prelude.{nat_lt, ◌%◌, ◌^◌, if◌then◌else◌}
 use Rattle.std.proofs.lemmas.Bool.{cases_Bool}
 use Rattle.cyc_words.specs.Word.{add_of}
 use Rattle.cyc_types.specs.declared.typed.Kind.TheVariants as kinds
-use Rattle.cyc_types.specs.TypedTrees.{Items, MoreItems, DeclareRegion, Function, Program}
+use Rattle.cyc_types.specs.TypedTrees.{Items, MoreItems, DeclareRegion, Function, Program, OpenRegion, DeclareAlias, DeclareKey}
 use Rattle.cyc_store.specs.State.{StoreState, demand, lexical_count}
 use Rattle.cyc_store.specs.Services as services
-use Rattle.cyc_store.specs.Services.{OpenLexical, CloseTo, served, full_at, refusal}
+use Rattle.cyc_store.specs.Services.{OpenLexical, CloseTo, served, full_at, refusal, OpenDynamic}
 use Rattle.cyc_store.proofs.ServiceLemmas.{served-sound}
 use Rattle.cyc_plain.specs.declared.instruction.Operand.{Operand}
 use Rattle.cyc_plain.specs.declared.instruction.Operand.TheVariants as operands
@@ -22,22 +22,22 @@ use Rattle.cyc_plain.specs.Step.{Choice, at, with_slots, advanced, served_to, pe
 use Rattle.cyc_plain.specs.Step as plain_step
 use Rattle.cyc_plain.specs.Straight.{At}
 use Rattle.cyc_plain.proofs.SlotLaws.{put-same, put-other}
-use Rattle.cyc_meaning.specs.Values.{Handle, Operand as Kinded}
+use Rattle.cyc_meaning.specs.Values.{Handle, Operand as Kinded, Value, Key, kind_of}
 use Rattle.cyc_meaning.specs.Effects.{pages_of}
-use Rattle.cyc_meaning.specs.State.{Lexical, Dynamic, World, opened_as, globals_number, Environment, Entry, Rest, CloseLexical, Focus, Proceeding, Naming, State, Running, Object, closed, EndLoan}
+use Rattle.cyc_meaning.specs.State.{Lexical, Dynamic, World, opened_as, globals_number, Environment, Entry, Rest, CloseLexical, Focus, Proceeding, Naming, State, Running, Object, closed, EndLoan, Region, Access, Found, Closed, Missing, region_at, Needs, OpenBy, AliasOf, Given}
 use Rattle.cyc_meaning.specs.Nesting.{IsNested}
-use Rattle.cyc_meaning.specs.Step.{step}
+use Rattle.cyc_meaning.specs.Step.{step, wrong}
 use Rattle.cyc_objects.specs.Tables.{Tables, with_handle, Grows}
 use Rattle.cyc_objects.specs.Related as objects
 use Rattle.cyc_objects.proofs.Values.{Grows-handle}
 use Rattle.cyc_objects.proofs.Variables.{handle-made}
-use Rattle.cyc_objects.proofs.Services.{opened-lexical, refusal-lexical}
+use Rattle.cyc_objects.proofs.Services.{opened-lexical, refusal-lexical, opened-dynamic, refusal-dynamic}
 use Rattle.cyc_lower.specs.declared.statements.Exits.{Exits}
 use Rattle.cyc_lower.specs.Lowering.{lower_program, inside_region, scopes_of}
 use Rattle.cyc_lower.proofs.Slots.{slot_types-many}
 use Rattle.cyc_lower.proofs.Widths.{Outside}
 use Rattle.cyc_lower.proofs.Stands.{ToldAt, NamedAt, ClosedAt, ItemsAt}
-use Rattle.cyc_lower.proofs.Relation.{silent, homes, callers, scopes_in, IsTold, DataAt, HandlersStand, SharedAt, StatementStack, Related, Matches, DataIn, code_of, bounds_in, bounds_at, types_in, types_at, floor, Shared, AreCounted, Waiting, behind_statement}
+use Rattle.cyc_lower.proofs.Relation.{silent, homes, callers, scopes_in, IsTold, DataAt, HandlersStand, SharedAt, StatementStack, Related, Matches, DataIn, code_of, bounds_in, bounds_at, types_in, types_at, floor, Shared, AreCounted, Waiting, behind_statement, IsIn, contents, starts_at, in_operand, ValueStack}
 use Rattle.cyc_lower.proofs.Data.{data_written, data_grows, variables_grow}
 use Rattle.cyc_lower.proofs.Matched.{IsMatched, silently, Executes, shared_within, matches_within_below, place_in, known}
 use Rattle.cyc_lower.proofs.Paths.{Link, is_quiet, runs}
@@ -47,7 +47,15 @@ use Rattle.cyc_objects.proofs.Closing.{scopes-same, related-unclosed, closed-beh
 use Rattle.cyc_objects.proofs.Scopes.{ends-newest}
 use Rattle.cyc_objects.specs.Related.{scopes, closed_to}
 use Rattle.cyc_store.specs.Soundness.{IsSound}
-use Rattle.cyc_meaning.specs.Regions.{closing_lexical}
+use Rattle.cyc_meaning.specs.Regions.{closing_lexical, is_dynamic, opened_by}
+use Rattle.cyc_types.specs.Types.{Ty}
+use Rattle.cyc_syntax.specs.Symbols.{Place}
+use Rattle.cyc_types.specs.declared.typed.Kind.{Kind}
+use Rattle.cyc_objects.specs.Words.{Is}
+use Rattle.cyc_lower.specs.Slots.{slot_of}
+use Rattle.cyc_lower.proofs.Accesses.{IsWell, is_loaded, is_fitting}
+use Rattle.cyc_lower.proofs.Moves.{put_elsewhere}
+use Rattle.cyc_lower.proofs.Weights.{stack_weight}
 
 module _ (source : Program) (pages calls : ℕ) where
   locals_in : (h : Option Function) → (bounds_in source h).locals ≡ length (types_in source h).locals
@@ -318,3 +326,152 @@ module _ (source : Program) (pages calls : ℕ) where
       → StatementStack source c.active.function exits c.active.next c.frames (EndLoan lent ∷ k) → IsMatched source pages calls (Running Proceeding (EndLoan lent ∷ k) e w) (plain.Running c)
   ends_loan lent k e w c exits shared facts stack =
       silently source pages calls (Running Proceeding (EndLoan lent ∷ k) e w) (Running Proceeding k e w) (plain.Running c) refl (shared, behind_statement exits facts stack) (omega arith)
+
+  -- ---- dynamic regions and their keys
+
+  -- a dynamic region is opened, and a local becomes its key
+  pub declares_key : (r n : ℕ) (js : Items) (k : List Entry) (e : Environment) (w : World) (c : Configuration) (exits : Exits) (q : ℕ)
+      → (shared : SharedAt source pages calls k e w c) → DataIn source shared.tables c.active.slots k e w c
+      → ItemsAt (code_of source c.active.function) (bounds_at source c.active.function) (types_at source c.active.function) (MoreItems (DeclareKey r n) js) exits (floor source c.active.function k) c.active.next q
+      → StatementStack source c.active.function exits q c.frames k → IsMatched source pages calls (Running Proceeding (Rest (MoreItems (DeclareKey r n) js) ∷ k) e w) (plain.Running c)
+  declares_key r n js k e w c exits q shared facts (m, ask, (few, room, move, end), items) stack =
+      let g = c.active.function in
+      let t = floor source g k in
+      let old = Rest (MoreItems (DeclareKey r n) js) ∷ k in
+      let new = opened_as Dynamic w in
+      let next = Running (Naming n (record { kind = kinds.Key; value = Key (length w.regions) }) js) k e new in
+      elim (cases_Bool (nat_lt c.store.pages (pages_of new))) [
+        | inl over ↦
+            by_full source pages calls Proceeding old e w c next (requests.OpenDynamic t) refl
+            (past_pages pages (pages_of new) _ (subst (λ p. nat_lt p (pages_of new) ≡ true) shared.same_pages over))
+            shared ask (refusal-dynamic shared.related ∙ ap full_at over)
+        | inr room_left ↦
+            let free = refusal-dynamic shared.related ∙ ap full_at room_left in
+            asks_then source pages calls Proceeding old e w c next (requests.OpenDynamic t) 0 refl shared.same_output ask tt free
+            (λ choice served_it.
+            let after = served_to choice c t OpenDynamic in
+            let grown = with_handle shared.tables (Some choice.handle) in
+            let grows = Grows-handle shared.tables (Some choice.handle) in
+            let shared_new : SharedAt source pages calls k e new after = record {
+              tables = grown;
+              same_output = shared.same_output;
+              same_input = shared.same_input;
+              same_pages = shared.same_pages;
+              related = opened-dynamic shared.related choice free served_it.allowed;
+              globals = grows.handles globals_number None shared.globals;
+              variables = variables_grow shared.tables grown grows (e.home ∷ homes k) shared.variables;
+              few_pages = omega (arith, (served-sound c.store OpenDynamic choice shared.related.sound free served_it.allowed).demand, shared.same_pages);
+              fits = shared.fits;
+              counters = shared.counters;
+            } in
+            let (written, stand) = data_written source shared.tables g w.objects e.locals k c.active.slots after.active.slots c.active.handlers c.globals c.frames t 1 (omega arith)
+            (λ i out. put_elsewhere c.active.slots t choice.handle 1 i (omega arith) out) facts in (
+              (
+                shared_new,
+                (data_grows shared.tables grown grows source g w.objects e.locals (callers k) after.active.slots c.globals c.frames written, stand),
+                (
+                  exits,
+                  q,
+                  operands.Slot t,
+                  move,
+                  handle-made shared.related (Some choice.handle) ∙ ap (λ h. Some (Some h)) (sym (put-same c.active.slots t choice.handle)),
+                  local_there g n few,
+                  room,
+                  subst (λ p. ItemsAt (code_of source g) (bounds_at source g) (types_at source g) js exits t p q) (sym end) items,
+                  stack,
+                ),
+              ),
+              shared_within source pages calls k e new after shared_new,
+            ))
+      ]
+
+  -- what a local holds stands in its slot
+  local_in : (number object : ℕ) (v : Kinded) (k : List Entry) (e : Environment) (w : World) (c : Configuration) (t : Tables) → DataIn source t c.active.slots k e w c → e.locals number ≡ Some object → contents w.objects object ≡ Some v
+      → IsIn t v c.active.slots (operands.Slot (slot_of (starts_at source c.active.function) number))
+  local_in number object v k e w c t ((low, below, hold, waiting, words), stand) there has = (hold.holds number object v there has).0
+
+  -- the region of a key is opened: its handle is the key's word
+  pub opens_by : (r n key : ℕ) (p : Place) (js : Items) (k : List Entry) (e : Environment) (w : World) (c : Configuration) (exits : Exits) (q : ℕ)
+      → IsWell (step source (Running Proceeding (Rest (MoreItems (OpenRegion r n p key) js) ∷ k) e w))
+      → (shared : SharedAt source pages calls k e w c) → DataIn source shared.tables c.active.slots k e w c
+      → ItemsAt (code_of source c.active.function) (bounds_at source c.active.function) (types_at source c.active.function) (MoreItems (OpenRegion r n p key) js) exits (floor source c.active.function k) c.active.next q
+      → StatementStack source c.active.function exits q c.frames k → IsMatched source pages calls (Running Proceeding (Rest (MoreItems (OpenRegion r n p key) js) ∷ k) e w) (plain.Running c)
+  opens_by r n key p js k e w c exits q well shared facts (m, named, items) stack =
+      let loaded = is_loaded kinds.Key (e.locals key) (Needs (OpenBy n key js) ∷ k) e w well in
+      let v : Kinded = record { kind = kinds.Key; value = loaded.value } in
+      silently source pages calls (Running Proceeding (Rest (MoreItems (OpenRegion r n p key) js) ∷ k) e w) (Running (Given v) (Needs (OpenBy n key js) ∷ k) e w) (plain.Running c) loaded.gives
+      (shared, in_operand (operands.Slot (slot_of (starts_at source c.active.function) key)) facts (local_in key loaded.number v k e w c shared.tables facts loaded.there loaded.has) tt (exits, m, q, named, items, stack))
+      (omega arith)
+
+  pub aliases_local : (r n lent : ℕ) (t : Ty) (p : Place) (js : Items) (k : List Entry) (e : Environment) (w : World) (c : Configuration) (exits : Exits) (q : ℕ)
+      → IsWell (step source (Running Proceeding (Rest (MoreItems (DeclareAlias r n t p lent) js) ∷ k) e w))
+      → (shared : SharedAt source pages calls k e w c) → DataIn source shared.tables c.active.slots k e w c
+      → ItemsAt (code_of source c.active.function) (bounds_at source c.active.function) (types_at source c.active.function) (MoreItems (DeclareAlias r n t p lent) js) exits (floor source c.active.function k) c.active.next q
+      → StatementStack source c.active.function exits q c.frames k → IsMatched source pages calls (Running Proceeding (Rest (MoreItems (DeclareAlias r n t p lent) js) ∷ k) e w) (plain.Running c)
+  aliases_local r n lent t p js k e w c exits q well shared facts (m, named, items) stack =
+      let loaded = is_loaded (kind_of t) (e.locals lent) (Needs (AliasOf n lent js) ∷ k) e w well in
+      let v : Kinded = record { kind = kind_of t; value = loaded.value } in
+      silently source pages calls (Running Proceeding (Rest (MoreItems (DeclareAlias r n t p lent) js) ∷ k) e w) (Running (Given v) (Needs (AliasOf n lent js) ∷ k) e w) (plain.Running c) loaded.gives
+      (shared, in_operand (operands.Slot (slot_of (starts_at source c.active.function) lent)) facts (local_in lent loaded.number v k e w c shared.tables facts loaded.there loaded.has) tt (exits, m, q, named, items, stack))
+      (omega arith)
+
+  -- ---- a local becomes a handle or an alias
+
+  key_is : (t : Tables) (kind : Kind) (region : ℕ) (words : Words) (p : ℕ) → Is t kind (Key region) words p → Is t kinds.Handle (Handle region) words p
+  key_is t kinds.Key region words p is = is
+  key_is t kind region words p is = absurd is
+
+  key_in : (t : Tables) (kind : Kind) (region : ℕ) (slots : Words) (o : Operand) → IsIn t (record { kind = kind; value = Key region }) slots o → IsIn t (record { kind = kinds.Handle; value = Handle region }) slots o
+  key_in t kind region slots (operands.Slot n) is = key_is t kind region slots n is
+  key_in t kinds.Fat region slots (operands.Word n) is = absurd is
+  key_in t kind region slots (operands.Word n) is = key_is t kind region (λ (i : ℕ). n) 0 is
+
+  -- an open region has a key: it is dynamic
+  is_opened : (a : Access Region) (region number lent : ℕ) (js : Items) (k : List Entry) (e : Environment) (w : World) → IsWell (opened_by a region number lent js k e w)
+      → opened_by a region number lent js k e w ≡ Running (Naming number (record { kind = kinds.Handle; value = Handle region }) js) (EndLoan lent ∷ k) e w
+  is_opened (Found r) region number lent js k e w well =
+      let named = Running (Naming number (record { kind = kinds.Handle; value = Handle region }) js) (EndLoan lent ∷ k) e w in
+      ap (λ (b : Bool). if b then named else wrong w) (is_fitting (is_dynamic r.sort) named w well)
+  is_opened Closed region number lent js k e w well = absurd (well refl)
+  is_opened Missing region number lent js k e w well = absurd (well refl)
+
+  lends : (v u : Kinded) (o : Operand) (number lent m q : ℕ) (js : Items) (waits : Entry) (k : List Entry) (e : Environment) (w : World) (c : Configuration) (exits : Exits)
+      → step source (Running (Given v) (waits ∷ k) e w) ≡ Running (Naming number u js) (EndLoan lent ∷ k) e w
+      → stack_weight (EndLoan lent ∷ k) < stack_weight (waits ∷ k)
+      → (shared : SharedAt source pages calls k e w c) → DataIn source shared.tables c.active.slots k e w c → IsIn shared.tables u c.active.slots o
+      → NamedAt (code_of source c.active.function) (bounds_at source c.active.function) (types_at source c.active.function) number u.kind o c.active.next m
+      → ItemsAt (code_of source c.active.function) (bounds_at source c.active.function) (types_at source c.active.function) js exits (floor source c.active.function k) m q
+      → StatementStack source c.active.function exits q c.frames k → IsMatched source pages calls (Running (Given v) (waits ∷ k) e w) (plain.Running c)
+  lends v u o number lent m q js waits k e w c exits does lighter shared facts is (few, room, move, end) items stack =
+      let g = c.active.function in
+      silently source pages calls (Running (Given v) (waits ∷ k) e w) (Running (Naming number u js) (EndLoan lent ∷ k) e w) (plain.Running c) does (
+        shared,
+        facts,
+        (
+          exits,
+          q,
+          o,
+          move,
+          is,
+          local_there g number few,
+          room,
+          subst (λ p. ItemsAt (code_of source g) (bounds_at source g) (types_at source g) js exits (floor source g k) p q) (sym end) items,
+          stack,
+        ),
+      )
+      (omega (arith, lighter))
+
+  pub opened_given : (kind : Kind) (v : Value) (o : Operand) (number lent : ℕ) (js : Items) (k : List Entry) (e : Environment) (w : World) (c : Configuration)
+      → IsWell (step source (Running (Given (record { kind = kind; value = v })) (Needs (OpenBy number lent js) ∷ k) e w))
+      → (shared : SharedAt source pages calls k e w c) → DataIn source shared.tables c.active.slots k e w c → IsIn shared.tables (record { kind = kind; value = v }) c.active.slots o
+      → ValueStack source c.active.function e.locals kind o c.active.next c.frames (Needs (OpenBy number lent js) ∷ k) → IsMatched source pages calls (Running (Given (record { kind = kind; value = v })) (Needs (OpenBy number lent js) ∷ k) e w) (plain.Running c)
+  opened_given kind (Key region) o number lent js k e w c well shared facts is (exits, m, q, named, items, stack) =
+      lends (record { kind = kind; value = Key region }) (record { kind = kinds.Handle; value = Handle region }) o number lent m q js (Needs (OpenBy number lent js)) k e w c exits
+      (is_opened (region_at w region) region number lent js k e w well) (omega arith) shared facts (key_in shared.tables kind region c.active.slots o is) named items stack
+  opened_given kind v o number lent js k e w c well shared facts is stack = absurd (well refl)
+
+  pub aliased_given : (v : Kinded) (o : Operand) (number lent : ℕ) (js : Items) (k : List Entry) (e : Environment) (w : World) (c : Configuration)
+      → (shared : SharedAt source pages calls k e w c) → DataIn source shared.tables c.active.slots k e w c → IsIn shared.tables v c.active.slots o
+      → ValueStack source c.active.function e.locals v.kind o c.active.next c.frames (Needs (AliasOf number lent js) ∷ k) → IsMatched source pages calls (Running (Given v) (Needs (AliasOf number lent js) ∷ k) e w) (plain.Running c)
+  aliased_given v o number lent js k e w c shared facts is (exits, m, q, named, items, stack) =
+      lends v v o number lent m q js (Needs (AliasOf number lent js)) k e w c exits refl (omega arith) shared facts is named items stack
