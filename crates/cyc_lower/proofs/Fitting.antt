@@ -46,6 +46,7 @@ module _ (b : Numbering) where
     pub Fits : (types : Types) → Expression → Type 0
     Fits types (Number n) = Unit {0}
     Fits types NullPointer = Unit {0}
+    Fits types HeapRegion = Unit {0}
     Fits types (Counter l) = l < length types.counters
     Fits types (Copy l t) = FitsPlace b types l (kind_of t)
     Fits types (Move p n t) = FitsPlace b types (Local p n) (kind_of t)
@@ -59,8 +60,10 @@ module _ (b : Numbering) where
     Fits types (Assign l c t) = FitsPlace b types l (passed_kind c) × FitsConverted types c
     Fits types (Load x) = FitsCell types x
     Fits types (FreeUnique a) = Fits types a
+    Fits types (FreeKey a) = Fits types a
     Fits types (New OnHeap i t) = FitsObject types i
     Fits types (New AsUnique i t) = FitsObject types i
+    Fits types (New (ByHandle a) i t) = (given b.functions a ≡ kinds.Handle) × Fits types a × FitsObject types i
     Fits types (AddressOfCell x t) = FitsCell types x
     Fits types (Store x c t) = FitsCell types x × FitsConverted types c
     Fits types a = ⊥
@@ -391,6 +394,7 @@ module _ (b : Numbering) where
     fits : (types : Types) → (a : Expression) (c : Context) (v : ValueType) → Suits b types c → IsLowerable b a → WellTyped c a v → IsGiven (given b.functions a) v × Fits b types a
     fits types (Number n) c v suits numbered is = (subst (IsGiven kinds.Int) (sym is) refl, tt)
     fits types NullPointer c v suits numbered is = (subst (IsGiven kinds.Nullable) (sym is) refl, tt)
+    fits types HeapRegion c v suits numbered is = (subst (IsGiven kinds.Handle) (sym is) refl, tt)
     fits types (Copy (Local p n) t) c v suits few (there, stays, is) = (subst (IsGiven (kind_of t)) (sym is) refl, (few, room_in b types c n t (kind_of t) suits there.1 refl))
     fits types (Move p n t) c v suits few (there, moved, is) = (subst (IsGiven (kind_of t)) (sym is) refl, (few, room_in b types c n t (kind_of t) suits there.1 refl))
     fits types (Peek p n t) c v suits few well = absurd well
@@ -450,7 +454,16 @@ module _ (b : Numbering) where
         (pointer_given b types mark u r t v mark_is t_is is, fits_object types (Fields cs) c mark u suits numbered (n, rs, s, there, many, passed, u_is, mark_is))
     fits types (New AsUnique (Array p level n kind a) t) c v suits numbered (mark, u, r, place, (level_is, length, well, unlocked, kind_is, mark_is), t_is, is) =
         (array_given b types mark u r t v mark_is t_is is, fits_object types (Array p level n kind a) c mark u suits numbered (level_is, length, well, unlocked, kind_is, mark_is))
-    fits types (New (ByHandle h) i t) c v suits numbered well = absurd numbered
+    fits types (FreeKey a) c v suits numbered (r, well, is) = (subst (IsGiven kinds.Int) (sym is) tt, (fits types a c _ suits numbered well).1)
+    fits types (New (ByHandle a) (Plain kind x) t) c v suits (handle, numbered) (mark, u, r, (well, live), made, t_is, is) =
+        let (given_is, fitting) = fits types a c (Value (type_forms.Handle r)) suits handle well in
+        (pointer_given b types mark u r t v made.3 t_is is, (given_is, fitting, fits_object types (Plain kind x) c mark u suits numbered made))
+    fits types (New (ByHandle a) (Fields cs) t) c v suits (handle, numbered) (mark, u, r, (well, live), (n, rs, s, there, many, passed, u_is, mark_is), t_is, is) =
+        let (given_is, fitting) = fits types a c (Value (type_forms.Handle r)) suits handle well in
+        (pointer_given b types mark u r t v mark_is t_is is, (given_is, fitting, fits_object types (Fields cs) c mark u suits numbered (n, rs, s, there, many, passed, u_is, mark_is)))
+    fits types (New (ByHandle a) (Array p level n kind x) t) c v suits (handle, numbered) (mark, u, r, (well, live), (level_is, length, element, unlocked, kind_is, mark_is), t_is, is) =
+        let (given_is, fitting) = fits types a c (Value (type_forms.Handle r)) suits handle well in
+        (array_given b types mark u r t v mark_is t_is is, (given_is, fitting, fits_object types (Array p level n kind x) c mark u suits numbered (level_is, length, element, unlocked, kind_is, mark_is)))
     fits types a c v suits numbered well = absurd numbered
 
     fits_object : (types : Types) → (i : Initial) (c : Context) (mark : PointerKind) (u : Ty) → Suits b types c → IsLowerableObject b i → IsMade c i mark u → FitsObject b types i
