@@ -23,6 +23,7 @@ pub mod WideCells
 pub mod Allocations
 pub mod Arrays
 pub mod UniqueBlocks
+pub mod Keys
 pub mod PlaceWords
 pub mod CellLoads
 mod CellReads

@@ -3,7 +3,7 @@
 use Rattle.std.proofs.Common.{◌≡◌, ℕ, List, ◌∷◌, length, Option, None, Some, slice_get, ◌≤◌, refl, sym, ap, subst, ◌∙◌, arith}
 use Rattle.cyc_types.specs.declared.typed.Kind.{Kind}
 use Rattle.cyc_types.specs.TypedTrees.{Program}
-use Rattle.cyc_plain.specs.State.{Configuration}
+use Rattle.cyc_plain.specs.State.{Words, Configuration}
 use Rattle.cyc_meaning.specs.Values.{Value}
 use Rattle.cyc_meaning.specs.State.{Awaiting, Needs, Stack, Region, World, globals_number, Environment, Located, variable, made, written, opened, closed, with_local, Entry, CloseRegion, Caller}
 use Rattle.cyc_meaning.specs.Step.{inside, region_end}
@@ -15,7 +15,7 @@ use Rattle.cyc_store.proofs.CountLemmas.{demand-part}
 use Rattle.cyc_store.proofs.HolderLemmas.{IsPart-down_to}
 use Rattle.cyc_objects.proofs.Values.{Grows-row, Grows-handle}
 use Rattle.cyc_objects.proofs.Variables.{declared, assigned, opened-variables, closed-variables, handle-made}
-use Rattle.cyc_lower.proofs.Relation.{homes, HasScopes, SharedAt, SharedBy, ScopesBy, store_by, scopes_in, silent}
+use Rattle.cyc_lower.proofs.Relation.{homes, IsTold, HasScopes, SharedAt, SharedBy, ScopesBy, store_by, scopes_in, silent}
 use Rattle.cyc_lower.specs.Lowering.{scopes_of}
 use Rattle.cyc_lower.proofs.Counters.{counted_less}
 use Rattle.cyc_lower.proofs.Data.{append_seam, variables_grow}
@@ -55,6 +55,21 @@ module _ (source : Program) (pages calls : ℕ) (k : List Entry) (e : Environmen
     few_pages = s.few_pages;
     fits = s.fits;
     counters = s.counters;
+  }
+
+  -- a global is written, and the word stays that tells how many lexical regions are open
+  abbrev pub shared_beside : (globals : Words) → IsTold (scopes_of source) globals (scopes_in k) → SharedAt source pages calls k e w (record c { globals = globals })
+  shared_beside globals told = record {
+    tables = s.tables;
+    same_output = s.same_output;
+    same_input = s.same_input;
+    same_pages = s.same_pages;
+    related = s.related;
+    globals = s.globals;
+    variables = s.variables;
+    few_pages = s.few_pages;
+    fits = s.fits;
+    counters = (s.counters.0, told);
   }
 
   -- the region of a block opens, and closes at the end of what is then waiting
