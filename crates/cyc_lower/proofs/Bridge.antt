@@ -12,7 +12,7 @@ use Rattle.cyc_types.specs.declared.typed.Operator.TheVariants as operators
 use Rattle.cyc_types.specs.declared.typed.PointerOperator.{PointerOperator}
 use Rattle.cyc_types.specs.declared.typed.PointerOperator.TheVariants as pointers
 use Rattle.cyc_types.specs.Types.{Ty, words_of}
-use Rattle.cyc_types.specs.TypedTrees.{Array, Counter, Load, New, OnHeap, AsUnique, ByHandle, Initial, Plain, Fields, Dereference, Target, Lvalue, Local, Global, Expression, Number, NullPointer, Copy, Call, Unary, Binary, Assign, Converted, Convert, Arguments, NoArguments, MoreArguments, Operations, NoOperations, ThenCompute, ThenTest, ThenPointer, Statement, Block, Empty, Evaluate, If, While, Return, Break, Continue, Items, NoItems, MoreItems, Execute, Declare, Signature, StructType, Function, Program, Move, Peek, ThenPointerPeek, type_of, AddressOfCell, Store, Member, type_of_place, FreeUnique, Side, VariableSide, CellSide, Swap, Throw, Try, Clauses, NoClauses, Default, Case, GlobalVariable, NumberOfElements, Element}
+use Rattle.cyc_types.specs.TypedTrees.{Array, Counter, Load, New, OnHeap, AsUnique, ByHandle, Initial, Plain, Fields, Dereference, Target, Lvalue, Local, Global, Expression, Number, NullPointer, Copy, Call, Unary, Binary, Assign, Converted, Convert, Arguments, NoArguments, MoreArguments, Operations, NoOperations, ThenCompute, ThenTest, ThenPointer, Statement, Block, Empty, Evaluate, If, While, Return, Break, Continue, Items, NoItems, MoreItems, Execute, Declare, Signature, StructType, Function, Program, Move, Peek, ThenPointerPeek, type_of, AddressOfCell, Store, Member, type_of_place, FreeUnique, Side, VariableSide, CellSide, Swap, Throw, Try, Clauses, NoClauses, Default, Case, GlobalVariable, NumberOfElements, Element, FreeKey, HeapRegion}
 use Rattle.cyc_types.specs.Numbered.{Numbering, argument_count, numbering_of, signatures_of}
 use Rattle.cyc_plain.specs.declared.instruction.UnaryOperator.TheVariants as plain_unary
 use Rattle.cyc_plain.specs.declared.instruction.BinaryOperator.TheVariants as plain_binary
@@ -171,6 +171,7 @@ module _ (code : List Instruction) (b : Numbering) (types : Types) (raised : Blo
   in_slots : (k : Kind) (a : Expression) (t : ℕ) → is_pointer k ≡ true → k ≡ given b.functions a → IsInSlots (is_thin k) (value_operand (starts_of types) a t)
   in_slots k (Number n) t pointer is = absurd (let f : is_pointer kinds.Int ≡ true = ap is_pointer (sym is) ∙ pointer in cc)
   in_slots k NullPointer t pointer is = subst (λ (x : Kind). IsInSlots (is_thin x) (operands.Word 0)) (sym is) tt
+  in_slots k HeapRegion t pointer is = absurd (let f : is_pointer kinds.Handle ≡ true = ap is_pointer (sym is) ∙ pointer in cc)
   in_slots k (Copy (Local p n) ty) t pointer is = slot_any (is_thin k) (slot_of (starts_of types) n)
   in_slots k (Move p n ty) t pointer is = slot_any (is_thin k) (slot_of (starts_of types) n)
   in_slots k (Peek p n ty) t pointer is = slot_any (is_thin k) (slot_of (starts_of types) n)
@@ -323,7 +324,7 @@ module _ (code : List Instruction) (b : Numbering) (types : Types) (raised : Blo
   passed_least NoArguments = omega arith
   passed_least (MoreArguments (Convert from to a) cs) = omega (arith, passed_least cs, kind_positive to)
 
-  object_stands : (handle cells words d t p q : ℕ) → cells ≤ words → 1 ≤ words → words ≤ MOST_BLOCK_WORDS → p + length (object_code handle words d t) ≡ q → HasAt code p (object_code handle words d t)
+  object_stands : (handle : Operand) (cells words d t p q : ℕ) → cells ≤ words → 1 ≤ words → words ≤ MOST_BLOCK_WORDS → p + length (object_code handle words d t) ≡ q → HasAt code p (object_code handle words d t)
       → ObjectAt code b types handle cells words t d p q
   object_stands handle cells words d t p q least some few end (ask, rest) =
       let stores = stores_code words (t + words) 0 t in
@@ -332,7 +333,7 @@ module _ (code : List Instruction) (b : Numbering) (types : Types) (raised : Blo
       let (here, none) = has_back code (p + 1) stores move rest in
       (m, least, some, few, ask, stores_stand words (t + words) 0 t (p + 1) m refl (has_front code (p + 1) stores move rest), here, omega (arith, end, length-append stores move))
 
-  begun_stands : (handle words t p q : ℕ) → p + 7 ≡ q → HasAt code p (begun_code (starts_of types) handle words t) → BegunAt code b types handle words t p q
+  begun_stands : (handle : Operand) (words t p q : ℕ) → p + 7 ≡ q → HasAt code p (begun_code (starts_of types) handle words t) → BegunAt code b types handle words t p q
   begun_stands handle words t p q end (guard, (count, (index, (all, (none, (size, (ask, rest))))))) =
       (p + 1, guard_stands array_size comparisons.GreaterOrEqualUnsigned (operands.Slot t) (operands.Word (most_elements words + 1)) p (p + 1) (omega arith) (omega arith) refl (guard, tt), count, index, all, none, size, ask, omega (arith, end))
 
@@ -352,17 +353,17 @@ module _ (code : List Instruction) (b : Numbering) (types : Types) (raised : Blo
   address_stands o zero d p q end has = copy_by (is_in o d) 1 o d p q end has
   address_stands o (suc bytes) d p q end (here, none) = (here, end)
 
-  loaded_stands : (narrow : Bool) (o : Operand) (bytes d p q : ℕ)
-      → p + length (if narrow then instructions.Load d o bytes ∷ [] else address_code o bytes d ++ (instructions.Load (d + 2) (operands.Slot d) 8 ∷ instructions.Load (d + 1) (operands.Slot d) 4 ∷ instructions.Load d (operands.Slot d) 0 ∷ [])) ≡ q
-      → HasAt code p (if narrow then instructions.Load d o bytes ∷ [] else address_code o bytes d ++ (instructions.Load (d + 2) (operands.Slot d) 8 ∷ instructions.Load (d + 1) (operands.Slot d) 4 ∷ instructions.Load d (operands.Slot d) 0 ∷ []))
-      → LoadedBy code narrow o bytes d p q
-  loaded_stands true o bytes d p q end (here, none) = (here, end)
-  loaded_stands false o bytes d p q end has =
-      let front = address_code o bytes d in
-      let back = instructions.Load (d + 2) (operands.Slot d) 8 ∷ instructions.Load (d + 1) (operands.Slot d) 4 ∷ instructions.Load d (operands.Slot d) 0 ∷ [] in
+  loaded_stands : (narrow : Bool) (o : Operand) (bytes d t p q : ℕ)
+      → p + length (if narrow then instructions.Load d o bytes ∷ [] else address_code o bytes t ++ (instructions.Load (d + 2) (operands.Slot t) 8 ∷ instructions.Load (d + 1) (operands.Slot t) 4 ∷ instructions.Load d (operands.Slot t) 0 ∷ [])) ≡ q
+      → HasAt code p (if narrow then instructions.Load d o bytes ∷ [] else address_code o bytes t ++ (instructions.Load (d + 2) (operands.Slot t) 8 ∷ instructions.Load (d + 1) (operands.Slot t) 4 ∷ instructions.Load d (operands.Slot t) 0 ∷ []))
+      → LoadedBy code narrow o bytes d t p q
+  loaded_stands true o bytes d t p q end (here, none) = (here, end)
+  loaded_stands false o bytes d t p q end has =
+      let front = address_code o bytes t in
+      let back = instructions.Load (d + 2) (operands.Slot t) 8 ∷ instructions.Load (d + 1) (operands.Slot t) 4 ∷ instructions.Load d (operands.Slot t) 0 ∷ [] in
       let r = p + length front in
       let (first, (second, (third, none))) = has_back code p front back has in
-      (r, address_stands o bytes d p r refl (has_front code p front back has), first, second, third, omega (arith, cut p q front back end))
+      (r, address_stands o bytes t p r refl (has_front code p front back has), first, second, third, omega (arith, cut p q front back end))
 
   words_kept : (from to : Kind) (a : Expression) → from ≡ given b.functions a → converts_there from to ≡ true → words_of_kind (given b.functions a) ≡ words_of_kind to
   words_kept from to a kind lands = ap words_of_kind (sym kind) ∙ as_wide from to lands
@@ -392,6 +393,7 @@ module _ (code : List Instruction) (b : Numbering) where
     expression_stands : (types : Types) (raised : BlocksStand code types.raises) → (a : Expression) (d t p q : ℕ) → Fits b types a → p + length (expression_code (starts_of types) a p d t) ≡ q → HasAt code p (expression_code (starts_of types) a p d t) → ExpressionAt code b types a d t p q
     expression_stands types raised (Number n) d t p q numbered end (here, none) = (here, end)
     expression_stands types raised NullPointer d t p q numbered end (here, none) = (here, end)
+    expression_stands types raised HeapRegion d t p q numbered end (here, none) = (here, end)
     expression_stands types raised (Counter l) d t p q few end (here, none) =
         let (slot, there) = slice_get-there types.counters l few in
         (slot, there, subst (λ (s : Option ℕ). At code p (instructions.Move d (operands.Slot (unwrap_or s 0)))) there here, end)
@@ -452,13 +454,13 @@ module _ (code : List Instruction) (b : Numbering) where
     expression_stands types raised (Load x) d t p q numbered end has =
         let front = place_code (starts_of types) x p t in
         let o = place_operand (starts_of types) x t in
-        let back = loaded_code (words_of (type_of_place x)) o (place_offset (starts_of types) x) d in
+        let back = loaded_code (words_of (type_of_place x)) o (place_offset (starts_of types) x) d t in
         let r = p + length front in (
           o,
           place_offset (starts_of types) x,
           r,
           place_stands types raised x t p r numbered refl (has_front code p front back has),
-          loaded_stands code b types raised (words_of (type_of_place x) == 1) o (place_offset (starts_of types) x) d r q (cut p q front back end) (has_back code p front back has),
+          loaded_stands code b types raised (words_of (type_of_place x) == 1) o (place_offset (starts_of types) x) d t r q (cut p q front back end) (has_back code p front back has),
         )
     expression_stands types raised (AddressOfCell x ty) d t p q numbered end has =
         let o = place_operand (starts_of types) x t in
@@ -506,9 +508,23 @@ module _ (code : List Instruction) (b : Numbering) where
         let m = p + length front in
         let back = free_code o m in
         (o, m, operand_by code b types raised (operand_of (starts_of types) a) _ inner (value_slot (starts_of types) a t) p m refl (has_front code p front back has) (λ e h. expression_stands types raised a (value_slot (starts_of types) a t) t p m numbered e h), freed_stands code b types raised o m q (cut p q front back end) (has_back code p front back has))
-    expression_stands types raised (New OnHeap i ty) d t p q numbered end has = made_stands types raised i HEAP d t p q numbered end has
-    expression_stands types raised (New AsUnique i ty) d t p q numbered end has = made_stands types raised i UNIQUE d t p q numbered end has
-    expression_stands types raised (New (ByHandle h) i ty) d t p q numbered end has = absurd numbered
+    expression_stands types raised (New OnHeap i ty) d t p q numbered end has = made_stands types raised i (operands.Word HEAP) d t p q numbered end has
+    expression_stands types raised (New AsUnique i ty) d t p q numbered end has = made_stands types raised i (operands.Word UNIQUE) d t p q numbered end has
+    expression_stands types raised (New (ByHandle a) i ty) d t p q (kind_is, numbered, made) end has =
+        let front = expression_code (starts_of types) a p t t in
+        let m = p + length front in
+        let back = made_code (starts_of types) i (operands.Slot t) m d (t + 1) in (
+          m,
+          expression_stands types raised a t t p m numbered refl (has_front code p front back has),
+          subst (λ n. MadeAt code b types i (operands.Slot t) d n m q) (let e : t + 1 ≡ suc t = omega arith in e) (made_stands types raised i (operands.Slot t) d (t + 1) m q made (cut p q front back end) (has_back code p front back has)),
+        )
+    expression_stands types raised (FreeKey a) d t p q numbered end has =
+        let o = value_operand (starts_of types) a t in
+        let inner = expression_code (starts_of types) a p (value_slot (starts_of types) a t) t in
+        let front = code_unless (operand_of (starts_of types) a) inner in
+        let m = p + length front in
+        let (here, none) = has_back code p front _ has in
+        (o, m, operand_by code b types raised (operand_of (starts_of types) a) _ inner (value_slot (starts_of types) a t) p m refl (has_front code p front _ has) (λ e h. expression_stands types raised a (value_slot (starts_of types) a t) t p m numbered e h), here, cut p q front _ end)
     expression_stands types raised a d t p q numbered end has = absurd numbered
 
     place_stands : (types : Types) (raised : BlocksStand code types.raises) → (x : Dereference) (t p q : ℕ) → FitsCell b types x → p + length (place_code (starts_of types) x p t) ≡ q → HasAt code p (place_code (starts_of types) x p t)
@@ -569,7 +585,7 @@ module _ (code : List Instruction) (b : Numbering) where
           refl,
         )
 
-    made_stands : (types : Types) (raised : BlocksStand code types.raises) → (i : Initial) (handle d t p q : ℕ) → FitsObject b types i → p + length (made_code (starts_of types) i handle p d t) ≡ q → HasAt code p (made_code (starts_of types) i handle p d t) → MadeAt code b types i handle d t p q
+    made_stands : (types : Types) (raised : BlocksStand code types.raises) → (i : Initial) (handle : Operand) (d t p q : ℕ) → FitsObject b types i → p + length (made_code (starts_of types) i handle p d t) ≡ q → HasAt code p (made_code (starts_of types) i handle p d t) → MadeAt code b types i handle d t p q
     made_stands types raised (Plain kind a) handle d t p q (kind_is, numbered) end has =
         let front = expression_code (starts_of types) a p t t in
         let back = object_code handle (words_of_kind kind) d t in
