@@ -13,7 +13,7 @@ use Rattle.cyc_types.specs.declared.typed.PointerOperator.TheVariants as pointer
 use Rattle.cyc_types.specs.declared.typed.LogicalOperator.{LogicalOperator}
 use Rattle.cyc_types.specs.declared.typed.LogicalOperator.TheVariants as logical
 use Rattle.cyc_types.specs.Types.{Ty, words_of, ValueType, Void, Null, Value}
-use Rattle.cyc_types.specs.TypedTrees.{Counter, Load, New, OnHeap, AsUnique, ByHandle, Initial, Plain, Fields, Array, Dereference, Target, type_of_place, Lvalue, Local, Global, Expression, Number, NullPointer, Copy, Call, Unary, Binary, Assign, Converted, Convert, Arguments, NoArguments, MoreArguments, Operations, NoOperations, ThenCompute, ThenTest, ThenPointer, type_of, Statement, Block, Empty, Evaluate, If, While, Return, Break, Continue, Items, NoItems, MoreItems, Execute, Declare, GlobalVariable, Signature, StructType, Function, Program, Move, Peek, ThenPointerPeek, AddressOfCell, Store, Member, FreeUnique, Side, VariableSide, CellSide, Swap, Throw, Try, Clauses, NoClauses, Default, Case, NumberOfElements, Element, HeapRegion, FreeKey}
+use Rattle.cyc_types.specs.TypedTrees.{Counter, Load, New, OnHeap, AsUnique, ByHandle, Initial, Plain, Fields, Array, Dereference, Target, type_of_place, Lvalue, Local, Global, Expression, Number, NullPointer, Copy, Call, Unary, Binary, Assign, Converted, Convert, Arguments, NoArguments, MoreArguments, Operations, NoOperations, ThenCompute, ThenTest, ThenPointer, type_of, Statement, Block, Empty, Evaluate, If, While, Return, Break, Continue, Items, NoItems, MoreItems, Execute, Declare, GlobalVariable, Signature, StructType, Function, Program, Move, Peek, ThenPointerPeek, AddressOfCell, Store, Member, FreeUnique, Side, VariableSide, CellSide, Swap, Throw, Try, Clauses, NoClauses, Default, Case, NumberOfElements, Element, HeapRegion, FreeKey, DeclareRegion, OpenRegion, DeclareAlias, DeclareKey}
 use Rattle.cyc_types.specs.typing.WellTyped.{signature_of}
 use Rattle.cyc_types.specs.Numbered.{Numbering, argument_count, signatures_of, numbering_of}
 use Rattle.cyc_plain.specs.declared.instruction.Comparison.{Comparison}
@@ -1341,7 +1341,28 @@ module _ (program : PlainProgram) (r : Routine) (b : Numbering) (types : Types) 
         let long = length-append front back in
         append program r b types locals levels globals called results behind front back (declaration_in n v p t within numbered (omega (arith, few)) (omega (arith, short, long)))
         (items_in js in_loop (p + length front) exits t rest around outside (omega (arith, few)) (omega (arith, short, long)))
-    items_in js in_loop p exits t numbered around outside few short = absurd numbered
+    items_in (MoreItems (DeclareRegion region n) js) in_loop p exits t (counting, within, room, rest) around outside few short =
+        let front = opened_code (starts_of types) n t in
+        let inner = items_code (starts_of types) js (p + length front) (inside_region exits t) (t + 1) in
+        let back = closed_code (starts_of types) t in
+        let long = length-append front (inner ++ back) in
+        let long_inner = length-append inner back in
+        append program r b types locals levels globals called results behind front (inner ++ back) (opened_in n t within room (omega (arith, few)))
+        (append program r b types locals levels globals called results behind inner back (items_in js in_loop (p + length front) (inside_region exits t) (t + 1) rest around (exits_behind exits t outside (omega (arith, few))) (omega (arith, few)) (omega (arith, short, long, long_inner)))
+        (closed_in t (omega (arith, few))))
+    items_in (MoreItems (OpenRegion region n w k) js) in_loop p exits t (within, room, key_within, key_room, rest) around outside few short =
+        let key = operands.Slot (slot_of (starts_of types) k) in
+        append program r b types locals levels globals called results behind (named_code (starts_of types) 1 n key) (items_code (starts_of types) js (p + 1) exits t) (named_in kinds.Handle n key within room (omega (arith, locals k key_within, key_room)))
+        (items_in js in_loop (p + 1) exits t rest around outside (omega (arith, few)) (omega (arith, short)))
+    items_in (MoreItems (DeclareAlias region n ty w m) js) in_loop p exits t (within, room, lent_within, lent_room, rest) around outside few short =
+        let lent = operands.Slot (slot_of (starts_of types) m) in
+        append program r b types locals levels globals called results behind (named_code (starts_of types) (words_of ty) n lent) (items_code (starts_of types) js (p + 1) exits t)
+        (subst (λ words. AreIn program r b types locals levels globals called results behind (named_code (starts_of types) words n lent)) (type_words ty) (named_in (kind_of ty) n lent within room (omega (arith, locals m lent_within, lent_room))))
+        (items_in js in_loop (p + 1) exits t rest around outside (omega (arith, few)) (omega (arith, short)))
+    items_in (MoreItems (DeclareKey region n) js) in_loop p exits t (within, room, rest) around outside few short =
+        let front = dynamic_code (starts_of types) n t in
+        let back = items_code (starts_of types) js (p + length front) exits t in
+        append program r b types locals levels globals called results behind front back (dynamic_in n t within room (omega (arith, few))) (items_in js in_loop (p + length front) exits t rest around outside (omega (arith, few)) (omega (arith, short, length-append front back)))
 
     clauses_in : (cs : Clauses) (in_loop : Bool) (p out : ℕ) (exits : Exits) (t : ℕ) → FitClauses b types in_loop cs → (in_loop ≡ true → exits.head + 2 < length r.code) → HasExits exits
         → t + kept_by_clauses cs + clauses_need cs + spare_slots ≤ r.slots → out < length r.code → p + length (clauses_code (starts_of types) cs p out exits t) < length r.code → AreIn program r b types locals levels globals called results behind (clauses_code (starts_of types) cs p out exits t)
