@@ -18,7 +18,7 @@ use Rattle.cyc_lower.specs.declared.statements.Opened.{Opened}
 use Rattle.cyc_lower.specs.Lowering.{outermost, with_handler, with_mark, scopes_of}
 use Rattle.cyc_lower.proofs.Weights.{weight}
 use Rattle.cyc_lower.proofs.Stands.{HandlersAt, MarksAt}
-use Rattle.cyc_lower.proofs.Relation.{IsIntact, HandlersStand, left_by, SharedAt, StatementStack, Related, Matches, code_of, bounds_at, types_at, base_of, floor, scopes_in, IsTold, IsMark, HasScopes, Newest, opened_by, CaughtBy, DataIn}
+use Rattle.cyc_lower.proofs.Relation.{IsIntact, HandlersStand, left_by, SharedAt, SharedBy, StatementStack, Related, Matches, code_of, bounds_at, types_at, base_of, floor, scopes_in, IsTold, IsMark, HasScopes, Newest, opened_by, CaughtBy, DataIn}
 use Rattle.cyc_lower.proofs.Sharing.{shared_ahead}
 use Rattle.cyc_lower.proofs.Data.{calls_counted, record_below}
 use Rattle.cyc_lower.proofs.Matched.{IsMatched, silently, by_one}
@@ -201,6 +201,12 @@ module _ (source : Program) where
   caught_by a rest (entry ∷ k) stand = stand
 
 module _ (source : Program) (pages calls : ℕ) where
+  -- what is shared then
+  abbrev pub shared_leaving : (loop : Bool) (k : List Entry) (e : Environment) (w : World) (c : Configuration) → SharedAt source pages calls k e w c
+      → SharedBy source (opened_by source loop c.active.function k).mark pages calls k e w c
+  shared_leaving loop k e w c shared =
+      shared_ahead source (opened_by source loop c.active.function k).mark pages calls k e w c (marked_told source loop c.active.function k c.globals shared.counters.1) shared
+
   -- A step that begins to leave entries: one instruction closes their handlers, or there are none. Lexical regions are closed later.
   pub leaving : (loop : Bool) (from next : Focus) (old k : List Entry) (e : Environment) (w : World) (c : Configuration) (opened : Opened) (r q : ℕ)
       → step source (Running from old e w) ≡ Running next k e w → SharedAt source pages calls old e w c → weight (Running next k e w) < weight (Running from old e w)

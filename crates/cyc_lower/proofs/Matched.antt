@@ -1,8 +1,9 @@
 -- How a step of the source is matched: what is the same in all cases.
-use Rattle.std.proofs.Common.{◌≡◌, ◌≢◌, ℕ, suc, ◌+◌, ◌≤◌, ◌<◌, Bool, true, false, List, [], ◌∷◌, length, Option, None, Some, refl, sym, ap, subst, ◌∙◌, arith}
+use Rattle.std.proofs.Common.{◌≡◌, ◌≢◌, ℕ, suc, ◌+◌, ◌≤◌, ◌<◌, Bool, true, false, List, [], ◌∷◌, length, Option, None, Some, slice_get, refl, sym, ap, subst, ◌∙◌, arith}
 use Rattle.std.specs.Prelude.{Contains, if◌then◌else◌, option_map}
 use Rattle.std.specs.List.{AllByRecursion}
 use Rattle.std.proofs.lemmas.Bool.{le-leb, and_from}
+use Rattle.std.proofs.lemmas.Option.{same_Some}
 use Rattle.cyc_words.specs.Ending.{Ending, Full}
 use Rattle.cyc_types.specs.declared.typed.Kind.{Kind}
 use Rattle.cyc_types.specs.declared.typed.Kind.TheVariants as kinds
@@ -255,6 +256,11 @@ module _ (source : Program) (pages calls : ℕ) where
 
   pub apart : (c d : Configuration) → c.active.next ≢ d.active.next → place_in c ≢ place_in d
   apart c d other same = other (ap (λ (p : CodePlace). p.index) same)
+
+  -- two instructions stand at two places
+  pub elsewhere : (p q : CodePlace) (i j : Instruction) → At (code_of source p.function) p.index i → At (code_of source q.function) q.index j → i ≢ j → p ≢ q
+  elsewhere p q i j here there other same =
+      other (same_Some i j (sym here ∙ ap (λ (place : CodePlace). slice_get (code_of source place.function) place.index) same ∙ there))
 
   -- one instruction, where this is printed
   pub by_one_printed : {focus : Focus} {k : List Entry} {e : Environment} {w : World} {c : Configuration} {next : State} {i : Instruction}
