@@ -962,17 +962,17 @@ module _ (source : Program) where
   IsMark None slots many = Unit {0}
   IsMark (Some mark) slots many = slots mark ≡ many
 
-  abbrev pub Leaves : (closing : Option ℕ) → (pages calls : ℕ) → Focus → List Entry → Environment → World → Configuration → Type 0
-  Leaves closing pages calls focus k e w c =
-      (shared : SharedBy closing pages calls k e w c) × DataFor shared.tables c.active.slots (handling focus k) k e w c
+  abbrev pub Leaves : (loop : Bool) → (closing : Option ℕ) → (pages calls : ℕ) → Focus → List Entry → Environment → World → Configuration → Type 0
+  Leaves loop closing pages calls focus k e w c =
+      (shared : SharedBy closing pages calls k e w c) × DataFor shared.tables c.active.slots (left_by loop k) k e w c
       × (r : ℕ) × MarksAt (code_of c.active.function) (bounds_at c.active.function) (types_at c.active.function) closing c.active.next r
-      × IsMark closing c.active.slots (scopes_in (handling focus k)) × FocusAt shared.tables focus k e.locals c.active.function r c.active.slots c.frames
+      × IsMark closing c.active.slots (scopes_in (left_by loop k)) × FocusAt shared.tables focus k e.locals c.active.function r c.active.slots c.frames
 
   abbrev pub Related : (pages calls : ℕ) → Focus → List Entry → Environment → World → Configuration → Type 0
   Related pages calls (Throwing tag value) k e w c = Throws pages calls tag value k e w c
-  Related pages calls Breaking k e w c = Leaves (opened_by true c.active.function k).mark pages calls Breaking k e w c
-  Related pages calls Continuing k e w c = Leaves (opened_by true c.active.function k).mark pages calls Continuing k e w c
-  Related pages calls (Returning v) k e w c = Leaves (opened_by false c.active.function k).mark pages calls (Returning v) k e w c
+  Related pages calls Breaking k e w c = Leaves true (opened_by true c.active.function k).mark pages calls Breaking k e w c
+  Related pages calls Continuing k e w c = Leaves true (opened_by true c.active.function k).mark pages calls Continuing k e w c
+  Related pages calls (Returning v) k e w c = Leaves false (opened_by false c.active.function k).mark pages calls (Returning v) k e w c
   Related pages calls (Given v) k e w c = (shared : SharedAt pages calls k e w c) × GivenAt shared.tables v k e w c
   Related pages calls Proceeding k e w c = (shared : SharedAt pages calls k e w c) × ProceedingAt shared.tables k e w c
   Related pages calls focus k e w c = GoesOn pages calls focus k e w c

@@ -21,26 +21,30 @@ use Rattle.cyc_plain.specs.Step as plain_step
 use Rattle.cyc_plain.proofs.SlotLaws.{copied-below}
 use Rattle.cyc_plain.specs.Straight.{At}
 use Rattle.cyc_meaning.specs.Values.{Value, Int, kind_of, Operand as Kinded, words_of_kind}
-use Rattle.cyc_meaning.specs.State.{World, Environment, variable, made, opened, closed, with_local, region_at, ConvertTo, Initialise, Choose, Return, Entry, Needs, NeedsPlace, Discard, Rest, Join, Loop, CloseRegion, CloseLexical, EndLoan, Handler, Caller, Main, Focus, Evaluating, Given, Executing, Proceeding, Breaking, Continuing, Returning, Throwing, Running, Ended, State}
+use Rattle.cyc_meaning.specs.State.{Access, Region, World, Environment, variable, made, opened, closed, with_local, region_at, ConvertTo, Initialise, Choose, Return, Entry, Needs, NeedsPlace, Discard, Rest, Join, Loop, CloseRegion, CloseLexical, EndLoan, Handler, Caller, Main, Focus, Evaluating, Given, Executing, Proceeding, Breaking, Continuing, Returning, Throwing, Running, Ended, State}
+use Rattle.cyc_meaning.specs.Nesting.{IsNested}
+use Rattle.cyc_meaning.specs.Regions.{closing_lexical}
 use Rattle.cyc_meaning.specs.Step.{target_by, inside, region_end, step}
 use Rattle.cyc_lower.specs.declared.statements.Exits.{Exits}
 use Rattle.cyc_lower.specs.Slots.{slot_of}
 use Rattle.cyc_lower.proofs.Slots.{slot-room, room-inside, slot_types-many}
 use Rattle.cyc_lower.proofs.Widths.{HasRoom, Outside}
 use Rattle.cyc_lower.proofs.Moves.{copied_is, copied_elsewhere}
-use Rattle.cyc_lower.specs.Lowering.{counter_operand, operand_of, are_as_wide, converts_there, break_target, inside_loop, results_of, lower_function, lower_program, globals_of, null_of}
+use Rattle.cyc_lower.specs.Lowering.{counter_operand, operand_of, are_as_wide, converts_there, break_target, continue_target, scopes_of, inside_loop, results_of, lower_function, lower_program, globals_of, null_of}
 use Rattle.cyc_lower.proofs.Stands.{OperandBy, ExpressionAt, InitialAt, InitialBy, ReturnedAt, ItemsAt}
 use Rattle.cyc_objects.specs.Tables.{Variable, Tables, with_row, with_handle}
+use Rattle.cyc_objects.specs.Related.{scopes}
 use Rattle.cyc_objects.specs.Words.{Is}
 use Rattle.cyc_objects.proofs.Values.{Grows-row, Grows-handle}
 use Rattle.cyc_lower.proofs.Sharing.{shared_less, shared_declared, row_declared, shared_opened, shared_closed, shared_left}
-use Rattle.cyc_lower.proofs.Relation.{counters_of, AreCounted, types_on, starts_on, types_in, types_at, starts_at, given_at, returned_at, Holds, held, callers, homes, Shared, DataAt, SharedAt, in_temporary, in_local, ValueStack, AheadStack, StatementStack, LandsStack, Related, EvaluatingAt, as_operand, into_slot, for_effect, as_condition, in_operand, ahead, behind_statement, behind_call, behind_wrong, Below, IsLast, Arrives, in_place, by_jump, code_of, bounds_in, bounds_at, base_of, top, behind_records, by_jumps, HandlersStand, DataIn, Matches, floor}
+use Rattle.cyc_lower.proofs.Relation.{counters_of, CountsBy, opened_by, types_on, starts_on, types_in, types_at, starts_at, given_at, returned_at, Holds, held, callers, homes, Shared, DataAt, SharedAt, in_temporary, in_local, ValueStack, AheadStack, StatementStack, LandsStack, Related, EvaluatingAt, as_operand, into_slot, for_effect, as_condition, in_operand, ahead, behind_statement, behind_call, behind_wrong, Below, IsLast, Arrives, in_place, by_jump, code_of, bounds_in, bounds_at, base_of, top, behind_records, by_jumps, HandlersStand, DataIn, Matches, floor}
 use Rattle.cyc_lower.proofs.Data.{height-least, Holds-same, Holds-above, data_declared, data_returned, data_grows, held_by_caller, floor-least, handlers_same, calls_counted}
 use Rattle.cyc_lower.proofs.Values.{int_at}
 use Rattle.cyc_lower.proofs.Accesses.{IsWell, is_declared, is_closed, home_there}
 use Rattle.cyc_lower.proofs.SwapSteps.{begins_swap}
 use Rattle.cyc_lower.proofs.Weights.{weight}
-use Rattle.cyc_lower.proofs.Handling.{leaving, record_left}
+use Rattle.cyc_lower.proofs.Handling.{leaving, shared_leaving, record_left}
+use Rattle.cyc_lower.proofs.WaysOut.{leaves_region}
 use Rattle.cyc_lower.proofs.Matched.{IsMatched, silently, by_one, by_two}
 use Rattle.cyc_lower.proofs.ExceptionSteps.{begins, ends, throws_none, throws_some}
 use Rattle.cyc_lower.proofs.Evaluations.{IsStep, sources}
@@ -399,8 +403,8 @@ module _ (source : Program) (pages calls : ℕ) where
   breaking (Caller outer ∷ k) e w c nested well related = absurd (well refl)
   breaking (NeedsPlace a ∷ k) e w c nested well (shared, facts, r, marks, marked, (exits, q, here, stack)) = absurd stack
   breaking (CloseLexical region ∷ k) e w c nested well (shared, facts, r, marks, marked, (exits, q, here, (outer, u, is, closing, stack))) =
-      leaves_region source pages calls true Breaking region k e w c (λ found. ap (λ (a : Access Region). closing_lexical a Breaking region k e w) found) nested shared facts r marks marked
-      (λ w slots. λ after. (outer, u, subst (λ n. At (code_of source c.active.function) r (instructions.Jump n)) (ap (λ (x : Exits). break_target x.head) is) here, stack))
+      leaves_region source pages calls true Breaking region k e w c (λ r found. ap (λ (a : Access Region). closing_lexical a Breaking region k e w) found) (λ v. omega arith) (λ v d leaves. leaves) nested shared facts r marks marked
+      (outer, u, subst (λ n. At (code_of source c.active.function) r (instructions.Jump n)) (ap (λ (x : Exits). break_target x.head) is) here, stack)
   breaking (EndLoan lent ∷ k) e w c nested well (shared, facts, r, marks, marked, (exits, q, here, stack)) =
       silently source pages calls (Running Breaking (EndLoan lent ∷ k) e w) (Running Breaking k e w) (plain.Running c) refl (shared, facts, r, marks, marked, (exits, q, here, stack)) (omega arith)
   breaking (Handler handler ∷ k) e w c nested well (shared, facts, r, marks, marked, (exits, q, here, (outer, u, is, leave, over, stack))) =
@@ -428,8 +432,8 @@ module _ (source : Program) (pages calls : ℕ) where
   continuing (Caller outer ∷ k) e w c nested well related = absurd (well refl)
   continuing (NeedsPlace a ∷ k) e w c nested well (shared, facts, r, marks, marked, (exits, q, here, stack)) = absurd stack
   continuing (CloseLexical region ∷ k) e w c nested well (shared, facts, r, marks, marked, (exits, q, here, (outer, u, is, closing, stack))) =
-      leaves_region source pages calls true Continuing region k e w c (λ found. ap (λ (a : Access Region). closing_lexical a Continuing region k e w) found) nested shared facts r marks marked
-      (λ w slots. λ after. (outer, u, subst (λ n. At (code_of source c.active.function) r (instructions.Jump n)) (ap (λ (x : Exits). continue_target x.head) is) here, stack))
+      leaves_region source pages calls true Continuing region k e w c (λ r found. ap (λ (a : Access Region). closing_lexical a Continuing region k e w) found) (λ v. omega arith) (λ v d leaves. leaves) nested shared facts r marks marked
+      (outer, u, subst (λ n. At (code_of source c.active.function) r (instructions.Jump n)) (ap (λ (x : Exits). continue_target x.head) is) here, stack)
   continuing (EndLoan lent ∷ k) e w c nested well (shared, facts, r, marks, marked, (exits, q, here, stack)) =
       silently source pages calls (Running Continuing (EndLoan lent ∷ k) e w) (Running Continuing k e w) (plain.Running c) refl (shared, facts, r, marks, marked, (exits, q, here, stack)) (omega arith)
   continuing (Handler handler ∷ k) e w c nested well (shared, facts, r, marks, marked, (exits, q, here, (outer, u, is, leave, over, stack))) =
@@ -474,8 +478,8 @@ module _ (source : Program) (pages calls : ℕ) where
       (subst (λ n. At (code_of source c.active.function) n (instructions.Finish s)) (sym end) here) below
   returning_none (NeedsPlace a ∷ k) e w c nested well (shared, facts, r, marks, marked, (exits, q, s, here, stack)) = absurd stack
   returning_none (CloseLexical region ∷ k) e w c nested well (shared, facts, r, marks, marked, (exits, q, s, here, (outer, u, is_inside, closing, stack))) =
-      leaves_region source pages calls false (Returning None) region k e w c (λ found. ap (λ (a : Access Region). closing_lexical a (Returning None) region k e w) found) nested shared facts r marks marked
-      (λ w slots. λ after. (outer, u, s, here, stack))
+      leaves_region source pages calls false (Returning None) region k e w c (λ r found. ap (λ (a : Access Region). closing_lexical a (Returning None) region k e w) found) (λ v. omega arith) (λ v d leaves. leaves) nested shared facts r marks marked
+      (outer, u, s, here, stack)
   returning_none (EndLoan lent ∷ k) e w c nested well (shared, facts, r, marks, marked, (exits, q, s, here, stack)) =
       silently source pages calls (Running (Returning None) (EndLoan lent ∷ k) e w) (Running (Returning None) k e w) (plain.Running c) refl (shared, facts, r, marks, marked, (exits, q, s, here, stack)) (omega arith)
   returning_none (Handler handler ∷ k) e w c nested well (shared, facts, r, marks, marked, (exits, q, s, here, (outer, u, is_inside, leave, over, stack))) =
@@ -502,8 +506,8 @@ module _ (source : Program) (pages calls : ℕ) where
       (results_at c.active.function ∙ single.0) (subst (λ i. Below source c.frames (Waits i outer k)) (sym single.1) below)
   returning_some v (NeedsPlace a ∷ k) e w c nested well (shared, facts, r, marks, marked, (exits, q, s, here, is, single, stack)) = absurd stack
   returning_some v (CloseLexical region ∷ k) e w c nested well (shared, facts, r, marks, marked, (exits, q, s, here, is, single, (outer, u, is_inside, closing, stack))) =
-      leaves_region source pages calls false (Returning (Some v)) region k e w c (λ found. ap (λ (a : Access Region). closing_lexical a (Returning (Some v)) region k e w) found) nested shared facts r marks marked
-      (λ w slots. λ after. (outer, u, s, here, is, single, stack))
+      leaves_region source pages calls false (Returning (Some v)) region k e w c (λ r found. ap (λ (a : Access Region). closing_lexical a (Returning (Some v)) region k e w) found) (λ v. omega arith) (λ v d leaves. leaves) nested shared facts r marks marked
+      (outer, u, s, here, is, single, stack)
   returning_some v (EndLoan lent ∷ k) e w c nested well (shared, facts, r, marks, marked, (exits, q, s, here, is, single, stack)) =
       silently source pages calls (Running (Returning (Some v)) (EndLoan lent ∷ k) e w) (Running (Returning (Some v)) k e w) (plain.Running c) refl (shared, facts, r, marks, marked, (exits, q, s, here, is, single, stack)) (omega arith)
   returning_some v (Handler handler ∷ k) e w c nested well (shared, facts, r, marks, marked, (exits, q, s, here, is, single, (outer, u, is_inside, leave, over, stack))) =
