@@ -1,22 +1,21 @@
 use borrow.Author.Rules.{rules, get_or_read}
-use Rattle.std.proofs.Common.{◌≡◌, ℕ, ◌+◌, List, [], ◌∷◌, ◌++◌, length, set, Option, ◌∙◌, refl, sym, ap, arith}
+use Rattle.std.proofs.Common.{ℕ, List, [], ◌∷◌, ◌++◌, length, set, Option, ◌∙◌, refl, ap, arith}
 use Rattle.std.proofs.lemmas.Result.{on_ok_weaker}
 use Rattle.cyc_types.specs.declared.ty.Ty.TheFolds as types
 use Rattle.cyc_types.specs.declared.typed.Item.{Item}
 use Rattle.cyc_types.specs.declared.typed.Item.TheFolds as statements
 use Rattle.cyc_types.specs.declared.typed.Body.{Body}
-use Rattle.cyc_types.specs.TypedTreeView.{view_expression, view_statement, items_of, clauses_of, default_of}
+use Rattle.cyc_types.specs.TypedTreeView.{view_expression, view_statement, items_of, default_of}
 use Rattle.cyc_meaning.specs.FrameCount.{kept_by_items, kept_by_clauses}
 use Rattle.cyc_plain.specs.declared.instruction.Instruction.{Instruction}
 use Rattle.cyc_plain.specs.declared.instruction.Instruction.TheVariants.{Jump, Leave}
-use Rattle.cyc_lower.specs.Lowering.{items_code, clauses_code, other_jump, statement_code, inside_try}
+use Rattle.cyc_lower.specs.Lowering.{items_code, other_jump, statement_code, inside_try}
 use Rattle.cyc_lower.specs.declared.statements.Exits.{Exits}
 use Rattle.cyc_lower.specs.declared.statements.Opened.{Opened}
 use Rattle.cyc_lower.specs.Emission.{view_starts}
 use Rattle.cyc_lower.proofs.Branching.{made_block, made_if, made_loop, item_room, more_items, closes_begin, closes_next, closes_end}
 use Rattle.cyc_lower.proofs.Handlers.{kept_of_clause, made_clause, made_clauses, more_clauses, made_handler, record_room, clauses_longer, body_longer}
 use Rattle.cyc_lower.proofs.Emitting.{no_shorter_than}
-use Rattle.std.proofs.lemmas.List.{length-append}
 use Rattle.cyc_lower.proofs.NeedsFound.{block_keeps, try_keeps}
 use Rattle.cyc_lower.proofs.emitter.Emitter.+statement.Goals as goal
 
