@@ -15,10 +15,11 @@ use Rattle.cyc_meaning.specs.State.{World, Environment, Entry, Rest, Join, Loop,
 use Rattle.cyc_meaning.specs.Step.{step}
 use Rattle.cyc_lower.specs.declared.statements.Exits.{Exits}
 use Rattle.cyc_lower.specs.declared.statements.Opened.{Opened}
-use Rattle.cyc_lower.specs.Lowering.{outermost, with_handler}
+use Rattle.cyc_lower.specs.Lowering.{outermost, with_handler, scopes_of}
 use Rattle.cyc_lower.proofs.Weights.{weight}
 use Rattle.cyc_lower.proofs.Stands.{HandlersAt, MarksAt, LeaveAt}
-use Rattle.cyc_lower.proofs.Relation.{IsIntact, HandlersStand, left_by, SharedAt, StatementStack, Related, Matches, code_of, bounds_at, types_at, base_of, floor, Newest, opened_by, CaughtBy, DataIn}
+use Rattle.cyc_lower.proofs.Relation.{IsIntact, HandlersStand, left_by, SharedAt, StatementStack, Related, Matches, code_of, bounds_at, types_at, base_of, floor, HasScopes, Newest, opened_by, CaughtBy, DataIn}
+use Rattle.cyc_lower.proofs.Sharing.{shared_ahead}
 use Rattle.cyc_lower.proofs.Data.{calls_counted, record_below}
 use Rattle.cyc_lower.proofs.Matched.{IsMatched, silently, by_one}
 
@@ -190,7 +191,7 @@ module _ (source : Program) (pages calls : ℕ) where
   pub raised : (tag value : ℕ) (k : List Entry) (e : Environment) (w : World) (c : Configuration) (x o : Operand) → IsNumber tag → (shared : SharedAt source pages calls k e w c) → DataIn source shared.tables c.active.slots k e w c
       → At (code_of source c.active.function) c.active.next (instructions.Throw x o) → operand_word c.active.slots x ≡ tag → operand_word c.active.slots o ≡ value → Related source pages calls (Throwing tag value) k e w c
   raised tag value k e w c x o word shared (facts, stand) here x_is o_is = (
-    shared,
+    shared_ahead source (scopes_of source) pages calls k e w c (known (scopes_of source)) shared,
     omega (arith, calls_counted source c.active.function c.active.slots c.active.handlers c.frames k stand, shared.fits),
     word,
     x,
@@ -205,3 +206,7 @@ module _ (source : Program) (pages calls : ℕ) where
     facts,
     caught_by source c.active c.frames k stand,
   )
+    where
+      known : (scopes : Option ℕ) (mark : ℕ) → scopes ≡ Some mark → HasScopes scopes
+      known None mark is = none-some mark is
+      known (Some place) mark is = tt

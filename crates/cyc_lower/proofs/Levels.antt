@@ -39,7 +39,7 @@ use Rattle.cyc_meaning.specs.Pointers.{result_kind as operator_kind}
 use Rattle.cyc_lower.proofs.Widths.{chain_kind, made_kind}
 use Rattle.cyc_meaning.specs.SourceMachine.{status_in, source_machine}
 use Rattle.cyc_lower.proofs.Weights.{weight}
-use Rattle.cyc_lower.proofs.Relation.{base_of, Lands, in_temporary, in_local, HandsOn, drops, leaves, copies, Prints, prints_only, gives_byte, SharedAt, to_slot, to_jump, ValueStack, PlaceStack, ConditionStack, DroppedStack, AheadStack, StatementStack, LandsStack, PrintsStack, AppliedStack, RightAt, ReadyAt, EvaluatingAt, as_operand, into_slot, for_effect, as_right, as_condition, FocusAt, GivenAt, in_operand, nowhere, ahead, compared, with_left, ProceedingAt, behind_statement, behind_call, behind_wrong, Related, Matches, code_of, given_at, called_at, returned_at, top}
+use Rattle.cyc_lower.proofs.Relation.{base_of, Lands, in_temporary, in_local, HandsOn, drops, leaves, copies, Prints, prints_only, gives_byte, SharedAt, to_slot, to_jump, ValueStack, PlaceStack, ConditionStack, DroppedStack, AheadStack, StatementStack, LandsMade, PrintsStack, AppliedStack, RightAt, ReadyAt, EvaluatingAt, as_operand, into_slot, for_effect, as_right, as_condition, FocusAt, GivenAt, in_operand, nowhere, ahead, compared, with_left, ProceedingAt, behind_statement, behind_call, behind_wrong, Related, Matches, code_of, given_at, called_at, returned_at, top}
 use Rattle.cyc_lower.proofs.Relation.{held, height, counters_of, arrays_in}
 use Rattle.cyc_lower.proofs.Matched.{by_lands, by_hands, by_prints}
 
@@ -158,5 +158,5 @@ module _ (source : Program) where
     statement_arrays g exits p [] (Main ∷ entry ∷ k) (s, at, outside, last) = absurd last
     statement_arrays g exits p frames k stack = absurd stack
 
-  pub lands_arrays : (g : ℕ) (locals : ℕ → Option ℕ) (kind : Kind) (d p : ℕ) (frames : List Frame) (k : List Entry) → LandsStack source g locals kind d p frames k → arrays_in k ≡ length (counters_of 0 k)
+  pub lands_arrays : (g : ℕ) (locals : ℕ → Option ℕ) (kind : Kind) (d p : ℕ) (frames : List Frame) (k : List Entry) → LandsMade source g locals kind d p frames k → arrays_in k ≡ length (counters_of 0 k)
   lands_arrays g locals kind d p frames k lands = by_lands source lands (λ stack. value_arrays g locals kind (operands.Slot d) p frames k stack) (λ stack. ahead_arrays g locals kind d p frames k stack)

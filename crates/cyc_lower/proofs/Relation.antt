@@ -11,11 +11,13 @@ use Rattle.cyc_types.specs.declared.typed.Callee.TheVariants as callees
 use Rattle.cyc_types.specs.Types.{Ty}
 use Rattle.cyc_types.specs.TypedTrees.{Lvalue, Local, Global, Expression, NoArguments, NoOperations, Statement, Function, Program, Convert, Dereference, Side, VariableSide, CellSide, Clauses}
 use Rattle.cyc_types.specs.Numbered.{Numbering, argument_count, numbering_of, signatures_of}
-use Rattle.cyc_store.specs.State.{StoreState, demand}
+use Rattle.cyc_store.specs.State.{StoreState, demand, lexical_count}
+use Rattle.cyc_store.specs.Soundness.{IsSound}
 use Rattle.cyc_store.specs.declared.range.TheConstants.{HEAP, UNIQUE, MOST_BLOCK_WORDS}
 use Rattle.cyc_objects.specs.Tables.{Variable, Placed, Tables}
 use Rattle.cyc_objects.specs.Words.{words_of_kinds, InRange, Is, Points, before}
 use Rattle.cyc_objects.specs.Related as objects
+use Rattle.cyc_objects.specs.Related.{scopes, closed_to}
 use Rattle.cyc_plain.specs.declared.instruction.BinaryOperator.TheVariants as plain_binary
 use Rattle.cyc_plain.specs.declared.instruction.Comparison.{Comparison}
 use Rattle.cyc_plain.specs.declared.instruction.Comparison.TheVariants as comparisons
@@ -34,6 +36,7 @@ use Rattle.cyc_plain.specs.Straight.{At}
 use Rattle.cyc_meaning.specs.Values.{Fat, Value, Null, Thin, Handle, Operand as Kinded, Cell, kinds_of, words_of_kind, is_thin}
 use Rattle.cyc_meaning.specs.Allocation.{writes_from, blanks_of}
 use Rattle.cyc_meaning.specs.State.{Owner, InRegion, Unique, Object, World, heap_number, globals_number, Environment, ConvertTo, Operate, Chain, Apply, ApplyPointer, Follow, LoadFrom, Decide, Store, Pass, PlaceBy, BesideHandle, MakePlain, MakeFields, MakeArray, FillElement, Initialise, Choose, Test, Return, Entry, Needs, NeedsPlace, Discard, Rest, Join, Loop, CloseRegion, CloseLexical, EndLoan, Handler, Caller, Main, calls_in, Focus, Evaluating, Locating, Given, Executing, Proceeding, Calling, Entering, Binding, Writing, Beginning, Repeating, Breaking, Continuing, Returning, Throwing, State, Running, Ended, GivenPlace, FollowMember, TakeAddress, StoreTo, StoreCell, FreeObject, CloseByKey, SwapLeft, SwapRight, Write, Swapping, ThrowWith, Naming, Catching, CountElements, Index, Advance}
+use Rattle.cyc_meaning.specs.Nesting.{lexicals_of}
 use Rattle.cyc_meaning.specs.Step.{object_of}
 use Rattle.cyc_meaning.specs.Operators.{null_exception, is_zero}
 use Rattle.cyc_meaning.specs.FrameCount.{words_of_all}
@@ -240,9 +243,7 @@ behind_records (entry ∷ k) scopes slot = behind_records k scopes slot
 
 -- how many lexical regions are open, of all calls
 abbrev pub scopes_in : List Entry → ℕ
-scopes_in [] = 0
-scopes_in (CloseLexical region ∷ k) = suc (scopes_in k)
-scopes_in (entry ∷ k) = scopes_in k
+scopes_in k = length (lexicals_of k)
 
 -- so many are told by the word for it: where there is none, none is ever opened
 abbrev pub IsTold : (scopes : Option ℕ) → Words → (many : ℕ) → Type 0
@@ -324,6 +325,20 @@ pub record Shared (pages calls : ℕ) (w : World) (regions : List ℕ) (counting
   pub fits : suc waiting ≤ calls
   -- the counters of arrays, and the lexical regions that are open
   pub counters : counting
+
+-- While lexical regions are left the source closes one at a step, and the store all at the end: it is ahead of what is matched by so many
+-- regions as are still open.
+abbrev pub store_by : (closing : Option ℕ) → StoreState → (many : ℕ) → StoreState
+store_by None store many = store
+store_by (Some mark) store many = closed_to store many
+
+-- The store still has those regions that the source has closed. There is a word then that tells how many are open.
+abbrev pub HasScopes : Option ℕ → Type 0
+HasScopes None = ⊥
+HasScopes (Some place) = Unit {0}
+
+abbrev pub IsAhead : (scopes : Option ℕ) → StoreState → (many : ℕ) → Type 0
+IsAhead place store many = HasScopes place × IsSound store × (many ≤ lexical_count store.regions)
 
 module _ (source : Program) where
   -- ---- functions of the program
@@ -852,12 +867,22 @@ module _ (source : Program) where
 
   -- ---- states
 
-  -- what is said of the counters of arrays and of the lexical regions that are open
-  abbrev pub CountsAt : Environment → List Entry → (globals : Words) → Type 0
-  CountsAt e k globals = AreCounted e.counters k × IsTold (scopes_of source) globals (scopes_in k)
+  -- What is said of the counters of arrays, and of the lexical regions that are open: so many entries end them, and so many the source has
+  -- open.
+  abbrev pub ScopesBy : (closing : Option ℕ) → (globals : Words) → StoreState → (ended now : ℕ) → Type 0
+  ScopesBy None globals store ended now = IsTold (scopes_of source) globals ended
+  ScopesBy (Some mark) globals store ended now = IsAhead (scopes_of source) store now
+
+  abbrev pub CountsBy : (closing : Option ℕ) → Environment → List Entry → (globals : Words) → StoreState → (now : ℕ) → Type 0
+  CountsBy closing e k globals store now = AreCounted e.counters k × ScopesBy closing globals store (scopes_in k) now
+
+  -- what is shared while lexical regions are left, or not
+  abbrev pub SharedBy : (closing : Option ℕ) → (pages calls : ℕ) → List Entry → Environment → World → Configuration → Type 0
+  SharedBy closing pages calls k e w c =
+      Shared pages calls w (e.home ∷ homes k) (CountsBy closing e k c.globals c.store (scopes w.regions)) c.output c.input (store_by closing c.store (scopes w.regions)) (length c.frames)
 
   abbrev pub SharedAt : (pages calls : ℕ) → List Entry → Environment → World → Configuration → Type 0
-  SharedAt pages calls k e w c = Shared pages calls w (e.home ∷ homes k) (CountsAt e k c.globals) c.output c.input c.store (length c.frames)
+  SharedAt pages calls k e w c = SharedBy None pages calls k e w c
 
   -- what stands where a handler catches an exception: it was opened by this instruction, and its clauses end where all goes on
   abbrev pub CatchesAt : (g : ℕ) → Clauses → (index : ℕ) → List Frame → List Entry → Type 0
@@ -923,7 +948,7 @@ module _ (source : Program) where
 
   abbrev pub Throws : (pages calls : ℕ) → (tag value : ℕ) → List Entry → Environment → World → Configuration → Type 0
   Throws pages calls tag value k e w c =
-      (shared : SharedAt pages calls k e w c) × (calls_in k ≤ calls) × IsNumber tag
+      (shared : SharedBy (scopes_of source) pages calls k e w c) × (calls_in k ≤ calls) × IsNumber tag
       × (x : Operand) × (o : Operand) × At (code_of c.active.function) c.active.next (instructions.Throw x o) × (operand_word c.active.slots x ≡ tag) × (operand_word c.active.slots o ≡ value)
       × (a : Activation) × (rest : List Frame) × (length rest ≤ length c.frames) × (throws c tag value c.active c.frames ≡ throws c tag value a rest)
       × DataAt shared.tables a.function w.objects e.locals (callers k) a.slots c.globals rest × CaughtBy a rest k
