@@ -37,12 +37,13 @@ use Rattle.cyc_objects.specs.Related.{scopes}
 use Rattle.cyc_objects.specs.Words.{Is}
 use Rattle.cyc_objects.proofs.Values.{Grows-row, Grows-handle}
 use Rattle.cyc_lower.proofs.Sharing.{shared_less, shared_declared, row_declared, shared_opened, shared_closed, shared_left}
-use Rattle.cyc_lower.proofs.Relation.{counters_of, CountsBy, opened_by, types_on, starts_on, types_in, types_at, starts_at, given_at, returned_at, Holds, held, callers, homes, Shared, DataAt, SharedAt, in_temporary, in_local, ValueStack, AheadStack, StatementStack, LandsStack, Related, EvaluatingAt, as_operand, into_slot, for_effect, as_condition, in_operand, ahead, behind_statement, behind_call, behind_wrong, Below, IsLast, Arrives, in_place, by_jump, code_of, bounds_in, bounds_at, base_of, top, behind_records, by_jumps, HandlersStand, DataIn, Matches, floor}
+use Rattle.cyc_lower.proofs.Relation.{kept, counters_of, CountsBy, opened_by, types_on, starts_on, types_in, types_at, starts_at, given_at, returned_at, Holds, held, callers, homes, Shared, DataAt, SharedAt, in_temporary, in_local, ValueStack, AheadStack, StatementStack, LandsStack, Related, EvaluatingAt, as_operand, into_slot, for_effect, as_condition, in_operand, ahead, behind_statement, behind_call, behind_wrong, Below, IsLast, Arrives, in_place, by_jump, code_of, bounds_in, bounds_at, base_of, top, behind_records, by_jumps, HandlersStand, DataIn, Matches, floor}
 use Rattle.cyc_lower.proofs.Data.{height-least, Holds-same, Holds-above, data_declared, data_returned, data_grows, held_by_caller, floor-least, handlers_same, calls_counted}
 use Rattle.cyc_lower.proofs.Values.{int_at}
 use Rattle.cyc_lower.proofs.Accesses.{IsWell, is_declared, is_closed, home_there}
 use Rattle.cyc_lower.proofs.SwapSteps.{begins_swap}
 use Rattle.cyc_lower.proofs.Weights.{weight}
+use Rattle.cyc_lower.proofs.Handles.{kept_holds}
 use Rattle.cyc_lower.proofs.Handling.{leaving, shared_leaving, record_left}
 use Rattle.cyc_lower.proofs.WaysOut.{leaves_region}
 use Rattle.cyc_lower.proofs.Matched.{IsMatched, silently, by_one, by_two}
@@ -209,7 +210,7 @@ module _ (source : Program) (pages calls : ℕ) where
       by_one source pages calls refl shared here
       (λ choice. finished (Running (Given v) k outer w) c s choice none (
         shared_returned w (outer.home ∷ homes k) (CountsBy source None outer k globals store (scopes w.regions)) output input store e.home (length frames) shared,
-        in_operand (operands.Slot f.result) back.0 (copied_is shared.tables v active.slots f.caller.slots s results f.result (omega (arith, wide)) is) back.1 stack,
+        in_operand (operands.Slot f.result) back.0 (copied_is shared.tables v active.slots f.caller.slots s results f.result (omega (arith, wide)) is) (kept_holds _ _ _ k back.1) stack,
       ))
   hands_back v active (f ∷ frames) globals store output input k e outer w s shared (facts, (none, stand)) here is wide (in_local below stack) =
       let c : Configuration = record { active = active; frames = f ∷ frames; globals = globals; store = store; output = output; input = input } in
@@ -232,7 +233,7 @@ module _ (source : Program) (pages calls : ℕ) where
           ),
         )
             (copied_is shared.tables v active.slots f.caller.slots s results d (omega (arith, wide)) is)
-            (Holds-above shared.tables f.caller.slots now base (held k) (λ n from. elsewhere n (inr (omega (arith, from, below, floor-least source f.caller.function k)))) holds)
+            (Holds-above shared.tables f.caller.slots now base (kept k) (λ n from. elsewhere n (inr (omega (arith, from, below, floor-least source f.caller.function k)))) (kept_holds _ _ _ k holds))
             stack,
       ))
 
@@ -347,7 +348,7 @@ module _ (source : Program) (pages calls : ℕ) where
   after_statement (CloseRegion region home ∷ k) e w c exits well shared facts (q, comes, stack) =
       let found = is_closed Proceeding region home k e w well in
       arrives (CloseRegion region home ∷ k) k (record e { home = home }) e (closed w region found.region) w c exits q found.gives shared (omega arith)
-      (shared_closed source pages calls k e w c region home found.region found.there shared) facts comes stack
+      (shared_closed source None pages calls k e w c region home found.region found.there shared) facts comes stack
   after_statement (Handler handler ∷ k) e w c exits well shared facts stack = ends source pages calls handler k e w c exits shared facts stack
   after_statement (Caller outer ∷ k) e w c exits well shared facts (s, here, outside, below) =
       leaves_call Proceeding c.active c.frames c.globals c.store c.output c.input k e outer w s refl shared facts here below
