@@ -5,9 +5,9 @@ use Rattle.std.proofs.lemmas.Bool.{cases_Bool}
 use Rattle.cyc_words.specs.Word.{add_of}
 use Rattle.cyc_types.specs.declared.typed.Kind.TheVariants as kinds
 use Rattle.cyc_types.specs.TypedTrees.{Items, MoreItems, DeclareRegion, Function, Program, OpenRegion, DeclareAlias, DeclareKey}
-use Rattle.cyc_store.specs.State.{StoreState, demand, lexical_count}
+use Rattle.cyc_store.specs.State.{demand, lexical_count}
 use Rattle.cyc_store.specs.Services as services
-use Rattle.cyc_store.specs.Services.{OpenLexical, CloseTo, served, full_at, refusal, OpenDynamic}
+use Rattle.cyc_store.specs.Services.{OpenLexical, full_at, refusal, OpenDynamic}
 use Rattle.cyc_store.proofs.ServiceLemmas.{served-sound}
 use Rattle.cyc_plain.specs.declared.instruction.Operand.{Operand}
 use Rattle.cyc_plain.specs.declared.instruction.Operand.TheVariants as operands
@@ -17,14 +17,14 @@ use Rattle.cyc_plain.specs.declared.instruction.Instruction.{Instruction}
 use Rattle.cyc_plain.specs.declared.instruction.Instruction.TheVariants as instructions
 use Rattle.cyc_plain.specs.Program.{CodePlace}
 use Rattle.cyc_plain.specs.State as plain
-use Rattle.cyc_plain.specs.State.{Words, put, Configuration, Frame}
+use Rattle.cyc_plain.specs.State.{Words, put, Configuration}
 use Rattle.cyc_plain.specs.Step.{Choice, at, with_slots, advanced, served_to, performed}
 use Rattle.cyc_plain.specs.Step as plain_step
 use Rattle.cyc_plain.specs.Straight.{At}
 use Rattle.cyc_plain.proofs.SlotLaws.{put-same, put-other}
 use Rattle.cyc_meaning.specs.Values.{Handle, Operand as Kinded, Value, Key, kind_of}
 use Rattle.cyc_meaning.specs.Effects.{pages_of}
-use Rattle.cyc_meaning.specs.State.{Lexical, Dynamic, World, opened_as, globals_number, Environment, Entry, Rest, CloseLexical, Focus, Proceeding, Naming, State, Running, Object, closed, EndLoan, Region, Access, Found, Closed, Missing, region_at, Needs, OpenBy, AliasOf, Given}
+use Rattle.cyc_meaning.specs.State.{Lexical, Dynamic, World, opened_as, globals_number, Environment, Entry, Rest, CloseLexical, Focus, Proceeding, Naming, State, Running, closed, EndLoan, Region, Access, Found, Closed, Missing, region_at, Needs, OpenBy, AliasOf, Given}
 use Rattle.cyc_meaning.specs.Nesting.{IsNested}
 use Rattle.cyc_meaning.specs.Step.{step, wrong}
 use Rattle.cyc_objects.specs.Tables.{Tables, with_handle, Grows}
@@ -36,17 +36,16 @@ use Rattle.cyc_lower.specs.declared.statements.Exits.{Exits}
 use Rattle.cyc_lower.specs.Lowering.{lower_program, inside_region, scopes_of}
 use Rattle.cyc_lower.proofs.Slots.{slot_types-many}
 use Rattle.cyc_lower.proofs.Widths.{Outside}
-use Rattle.cyc_lower.proofs.Stands.{ToldAt, NamedAt, ClosedAt, ItemsAt}
-use Rattle.cyc_lower.proofs.Relation.{silent, homes, callers, scopes_in, IsTold, DataAt, HandlersStand, SharedAt, StatementStack, Related, Matches, DataIn, code_of, bounds_in, bounds_at, types_in, types_at, floor, Shared, AreCounted, Waiting, behind_statement, IsIn, contents, starts_at, in_operand, ValueStack}
+use Rattle.cyc_lower.proofs.Stands.{NamedAt, ClosedAt, ItemsAt}
+use Rattle.cyc_lower.proofs.Relation.{silent, homes, callers, scopes_in, IsTold, DataAt, HandlersStand, SharedAt, StatementStack, Related, Matches, DataIn, code_of, bounds_in, bounds_at, types_in, types_at, floor, behind_statement, IsIn, contents, starts_at, in_operand, ValueStack, HasScopes}
 use Rattle.cyc_lower.proofs.Data.{data_written, data_grows, variables_grow}
-use Rattle.cyc_lower.proofs.Matched.{IsMatched, silently, Executes, shared_within, matches_within_below, place_in, known}
+use Rattle.cyc_lower.proofs.Matched.{IsMatched, silently, shared_within, known, inside_by}
 use Rattle.cyc_lower.proofs.Paths.{Link, is_quiet, runs}
 use Rattle.cyc_lower.proofs.Asking.{past_pages, asks_then, by_full}
-use Rattle.cyc_lower.proofs.Scoped.{scopes_there, scopes_small, data_told, scopes_open}
-use Rattle.cyc_objects.proofs.Closing.{scopes-same, related-unclosed, closed-behind, closed-at_once, refusal-close_to}
-use Rattle.cyc_objects.proofs.Scopes.{ends-newest}
-use Rattle.cyc_objects.specs.Related.{scopes, closed_to}
-use Rattle.cyc_store.specs.Soundness.{IsSound}
+use Rattle.cyc_lower.proofs.Scoped.{scopes_there, scopes_small}
+use Rattle.cyc_objects.proofs.Closing.{scopes-same, scopes-closed}
+use Rattle.cyc_objects.proofs.Scopes.{ends-newest, scopes-counted}
+use Rattle.cyc_objects.specs.Related.{scopes}
 use Rattle.cyc_meaning.specs.Regions.{closing_lexical, is_dynamic, opened_by}
 use Rattle.cyc_types.specs.Types.{Ty}
 use Rattle.cyc_syntax.specs.Symbols.{Place}
@@ -56,6 +55,8 @@ use Rattle.cyc_lower.specs.Slots.{slot_of}
 use Rattle.cyc_lower.proofs.Accesses.{IsWell, is_loaded, is_fitting}
 use Rattle.cyc_lower.proofs.Moves.{put_elsewhere}
 use Rattle.cyc_lower.proofs.Weights.{stack_weight}
+use Rattle.cyc_lower.proofs.Closings.{told_in, by_closing, data_told, shared_behind, settled}
+use Rattle.cyc_lower.proofs.Sharing.{shared_ahead}
 
 module _ (source : Program) (pages calls : ℕ) where
   locals_in : (h : Option Function) → (bounds_in source h).locals ≡ length (types_in source h).locals
@@ -148,8 +149,9 @@ module _ (source : Program) (pages calls : ℕ) where
     data_opened =
         let g = c.active.function in
         let (written, stand) = data_written source shared.tables g w.objects e.locals k c.active.slots told.active.slots c.active.handlers c.globals c.frames t 3 (omega arith) elsewhere facts in (
-          data_told source grown g w.objects e.locals (callers k) told.active.slots c.globals c.frames global (added.active.slots (t + 2)) told_there
-              (data_grows shared.tables grown grows source g w.objects e.locals (callers k) told.active.slots c.globals c.frames written),
+          subst (λ o. DataAt source grown g w.objects e.locals (callers k) told.active.slots (told_in o c.globals (added.active.slots (t + 2))) c.frames) told_there
+              (data_told source pages calls grown g w.objects e.locals (callers k) told.active.slots c.globals c.frames (added.active.slots (t + 2))
+              (data_grows shared.tables grown grows source g w.objects e.locals (callers k) told.active.slots c.globals c.frames written)),
           (mark_is, stand),
         )
 
@@ -216,109 +218,31 @@ module _ (source : Program) (pages calls : ℕ) where
 
   -- ---- a lexical region is closed
 
-  -- the word for it tells how many are left
-  abbrev pub left_globals : (scopes : Option ℕ) → Words → (many : ℕ) → Words
-  left_globals None globals many = globals
-  left_globals (Some place) globals many = put globals place many
-
-  -- so is the plain program then
-  abbrev pub after_closing : services.Choice → Configuration → (mark q : ℕ) → Configuration
-  after_closing choice c mark q = record c {
-    active = record c.active { next = q };
-    globals = left_globals (scopes_of source) c.globals (c.active.slots mark);
-    store = served c.store (CloseTo (c.active.slots mark)) choice;
-  }
-
-  -- the store closes lexical regions down to a mark, and how many are left is told
-  pub closes_to : (focus : Focus) (old : List Entry) (e : Environment) (w : World) (c : Configuration) (next : State) (mark q : ℕ)
-      → step source (Running focus old e w) ≡ next → c.output ≡ w.output
-      → ClosedAt (code_of source c.active.function) (bounds_at source c.active.function) (types_at source c.active.function) mark c.active.next q
-      → refusal c.store (CloseTo (c.active.slots mark)) ≡ None
-      → ((choice : services.Choice) → plain_step.IsServed c.store (CloseTo (c.active.slots mark)) choice → Matches source pages calls next (plain.Running (after_closing choice c mark q)))
-      → IsMatched source pages calls (Running focus old e w) (plain.Running c)
-  closes_to focus old e w c next mark q does same (ask, tells) free goes = by (scopes_of source) tells goes
-    where
-      n : ℕ
-      n = c.active.slots mark
-
-      closed_in : Option ℕ → services.Choice → Configuration
-      closed_in scopes choice = record c { active = record c.active { next = q }; globals = left_globals scopes c.globals n; store = served c.store (CloseTo n) choice }
-
-      by : (scopes : Option ℕ) → ToldAt (code_of source c.active.function) (bounds_at source c.active.function) (types_at source c.active.function) scopes (operands.Slot mark) (c.active.next + 1) q
-          → ((choice : services.Choice) → plain_step.IsServed c.store (CloseTo n) choice → Matches source pages calls next (plain.Running (closed_in scopes choice)))
-          → IsMatched source pages calls (Running focus old e w) (plain.Running c)
-      by None end goes =
-          asks_then source pages calls focus old e w c next (requests.CloseTo (operands.Slot mark)) 0 does same ask tt free
-          (λ choice served_it.
-          let m = subst (λ p. Matches source pages calls next (plain.Running (record (closed_in None choice) { active = record c.active { next = p } }))) (sym end) (goes choice served_it) in
-          (m, matches_within_below source pages calls next (plain.Running (record (closed_in None choice) { active = record c.active { next = c.active.next + 1 } })) m))
-      by (Some place) (store, end) goes =
-          asks_then source pages calls focus old e w c next (requests.CloseTo (operands.Slot mark)) 1 does same ask (known source pages calls (at c (c.active.next + 1)) _ store, tt) free
-          (λ choice served_it.
-          let a = served_to choice c 0 (CloseTo n) in
-          let m = subst (λ p. Matches source pages calls next (plain.Running (record (closed_in (Some place) choice) { active = record c.active { next = p } }))) (sym end) (goes choice served_it) in
-          let within = matches_within_below source pages calls next (plain.Running (record (closed_in (Some place) choice) { active = record c.active { next = c.active.next + 1 + 1 } })) m in
-          (runs source pages calls focus old e w next a [] (instructions.StoreGlobal place (operands.Slot mark)) within same tt store (λ later. m), within))
-
-  -- what is shared then, where the source has closed these regions
-  abbrev pub shared_after : (k : List Entry) (e : Environment) (w : World) (c : Configuration) (mark q : ℕ) (counting : Type 0)
-      → Shared pages calls w (e.home ∷ homes k) counting c.output c.input (closed_to c.store (c.active.slots mark)) (length c.frames)
-      → AreCounted e.counters k → IsSound c.store → (choice : services.Choice) → refusal c.store (CloseTo (c.active.slots mark)) ≡ None → plain_step.IsServed c.store (CloseTo (c.active.slots mark)) choice
-      → IsTold (scopes_of source) (left_globals (scopes_of source) c.globals (c.active.slots mark)) (scopes_in k) → SharedAt source pages calls k e w (after_closing choice c mark q)
-  shared_after k e w c mark q counting s counted sound choice free served_it told = record {
-    tables = s.tables;
-    same_output = s.same_output;
-    same_input = s.same_input;
-    same_pages = s.same_pages;
-    related = closed-at_once (c.active.slots mark) choice sound s.related free served_it.allowed;
-    globals = s.globals;
-    variables = s.variables;
-    few_pages = omega (arith, (served-sound c.store (CloseTo (c.active.slots mark)) choice sound free served_it.allowed).demand, s.same_pages);
-    fits = s.fits;
-    counters = (counted, told);
-  }
-
-  pub told_left : (scopes : Option ℕ) (globals : Words) (many left : ℕ) → left ≡ many → IsTold scopes globals (suc many) → IsTold scopes (left_globals scopes globals left) many
-  told_left None globals many left same told = absurd (omega (arith, told))
-  told_left (Some place) globals many left same told = put-same globals place left ∙ same
-
-  pub data_left : (scopes : Option ℕ) (t : Tables) (g : ℕ) (objects : List Object) (locals : ℕ → Option ℕ) (outer : List Waiting) (slots globals : Words) (frames : List Frame) (left : ℕ) → scopes_of source ≡ scopes
-      → DataAt source t g objects locals outer slots globals frames → DataAt source t g objects locals outer slots (left_globals scopes globals left) frames
-  data_left None t g objects locals outer slots globals frames left is facts = facts
-  data_left (Some place) t g objects locals outer slots globals frames left is facts = data_told source t g objects locals outer slots globals frames place left is facts
-
   -- the end of a block closes its regions, newest first
   pub closes_region : (number : ℕ) (k : List Entry) (e : Environment) (w : World) (c : Configuration) (exits : Exits)
       → (shared : SharedAt source pages calls (CloseLexical number ∷ k) e w c) → DataIn source shared.tables c.active.slots (CloseLexical number ∷ k) e w c → IsNested (CloseLexical number ∷ k) e w
       → StatementStack source c.active.function exits c.active.next c.frames (CloseLexical number ∷ k) → IsMatched source pages calls (Running Proceeding (CloseLexical number ∷ k) e w) (plain.Running c)
-  closes_region number k e w c exits shared (facts, (mark_is, stand)) nested (outer, q, inside, close, stack) =
+  closes_region number k e w c exits shared (facts, (marked, stand)) nested (outer, q, inside, close, stack) =
       let g = c.active.function in
-      let t = floor source g k in
+      let own = floor source g k in
       let ends = ends-newest number k e w nested in
-      let r = ends.region in
-      let new = closed w number r in
-      let many : scopes w.regions ≡ suc (c.active.slots t) = scopes_open (CloseLexical number ∷ k) e w nested ∙ ap suc (sym mark_is) in
-      let s = c.store in
-      let related = closed-behind s (c.active.slots t) number r (subst (λ n. objects.Related shared.tables (silent w) (closed_to s n)) many (related-unclosed shared.related)) many ends.there ends.scope ends.newest in
-      let free = refusal-close_to s (c.active.slots t) (omega (arith, scopes-same shared.related.regions, many)) in
-      let closing : Shared pages calls new (e.home ∷ homes k) (Unit {0}) c.output c.input (closed_to s (c.active.slots t)) (length c.frames) = record {
-        tables = shared.tables;
-        same_output = shared.same_output;
-        same_input = shared.same_input;
-        same_pages = shared.same_pages;
-        related = related;
-        globals = shared.globals;
-        variables = shared.variables;
-        few_pages = omega (arith, related.sound.demand, shared.same_pages);
-        fits = shared.fits;
-        counters = tt;
-      } in
-      closes_to Proceeding (CloseLexical number ∷ k) e w c (Running Proceeding k e new) t q (ap (λ a. closing_lexical a Proceeding number k e w) ends.found) shared.same_output close free
-      (λ choice served_it. (
-        shared_after k e new c t q (Unit {0}) closing shared.counters.0 shared.related.sound choice free served_it (told_left (scopes_of source) c.globals (scopes_in k) (c.active.slots t) mark_is shared.counters.1),
+      let new = closed w number ends.region in
+      let many : scopes w.regions ≡ suc (scopes_in k) = scopes-counted (CloseLexical number ∷ k) e w nested in
+      let now : scopes w.regions ≡ suc (scopes new.regions) = scopes-closed w.regions number ends.region ends.there ends.scope in
+      let has = told_somewhere (scopes_of source) c.globals (scopes_in k) shared.counters.1 in
+      let ahead = shared_ahead source (Some own) pages calls (CloseLexical number ∷ k) e w c (λ mark is. has) shared in
+      by_closing source pages calls Proceeding (CloseLexical number ∷ k) e w (Running Proceeding k e new) c own (scopes_in k) q
+      (ap (λ a. closing_lexical a Proceeding number k e w) ends.found) close (inside_by source None pages calls (CloseLexical number ∷ k) e w c shared) marked
+      (omega (arith, scopes-same shared.related.regions, many))
+      (λ choice allowed. (
+        settled source pages calls own k e new c (scopes_in k) q choice (omega (arith, many, now)) refl allowed (shared_behind source pages calls (Some own) number k e w c ends has tt ahead),
         behind_statement outer
-            (data_left (scopes_of source) shared.tables g w.objects e.locals (callers k) c.active.slots c.globals c.frames (c.active.slots t) refl facts, stand) stack,
+            (data_told source pages calls shared.tables g w.objects e.locals (callers k) c.active.slots c.globals c.frames (scopes_in k) facts, stand) stack,
       ))
+    where
+      told_somewhere : (o : Option ℕ) (globals : Words) (n : ℕ) → IsTold o globals (suc n) → HasScopes o
+      told_somewhere None globals n told = omega (arith, told)
+      told_somewhere (Some place) globals n told = tt
 
   -- what was lent comes back
   pub ends_loan : (lent : ℕ) (k : List Entry) (e : Environment) (w : World) (c : Configuration) (exits : Exits)

@@ -1,4 +1,4 @@
--- The lexical regions that are open: how many the store has, and the word behind all globals that tells it.
+-- The lexical regions that are open, as entries end them: how many the store has.
 use Rattle.std.proofs.Common.{◌≡◌, ℕ, suc, ◌+◌, ◌≤◌, List, [], ◌∷◌, length, Option, Some, refl, sym, ap, subst, ◌∙◌, arith}
 use Rattle.std.specs.Prelude.{◌%◌, ◌^◌}
 use Rattle.cyc_types.specs.TypedTrees.{Program}
@@ -23,19 +23,10 @@ use Rattle.cyc_lower.proofs.Data.{data_behind}
 
 -- ---- of the source
 
-counted_entries : (k : List Entry) → length (lexicals_of k) ≡ scopes_in k
-counted_entries [] = refl
-counted_entries (CloseLexical region ∷ k) = ap suc (counted_entries k)
-counted_entries (entry ∷ k) = counted_entries k
-
--- as many lexical regions are open as entries close
-pub scopes_open : (k : List Entry) (e : Environment) (w : World) → IsNested k e w → scopes w.regions ≡ scopes_in k
-scopes_open k e w nested = scopes-counted k e w nested ∙ counted_entries k
-
 module _ (t : Tables) (w : World) (s : StoreState) (related : objects.Related t (silent w) s) where
-  -- and the store has as many
+  -- the store has as many as entries close
   pub scopes_there : (k : List Entry) (e : Environment) → IsNested k e w → lexical_count s.regions ≡ scopes_in k
-  scopes_there k e nested = scopes-same related.regions ∙ scopes_open k e w nested
+  scopes_there k e nested = scopes-same related.regions ∙ scopes-counted k e w nested
 
   -- they are few, so that one more is told by a word
   pub scopes_small : (k : List Entry) (e : Environment) → IsNested k e w → (scopes_in k + 1) % 2 ^ 32 ≡ suc (scopes_in k)
@@ -47,12 +38,3 @@ module _ (t : Tables) (w : World) (s : StoreState) (related : objects.Related t 
 pub nests_kept : (source : Program) (pages calls : ℕ) (old new : State) → Nests old → new ≡ limited_step source pages calls old → Nests new
 nests_kept source pages calls old new nests is =
     subst Nests (sym is) (limited_either Nests pages calls old (step source old) (λ within. nests_step source old nests) (λ full. tt))
-
--- ---- the word that tells how many are open
-
--- where it is written the globals stay
-pub data_told : (source : Program) (t : Tables) (g : ℕ) (objects : List Object) (locals : ℕ → Option ℕ) (outer : List Waiting) (slots globals : Words) (frames : List Frame) (place word : ℕ) → scopes_of source ≡ Some place
-    → DataAt source t g objects locals outer slots globals frames → DataAt source t g objects locals outer slots (put globals place word) frames
-data_told source t g objects locals outer slots globals frames place word is facts =
-    data_behind t source g objects locals outer slots globals (put globals place word) frames
-    (λ m less. put-other globals place m word (λ same. omega (arith, same, less, scopes_behind source place is))) facts

@@ -1,5 +1,5 @@
 -- Each run of the plain program is one of the source.
-use Rattle.std.proofs.Common.{◌≡◌, ℕ, zero, suc, ◌≤◌, ◌<◌, Bool, true, false, List, [], ◌∷◌, length, map, Option, None, Some, slice_get, slice_index, refl, sym, ap, subst, ◌∙◌, arith, inl, inr, ◌+◌, ◌-◌}
+use Rattle.std.proofs.Common.{◌≡◌, ℕ, zero, suc, ◌≤◌, ◌<◌, Bool, true, false, List, [], ◌∷◌, length, map, Option, None, Some, slice_get, slice_index, refl, sym, ap, subst, ◌∙◌, arith, inl, inr, ◌+◌, ◌-◌, ◌++◌}
 use Rattle.std.specs.Prelude.{◌==◌, if◌then◌else◌}
 use Rattle.std.proofs.lemmas.Bool.{le-leb, and_from}
 use Rattle.std.proofs.lemmas.Option.{same_Some, none-some}
@@ -23,19 +23,19 @@ use Rattle.cyc_plain.proofs.RunLaws.{lawful}
 use Rattle.cyc_plain.proofs.WordLaws.{words_stay, words_at_start}
 use Rattle.cyc_plain.specs.WellFormed.{HasWords}
 use Rattle.cyc_store.specs.State as stores
-use Rattle.std.specs.List.{AllByRecursion}
+use Rattle.std.specs.List.{AllByRecursion, list_any}
 use Rattle.cyc_words.proofs.Simulation.{simulates}
 use Rattle.cyc_meaning.specs.Values.{Int, Null, Operand as Kinded, kind_of, words_of_kind}
 use Rattle.cyc_meaning.specs.State.{World, Environment, no_locals, constant_value, global_object, first_world, Entry, Main, Focus, Evaluating, Locating, Given, GivenPlace, Executing, Proceeding, Calling, Entering, Binding, Writing, Beginning, Repeating, Breaking, Continuing, Returning, Throwing, State, Running, Ended, Dead, Wrong, output_of, input_of, status_of, Swapping, Naming, Catching}
 use Rattle.cyc_meaning.specs.Step.{wrong, called, step}
 use Rattle.cyc_meaning.specs.Run.{start, is_within, limited_step}
-use Rattle.cyc_lower.specs.Lowering.{initial_word, lower_global, lower_program, lower_globals}
+use Rattle.cyc_lower.specs.Lowering.{initial_word, lower_global, lower_program, lower_globals, scopes_of, scopes_if, scopes_words, may_open}
 use Rattle.cyc_lower.specs.Lowered.{FollowsSource}
 use Rattle.cyc_meaning.specs.SourceMachine.{status_in}
 use Rattle.cyc_objects.specs.Tables.{Variable, Tables, first_tables}
 use Rattle.cyc_objects.specs.Related as objects
 use Rattle.cyc_objects.proofs.Start.{start-related}
-use Rattle.cyc_lower.proofs.Relation.{IsWord, silent, contents, Related, Matches, types_at, starts_at}
+use Rattle.cyc_lower.proofs.Relation.{IsWord, silent, contents, Related, Matches, types_at, starts_at, IsTold}
 use Rattle.cyc_lower.proofs.Fitting.{IsFitting}
 use Rattle.cyc_lower.proofs.Data.{no_locals_hold, IsWord-is}
 use Rattle.cyc_lower.proofs.Accesses.{IsWell}
@@ -52,9 +52,10 @@ use Rattle.cyc_lower.proofs.ExceptionSteps.{naming, throwing, catching}
 use Rattle.cyc_lower.proofs.Calls.{FunctionsStand, calling, entering, binding, entered}
 use Rattle.cyc_lower.proofs.Bridge.{functions_stand}
 use Rattle.cyc_lower.specs.Slots.{slot_in, global_of, global_types}
-use Rattle.cyc_lower.proofs.Widths.{words_in, type_words}
-use Rattle.cyc_lower.proofs.Slots.{words_positive, globals-are}
-use Rattle.std.proofs.lemmas.List.{length-replicate, get_or-append_right}
+use Rattle.cyc_lower.proofs.Widths.{words_in, type_words, kind_positive}
+use Rattle.cyc_lower.proofs.Slots.{words_positive, globals-are, global-room, globals_counted}
+use Rattle.std.proofs.lemmas.List.{length-replicate, get_or-append_right, get_or_append_left}
+use Rattle.cyc_meaning.specs.FrameCount.{words_of_all}
 
 -- ---- the globals at the start
 
@@ -96,6 +97,20 @@ globals_start t (g ∷ gs) (suc number) v (well, rest) has =
     = get_or-append_right (lower_global g) (lower_globals gs) (words_of g.of_type) (words_of g.of_type + behind) 0 long (omega arith)
     ∙ ap (λ (n : ℕ). slice_index (lower_globals gs) n) (let e : words_of g.of_type + behind - words_of g.of_type ≡ behind = omega arith in e) in
     (subst (IsWord t v.kind v.value) (sym next) is, room)
+
+-- The same in all words of the program, of which one may stand behind those of the globals. That tells that no lexical region is open.
+globals_there : (source : Program) (n : ℕ) → n < words_of_all (global_types source.globals) → slice_index (lower_program source).globals n ≡ slice_index (lower_globals source.globals) n
+globals_there source n few = get_or_append_left (lower_globals source.globals) (scopes_words (scopes_of source)) 0 n (omega (arith, few, globals_counted source.globals))
+
+none_open : (source : Program) → IsTold (scopes_of source) (λ global. slice_index (lower_program source).globals global) 0
+none_open source = by (list_any may_open source.functions)
+  where
+    xs : List ℕ
+    xs = lower_globals source.globals
+
+    by : (may : Bool) → IsTold (scopes_if may (length xs)) (λ global. slice_index (xs ++ scopes_words (scopes_if may (length xs))) global) 0
+    by true = get_or-append_right xs (0 ∷ []) (length xs) (length xs) 0 refl (omega arith) ∙ ap (slice_index (0 ∷ [])) (let e : length xs - length xs ≡ 0 = omega arith in e)
+    by false = refl
 
 -- each global is a variable
 globals_rows : (gs : List GlobalVariable) (number : ℕ) → number < length (global_types gs) → slice_get (map (λ (g : GlobalVariable). Variable) gs) number ≡ Some Variable
@@ -169,7 +184,7 @@ module _ (source : Program) (pages calls : ℕ) (well_typed : AreWellTypedGlobal
   start_related h store input there new some_page few_pages some_call =
       let t = first_tables source in
       let w = first_world source input in
-      let words : ℕ → ℕ = λ global. slice_index (lower_globals source.globals) global in
+      let words : ℕ → ℕ = λ global. slice_index (lower_program source).globals global in
       let slots : ℕ → ℕ = λ slot. 0 in
       entered source pages calls stand source.main h [] (Main ∷ []) w slots words [] [] store [] input there
       (record {
@@ -182,7 +197,7 @@ module _ (source : Program) (pages calls : ℕ) (well_typed : AreWellTypedGlobal
         variables = (refl, tt);
         few_pages = omega (arith, new_demand pages store new, some_page);
         fits = omega (arith, some_call);
-        counters = tt;
+        counters = (tt, none_open source);
       }) (
         (
           length w.objects,
@@ -193,7 +208,10 @@ module _ (source : Program) (pages calls : ℕ) (well_typed : AreWellTypedGlobal
             globals_rows source.globals number few,
             λ v has.
                 let (is, room) = globals_start t source.globals number v well_typed has in
-                (IsWord-is t v.kind v.value (words (slot_in (global_types source.globals) number)) words (global_of (starts_at source source.main) number) (ap words (globals-are (types_at source source.main) number few)) is, room),
+                let first = global_of (starts_at source source.main) number in
+                let first_is = globals-are (types_at source source.main) number few in
+                let there = globals_there source first (omega (arith, room, kind_positive v.kind, global-room (types_at source source.main) number few)) in
+                (IsWord-is t v.kind v.value (slice_index (lower_globals source.globals) (slot_in (global_types source.globals) number)) words first (there ∙ ap (slice_index (lower_globals source.globals)) first_is) is, room),
           ),
         ),
         (refl, tt),
