@@ -64,7 +64,7 @@ module _ (source : Program) (pages calls : ℕ) where
   locals_in (Some h) = sym (slot_types-many h)
 
   -- a local of a function, in its bounds
-  local_there : (g n : ℕ) → n < (bounds_at source g).locals → n < length (types_at source g).locals
+  pub local_there : (g n : ℕ) → n < (bounds_at source g).locals → n < length (types_at source g).locals
   local_there g n few = omega (arith, few, locals_in (slice_get source.functions g))
 
   -- ---- a lexical region is opened

@@ -6,7 +6,7 @@ use Rattle.cyc_words.specs.Word.{signed}
 use Rattle.cyc_words.specs.Ending.{Returned, Uncaught}
 use Rattle.cyc_types.specs.declared.typed.Kind.{Kind}
 use Rattle.cyc_types.specs.Types.{Ty}
-use Rattle.cyc_types.specs.TypedTrees.{Counter, Local, Expression, Copy, Move, Peek, Converted, Convert, Statement, Block, Empty, Evaluate, If, While, Break, Continue, Items, NoItems, MoreItems, Execute, Declare, Function, Program, Swap, NullPointer}
+use Rattle.cyc_types.specs.TypedTrees.{Counter, Local, Expression, Copy, Move, Peek, Converted, Convert, Statement, Block, Empty, Evaluate, If, While, Break, Continue, Items, NoItems, MoreItems, Execute, Declare, Function, Program, Swap, NullPointer, DeclareRegion, OpenRegion, DeclareAlias, DeclareKey}
 use Rattle.cyc_types.specs.TypedTrees as typed
 use Rattle.cyc_plain.specs.declared.instruction.Operand.{Operand}
 use Rattle.cyc_plain.specs.declared.instruction.Operand.TheVariants as operands
@@ -49,6 +49,7 @@ use Rattle.cyc_lower.proofs.WaysOut.{leaves_region}
 use Rattle.cyc_lower.proofs.Matched.{IsMatched, silently, by_one, by_two}
 use Rattle.cyc_lower.proofs.ExceptionSteps.{begins, ends, throws_none, throws_some}
 use Rattle.cyc_lower.proofs.Evaluations.{IsStep, sources}
+use Rattle.cyc_lower.proofs.RegionSteps.{local_there, opens_region, opens_by, aliases_local, declares_key, closes_region, ends_loan}
 
 module _ (source : Program) (pages calls : ℕ) where
   -- ---- calls
@@ -248,14 +249,6 @@ module _ (source : Program) (pages calls : ℕ) where
   results_at : (g : ℕ) → (routine_at (lower_program source) g).results ≡ results_of (bounds_at source g).result
   results_at g = results_in source.functions g
 
-  locals_in : (h : Option Function) → (bounds_in source h).locals ≡ length (types_in source h).locals
-  locals_in None = refl
-  locals_in (Some h) = sym (slot_types-many h)
-
-  -- a local of a function, in its bounds
-  local_there : (g n : ℕ) → n < (bounds_at source g).locals → n < length (types_at source g).locals
-  local_there g n few = omega (arith, few, locals_in (slice_get source.functions g))
-
   declares : (n : ℕ) (t : Ty) (js : Items) (k : List Entry) (e : Environment) (w : World) (c : Configuration) (exits : Exits) (m q : ℕ)
       → IsWell (step source (Running Proceeding (Rest (MoreItems (Declare n t None) js) ∷ k) e w))
       → (shared : SharedAt source pages calls k e w c) → DataIn source shared.tables c.active.slots k e w c
@@ -325,35 +318,44 @@ module _ (source : Program) (pages calls : ℕ) where
       (initial_by (converts_there from to) n ty from to a js k e w c exits m q refl shared facts room at items stack)
       (omega arith)
 
-  after_statement : (k : List Entry) (e : Environment) (w : World) (c : Configuration) (exits : Exits) → IsWell (step source (Running Proceeding k e w))
+  after_statement : (k : List Entry) (e : Environment) (w : World) (c : Configuration) (exits : Exits) → IsNested k e w → IsWell (step source (Running Proceeding k e w))
       → (shared : SharedAt source pages calls k e w c) → DataIn source shared.tables c.active.slots k e w c
       → StatementStack source c.active.function exits c.active.next c.frames k → IsMatched source pages calls (Running Proceeding k e w) (plain.Running c)
-  after_statement (Rest NoItems ∷ k) e w c exits well shared facts (q, end, stack) =
+  after_statement (Rest NoItems ∷ k) e w c exits nested well shared facts (q, end, stack) =
       silently source pages calls (Running Proceeding (Rest NoItems ∷ k) e w) (Running Proceeding k e w) (plain.Running c) refl
       (shared, behind_statement exits facts (subst (λ r. StatementStack source c.active.function exits r c.frames k) (sym end) stack))
       (omega arith)
-  after_statement (Rest (MoreItems (Execute s) js) ∷ k) e w c exits well shared facts (q, (m, at_s, items), stack) =
+  after_statement (Rest (MoreItems (Execute s) js) ∷ k) e w c exits nested well shared facts (q, (m, at_s, items), stack) =
       silently source pages calls (Running Proceeding (Rest (MoreItems (Execute s) js) ∷ k) e w) (Running (Executing s) (Rest js ∷ k) e w) (plain.Running c) refl
       (shared, facts, (exits, m, at_s, (q, items, stack)))
       (omega arith)
-  after_statement (Rest (MoreItems (Declare n t None) js) ∷ k) e w c exits well shared facts (q, (m, (few, end), items), stack) =
-      declares n t js k e w c exits m q well shared facts (local_there c.active.function n few) end items stack
-  after_statement (Rest (MoreItems (Declare n t (Some (Convert from to a))) js) ∷ k) e w c exits well shared facts (q, (m, (few, room, at), items), stack) =
+  after_statement (Rest (MoreItems (Declare n t None) js) ∷ k) e w c exits nested well shared facts (q, (m, (few, end), items), stack) =
+      declares n t js k e w c exits m q well shared facts (local_there source pages calls c.active.function n few) end items stack
+  after_statement (Rest (MoreItems (Declare n t (Some (Convert from to a))) js) ∷ k) e w c exits nested well shared facts (q, (m, (few, room, at), items), stack) =
       initial n t from to a js k e w c exits m q shared facts room at items stack
-  after_statement (Rest js ∷ k) e w c exits well shared facts (q, at, stack) = absurd at
-  after_statement (Join ∷ k) e w c exits well shared facts (q, comes, stack) = arrives (Join ∷ k) k e e w w c exits q refl shared (omega arith) shared facts comes stack
-  after_statement (Loop a s ∷ k) e w c exits well shared facts (outer, q, (loop_is, function_is, x, y, m, r, leave, at_a, jump, at_s, back, after), here, stack) =
+  after_statement (Rest (MoreItems (DeclareRegion r n) js) ∷ k) e w c exits nested well shared facts (q, items, stack) =
+      opens_region source pages calls r n js k e w c exits q shared facts nested items stack
+  after_statement (Rest (MoreItems (OpenRegion r n p key) js) ∷ k) e w c exits nested well shared facts (q, items, stack) =
+      opens_by source pages calls r n key p js k e w c exits q well shared facts items stack
+  after_statement (Rest (MoreItems (DeclareAlias r n t p lent) js) ∷ k) e w c exits nested well shared facts (q, items, stack) =
+      aliases_local source pages calls r n lent t p js k e w c exits q well shared facts items stack
+  after_statement (Rest (MoreItems (DeclareKey r n) js) ∷ k) e w c exits nested well shared facts (q, items, stack) =
+      declares_key source pages calls r n js k e w c exits q shared facts items stack
+  after_statement (Join ∷ k) e w c exits nested well shared facts (q, comes, stack) = arrives (Join ∷ k) k e e w w c exits q refl shared (omega arith) shared facts comes stack
+  after_statement (Loop a s ∷ k) e w c exits nested well shared facts (outer, q, (loop_is, function_is, x, y, m, r, leave, at_a, jump, at_s, back, after), here, stack) =
       by_one source pages calls refl shared here
       (λ choice. (shared, facts, as_condition x y m at_a tt (exits, outer, q, (loop_is, function_is, x, y, m, r, leave, at_a, jump, at_s, back, after), r, jump, at_s, back, stack)))
-  after_statement (CloseRegion region home ∷ k) e w c exits well shared facts (q, comes, stack) =
+  after_statement (CloseRegion region home ∷ k) e w c exits nested well shared facts (q, comes, stack) =
       let found = is_closed Proceeding region home k e w well in
       arrives (CloseRegion region home ∷ k) k (record e { home = home }) e (closed w region found.region) w c exits q found.gives shared (omega arith)
       (shared_closed source None pages calls k e w c region home found.region found.there shared) facts comes stack
-  after_statement (Handler handler ∷ k) e w c exits well shared facts stack = ends source pages calls handler k e w c exits shared facts stack
-  after_statement (Caller outer ∷ k) e w c exits well shared facts (s, here, outside, below) =
+  after_statement (Handler handler ∷ k) e w c exits nested well shared facts stack = ends source pages calls handler k e w c exits shared facts stack
+  after_statement (Caller outer ∷ k) e w c exits nested well shared facts (s, here, outside, below) =
       leaves_call Proceeding c.active c.frames c.globals c.store c.output c.input k e outer w s refl shared facts here below
-  after_statement (Main ∷ k) e w c exits well shared facts stack = absurd (well refl)
-  after_statement k e w c exits well shared facts stack = absurd stack
+  after_statement (CloseLexical region ∷ k) e w c exits nested well shared facts stack = closes_region source pages calls region k e w c exits shared facts nested stack
+  after_statement (EndLoan lent ∷ k) e w c exits nested well shared facts stack = ends_loan source pages calls lent k e w c exits shared facts stack
+  after_statement (Main ∷ k) e w c exits nested well shared facts stack = absurd (well refl)
+  after_statement k e w c exits nested well shared facts stack = absurd stack
 
   after_call : (k : List Entry) (e : Environment) (w : World) (c : Configuration) (kind : Kind) (o : Operand) → IsWell (step source (Running Proceeding k e w))
       → (shared : SharedAt source pages calls k e w c) → DataIn source shared.tables c.active.slots k e w c
@@ -370,10 +372,10 @@ module _ (source : Program) (pages calls : ℕ) where
   after_wrong (Needs a ∷ k) e w c kind n well stack = absurd (well refl)
   after_wrong k e w c kind n well stack = absurd stack
 
-  pub proceeding : (k : List Entry) (e : Environment) (w : World) (c : Configuration) → IsStep source pages calls Proceeding k e w c
-  proceeding k e w c well (shared, behind_statement exits facts stack) = after_statement k e w c exits well shared facts stack
-  proceeding k e w c well (shared, behind_call kind o facts stack) = after_call k e w c kind o well shared facts stack
-  proceeding k e w c well (shared, behind_wrong kind n counted stack) = after_wrong k e w c kind n well stack
+  pub proceeding : (k : List Entry) (e : Environment) (w : World) (c : Configuration) → IsNested k e w → IsStep source pages calls Proceeding k e w c
+  proceeding k e w c nested well (shared, behind_statement exits facts stack) = after_statement k e w c exits nested well shared facts stack
+  proceeding k e w c nested well (shared, behind_call kind o facts stack) = after_call k e w c kind o well shared facts stack
+  proceeding k e w c nested well (shared, behind_wrong kind n counted stack) = after_wrong k e w c kind n well stack
 
   -- ---- breaks
 
