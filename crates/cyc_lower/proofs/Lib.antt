@@ -45,6 +45,7 @@ pub mod Handles
 pub mod Counters
 pub mod Calls
 pub mod ExceptionSteps
+pub mod WaysOut
 pub mod StatementSteps
 pub mod Keeping
 pub mod Levels

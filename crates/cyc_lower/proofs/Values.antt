@@ -70,7 +70,7 @@ use Rattle.cyc_lower.proofs.CellWrites.{cell_is_there, saves_there, shared_saved
 use Rattle.cyc_lower.proofs.Weights.{weight}
 use Rattle.cyc_lower.proofs.Relation.{types_on, starts_on, StatementStack}
 use Rattle.cyc_lower.proofs.Matched.{IsMatched, silently, by_one, by_two, by_three, shared_way, shared_within, by_two_known, output_way}
-use Rattle.cyc_lower.proofs.Handling.{leaving, record_left, raised}
+use Rattle.cyc_lower.proofs.Handling.{leaving, shared_leaving, record_left, raised}
 use Rattle.cyc_lower.proofs.PointerSteps.{applies_pointers, right_follows}
 use Rattle.cyc_lower.proofs.UniqueBlocks.{frees_value}
 use Rattle.cyc_lower.proofs.Keys.{closes_by_key}
@@ -1284,9 +1284,9 @@ module _ (source : Program) (pages calls : ℕ) where
       chooses s t v (operand_word c.active.slots o == 0) comparisons.Equal o (operands.Word 0) k e w c (zero_is shared.tables v c.active.slots o (λ none. well (ap (λ x. status_in (status_of (chosen x s t k e w))) none)) is) refl shared facts stack
   stands_given v o (Needs (Test a s) ∷ k) e w c of_words words well (shared, facts, is, holds) stack =
       loops a s v (operand_word c.active.slots o == 0) comparisons.Equal o (operands.Word 0) k e w c (zero_is shared.tables v c.active.slots o (λ none. well (ap (λ x. status_in (status_of (looped x a s k e w))) none)) is) refl shared facts stack
-  stands_given v o (Needs Return ∷ k) e w c of_words words well (shared, facts, is, holds) (exits, q, s, r, there, leave, here, single, stack) =
-      leaving source pages calls false (Given v) (Returning (Some v)) (Needs Return ∷ k) k e w c exits.first_record r refl shared (omega arith) (record_left source c.active.function exits q c.frames k stack).1 leave facts.1
-      (λ handlers stand. (shared, (facts.0, stand), (exits, q, s, here, subst (IsIn shared.tables v c.active.slots) there is, single, stack)))
+  stands_given v o (Needs Return ∷ k) e w c of_words words well (shared, facts, is, holds) (exits, q, s, r, there, (u, closing, marks), here, single, stack) =
+      leaving source pages calls false (Given v) (Returning (Some v)) (Needs Return ∷ k) k e w c exits.in_function u r refl shared (omega arith) (record_left source c.active.function exits q c.frames k stack).1 closing marks facts.1
+      (λ handlers stand marks_there marked. (shared_leaving source pages calls false k e w c shared, (facts.0, stand), r, marks_there, marked, (exits, q, s, here, subst (IsIn shared.tables v c.active.slots) there is, single, stack)))
   stands_given v o (Needs (ThrowWith tag) ∷ k) e w c of_words words well stands stack = throws_with tag v.kind v.value o k e w c well stands stack
   stands_given v o (Needs FreeObject ∷ k) e w c of_words words well (shared, facts, is, holds) stack = frees_value source pages calls v.kind v.value o k e w c well shared facts is stack
   stands_given v o (Needs CloseByKey ∷ k) e w c of_words words well (shared, facts, is, holds) stack = closes_by_key source pages calls v.kind v.value o k e w c well shared facts is stack
