@@ -1,12 +1,10 @@
 -- The steps that make objects: the store is asked for a block, and then each cell is written.
-use Rattle.std.proofs.Common.{◌≡◌, ℕ, zero, suc, ◌+◌, ◌*◌, ◌≤◌, ◌<◌, max, Bool, true, false, List, [], ◌∷◌, ◌++◌, length, reverse, Option, None, Some, slice_get, refl, sym, ap, subst, ◌∙◌, inl, inr, arith, length-append, append_assoc}
+use Rattle.std.proofs.Common.{◌≡◌, ℕ, zero, suc, ◌+◌, ◌*◌, ◌≤◌, ◌<◌, max, Bool, true, false, List, [], ◌∷◌, ◌++◌, length, reverse, None, Some, slice_get, refl, sym, ap, subst, ◌∙◌, inl, inr, arith, length-append, append_assoc}
 use Rattle.std.proofs.lemmas.List.{length-reverse}
-use Rattle.std.specs.Prelude.{◌==◌, nat_le, nat_lt, ◌&&◌, if◌then◌else◌}
-use Rattle.std.proofs.lemmas.Bool.{le-leb, and_from, false_from_ne_true, leb-true, ltb-true, cases_Bool, eqb-true}
+use Rattle.std.specs.Prelude.{◌==◌, nat_lt, if◌then◌else◌}
+use Rattle.std.proofs.lemmas.Bool.{le-leb, and_from, cases_Bool, eqb-true}
 use Rattle.std.proofs.Math.Nat.{le-max_left, mod-eq_of_lt}
-use Rattle.cyc_words.specs.Ending.{Full}
 use Rattle.cyc_words.specs.Word.{add_of}
-use Rattle.cyc_words.specs.Demand.{demand_of}
 use Rattle.cyc_types.specs.declared.typed.Kind.{Kind}
 use Rattle.cyc_types.specs.declared.typed.Kind.TheVariants as kinds
 use Rattle.cyc_types.specs.TypedTrees.{Arguments, NoArguments, MoreArguments, Convert, Program}
@@ -19,42 +17,36 @@ use Rattle.cyc_store.proofs.ServiceLemmas.{served-sound}
 use Rattle.cyc_plain.specs.declared.instruction.Operand.{Operand}
 use Rattle.cyc_plain.specs.declared.instruction.Operand.TheVariants as operands
 use Rattle.cyc_plain.specs.declared.instruction.Instruction.TheVariants as instructions
-use Rattle.cyc_plain.specs.declared.instruction.Request.{Request}
 use Rattle.cyc_plain.specs.declared.instruction.Request.TheVariants as requests
 use Rattle.cyc_plain.specs.State as plain
-use Rattle.cyc_plain.specs.State.{Words, put, Configuration, with_memory}
-use Rattle.cyc_plain.specs.Step.{Choice, advanced, operand_word, served_to, performed}
+use Rattle.cyc_plain.specs.State.{Words, Configuration}
+use Rattle.cyc_plain.specs.Step.{operand_word, served_to}
 use Rattle.cyc_plain.specs.Step as plain_step
-use Rattle.cyc_plain.specs.Requests as plain_requests
 use Rattle.cyc_plain.specs.Straight.{At}
-use Rattle.cyc_plain.proofs.Steps.{step_serves, step_full}
 use Rattle.cyc_plain.proofs.SlotLaws.{put-same, put-other}
 use Rattle.cyc_meaning.specs.Values.{Thin, Operand as Kinded, Cell, kinds_of, is_kind, words_of_kind, words_of_cells, block_size}
 use Rattle.cyc_meaning.specs.Allocation.{writes_from, blanks_of, filled, makes_of}
 use Rattle.cyc_meaning.specs.Objects.{made_in, made_unique, created, created_in}
 use Rattle.cyc_meaning.specs.Effects.{pages_of}
-use Rattle.cyc_meaning.specs.State.{Region, Owner, InRegion, Unique, World, Access, Found, Closed, Missing, region_at, counted, cell_at, written, Environment, MakePlain, MakeFields, ConvertTo, Write, Entry, Needs, Focus, Evaluating, Given, Writing, State, Running, Ended}
+use Rattle.cyc_meaning.specs.State.{Region, Owner, InRegion, Unique, World, Access, Found, Closed, Missing, region_at, cell_at, written, Environment, MakePlain, MakeFields, ConvertTo, Write, Entry, Needs, Focus, Evaluating, Given, Writing, Running}
 use Rattle.cyc_meaning.specs.Step.{wrong, stored, target_by, step}
-use Rattle.cyc_meaning.specs.Run.{is_within, limited_step}
 use Rattle.cyc_objects.specs.Tables.{Variable, Placed, Tables, with_row, Grows}
 use Rattle.cyc_objects.specs.Words.{words_of_kinds, before, Points, Is, AreBlank}
 use Rattle.cyc_objects.specs.Related as objects
-use Rattle.cyc_objects.specs.Related.{has_home}
 use Rattle.cyc_objects.proofs.Values.{Grows-row}
-use Rattle.cyc_objects.proofs.RegionLemmas.{counted-same}
 use Rattle.cyc_objects.proofs.NumberLemmas.{slice_get-below}
 use Rattle.cyc_objects.proofs.Making.{open-home, allocated, allocated-unique, refusal-allocate, refusal-unique, operands-blank, row-made, placed-range, room-fits}
-use Rattle.cyc_lower.specs.Lowering.{lower_program}
 use Rattle.cyc_lower.proofs.Widths.{kind_positive, wide_kind, Outside}
 use Rattle.cyc_lower.proofs.Stands.{StoresAt, ObjectAt}
-use Rattle.cyc_lower.proofs.Relation.{types_on, starts_on, IsWord, IsIn, IsObject, words_held, height, Holds, HoldsFrom, held, callers, homes, silent, DataIn, SharedAt, in_temporary, into_slot, LandsMade, ValueStack, Matches, code_of, bounds_at, types_at, base_of, top, IsHandleOf, HasHandle, contents, floor}
+use Rattle.cyc_lower.proofs.Relation.{types_on, IsWord, IsIn, IsObject, words_held, height, Holds, HoldsFrom, held, callers, homes, silent, DataIn, SharedAt, in_temporary, into_slot, LandsMade, ValueStack, Matches, code_of, bounds_at, top, IsHandleOf, HasHandle, contents, floor}
 use Rattle.cyc_lower.proofs.Handles.{has_handle}
-use Rattle.cyc_lower.proofs.Data.{Is-same, height-least, one_word, Holds-same, Holds-rest, Holds-grows, HoldsFrom-grows, in_order, words-reverse, data_above, data_grows, variables_grow, contents_made, data_written}
+use Rattle.cyc_lower.proofs.Asking.{past_pages, by_asking, by_full}
+use Rattle.cyc_lower.proofs.Data.{Is-same, height-least, one_word, Holds-same, Holds-rest, Holds-grows, HoldsFrom-grows, in_order, words-reverse, data_grows, variables_grow, contents_made, data_written}
 use Rattle.cyc_lower.proofs.Accesses.{IsWell, is_fitting}
 use Rattle.cyc_lower.proofs.Paths.{by_path}
 use Rattle.cyc_lower.proofs.WideCells.{store_links, store_path, store_last, shared_stored, data_stored}
 use Rattle.cyc_lower.proofs.CellWrites.{SameVariables, data_beside, cell_is_there, saves_there, shared_saved, data_saved}
-use Rattle.cyc_lower.proofs.Matched.{IsMatched, below, silently, by_places, by_one, shared_way, shared_within, place_in, known, Executes}
+use Rattle.cyc_lower.proofs.Matched.{IsMatched, below, silently, by_one, shared_within}
 use Rattle.cyc_lower.proofs.Evaluations.{IsStep, made_moved}
 
 -- a sum that does not wrap
@@ -168,60 +160,7 @@ object_made (Found made) object vs k e w well = (made, refl)
 object_made Closed object vs k e w well = absurd (well refl)
 object_made Missing object vs k e w well = absurd (well refl)
 
--- the store asks for as many pages as the source
-demand_is : {t : Tables} {w : World} {s : StoreState} → objects.Related t w s → demand s ≡ pages_of w
-demand_is {t} {w} {s} related = ap (λ l. demand_of l s.classes) (sym (counted-same related.regions)) ∙ ap (demand_of (counted w.regions)) related.classes
-
--- what is more than all pages is not within them
-pub past_pages : (pages n : ℕ) (b : Bool) → nat_lt pages n ≡ true → (nat_le n pages && b) ≡ false
-past_pages pages n b over = ap (λ x. x && b) (false_from_ne_true (nat_le n pages) (λ h. absurd (omega (arith, leb-true n pages h, ltb-true pages n over))))
-
 module _ (source : Program) (pages calls : ℕ) where
-  -- ---- by a call of the store
-
-  -- one instruction calls the store, which serves it
-  pub by_asking : (focus : Focus) (k : List Entry) (e : Environment) (w : World) (c : Configuration) (next : State) (request : Request)
-      → step source (Running focus k e w) ≡ next → SharedAt source pages calls k e w c
-      → At (code_of source c.active.function) c.active.next (instructions.Ask request)
-      → refusal c.store (plain_step.call_in c.active.slots request) ≡ None
-      → ((choice : services.Choice) → plain_step.IsServed c.store (plain_step.call_in c.active.slots request) choice
-      → Matches source pages calls next (plain.Running (served_to choice c (plain_requests.destination_of request) (plain_step.call_in c.active.slots request)))
-      × (plain_step.is_within pages calls (plain.Running (served_to choice c (plain_requests.destination_of request) (plain_step.call_in c.active.slots request))) ≡ true))
-      → IsMatched source pages calls (Running focus k e w) (plain.Running c)
-  by_asking focus k e w c next request does shared here free goes =
-      by_places source pages calls (Running focus k e w) next (place_in source pages calls c) [] (plain.Running c) does (tt, tt) (known source pages calls c (instructions.Ask request) here, tt) (
-        refl,
-        shared_way source pages calls focus k e w c shared,
-        λ u stepped.
-            let (choice, served, is) = step_serves (lower_program source) pages calls c request u here stepped free (λ choice served. (goes choice served).1) in
-            subst (Executes source pages calls (Running focus k e w) next []) (sym is) (goes choice served).0,
-      )
-
-  -- there is no room: both runs are full
-  pub by_full : (focus : Focus) (k : List Entry) (e : Environment) (w : World) (c : Configuration) (next : State) (request : Request)
-      → step source (Running focus k e w) ≡ next → is_within pages calls next ≡ false → SharedAt source pages calls k e w c
-      → At (code_of source c.active.function) c.active.next (instructions.Ask request)
-      → refusal c.store (plain_step.call_in c.active.slots request) ≡ Some services.Full
-      → IsMatched source pages calls (Running focus k e w) (plain.Running c)
-  by_full focus k e w c next request does over shared here full =
-      let source_full : limited_step source pages calls (Running focus k e w) ≡ Ended Full w.output w.input =
-      ap (λ (b : Bool). if b then step source (Running focus k e w) else Ended Full w.output w.input) (ap (is_within pages calls) does ∙ over) in
-      record {
-        places = place_in source pages calls c ∷ [];
-        distinct = (tt, tt);
-        inside = (known source pages calls c (instructions.Ask request) here, tt);
-        comes = (
-          refl,
-          shared_way source pages calls focus k e w c shared,
-          λ u stepped. record {
-            next = Ended Full w.output w.input;
-            step = sym source_full;
-            matches = subst (Matches source pages calls (Ended Full w.output w.input)) (sym (step_full (lower_program source) pages calls c request u here stepped full)) (refl, shared.same_output);
-            lighter = λ none. absurd (omega (arith, none));
-          },
-        );
-      }
-
   -- ---- an object is made
 
   module _ (k : List Entry) (e : Environment) (w : World) (c : Configuration) (shared : SharedAt source pages calls k e w c) (facts : DataIn source shared.tables c.active.slots k e w c)
@@ -327,12 +266,12 @@ module _ (source : Program) (pages calls : ℕ) where
       = subst (λ n. At (code_of source c.active.function) c.active.next (instructions.Ask (requests.Allocate (t + words_held vs) handle (operands.Word n)))) (sized vs some few) ask in
       elim (cases_Bool (nat_lt c.store.pages (pages_of new))) [
         | inl over ↦
-            by_full focus k₀ e w c next request is_next
+            by_full source pages calls focus k₀ e w c next request is_next
             (past_pages pages (pages_of new) _ (subst (λ p. nat_lt p (pages_of new) ≡ true) shared.same_pages over))
             shared₀ here (makes.refuses ∙ ap full_at over)
         | inr room ↦
             let free = makes.refuses ∙ ap full_at room in
-            by_asking focus k₀ e w c next request is_next shared₀ here free
+            by_asking source pages calls focus k₀ e w c next request is_next shared₀ here free
             (λ choice served.
             let made = shared_made k e w c shared facts holds vs owner word new makes some few choice free served in (
               (
