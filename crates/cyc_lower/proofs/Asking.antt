@@ -62,7 +62,7 @@ module _ (source : Program) (pages calls : ℕ) where
             subst (Executes source pages calls (Running focus k e w) next rest) (sym is) (goes choice served).0,
       )
 
-  -- it is called by the only instruction
+  -- the store is called, and that is all
   pub by_asking : (focus : Focus) (k : List Entry) (e : Environment) (w : World) (c : Configuration) (next : State) (request : Request)
       → step source (Running focus k e w) ≡ next → SharedAt source pages calls k e w c
       → At (code_of source c.active.function) c.active.next (instructions.Ask request)
