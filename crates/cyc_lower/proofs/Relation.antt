@@ -407,7 +407,7 @@ module _ (source : Program) where
   abbrev pub opened_by : (loop : Bool) → ℕ → List Entry → Opened
   opened_by loop g [] = nothing_opened
   opened_by loop g (Loop condition body ∷ k) = if loop then nothing_opened else opened_by loop g k
-  opened_by loop g (Handler clauses ∷ k) = with_handler (opened_by loop g k) (floor g k)
+  opened_by loop g (Handler handler ∷ k) = with_handler (opened_by loop g k) (floor g k)
   opened_by loop g (CloseLexical region ∷ k) = with_mark (opened_by loop g k) (floor g k)
   opened_by loop g (Caller e ∷ k) = nothing_opened
   opened_by loop g (Main ∷ k) = nothing_opened
