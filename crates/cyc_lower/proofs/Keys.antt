@@ -27,7 +27,7 @@ use Rattle.cyc_objects.proofs.Services.{refusal-close, closed-dynamic}
 use Rattle.cyc_lower.proofs.Relation.{IsIn, DataIn, SharedAt, ValueStack, LandsStack, code_of}
 use Rattle.cyc_lower.proofs.Accesses.{IsWell}
 use Rattle.cyc_lower.proofs.Matched.{IsMatched, shared_within}
-use Rattle.cyc_lower.proofs.Allocations.{by_asking}
+use Rattle.cyc_lower.proofs.Asking.{by_asking}
 use Rattle.cyc_lower.proofs.UniqueBlocks.{proceeds}
 
 -- the word of a key is the handle of its region
