@@ -12,7 +12,7 @@ use Rattle.cyc_types.specs.declared.typed.Operator.TheVariants as operators
 use Rattle.cyc_types.specs.declared.typed.PointerOperator.{PointerOperator}
 use Rattle.cyc_types.specs.declared.typed.PointerOperator.TheVariants as pointers
 use Rattle.cyc_types.specs.Types.{Ty, words_of}
-use Rattle.cyc_types.specs.TypedTrees.{Array, Counter, Load, New, OnHeap, AsUnique, ByHandle, Initial, Plain, Fields, Dereference, Target, Lvalue, Local, Global, Expression, Number, NullPointer, Copy, Call, Unary, Binary, Assign, Converted, Convert, Arguments, NoArguments, MoreArguments, Operations, NoOperations, ThenCompute, ThenTest, ThenPointer, Statement, Block, Empty, Evaluate, If, While, Return, Break, Continue, Items, NoItems, MoreItems, Execute, Declare, Signature, StructType, Function, Program, Move, Peek, ThenPointerPeek, type_of, AddressOfCell, Store, Member, type_of_place, FreeUnique, Side, VariableSide, CellSide, Swap, Throw, Try, Clauses, NoClauses, Default, Case, GlobalVariable, NumberOfElements, Element, FreeKey, HeapRegion}
+use Rattle.cyc_types.specs.TypedTrees.{Array, Counter, Load, New, OnHeap, AsUnique, ByHandle, Initial, Plain, Fields, Dereference, Target, Lvalue, Local, Global, Expression, Number, NullPointer, Copy, Call, Unary, Binary, Assign, Converted, Convert, Arguments, NoArguments, MoreArguments, Operations, NoOperations, ThenCompute, ThenTest, ThenPointer, Statement, Block, Empty, Evaluate, If, While, Return, Break, Continue, Items, NoItems, MoreItems, Execute, Declare, Signature, StructType, Function, Program, Move, Peek, ThenPointerPeek, type_of, AddressOfCell, Store, Member, type_of_place, FreeUnique, Side, VariableSide, CellSide, Swap, Throw, Try, Clauses, NoClauses, Default, Case, GlobalVariable, NumberOfElements, Element, FreeKey, HeapRegion, DeclareRegion, OpenRegion, DeclareAlias, DeclareKey}
 use Rattle.cyc_types.specs.Numbered.{Numbering, argument_count, numbering_of, signatures_of}
 use Rattle.cyc_plain.specs.declared.instruction.UnaryOperator.TheVariants as plain_unary
 use Rattle.cyc_plain.specs.declared.instruction.BinaryOperator.TheVariants as plain_binary
@@ -33,14 +33,14 @@ use Rattle.cyc_meaning.specs.Values.{kind_of, words_of_kind, is_kind, is_thin}
 use Rattle.cyc_meaning.specs.FrameCount.{words_of_all, operand_words}
 use Rattle.cyc_objects.proofs.NumberLemmas.{slice_get-there}
 use Rattle.cyc_lower.specs.Slots.{counted, Types, starts_of, slot_of, global_of, global_types}
-use Rattle.cyc_lower.specs.Lowering.{most_elements, begun_code, filled_code, ended_code, elements_code, array_code, types_of, are_as_wide, converts_there, passed_words, source_of, source_slot, moved_by, move_of, operand_of, operand_or, code_unless, slot_or, code_unless_slot, left_with, left_of, value_slot, next_slot, slot_with, left_slot, value_operand, converted_operand, printed_operand, jump_if_nonzero, check_code, conversion_code, divisor_code, checked_code, operator_code, truth_code, load_code, low_byte, test_code, is_in, copy_code, expression_code, arguments_code, converted_code, converted_operand_code, printed_code, initial_code, assignment_code, assigned_operand, operations_code, discarded_code, failing_comparison, compared_or, compared_of, first_operand, first_code, second_code, pair_code, condition_code, condition_of, failing_jump, break_target, continue_target, return_code, declaration_code, statement_code, items_code, function_code, first_temporary, results_of, lower_function, lower_program, behind_left, pointer_code, outside_loops, inside_loop, pointer_operator, index_code, pointer_instructions, stores_code, object_code, made_code, place_operand, place_offset, place_code, address_code, raising, blocks, guard_code, body_code, free_code, jump_if_zero, right_slot, side_code, read_side, write_side, exchange_code, swap_code, leave_code, tag_operand, other_jump, goes_on, clause_code, thrown_code, thrown_operand, caught_code, clauses_code, counter_operand, count_code, span_of, null_of, tested_code, widened_code, conversion_by, loaded_code, saved_code, all_passed, bounds_code, stepped_code, bounded_code, past_bounded, thinned_code, reached_code, followed_code, span_in, pointer_of, pointer_slot, word_by_word, load_word, store_word, global_code, globals_of, load_at, kept_code, kept_code_in, restored_code, restored_code_in, behind_record, inside_try, closed_code, scopes_code_in, handlers_code, marks_code, try_code, scopes_of}
+use Rattle.cyc_lower.specs.Lowering.{most_elements, begun_code, filled_code, ended_code, elements_code, array_code, types_of, are_as_wide, converts_there, passed_words, source_of, source_slot, moved_by, move_of, operand_of, operand_or, code_unless, slot_or, code_unless_slot, left_with, left_of, value_slot, next_slot, slot_with, left_slot, value_operand, converted_operand, printed_operand, jump_if_nonzero, check_code, conversion_code, divisor_code, checked_code, operator_code, truth_code, load_code, low_byte, test_code, is_in, copy_code, expression_code, arguments_code, converted_code, converted_operand_code, printed_code, initial_code, assignment_code, assigned_operand, operations_code, discarded_code, failing_comparison, compared_or, compared_of, first_operand, first_code, second_code, pair_code, condition_code, condition_of, failing_jump, break_target, continue_target, return_code, declaration_code, statement_code, items_code, function_code, first_temporary, results_of, lower_function, lower_program, behind_left, pointer_code, outside_loops, inside_loop, pointer_operator, index_code, pointer_instructions, stores_code, object_code, made_code, place_operand, place_offset, place_code, address_code, raising, blocks, guard_code, body_code, free_code, jump_if_zero, right_slot, side_code, read_side, write_side, exchange_code, swap_code, leave_code, tag_operand, other_jump, goes_on, clause_code, thrown_code, thrown_operand, caught_code, clauses_code, counter_operand, count_code, span_of, null_of, tested_code, widened_code, conversion_by, loaded_code, saved_code, all_passed, bounds_code, stepped_code, bounded_code, past_bounded, thinned_code, reached_code, followed_code, span_in, pointer_of, pointer_slot, word_by_word, load_word, store_word, global_code, globals_of, load_at, kept_code, kept_code_in, restored_code, restored_code_in, behind_record, inside_try, closed_code, scopes_code_in, handlers_code, marks_code, try_code, scopes_of, opened_code, inside_region, named_code, dynamic_code}
 use Rattle.cyc_lower.specs.declared.statements.Exits.{Exits}
 use Rattle.cyc_lower.specs.declared.statements.Opened.{Opened}
-use Rattle.cyc_lower.proofs.Stands.{BegunAt, FilledAt, OperandBy, CheckAt, ConversionBy, ConversionAt, DivisorAt, CheckedAt, OperatorAt, LoadAt, CopyBy, ExpressionAt, InitialAt, InitialBy, ConvertedAt, ConvertedOperandAt, PrintedAt, ArgumentsAt, OperationsAt, PairAt, ConditionAt, AssignmentAt, DiscardedAt, ReturnedAt, ReturnAt, DeclarationAt, StatementAt, ItemsAt, FirstTwoAt, IndexAt, PointerAt, StoresAt, ObjectAt, MadeAt, AddressAt, PlaceAt, GuardAt, FreedAt, HasSide, SideAt, ReadAt, WriteAt, SwapAt, LeaveAt, ThrownAt, CaughtAt, ClausesAt, CountAt, TestedAt, WidenedAt, LoadedBy, SavedAt, BoundsAt, SteppedAt, ThinnedAt, ReachedAt, FollowedAt, EachAt, GlobalAt, ExchangeAt, ToldAt, ClosedAt, HandlersAt, MarksAt, KeptAt, RestoredAt}
+use Rattle.cyc_lower.proofs.Stands.{BegunAt, FilledAt, OperandBy, CheckAt, ConversionBy, ConversionAt, DivisorAt, CheckedAt, OperatorAt, LoadAt, CopyBy, ExpressionAt, InitialAt, InitialBy, ConvertedAt, ConvertedOperandAt, PrintedAt, ArgumentsAt, OperationsAt, PairAt, ConditionAt, AssignmentAt, DiscardedAt, ReturnedAt, ReturnAt, DeclarationAt, StatementAt, ItemsAt, FirstTwoAt, IndexAt, PointerAt, StoresAt, ObjectAt, MadeAt, AddressAt, PlaceAt, GuardAt, FreedAt, HasSide, SideAt, ReadAt, WriteAt, SwapAt, LeaveAt, ThrownAt, CaughtAt, ClausesAt, CountAt, TestedAt, WidenedAt, LoadedBy, SavedAt, BoundsAt, SteppedAt, ThinnedAt, ReachedAt, FollowedAt, EachAt, GlobalAt, ExchangeAt, ToldAt, ClosedAt, HandlersAt, MarksAt, KeptAt, RestoredAt, OpenedAt, NamedAt}
 use Rattle.cyc_lower.proofs.Lengths.{body_long, past_long}
 use Rattle.cyc_types.specs.typing.Expressions.{type_of_side}
 use Rattle.cyc_lower.specs.Lowerable.{is_converted, is_pointer}
-use Rattle.cyc_lower.proofs.Widths.{kind_of_result, given, passed_kind, type_words, kind_positive, kind_few}
+use Rattle.cyc_lower.proofs.Widths.{kind_of_result, given, passed_kind, type_words, kind_positive, kind_few, HasRoom}
 use Rattle.cyc_lower.proofs.Fitting.{FitsPlace, FitsCell, FitsObject, Fits, FitsConverted, FitArguments, FitOperations, FitsReturn, FitsInitial, FitsStatement, FitItems, AreFitting, IsFitting, FitsSide, FitsThrown, FitsCaught, FitClauses}
 use Rattle.cyc_lower.specs.Lowerable.{is_converted}
 use Rattle.cyc_lower.proofs.Values.{as_wide}
@@ -853,6 +853,19 @@ module _ (code : List Instruction) (b : Numbering) (types : Types) (raised : Blo
       let r = p + length front in
       (r, handlers_stand opened.handler p r refl (has_front code p front back has), marks_stand opened.mark r q (cut p q front back end) (has_back code p front back has))
 
+  -- a region is opened, and its handle is named
+  opened_stands : (n global t p q : ℕ) → types.scopes ≡ Some global → n < b.locals → HasRoom types n kinds.Handle → p + length (opened_code (starts_of types) n t) ≡ q → HasAt code p (opened_code (starts_of types) n t)
+      → OpenedAt code b types n t p q
+  opened_stands n global t p q counts few room end (ask, (move, (add, rest))) = by types.scopes counts end rest
+    where
+      by : (scopes : Option ℕ) → scopes ≡ Some global
+          → p + length (instructions.Ask (requests.OpenLexical (t + 1)) ∷ instructions.Move t (operands.Slot (t + 2)) ∷ instructions.Binary plain_binary.Add (t + 2) (operands.Slot t) (operands.Word 1) ∷ scopes_code_in scopes (operands.Slot (t + 2)) ++ named_code (starts_of types) 1 n (operands.Slot (t + 1))) ≡ q
+          → HasAt code (p + 1 + 1 + 1) (scopes_code_in scopes (operands.Slot (t + 2)) ++ named_code (starts_of types) 1 n (operands.Slot (t + 1))) → OpenedAt code b types n t p q
+      by None is end has = absurd (none-some global is)
+      by (Some place) is end (store, (named, none)) =
+          let same : place ≡ global = same_Some place global is in
+          (global, counts, ask, move, add, subst (λ g. At code (p + 1 + 1 + 1) (instructions.StoreGlobal g (operands.Slot (t + 2)))) same store, (few, room, named, omega (arith, end)))
+
   kept_stands : (scopes : Option ℕ) (t p q : ℕ) → p + length (kept_code_in scopes t) ≡ q → HasAt code p (kept_code_in scopes t) → KeptAt code b types scopes (t + RECORD_WORDS) p q
   kept_stands None t p q end has = omega (arith, end)
   kept_stands (Some global) t p q end (here, none) = (here, end)
@@ -1093,7 +1106,28 @@ module _ (code : List Instruction) (b : Numbering) (types : Types) (raised : Blo
         let front = declaration_code (starts_of types) n v p d in
         let back = items_code (starts_of types) js (p + length front) exits d in
         (p + length front, declaration_stands n v d p (p + length front) few numbered refl (has_front code p front back has), items_stand js in_loop exits d (p + length front) q rest (cut p q front back end) (has_back code p front back has))
-    items_stand js in_loop exits d p q numbered end has = absurd numbered
+    items_stand (MoreItems (DeclareRegion r n) js) in_loop exits d p q ((global, counts), few, room, numbered) end has =
+        let front = opened_code (starts_of types) n d in
+        let m = p + length front in
+        let items = items_code (starts_of types) js m (inside_region exits d) (d + 1) in
+        let close = closed_code (starts_of types) d in
+        let u = m + length items in
+        let has_rest = has_back code p front (items ++ close) has in (
+          m,
+          u,
+          opened_stands n global d p m counts few room refl (has_front code p front (items ++ close) has),
+          items_stand js in_loop (inside_region exits d) (d + 1) m u numbered refl (has_front code m items close has_rest),
+          closed_stands d u q (cut m q items close (cut p q front (items ++ close) end)) (has_back code m items close has_rest),
+        )
+    items_stand (MoreItems (OpenRegion r n w key) js) in_loop exits d p q (few, room, there, key_room, numbered) end (here, has) =
+        (p + 1, (few, room, here, refl), items_stand js in_loop exits d (p + 1) q numbered (omega (arith, end)) has)
+    items_stand (MoreItems (DeclareAlias r n t w lent) js) in_loop exits d p q (few, room, there, lent_room, numbered) end (here, has) =
+        (p + 1, (few, room, subst (λ words. At code p (move_of words (slot_of (starts_of types) n) (operands.Slot (slot_of (starts_of types) lent)))) (sym (type_words t)) here, refl), items_stand js in_loop exits d (p + 1) q numbered (omega (arith, end)) has)
+    items_stand (MoreItems (DeclareKey r n) js) in_loop exits d p q (few, room, numbered) end (ask, (here, has)) =
+        let front = dynamic_code (starts_of types) n d in
+        let back = items_code (starts_of types) js (p + length front) exits d in
+        let m = p + length front in
+        (m, ask, (few, room, here, omega arith), items_stand js in_loop exits d m q numbered (cut p q front back end) (has_back code p front back (ask, (here, has))))
 
     clauses_stand : (cs : Clauses) (in_loop : Bool) (out : ℕ) (exits : Exits) (t p q : ℕ) → out < p → FitClauses b types in_loop cs → p + length (clauses_code (starts_of types) cs p out exits t) ≡ q
         → HasAt code p (clauses_code (starts_of types) cs p out exits t) → ClausesAt code b types cs out exits t p q

@@ -1,8 +1,9 @@
 -- How a step of the source is matched: what is the same in all cases.
-use Rattle.std.proofs.Common.{◌≡◌, ◌≢◌, ℕ, suc, ◌+◌, ◌≤◌, ◌<◌, Bool, true, false, List, [], ◌∷◌, length, Option, None, Some, refl, sym, ap, subst, ◌∙◌, arith}
+use Rattle.std.proofs.Common.{◌≡◌, ◌≢◌, ℕ, suc, ◌+◌, ◌≤◌, ◌<◌, Bool, true, false, List, [], ◌∷◌, length, Option, None, Some, slice_get, refl, sym, ap, subst, ◌∙◌, arith}
 use Rattle.std.specs.Prelude.{Contains, if◌then◌else◌, option_map}
 use Rattle.std.specs.List.{AllByRecursion}
 use Rattle.std.proofs.lemmas.Bool.{le-leb, and_from}
+use Rattle.std.proofs.lemmas.Option.{same_Some}
 use Rattle.cyc_words.specs.Ending.{Ending, Full}
 use Rattle.cyc_types.specs.declared.typed.Kind.{Kind}
 use Rattle.cyc_types.specs.declared.typed.Kind.TheVariants as kinds
@@ -39,7 +40,7 @@ use Rattle.cyc_lower.proofs.Widths.{chain_kind}
 use Rattle.cyc_meaning.specs.SourceMachine.{status_in, source_machine}
 use Rattle.cyc_lower.proofs.Weights.{weight}
 use Rattle.cyc_lower.proofs.Data.{calls_counted, calls_left}
-use Rattle.cyc_lower.proofs.Relation.{base_of, Lands, in_temporary, in_local, HandsOn, drops, leaves, copies, Prints, prints_only, gives_byte, SharedAt, SharedBy, to_slot, to_jump, ValueStack, PlaceStack, ConditionStack, DroppedStack, AheadStack, StatementStack, LandsStack, PrintsStack, AppliedStack, RightAt, ReadyAt, EvaluatingAt, as_operand, into_slot, for_effect, as_right, as_condition, FocusAt, GivenAt, in_operand, nowhere, ahead, compared, with_left, ProceedingAt, behind_statement, behind_call, behind_wrong, Related, Matches, code_of, given_at, called_at, returned_at, top, DataFor, handling}
+use Rattle.cyc_lower.proofs.Relation.{base_of, Lands, in_temporary, in_local, HandsOn, drops, leaves, copies, Prints, prints_only, gives_byte, SharedAt, SharedBy, opened_by, to_slot, to_jump, ValueStack, PlaceStack, ConditionStack, DroppedStack, AheadStack, StatementStack, LandsStack, PrintsStack, AppliedStack, RightAt, ReadyAt, EvaluatingAt, as_operand, into_slot, for_effect, as_right, as_condition, FocusAt, GivenAt, in_operand, nowhere, ahead, compared, with_left, ProceedingAt, behind_statement, behind_call, behind_wrong, Related, Matches, code_of, given_at, called_at, returned_at, top, DataFor, handling}
 
 module _ (source : Program) where
   -- ---- where a value goes
@@ -76,6 +77,9 @@ module _ (source : Program) where
 
   pub inside_of : (pages calls : ℕ) (focus : Focus) (k : List Entry) (e : Environment) (w : World) (c : Configuration) → Related source pages calls focus k e w c → Inside pages calls w c
   inside_of pages calls (Throwing tag value) k e w c r = inside_by (scopes_of source) pages calls k e w c r.0
+  inside_of pages calls Breaking k e w c r = inside_by (opened_by source true c.active.function k).mark pages calls k e w c r.0
+  inside_of pages calls Continuing k e w c r = inside_by (opened_by source true c.active.function k).mark pages calls k e w c r.0
+  inside_of pages calls (Returning v) k e w c r = inside_by (opened_by source false c.active.function k).mark pages calls k e w c r.0
   inside_of pages calls (Given v) k e w c r = inside_by None pages calls k e w c r.0
   inside_of pages calls Proceeding k e w c r = inside_by None pages calls k e w c r.0
   inside_of pages calls focus k e w c r = inside_by None pages calls k e w c r.0
@@ -252,6 +256,11 @@ module _ (source : Program) (pages calls : ℕ) where
 
   pub apart : (c d : Configuration) → c.active.next ≢ d.active.next → place_in c ≢ place_in d
   apart c d other same = other (ap (λ (p : CodePlace). p.index) same)
+
+  -- two instructions stand at two places
+  pub elsewhere : (p q : CodePlace) (i j : Instruction) → At (code_of source p.function) p.index i → At (code_of source q.function) q.index j → i ≢ j → p ≢ q
+  elsewhere p q i j here there other same =
+      other (same_Some i j (sym here ∙ ap (λ (place : CodePlace). slice_get (code_of source place.function) place.index) same ∙ there))
 
   -- one instruction, where this is printed
   pub by_one_printed : {focus : Focus} {k : List Entry} {e : Environment} {w : World} {c : Configuration} {next : State} {i : Instruction}
