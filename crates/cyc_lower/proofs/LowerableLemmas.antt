@@ -7,6 +7,8 @@ use Rattle.std.proofs.lemmas.Option.{slice_get_within}
 use Rattle.std.proofs.lemmas.List.{length-map}
 use Rattle.cyc_words.specs.Word.{IsWord}
 use Rattle.cyc_types.specs.declared.region.Region.{Region}
+use Rattle.cyc_types.specs.declared.region.Region.TheVariants.{Variable}
+use Rattle.cyc_types.specs.declared.scope.ScopeKind.TheVariants as scopes
 use Rattle.cyc_types.specs.declared.typed.Callee.{Callee}
 use Rattle.cyc_types.specs.declared.typed.Callee.TheVariants as callees
 use Rattle.cyc_types.specs.declared.typed.Kind.{Kind}
@@ -21,7 +23,7 @@ use Rattle.cyc_types.specs.TypedTrees.{Lvalue, Local, Global, Expression, Number
 use Rattle.cyc_types.specs.Built.{is_built_operator, is_built_expression, is_built_place, is_built_size, is_built_initial, is_built_converted, are_built_arguments, are_built_operations, is_built_value, is_built_side, is_built_statement, are_built_items, is_built_function, is_built, is_built_tag, is_built_thrown, are_built_clauses}
 use Rattle.cyc_types.specs.Numbered.{signatures_of, Numbering, IsSignature, argument_count, IsWithin, numbering_of}
 use Rattle.cyc_types.specs.typing.Tests.{is_thin_mark, is_pointer, is_int, kind_of_mark, kind_of, kind_of_value}
-use Rattle.cyc_types.specs.typing.WellTyped.{PointerOperation, adds, subtracts, equals, differs, thin_null, thin_there, fat_null, fat_there, null_is, null_is_not, Converts, with_counter, Context, IsVariable, IsPlace, IsCallee, WellTyped, IsPeek, IsLeft, IsSide, IsUnaryOperand, IsConverted, ArePassed, IsCell, IsMade, IsChain, IsCondition, behind, in_block, in_body, with_local, IsInitial, IsReturned, WellTypedStatement, WellTypedItems, body_context, AreWellTypedFunctions, IsWellTypedProgram, IsThrown, IsCaught, behind_clause, WellTypedClauses}
+use Rattle.cyc_types.specs.typing.WellTyped.{PointerOperation, adds, subtracts, equals, differs, thin_null, thin_there, fat_null, fat_there, null_is, null_is_not, Converts, with_counter, Context, IsVariable, IsPlace, IsCallee, WellTyped, IsPeek, IsLeft, IsSide, IsUnaryOperand, IsConverted, ArePassed, IsCell, IsMade, IsChain, IsCondition, behind, in_block, in_body, with_local, with_opened, with_key_opened, with_region, IsInitial, IsReturned, WellTypedStatement, WellTypedItems, body_context, AreWellTypedFunctions, IsWellTypedProgram, IsThrown, IsCaught, behind_clause, WellTypedClauses}
 use Rattle.cyc_meaning.specs.Values.{is_thin, words_of_kind}
 use Rattle.cyc_lower.specs.Lowering.{all_passed}
 use Rattle.cyc_lower.specs.Lowerable.{is_comparison, are_sums, stands_alone, is_converted, IsLowerable, IsLowerableObject, IsLowerableSide, IsLowerableCell, IsLowerableConverted, AreLowerableArguments, AreLowerableOperations, IsLowerableReturn, IsLowerableInitial, IsLowerableStatement, AreLowerableItems, AreLowerableFunctions, IsLowerableProgram, IsLowerableThrown, IsLowerableCaught, AreLowerableClauses}
@@ -167,6 +169,10 @@ module _ (b : Numbering) where
   declared : (c : Context) → Agrees b c → (t : Ty) → Agrees b (with_local true t c)
   declared c k t = record { globals = k.globals; functions = k.functions; variables = k.variables; result = k.result }
 
+  -- a local that is declared
+  named : {c : Context} {n : ℕ} → Agrees b c → (t : Ty) → slice_get c.variables n ≡ Some t → n < b.locals
+  named {c} {n} k t known = let l : n < length c.variables = slice_get_within c.variables n t known in omega (arith, l, k.variables)
+
   within : (c : Context) → Agrees b c → (l : Lvalue) (t : Ty) → IsVariable c l t → IsWithin b l
   within c k (Local p n) t (there, known) = let l : n < length c.variables = slice_get_within c.variables n t known in omega (arith, l, k.variables)
   within c k (Global n) t known = let l : n < length c.globals = slice_get_within c.globals n t known in omega (arith, l, k.globals)
@@ -213,7 +219,7 @@ module _ (b : Numbering) where
         (cell_lowerable c k d v r place cell, converted_lowerable c k e v value w)
     lowerable c k (New OnHeap m u) t i (l, v, r, there, made, is, eq) = made_lowerable c k m l v i made
     lowerable c k (New AsUnique m u) t i (l, v, r, there, made, is, eq) = made_lowerable c k m l v i made
-    lowerable c k (New (ByHandle a) m u) t i (l, v, r, there, made, is, eq) =
+    lowerable c k (New (ByHandle a) m u) t i (l, v, r, (there, live), made, is, eq) =
         let (handle, values) = and_parts (is_built_expression a) (is_built_initial m) i in (lowerable c k a (Value (Handle r)) handle there, made_lowerable c k m l v values made)
     lowerable c k a t i w = absurd (cc)
 
@@ -317,9 +323,21 @@ module _ (b : Numbering) where
         let (first, rest) = and_parts (is_built_statement s) (are_built_items js) i in (statement_lowerable c k s first w, items_lowerable (behind c s) (passed_by c k s) js rest ws)
     items_lowerable c k (MoreItems (Declare n t v) js) i ((is, known, live), w, ws) =
         let (first, rest) = and_parts (is_built_value v) (are_built_items js) i in
-        let l : n < length c.variables = slice_get_within c.variables n t known in
-        (omega (arith, l, k.variables), initial_lowerable c k v t first w, items_lowerable (with_local true t c) (declared c k t) js rest ws)
-    items_lowerable c k js i w = absurd (cc)
+        (named k t known, initial_lowerable c k v t first w, items_lowerable (with_local true t c) (declared c k t) js rest ws)
+    items_lowerable c k (MoreItems (DeclareRegion r n) js) i (next, (is, known, live), ws) =
+        (named k (Handle (Variable r)) known, items_lowerable (with_local false (Handle (Variable r)) (with_opened scopes.Lexical c)) (record { globals = k.globals; functions = k.functions; variables = k.variables; result = k.result }) js i ws)
+    items_lowerable c k (MoreItems (OpenRegion r n p l) js) i ((there, key), (is, known, live), ws) = (
+      named k (Handle (Variable r)) known,
+      named k (Key (Variable r)) key,
+      items_lowerable (with_local false (Handle (Variable r)) (with_key_opened r c)) (record { globals = k.globals; functions = k.functions; variables = k.variables; result = k.result }) js i ws,
+    )
+    items_lowerable c k (MoreItems (DeclareAlias r n t p m) js) i (next, (u, (there, shared), unique, eq), (is, known, live), ws) = (
+      named k t known,
+      named k u shared,
+      items_lowerable (with_local true t (with_opened scopes.Alias c)) (record { globals = k.globals; functions = k.functions; variables = k.variables; result = k.result }) js i ws,
+    )
+    items_lowerable c k (MoreItems (DeclareKey r n) js) i (next, (is, known, live), ws) =
+        (named k (Key (Variable r)) known, items_lowerable (with_local true (Key (Variable r)) (with_region c)) (record { globals = k.globals; functions = k.functions; variables = k.variables; result = k.result }) js i ws)
 
     clauses_lowerable : (c : Context) → Agrees b c → (cs : Clauses) → are_built_clauses cs ≡ true → WellTypedClauses c cs → AreLowerableClauses b c.in_loop cs
     clauses_lowerable c k NoClauses i w = tt

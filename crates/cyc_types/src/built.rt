@@ -28,11 +28,11 @@ pub enum Construct {
 }
 
 /// The first construct of a program that is not built, and where it stands, as near as the typed tree tells: at the name of its
-/// function. What stands in no function has no place there.
+/// function.
 #[derive(Clone, Copy, Debug, PartialEq, Eq)]
 pub struct Unbuilt {
     pub construct: Construct,
-    pub span: Option<Span>,
+    pub span: Span,
 }
 
 /// A program with such a construct is refused at its start.
@@ -52,7 +52,7 @@ fn stop(construct: Construct, name: Span) -> Result<(), Unbuilt>
 {
     Err(Unbuilt {
         construct,
-        span: Some(name),
+        span: name,
     })
 }
 

@@ -189,10 +189,6 @@ operand_ints : (g : Scope) → AreInts g → (seen : Bool) (e : Expression) → 
 operand_ints g k true e w a d = seen_ints g k e (rule g e) w a d
 operand_ints g k false e w a d = w a d
 
--- an int that is converted to one
-converted_built : (a : typed.Expression) (t : Ty) → IsInt a → is_built_converted (converted a t) ≡ true
-converted_built a t (built, value) = built
-
 abbrev AreIntValues : List typed.Expression → Type 0
 AreIntValues [] = Unit {0}
 AreIntValues (a ∷ as') = IsInt a × AreIntValues as'
@@ -201,7 +197,7 @@ passed_built : (m : List Region) (as' : List typed.Expression) (ts : List Ty) �
 passed_built m [] ts i k = refl
 passed_built m (a ∷ as') [] i k = refl
 passed_built m (a ∷ as') (t ∷ ts) (i, is) (k, ks) =
-    both (is_built_converted (converted a (substituted_ty m t))) (are_built_arguments (passed as' (map (substituted_ty m) ts))) (converted_built a (substituted_ty m t) i)
+    both (is_built_converted (converted a (substituted_ty m t))) (are_built_arguments (passed as' (map (substituted_ty m) ts))) i.0
     (passed_built m as' ts is ks)
 
 called_ints : (g : Scope) (m : Meaning) (p : Place) (es : Expressions) (as' : List typed.Expression) → IsIntMeaning m → AreIntValues as' → HasInts (called g m p es as')
@@ -290,7 +286,7 @@ found_int g k p e x i (b, kb, d) = absurd d
 assignment_int : (s : Side) (b : typed.Expression) → IsIntSide s → IsInt b → IsInt (assignment s b)
 assignment_int (VariableSide l t) b k i =
     let value : IsIntValue (assigned_type t) = subst (λ u. IsIntValue (assigned_type u)) (sym k) refl in
-    (converted_built b t i, value)
+    (i.0, value)
 assignment_int (CellSide c) b k i = absurd k
 
 -- ---- all forms of expressions
@@ -342,11 +338,11 @@ initial_int : (g : Scope) → AreInts g → (w : WrittenType) (x : Named) (v : O
     → (c.0 ≡ Int) × (is_built_value c.1 ≡ true)
 initial_int g k w x None c i j (kept, eq) = subst (λ (z : Ty × Option Converted). (z.0 ≡ Int) × (is_built_value z.1 ≡ true)) (sym eq) (int_written g.structs g.names _ w i, refl)
 initial_int g k w x (Some e) c i j (a, h, (kept, eq)) =
-    subst (λ (z : Ty × Option Converted). (z.0 ≡ Int) × (is_built_value z.1 ≡ true)) (sym eq) (int_written g.structs g.names _ w i, converted_built a _ (expression_int g k e j a h))
+    subst (λ (z : Ty × Option Converted). (z.0 ≡ Int) × (is_built_value z.1 ≡ true)) (sym eq) (int_written g.structs g.names _ w i, (expression_int g k e j a h).0)
 
 value_int : (g : Scope) (r : Option Ty) (p q : Place) (a : typed.Expression) (c : Option Converted) → IsIntResult r → IsInt a → Derives (returned g r p q a) c → is_built_value c ≡ true
 value_int g None p q a c k i d = absurd d
-value_int g (Some t) p q a c k i (kept, eq) = ap is_built_value eq ∙ converted_built a t i
+value_int g (Some t) p q a c k i (kept, eq) = ap is_built_value eq ∙ i.0
 
 returned_int : (g : Scope) → AreInts g → (p : Place) (v : Option Expression) (c : Option Converted) → is_int_option v ≡ true → Derives (rule_returned g p v) c → is_built_value c ≡ true
 returned_int g k p None c i (kept, eq) = ap is_built_value eq

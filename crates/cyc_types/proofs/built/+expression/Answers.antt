@@ -58,7 +58,7 @@ fields_built i v cs ds b is first second answer =
 
 pub check_initial-returns-in_err-check_size-in-Fields : goal.check_initial-returns-in_err-check_size-in-Fields
 check_initial-returns-in_err-check_size-in-Fields t c =
-    refused c.from_residual-in_err-check_size-in-Fields.result c.from_residual-in_err-check_size-in-Fields.ensures.0
+    refused c.from_residual.result c.from_residual.ensures.0
     ∙ fields_built c.args.initial.now c.in-Fields.values c.deref.result.now c.in-Fields.values.items false c.in-Fields.is c.deref.ensures.value refl c.in_err-check_size-in-Fields.ensures
 
 pub check_initial-returns-in_ok-check_size-in-Fields : goal.check_initial-returns-in_ok-check_size-in-Fields
