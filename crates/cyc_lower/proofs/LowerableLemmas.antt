@@ -7,6 +7,8 @@ use Rattle.std.proofs.lemmas.Option.{slice_get_within}
 use Rattle.std.proofs.lemmas.List.{length-map}
 use Rattle.cyc_words.specs.Word.{IsWord}
 use Rattle.cyc_types.specs.declared.region.Region.{Region}
+use Rattle.cyc_types.specs.declared.region.Region.TheVariants.{Variable}
+use Rattle.cyc_types.specs.declared.scope.ScopeKind.TheVariants as scopes
 use Rattle.cyc_types.specs.declared.typed.Callee.{Callee}
 use Rattle.cyc_types.specs.declared.typed.Callee.TheVariants as callees
 use Rattle.cyc_types.specs.declared.typed.Kind.{Kind}
@@ -17,11 +19,11 @@ use Rattle.cyc_types.specs.declared.typed.UnaryOperator.TheVariants as unary
 use Rattle.cyc_syntax.specs.declared.tree.PointerKind.{PointerKind}
 use Rattle.cyc_syntax.specs.declared.tree.PointerKind.TheVariants as marks
 use Rattle.cyc_types.specs.Types.{Ty, Int, Pointer, Handle, Key, Struct, ValueType, Null, Value, substituted_ty}
-use Rattle.cyc_types.specs.TypedTrees.{Lvalue, Local, Global, Expression, Number, NullPointer, Counter, NumberOfElements, Copy, Move, Peek, FreeUnique, Load, AddressOfCell, Call, Unary, Binary, Assign, Store, New, Dereference, Target, Member, Element, OnHeap, AsUnique, Initial, Plain, Fields, Converted, Convert, Arguments, NoArguments, MoreArguments, Operations, NoOperations, ThenCompute, ThenTest, ThenPointer, ThenPointerPeek, Side, VariableSide, CellSide, Statement, Block, Empty, Evaluate, Swap, If, While, Return, Break, Continue, Items, NoItems, MoreItems, Execute, Declare, GlobalVariable, Signature, Function, Program, Throw, Try, Clauses, NoClauses, Default, Case, Array}
-use Rattle.cyc_types.specs.Built.{is_built_type, is_built_result, is_built_value_type, is_built_kind, is_built_operator, is_built_expression, is_built_place, is_built_size, is_built_initial, is_built_converted, are_built_arguments, are_built_operations, is_built_value, is_built_side, is_built_statement, are_built_items, is_built_struct, is_built_global, is_built_function, is_built, is_built_tag, is_built_thrown, are_built_clauses}
+use Rattle.cyc_types.specs.TypedTrees.{Lvalue, Local, Global, Expression, Number, NullPointer, HeapRegion, Counter, NumberOfElements, Copy, Move, Peek, FreeUnique, FreeKey, Load, AddressOfCell, Call, Unary, Binary, Assign, Store, New, Dereference, Target, Member, Element, OnHeap, AsUnique, ByHandle, Initial, Plain, Fields, Converted, Convert, Arguments, NoArguments, MoreArguments, Operations, NoOperations, ThenCompute, ThenTest, ThenPointer, ThenPointerPeek, Side, VariableSide, CellSide, Statement, Block, Empty, Evaluate, Swap, If, While, Return, Break, Continue, Items, NoItems, MoreItems, Execute, Declare, DeclareRegion, OpenRegion, DeclareAlias, DeclareKey, GlobalVariable, Signature, Function, Program, Throw, Try, Clauses, NoClauses, Default, Case, Array}
+use Rattle.cyc_types.specs.Built.{is_built_operator, is_built_expression, is_built_place, is_built_size, is_built_initial, is_built_converted, are_built_arguments, are_built_operations, is_built_value, is_built_side, is_built_statement, are_built_items, is_built_function, is_built, is_built_tag, is_built_thrown, are_built_clauses}
 use Rattle.cyc_types.specs.Numbered.{signatures_of, Numbering, IsSignature, argument_count, IsWithin, numbering_of}
 use Rattle.cyc_types.specs.typing.Tests.{is_thin_mark, is_pointer, is_int, kind_of_mark, kind_of, kind_of_value}
-use Rattle.cyc_types.specs.typing.WellTyped.{PointerOperation, adds, subtracts, equals, differs, thin_null, thin_there, fat_null, fat_there, null_is, null_is_not, Converts, with_counter, Context, IsVariable, IsPlace, IsCallee, WellTyped, IsPeek, IsLeft, IsSide, IsUnaryOperand, IsConverted, ArePassed, IsCell, IsMade, IsChain, IsCondition, behind, in_block, in_body, with_local, IsInitial, IsReturned, WellTypedStatement, WellTypedItems, body_context, AreWellTypedFunctions, IsWellTypedProgram, IsThrown, IsCaught, behind_clause, WellTypedClauses}
+use Rattle.cyc_types.specs.typing.WellTyped.{PointerOperation, adds, subtracts, equals, differs, thin_null, thin_there, fat_null, fat_there, null_is, null_is_not, Converts, with_counter, Context, IsVariable, IsPlace, IsCallee, WellTyped, IsPeek, IsLeft, IsSide, IsUnaryOperand, IsConverted, ArePassed, IsCell, IsMade, IsChain, IsCondition, behind, in_block, in_body, with_local, with_opened, with_key_opened, with_region, IsInitial, IsReturned, WellTypedStatement, WellTypedItems, body_context, AreWellTypedFunctions, IsWellTypedProgram, IsThrown, IsCaught, behind_clause, WellTypedClauses}
 use Rattle.cyc_meaning.specs.Values.{is_thin, words_of_kind}
 use Rattle.cyc_lower.specs.Lowering.{all_passed}
 use Rattle.cyc_lower.specs.Lowerable.{is_comparison, are_sums, stands_alone, is_converted, IsLowerable, IsLowerableObject, IsLowerableSide, IsLowerableCell, IsLowerableConverted, AreLowerableArguments, AreLowerableOperations, IsLowerableReturn, IsLowerableInitial, IsLowerableStatement, AreLowerableItems, AreLowerableFunctions, IsLowerableProgram, IsLowerableThrown, IsLowerableCaught, AreLowerableClauses}
@@ -167,6 +169,10 @@ module _ (b : Numbering) where
   declared : (c : Context) → Agrees b c → (t : Ty) → Agrees b (with_local true t c)
   declared c k t = record { globals = k.globals; functions = k.functions; variables = k.variables; result = k.result }
 
+  -- a local that is declared
+  named : {c : Context} {n : ℕ} → Agrees b c → (t : Ty) → slice_get c.variables n ≡ Some t → n < b.locals
+  named {c} {n} k t known = let l : n < length c.variables = slice_get_within c.variables n t known in omega (arith, l, k.variables)
+
   within : (c : Context) → Agrees b c → (l : Lvalue) (t : Ty) → IsVariable c l t → IsWithin b l
   within c k (Local p n) t (there, known) = let l : n < length c.variables = slice_get_within c.variables n t known in omega (arith, l, k.variables)
   within c k (Global n) t known = let l : n < length c.globals = slice_get_within c.globals n t known in omega (arith, l, k.globals)
@@ -190,48 +196,44 @@ module _ (b : Numbering) where
     lowerable : (c : Context) → Agrees b c → (a : Expression) (t : ValueType) → is_built_expression a ≡ true → WellTyped c a t → IsLowerable b a
     lowerable c k (Number n) t i w = tt
     lowerable c k NullPointer t i w = tt
+    lowerable c k HeapRegion t i w = tt
     lowerable c k (Counter l) t i w = tt
     lowerable c k (Copy l u) t i (v, moved, eq) = within c k l u v
     lowerable c k (Move p n u) t i (v, moved, eq) = within c k (Local p n) u v
     lowerable c k (Peek p n u) t i w = absurd w
     lowerable c k (Load d) t i (u, r, cell, whole, shared, eq) = cell_lowerable c k d u r i cell
-    lowerable c k (AddressOfCell d u) t i (v, r, cell, moved, shared, is, eq) = cell_lowerable c k d v r (and_parts (is_built_place d) (is_built_type u) i).0 cell
+    lowerable c k (AddressOfCell d u) t i (v, r, cell, moved, shared, is, eq) = cell_lowerable c k d v r i cell
     lowerable c k (NumberOfElements a) t i (u, r, w, eq) = let v = Value (Pointer marks.Fat u r) in seen c k a v (λ h. lowerable c k a v i h) w
     lowerable c k (FreeUnique a) t i (m, u, w, eq) = lowerable c k a _ i w
+    lowerable c k (FreeKey a) t i (r, w, eq) = lowerable c k a _ i w
     lowerable c k (Call f ds u) t i (s, m, is, long, unique, passed, live, outlives, result, eq) =
-        let (arguments, of_type) = and_parts (are_built_arguments ds) (is_built_value_type u) i in
-        let (count, all) = passed_lowerable c k (map (substituted_ty m) s.parameters) ds arguments passed in
+        let (count, all) = passed_lowerable c k (map (substituted_ty m) s.parameters) ds i passed in
         (s, callee c k f s is, count ∙ length-map s.parameters (substituted_ty m), all)
     lowerable c k (Unary o a) t i (v, w, eq) = seen c k a v (λ h. lowerable c k a v i h) (operand_seen c o a v w)
     lowerable c k (Binary a os u) t i (v, w, chain, eq) =
-        let (first, more) = and_parts (is_built_expression a) (are_built_operations u os && is_built_type u) i in
-        let (rest, of_type) = and_parts (are_built_operations u os) (is_built_type u) more in
+        let (first, rest) = and_parts (is_built_expression a) (are_built_operations u os) i in
         (seen c k a v (λ h. lowerable c k a v first h) (left_seen c a v os w), chain_lowerable c k v os u rest chain)
-    lowerable c k (Assign l d u) t i (v, r, place, w, same, eq) =
-        let (value, of_type) = and_parts (is_built_converted d) (is_built_value_type u) i in
-        (placed c k l v r place, converted_lowerable c k d v value w)
+    lowerable c k (Assign l d u) t i (v, r, place, w, same, eq) = (placed c k l v r place, converted_lowerable c k d v i w)
     lowerable c k (Store d e u) t i (v, r, cell, w, same, eq) =
-        let (place, more) = and_parts (is_built_place d) (is_built_converted e && is_built_value_type u) i in
-        let (value, of_type) = and_parts (is_built_converted e) (is_built_value_type u) more in
+        let (place, value) = and_parts (is_built_place d) (is_built_converted e) i in
         (cell_lowerable c k d v r place cell, converted_lowerable c k e v value w)
-    lowerable c k (New OnHeap m u) t i (l, v, r, there, made, is, eq) = made_lowerable c k m l v (and_parts (is_built_initial m) (is_built_type u) i).0 made
-    lowerable c k (New AsUnique m u) t i (l, v, r, there, made, is, eq) = made_lowerable c k m l v (and_parts (is_built_initial m) (is_built_type u) i).0 made
+    lowerable c k (New OnHeap m u) t i (l, v, r, there, made, is, eq) = made_lowerable c k m l v i made
+    lowerable c k (New AsUnique m u) t i (l, v, r, there, made, is, eq) = made_lowerable c k m l v i made
+    lowerable c k (New (ByHandle a) m u) t i (l, v, r, (there, live), made, is, eq) =
+        let (handle, values) = and_parts (is_built_expression a) (is_built_initial m) i in (lowerable c k a (Value (Handle r)) handle there, made_lowerable c k m l v values made)
     lowerable c k a t i w = absurd (cc)
 
     cell_lowerable : (c : Context) → Agrees b c → (d : Dereference) (t : Ty) (r : Region) → is_built_place d ≡ true → IsCell c d t r → IsLowerableCell b d
     cell_lowerable c k (Target l a u) t r i (m, w, live, mark, eq) =
-        let v = Value (Pointer m u r) in
-        let first = (and_parts (is_built_expression a) (is_built_kind l && is_built_type u) i).0 in seen c k a v (λ h. lowerable c k a v first h) w
+        let v = Value (Pointer m u r) in seen c k a v (λ h. lowerable c k a v i h) w
     cell_lowerable c k (Member l a n f u) t r i (m, rs, s, x, w, thin, live, mark, struct, field, is, eq) =
-        let v = Value (Pointer m (Struct n rs) r) in
-        let first = (and_parts (is_built_expression a) (is_built_kind l && is_built_type u) i).0 in (thin_kind l m mark thin, seen c k a v (λ h. lowerable c k a v first h) w)
+        let v = Value (Pointer m (Struct n rs) r) in (thin_kind l m mark thin, seen c k a v (λ h. lowerable c k a v i h) w)
     cell_lowerable c k (Element a j u) t r i (w, index, live, eq) =
         let v = Value (Pointer marks.Fat u r) in
-        let (first, more) = and_parts (is_built_expression a) (is_built_expression j && is_built_type u) i in
-        let (second, of_type) = and_parts (is_built_expression j) (is_built_type u) more in (seen c k a v (λ h. lowerable c k a v first h) w, lowerable c k j (Value Int) second index)
+        let (first, second) = and_parts (is_built_expression a) (is_built_expression j) i in (seen c k a v (λ h. lowerable c k a v first h) w, lowerable c k j (Value Int) second index)
 
     made_lowerable : (c : Context) → Agrees b c → (m : Initial) (l : PointerKind) (t : Ty) → is_built_initial m ≡ true → IsMade c m l t → IsLowerableObject b m
-    made_lowerable c k (Plain l a) m t i (w, key, kind, mark) = lowerable c k a (Value t) (and_parts (is_built_expression a) (is_built_kind l) i).0 w
+    made_lowerable c k (Plain l a) m t i (w, key, kind, mark) = lowerable c k a (Value t) i w
     made_lowerable c k (Fields ds) m t i (n, rs, s, struct, long, passed, is, mark) =
         let (size, values) = and_parts (is_built_size (argument_count ds)) (are_built_arguments ds) i in
         let (some, few) = and_parts (nat_le 1 (argument_count ds)) (nat_le (argument_count ds) 64) size in
@@ -239,13 +241,12 @@ module _ (b : Numbering) where
         let words : all_passed ds ≤ 3 * argument_count ds = all_few ds in
         (leb-true 1 (argument_count ds) some, omega (arith, most, words), (passed_lowerable c k (map (substituted_ty rs) s.fields) ds values passed).1)
     made_lowerable c k (Array p level n l a) m t i (is, count, w, key, kind, mark) =
-        let (length, more) = and_parts (is_built_expression n) (is_built_expression a && is_built_kind l) i in
-        (lowerable c k n (Value Int) length count, lowerable (with_counter c) (counting c k) a (Value t) (and_parts (is_built_expression a) (is_built_kind l) more).0 w)
+        let (length, element) = and_parts (is_built_expression n) (is_built_expression a) i in
+        (lowerable c k n (Value Int) length count, lowerable (with_counter c) (counting c k) a (Value t) element w)
 
     converted_lowerable : (c : Context) → Agrees b c → (d : Converted) (t : Ty) → is_built_converted d ≡ true → IsConverted c d t → IsLowerableConverted b d
     converted_lowerable c k (Convert from to a) t i (v, w, converts, given, wanted) =
-        let (value, both) = and_parts (is_built_expression a) (is_built_kind from && is_built_kind to) i in
-        (ap (λ l. is_converted l to) given ∙ ap (λ l. is_converted (kind_of_value v) l) wanted ∙ types_converted c v t converts, lowerable c k a v value w)
+        (ap (λ l. is_converted l to) given ∙ ap (λ l. is_converted (kind_of_value v) l) wanted ∙ types_converted c v t converts, lowerable c k a v i w)
 
     passed_lowerable : (c : Context) → Agrees b c → (ts : List Ty) (ds : Arguments) → are_built_arguments ds ≡ true → ArePassed c ts ds → (argument_count ds ≡ length ts) × AreLowerableArguments b ds
     passed_lowerable c k [] NoArguments i w = (refl, tt)
@@ -321,11 +322,22 @@ module _ (b : Numbering) where
     items_lowerable c k (MoreItems (Execute s) js) i (w, ws) =
         let (first, rest) = and_parts (is_built_statement s) (are_built_items js) i in (statement_lowerable c k s first w, items_lowerable (behind c s) (passed_by c k s) js rest ws)
     items_lowerable c k (MoreItems (Declare n t v) js) i ((is, known, live), w, ws) =
-        let (of_type, more) = and_parts (is_built_type t) (is_built_value v && are_built_items js) i in
-        let (first, rest) = and_parts (is_built_value v) (are_built_items js) more in
-        let l : n < length c.variables = slice_get_within c.variables n t known in
-        (omega (arith, l, k.variables), initial_lowerable c k v t first w, items_lowerable (with_local true t c) (declared c k t) js rest ws)
-    items_lowerable c k js i w = absurd (cc)
+        let (first, rest) = and_parts (is_built_value v) (are_built_items js) i in
+        (named k t known, initial_lowerable c k v t first w, items_lowerable (with_local true t c) (declared c k t) js rest ws)
+    items_lowerable c k (MoreItems (DeclareRegion r n) js) i (next, (is, known, live), ws) =
+        (named k (Handle (Variable r)) known, items_lowerable (with_local false (Handle (Variable r)) (with_opened scopes.Lexical c)) (record { globals = k.globals; functions = k.functions; variables = k.variables; result = k.result }) js i ws)
+    items_lowerable c k (MoreItems (OpenRegion r n p l) js) i ((there, key), (is, known, live), ws) = (
+      named k (Handle (Variable r)) known,
+      named k (Key (Variable r)) key,
+      items_lowerable (with_local false (Handle (Variable r)) (with_key_opened r c)) (record { globals = k.globals; functions = k.functions; variables = k.variables; result = k.result }) js i ws,
+    )
+    items_lowerable c k (MoreItems (DeclareAlias r n t p m) js) i (next, (u, (there, shared), unique, eq), (is, known, live), ws) = (
+      named k t known,
+      named k u shared,
+      items_lowerable (with_local true t (with_opened scopes.Alias c)) (record { globals = k.globals; functions = k.functions; variables = k.variables; result = k.result }) js i ws,
+    )
+    items_lowerable c k (MoreItems (DeclareKey r n) js) i (next, (is, known, live), ws) =
+        (named k (Key (Variable r)) known, items_lowerable (with_local true (Key (Variable r)) (with_region c)) (record { globals = k.globals; functions = k.functions; variables = k.variables; result = k.result }) js i ws)
 
     clauses_lowerable : (c : Context) → Agrees b c → (cs : Clauses) → are_built_clauses cs ≡ true → WellTypedClauses c cs → AreLowerableClauses b c.in_loop cs
     clauses_lowerable c k NoClauses i w = tt
@@ -349,14 +361,9 @@ functions_lowerable : (p : Program) (hs : List Function) → list_all is_built_f
 functions_lowerable p [] i w = tt
 functions_lowerable p (h ∷ hs) i (w, ws) =
     let (first, rest) = and_parts (is_built_function h) (list_all is_built_function hs) i in
-    let (parameters, more) = and_parts (list_all is_built_type h.parameters) (is_built_result h.result && are_built_items h.body) first in
-    let (result, body) = and_parts (is_built_result h.result) (are_built_items h.body) more in
     let b : Numbering = numbering_of (length p.globals) (signatures_of p.functions) h in
     let agrees : Agrees b (body_context p h) = record { globals = count_types p.globals; functions = refl; variables = length-append h.parameters h.locals; result = refl } in
-    (items_lowerable b (body_context p h) agrees h.body body w.body, functions_lowerable p hs rest ws)
+    (items_lowerable b (body_context p h) agrees h.body first w.body, functions_lowerable p hs rest ws)
 
 pub lowerable_program : (p : Program) → IsWellTypedProgram p → is_built p ≡ true → IsLowerableProgram p
-lowerable_program p w i =
-    let (structs, others) = and_parts (list_all is_built_struct p.structs) (list_all is_built_global p.globals && list_all is_built_function p.functions) i in
-    let (globals, functions) = and_parts (list_all is_built_global p.globals) (list_all is_built_function p.functions) others in
-    record { functions = functions_lowerable p p.functions functions w.functions; main = w.main }
+lowerable_program p w i = record { functions = functions_lowerable p p.functions i w.functions; main = w.main }

@@ -18,7 +18,7 @@ use Rattle.cyc_types.specs.TypedTrees.{Lvalue, Side, VariableSide, CellSide, Con
 use Rattle.cyc_types.specs.TypedTrees as typed
 use Rattle.cyc_types.specs.Rules.{Rule, Derives}
 use Rattle.cyc_types.specs.Numbered.{argument_count}
-use Rattle.cyc_types.specs.Built.{is_built_type, is_built_result, is_built_value_type, is_built_kind, is_built_operator, is_built_size, is_built_expression, is_built_place, is_built_initial, is_built_converted, are_built_arguments, are_built_operations, is_built_value, is_built_side, is_built_statement, are_built_items, is_built_struct, is_built_global, is_built_function, is_built, is_built_tag, is_built_thrown, are_built_clauses}
+use Rattle.cyc_types.specs.Built.{is_built_operator, is_built_size, is_built_expression, is_built_place, is_built_initial, is_built_converted, are_built_arguments, are_built_operations, is_built_value, is_built_side, is_built_statement, are_built_items, is_built_function, is_built, is_built_tag, is_built_thrown, are_built_clauses}
 use Rattle.cyc_types.specs.typing.Scopes.{Meaning, Unknown, Fixed, Counter, Routine, Scope, meaning_of, behind, in_block, in_labelled, in_body, counted, with_counter}
 use Rattle.cyc_types.specs.typing.Scopes as scopes
 use Rattle.cyc_types.specs.typing.Tests.{is_unique, is_moved, is_pointer}
@@ -435,52 +435,52 @@ globals_constants k (Exceptions cs ∷ tree) (w, ws) = globals_constants k tree 
 globals_constants k (Global t x v ∷ tree) (w, ws) = (global_constants _ v w, globals_constants k tree ws)
 globals_constants k (Function r x ps b ∷ tree) (w, ws) = globals_constants k tree ws
 
--- ---- what is built has no other forms
+-- ---- what is built
 
 mutual
   built_words : (a : typed.Expression) → is_built_expression a ≡ true → HasWords a → IsOfWords a
   built_words (typed.Number n) i w = w
   built_words typed.NullPointer i w = tt
+  built_words typed.HeapRegion i w = tt
   built_words (typed.Counter l) i w = tt
   built_words (typed.Copy l t) i w = tt
   built_words (typed.Move p n t) i w = tt
   built_words (typed.Peek p n t) i w = tt
   built_words (typed.Load d) i w = built_cell d i w
-  built_words (typed.AddressOfCell d t) i w = built_cell d (and_parts (is_built_place d) (is_built_type t) i).0 w
+  built_words (typed.AddressOfCell d t) i w = built_cell d i w
   built_words (typed.NumberOfElements a) i w = built_words a i w
   built_words (typed.FreeUnique a) i w = built_words a i w
-  built_words (typed.Call f cs t) i w = built_arguments cs (and_parts (are_built_arguments cs) (is_built_value_type t) i).0 w
+  built_words (typed.FreeKey a) i w = built_words a i w
+  built_words (typed.Call f cs t) i w = built_arguments cs i w
   built_words (typed.Unary o a) i w = built_words a i w
   built_words (typed.Binary a os t) i (w, ws) =
-      let (first, more) = and_parts (is_built_expression a) (are_built_operations t os && is_built_type t) i in
-      (built_words a first w, built_operations t os (and_parts (are_built_operations t os) (is_built_type t) more).0 ws)
-  built_words (typed.Assign l c t) i w = built_converted c (and_parts (is_built_converted c) (is_built_value_type t) i).0 w
+      let (first, rest) = and_parts (is_built_expression a) (are_built_operations t os) i in (built_words a first w, built_operations t os rest ws)
+  built_words (typed.Assign l c t) i w = built_converted c i w
   built_words (typed.Store d c t) i (w, ws) =
-      let (place, more) = and_parts (is_built_place d) (is_built_converted c && is_built_value_type t) i in
-      (built_cell d place w, built_converted c (and_parts (is_built_converted c) (is_built_value_type t) more).0 ws)
-  built_words (typed.New typed.OnHeap m t) i (placed, w) = built_initial m (and_parts (is_built_initial m) (is_built_type t) i).0 w
-  built_words (typed.New typed.AsUnique m t) i (placed, w) = built_initial m (and_parts (is_built_initial m) (is_built_type t) i).0 w
+      let (place, value) = and_parts (is_built_place d) (is_built_converted c) i in (built_cell d place w, built_converted c value ws)
+  built_words (typed.New typed.OnHeap m t) i (placed, w) = built_initial m i w
+  built_words (typed.New typed.AsUnique m t) i (placed, w) = built_initial m i w
+  built_words (typed.New (typed.ByHandle a) m t) i (placed, w) =
+      let (handle, values) = and_parts (is_built_expression a) (is_built_initial m) i in (built_words a handle placed, built_initial m values w)
   built_words a i w = absurd (cc)
 
   built_cell : (d : typed.Dereference) → is_built_place d ≡ true → CellHasWords d → IsOfWordsCell d
-  built_cell (typed.Target k a t) i w = built_words a (and_parts (is_built_expression a) (is_built_kind k && is_built_type t) i).0 w
-  built_cell (typed.Member k a s f t) i w = built_words a (and_parts (is_built_expression a) (is_built_kind k && is_built_type t) i).0 w
+  built_cell (typed.Target k a t) i w = built_words a i w
+  built_cell (typed.Member k a s f t) i w = built_words a i w
   built_cell (typed.Element a j t) i (w, ws) =
-      let (first, more) = and_parts (is_built_expression a) (is_built_expression j && is_built_type t) i in
-      (built_words a first w, built_words j (and_parts (is_built_expression j) (is_built_type t) more).0 ws)
+      let (first, second) = and_parts (is_built_expression a) (is_built_expression j) i in (built_words a first w, built_words j second ws)
 
   built_initial : (m : typed.Initial) → is_built_initial m ≡ true → InitialHasWords m → IsOfWordsObject m
-  built_initial (typed.Plain k a) i w = built_words a (and_parts (is_built_expression a) (is_built_kind k) i).0 w
+  built_initial (typed.Plain k a) i w = built_words a i w
   built_initial (typed.Fields cs) i w =
       let (size, values) = and_parts (is_built_size (argument_count cs)) (are_built_arguments cs) i in
       let few : argument_count cs ≤ 64 = leb-true (argument_count cs) 64 (and_parts (nat_le 1 (argument_count cs)) (nat_le (argument_count cs) 64) size).1 in
       (omega (arith, few), built_arguments cs values w)
   built_initial (typed.Array p l n k a) i (w, ws) =
-      let (first, more) = and_parts (is_built_expression n) (is_built_expression a && is_built_kind k) i in
-      (built_words n first w, built_words a (and_parts (is_built_expression a) (is_built_kind k) more).0 ws)
+      let (first, second) = and_parts (is_built_expression n) (is_built_expression a) i in (built_words n first w, built_words a second ws)
 
   built_converted : (c : Converted) → is_built_converted c ≡ true → ConvertedHasWords c → IsOfWordsConverted c
-  built_converted (typed.Convert from to a) i w = built_words a (and_parts (is_built_expression a) (is_built_kind from && is_built_kind to) i).0 w
+  built_converted (typed.Convert from to a) i w = built_words a i w
 
   built_arguments : (cs : typed.Arguments) → are_built_arguments cs ≡ true → ArgumentsHaveWords cs → AreOfWordsArguments cs
   built_arguments typed.NoArguments i w = tt
@@ -535,9 +535,11 @@ mutual
   built_items (typed.MoreItems (typed.Execute s) js) i (w, ws) =
       let (first, rest) = and_parts (is_built_statement s) (are_built_items js) i in (built_statement s first w, built_items js rest ws)
   built_items (typed.MoreItems (typed.Declare n t v) js) i (w, ws) =
-      let (of_type, more) = and_parts (is_built_type t) (is_built_value v && are_built_items js) i in
-      let (first, rest) = and_parts (is_built_value v) (are_built_items js) more in (built_value v first w, built_items js rest ws)
-  built_items js i w = absurd (cc)
+      let (first, rest) = and_parts (is_built_value v) (are_built_items js) i in (built_value v first w, built_items js rest ws)
+  built_items (typed.MoreItems (typed.DeclareRegion r n) js) i w = built_items js i w
+  built_items (typed.MoreItems (typed.OpenRegion r n p k) js) i w = built_items js i w
+  built_items (typed.MoreItems (typed.DeclareAlias r n t p m) js) i w = built_items js i w
+  built_items (typed.MoreItems (typed.DeclareKey r n) js) i w = built_items js i w
 
   built_clauses : (cs : typed.Clauses) → are_built_clauses cs ≡ true → ClausesHaveWords cs → AreOfWordsClauses cs
   built_clauses typed.NoClauses i w = tt
@@ -550,16 +552,13 @@ built_functions : (hs : List typed.Function) → list_all is_built_function hs �
 built_functions [] i w = tt
 built_functions (h ∷ hs) i (w, ws) =
     let (first, rest) = and_parts (is_built_function h) (list_all is_built_function hs) i in
-    let (parameters, more) = and_parts (list_all is_built_type h.parameters) (is_built_result h.result && are_built_items h.body) first in
-    (built_items h.body (and_parts (is_built_result h.result) (are_built_items h.body) more).1 w, built_functions hs rest ws)
+    (built_items h.body first w, built_functions hs rest ws)
 
 pub typed_constants : (texts : List (List ℕ)) (tree : List Declaration) (p : typed.Program) → IsTypedProgram texts tree p → is_built p ≡ true → IsOfWordsTree tree → IsOfWordsProgram p
 typed_constants texts tree p (u, heads_kept, (v, main, (fs, functions, (x, eq)))) i w =
     let q : Program = program_known texts tree in
     let same : p.functions ≡ fs = ap (λ (z : typed.Program). z.functions) eq in
-    let (structs, others) = and_parts (list_all is_built_struct p.structs) (list_all is_built_global p.globals && list_all is_built_function p.functions) i in
-    let (globals, built) = and_parts (list_all is_built_global p.globals) (list_all is_built_function p.functions) others in
     record {
-      functions = built_functions p.functions built (functions_constants q tree p.functions w (subst (Derives (rule_functions q tree)) (sym same) functions));
+      functions = built_functions p.functions i (functions_constants q tree p.functions w (subst (Derives (rule_functions q tree)) (sym same) functions));
       globals = subst AreOfWordsGlobals (sym (ap (λ (z : typed.Program). z.globals) eq)) (globals_constants q.known tree w);
     }

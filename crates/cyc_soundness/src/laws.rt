@@ -4,7 +4,6 @@
 ghost use Rattle.std.specs.Prelude.{◌≡◌, true, List};
 ghost use Rattle.cyc_types.specs.Types.{Ty, ValueType};
 ghost use Rattle.cyc_types.specs.TypedTrees.{Program};
-ghost use Rattle.cyc_types.specs.Built.{is_built};
 ghost use Rattle.cyc_types.specs.typing.Tests.{kind_of};
 ghost use Rattle.cyc_types.specs.typing.WellTyped.{Context, Converts, IsWellTypedProgram};
 ghost use Rattle.cyc_types.specs.flow.Programs.{IsAllowedProgram};
@@ -16,7 +15,7 @@ ghost use Rattle.cyc_soundness.specs.Worlds.{Typing, AgreesWith, HasType, IsResu
 ghost use Rattle.cyc_soundness.specs.Frames.{InScope, Exits};
 ghost use Rattle.cyc_soundness.specs.Stacks.{Want, IsStack};
 ghost use Rattle.cyc_soundness.specs.Classes.{IsOfTheHeap, IsOfScopes, FreesNoObject, Source};
-ghost use Rattle.cyc_soundness.specs.Frees.{frees_no_object};
+ghost use Rattle.cyc_soundness.specs.Endings.{ends_nothing};
 ghost use Rattle.cyc_soundness.specs.Sound.{IsSound};
 
 /// What is known of a world only grows, and what was typed stays so: a value keeps its type for good, and a control stack
@@ -54,9 +53,9 @@ pub fn programs_that_free_no_object_are_sound()
     ensures { (p : Program) → IsWellTypedProgram p → IsAllowedProgram p → FreesNoObject p → IsSound p }
 {}
 
-/// No run of a program that is built and gives no object back is ever dead or wrong, where the typing rules and the flow rules
-/// accept it. Both are computed, and nothing is asked of its types: what is built makes objects in the heap and unique ones
-/// alone, and takes the address of no local, so with no `ufree` nothing ends that a pointer may lead to.
-pub fn built_programs_that_free_no_object_are_sound()
-    ensures { (p : Program) → IsWellTypedProgram p → IsAllowedProgram p → is_built p ≡ true → frees_no_object p ≡ true → IsSound p }
+/// No run of a program without `ufree`, regions of its own, keys, `open`, aliases and `&` of locals is ever dead or wrong, where
+/// the typing rules and the flow rules accept it. That is computed, and nothing is asked of its types: its objects are made in the
+/// heap and unique ones, by handles of others or not, so nothing ends that a pointer may lead to.
+pub fn programs_that_end_nothing_are_sound()
+    ensures { (p : Program) → IsWellTypedProgram p → IsAllowedProgram p → ends_nothing p ≡ true → IsSound p }
 {}

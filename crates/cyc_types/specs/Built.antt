@@ -1,45 +1,15 @@
--- WHICH TYPED PROGRAMS ARE BUILT: those that what stands behind the flow check handles so far. In such a program each value and cell is
--- an int or a pointer. Its objects are unique or made in the heap, and its expressions and statements have the forms that these and
--- exceptions need. (What is built first is this project's own choice.)
---
--- What a pointer leads to is looked at where it is followed, and not in its type.
+-- WHICH TYPED PROGRAMS ARE BUILT: those that what stands behind the flow check handles so far. They take the address of no variable.
+-- What is asked beside that each program of a text has: structs of few fields, exceptions whose numbers are words, and sums of pointers in
+-- chains of their own. (What is built first is this project's own choice.)
 use Rattle.std.specs.Prelude.{ℕ, nat_le, Bool, true, false, ◌&&◌, Option, None, Some}
 use Rattle.std.specs.List.{list_all}
 use Rattle.cyc_words.specs.declared.fault.Code.TheVariants as codes
 use Rattle.cyc_words.specs.declared.fault.Fault.{Fault}
-use Rattle.cyc_types.specs.declared.typed.Kind.{Kind}
-use Rattle.cyc_types.specs.declared.typed.Kind.TheVariants as kinds
 use Rattle.cyc_types.specs.declared.typed.PointerOperator.{PointerOperator}
 use Rattle.cyc_types.specs.declared.typed.PointerOperator.TheVariants as pointers
-use Rattle.cyc_types.specs.Types.{Ty, Int, Pointer, Struct, ValueType, Void, Value}
-use Rattle.cyc_types.specs.TypedTrees.{Expression, Number, NullPointer, Copy, Move, Peek, Load, AddressOfCell, Call, Unary, Binary, Assign, Store, New, FreeUnique, Dereference, Target, Member, Placement, OnHeap, AsUnique, Initial, Plain, Fields, Converted, Convert, Arguments, NoArguments, MoreArguments, Operations, NoOperations, ThenCompute, ThenTest, ThenPointer, ThenPointerPeek, Side, VariableSide, CellSide, Swap, Statement, Block, Empty, Evaluate, If, While, Return, Break, Continue, Throw, Try, Items, NoItems, MoreItems, Execute, Declare, Clauses, NoClauses, Default, Case, StructType, GlobalVariable, Function, Program, Counter, NumberOfElements, Element, Array}
+use Rattle.cyc_types.specs.Types.{Ty, Pointer}
+use Rattle.cyc_types.specs.TypedTrees.{Expression, Number, NullPointer, HeapRegion, Copy, Move, Peek, Load, AddressOf, AddressOfCell, Call, Unary, Binary, Assign, Store, New, FreeUnique, FreeKey, Dereference, Target, Member, Placement, OnHeap, AsUnique, ByHandle, Initial, Plain, Fields, Converted, Convert, Arguments, NoArguments, MoreArguments, Operations, NoOperations, ThenCompute, ThenTest, ThenPointer, ThenPointerPeek, Side, VariableSide, CellSide, Swap, Statement, Block, Empty, Evaluate, If, While, Return, Break, Continue, Throw, Try, Items, NoItems, MoreItems, Execute, Declare, DeclareRegion, OpenRegion, DeclareAlias, DeclareKey, Clauses, NoClauses, Default, Case, Function, Program, Counter, NumberOfElements, Element, Array}
 use Rattle.cyc_types.specs.Numbered.{argument_count}
-
--- ---- types
-
--- A struct has no value: it is only what a pointer leads to.
-abbrev pub is_built_type : Ty → Bool
-is_built_type Int = true
-is_built_type (Pointer k t r) = true
-is_built_type (Struct n rs) = true
-is_built_type t = false
-
--- a `void` function has none
-abbrev pub is_built_result : Option Ty → Bool
-is_built_result None = true
-is_built_result (Some t) = is_built_type t
-
--- that of a call or an assignment, which may have no value
-abbrev pub is_built_value_type : ValueType → Bool
-is_built_value_type Void = true
-is_built_value_type (Value t) = is_built_type t
-is_built_value_type t = false
-
--- what has this kind is neither a handle nor a key
-abbrev pub is_built_kind : Kind → Bool
-is_built_kind kinds.Handle = false
-is_built_kind kinds.Key = false
-is_built_kind k = true
 
 -- ---- expressions
 
@@ -51,11 +21,6 @@ is_built_operator t pointers.AddFat = false
 is_built_operator t pointers.SubtractFat = false
 is_built_operator t o = true
 
-abbrev pub is_built_placement : Placement → Bool
-is_built_placement OnHeap = true
-is_built_placement AsUnique = true
-is_built_placement w = false
-
 -- An object has a word at least, and a block of the store has room for it. (In a text a struct has from 1 to 64 fields.)
 abbrev pub is_built_size : ℕ → Bool
 is_built_size n = nat_le 1 n && nat_le n 64
@@ -64,34 +29,42 @@ abbrev mutual
   pub is_built_expression : Expression → Bool
   is_built_expression (Number n) = true
   is_built_expression NullPointer = true
+  is_built_expression HeapRegion = true
   is_built_expression (Counter l) = true
-  is_built_expression (Copy l t) = is_built_type t
-  is_built_expression (Move p n t) = is_built_type t
-  is_built_expression (Peek p n t) = is_built_type t
+  is_built_expression (Copy l t) = true
+  is_built_expression (Move p n t) = true
+  is_built_expression (Peek p n t) = true
   is_built_expression (Load d) = is_built_place d
-  is_built_expression (AddressOfCell d t) = is_built_place d && is_built_type t
+  is_built_expression (AddressOf l t) = false
+  is_built_expression (AddressOfCell d t) = is_built_place d
   is_built_expression (NumberOfElements a) = is_built_expression a
-  is_built_expression (Call f cs t) = are_built_arguments cs && is_built_value_type t
-  is_built_expression (Unary o a) = is_built_expression a
-  is_built_expression (Binary a os t) = is_built_expression a && (are_built_operations t os && is_built_type t)
-  is_built_expression (Assign l c t) = is_built_converted c && is_built_value_type t
-  is_built_expression (Store d c t) = is_built_place d && (is_built_converted c && is_built_value_type t)
   is_built_expression (FreeUnique a) = is_built_expression a
-  is_built_expression (New w i t) = is_built_placement w && (is_built_initial i && is_built_type t)
-  is_built_expression a = false
+  is_built_expression (FreeKey a) = is_built_expression a
+  is_built_expression (Call f cs t) = are_built_arguments cs
+  is_built_expression (Unary o a) = is_built_expression a
+  is_built_expression (Binary a os t) = is_built_expression a && are_built_operations t os
+  is_built_expression (Assign l c t) = is_built_converted c
+  is_built_expression (Store d c t) = is_built_place d && is_built_converted c
+  is_built_expression (New w i t) = is_built_placement w && is_built_initial i
 
   pub is_built_place : Dereference → Bool
-  is_built_place (Target k a t) = is_built_expression a && (is_built_kind k && is_built_type t)
-  is_built_place (Member k a s f t) = is_built_expression a && (is_built_kind k && is_built_type t)
-  is_built_place (Element a i t) = is_built_expression a && (is_built_expression i && is_built_type t)
+  is_built_place (Target k a t) = is_built_expression a
+  is_built_place (Member k a s f t) = is_built_expression a
+  is_built_place (Element a i t) = is_built_expression a && is_built_expression i
+
+  -- the handle of `rnew`
+  pub is_built_placement : Placement → Bool
+  is_built_placement OnHeap = true
+  is_built_placement AsUnique = true
+  is_built_placement (ByHandle a) = is_built_expression a
 
   pub is_built_initial : Initial → Bool
-  is_built_initial (Plain k a) = is_built_expression a && is_built_kind k
+  is_built_initial (Plain k a) = is_built_expression a
   is_built_initial (Fields cs) = is_built_size (argument_count cs) && are_built_arguments cs
-  is_built_initial (Array p l n k a) = is_built_expression n && (is_built_expression a && is_built_kind k)
+  is_built_initial (Array p l n k a) = is_built_expression n && is_built_expression a
 
   pub is_built_converted : Converted → Bool
-  is_built_converted (Convert from to a) = is_built_expression a && (is_built_kind from && is_built_kind to)
+  is_built_converted (Convert from to a) = is_built_expression a
 
   pub are_built_arguments : Arguments → Bool
   are_built_arguments NoArguments = true
@@ -118,7 +91,7 @@ is_built_tag n = nat_le n 4294967295
 
 -- a side of a swap
 abbrev pub is_built_side : Side → Bool
-is_built_side (VariableSide l t) = is_built_type t
+is_built_side (VariableSide l t) = true
 is_built_side (CellSide d) = is_built_place d
 
 -- what is thrown with an exception, if it has an int
@@ -143,8 +116,11 @@ abbrev mutual
   pub are_built_items : Items → Bool
   are_built_items NoItems = true
   are_built_items (MoreItems (Execute s) js) = is_built_statement s && are_built_items js
-  are_built_items (MoreItems (Declare n t v) js) = is_built_type t && (is_built_value v && are_built_items js)
-  are_built_items js = false
+  are_built_items (MoreItems (Declare n t v) js) = is_built_value v && are_built_items js
+  are_built_items (MoreItems (DeclareRegion r n) js) = are_built_items js
+  are_built_items (MoreItems (OpenRegion r n p k) js) = are_built_items js
+  are_built_items (MoreItems (DeclareAlias r n t p s) js) = are_built_items js
+  are_built_items (MoreItems (DeclareKey r n) js) = are_built_items js
 
   pub are_built_clauses : Clauses → Bool
   are_built_clauses NoClauses = true
@@ -153,17 +129,11 @@ abbrev mutual
 
 -- ---- programs
 
-abbrev pub is_built_struct : StructType → Bool
-is_built_struct s = list_all is_built_type s.fields
-
-abbrev pub is_built_global : GlobalVariable → Bool
-is_built_global g = is_built_type g.of_type
-
 abbrev pub is_built_function : Function → Bool
-is_built_function h = list_all is_built_type h.parameters && (is_built_result h.result && are_built_items h.body)
+is_built_function h = are_built_items h.body
 
 abbrev pub is_built : Program → Bool
-is_built p = list_all is_built_struct p.structs && (list_all is_built_global p.globals && list_all is_built_function p.functions)
+is_built p = list_all is_built_function p.functions
 
 -- the fault of a program that is not built
 abbrev pub not_built : Fault

@@ -2,15 +2,15 @@
 ghost use Rattle.std.specs.Prelude.{◌≡◌, map, option_map, false, length};
 ghost use Rattle.std.specs.Result.{is_ok};
 ghost use Rattle.std.specs.List.{list_all};
-ghost use Rattle.cyc_types.specs.TypeView.{view_ty, view_value_type};
+ghost use Rattle.cyc_types.specs.TypeView.{view_ty};
 ghost use Rattle.cyc_types.specs.TypedTrees.{NoClauses};
-ghost use Rattle.cyc_types.specs.TypedTreeView.{view_expression, view_dereference, view_placement, view_initial, view_converted, arguments_of, operations_of, view_side, view_statement, items_of, clauses_of, default_of, view_struct, view_global, view_function, view_program};
-ghost use Rattle.cyc_types.specs.Built.{is_built_type, is_built_result, is_built_value_type, is_built_kind, is_built_operator, is_built_placement, is_built_size, is_built_expression, is_built_place, is_built_initial, is_built_converted, are_built_arguments, are_built_operations, is_built_value, is_built_side, is_built_tag, is_built_thrown, is_built_statement, are_built_items, are_built_clauses, is_built_struct, is_built_global, is_built_function, is_built};
+ghost use Rattle.cyc_types.specs.TypedTreeView.{view_expression, view_dereference, view_placement, view_initial, view_converted, arguments_of, operations_of, view_side, view_statement, items_of, clauses_of, default_of, view_function, view_program};
+ghost use Rattle.cyc_types.specs.Built.{is_built_operator, is_built_placement, is_built_size, is_built_expression, is_built_place, is_built_initial, is_built_converted, are_built_arguments, are_built_operations, is_built_value, is_built_side, is_built_tag, is_built_thrown, is_built_statement, are_built_items, are_built_clauses, is_built_function, is_built};
 
 use crate::Ty;
 use crate::typed::{
-    Body, Clause, Converted, Dereference, Expr, Function, Global, Initial, Item, Kind, Operation,
-    Placement, PointerOperator, Side, Stmt, StructType, TypedTree, ValueType,
+    Body, Clause, Converted, Dereference, Expr, Function, Initial, Item, Operation, Placement,
+    PointerOperator, Side, Stmt, TypedTree,
 };
 use cyc_words::{Code, Fault, Span};
 
@@ -21,29 +21,18 @@ pub enum Construct {
     Struct,
     /// With a number that is no word.
     Exception,
-    /// `NULL` where no pointer is wanted.
-    Null,
     /// A sum of a pointer and an int, as an operand beside one that compares pointers.
     Sum,
-    /// The handle of a region.
-    Handle,
-    Key,
     /// `&` of a variable.
     AddressOf,
-    /// `free_ukey`
-    FreeKey,
-    /// `rnew` with a handle.
-    RegionNew,
-    /// A region, opened or new, or an alias.
-    Region,
 }
 
 /// The first construct of a program that is not built, and where it stands, as near as the typed tree tells: at the name of its
-/// function. What stands in no function has no place there.
+/// function.
 #[derive(Clone, Copy, Debug, PartialEq, Eq)]
 pub struct Unbuilt {
     pub construct: Construct,
-    pub span: Option<Span>,
+    pub span: Span,
 }
 
 /// A program with such a construct is refused at its start.
@@ -63,57 +52,8 @@ fn stop(construct: Construct, name: Span) -> Result<(), Unbuilt>
 {
     Err(Unbuilt {
         construct,
-        span: Some(name),
+        span: name,
     })
-}
-
-fn check_type(of_type: &Ty, span: Option<Span>) -> Result<(), Unbuilt>
-    ensures { is_ok result ≡ is_built_type (view_ty of_type.now) }
-{
-    let construct = match of_type {
-        Ty::Handle { .. } => Construct::Handle,
-        Ty::Key { .. } => Construct::Key,
-        Ty::Int | Ty::Pointer { .. } | Ty::Struct { .. } => return Ok(()),
-    };
-    Err(Unbuilt { construct, span })
-}
-
-fn check_types(types: &[Ty], span: Option<Span>) -> Result<(), Unbuilt>
-    ensures { is_ok result ≡ list_all is_built_type (map view_ty types.now) }
-{
-    for of_type in types {
-        check_type(of_type, span)?;
-    }
-    Ok(())
-}
-
-fn check_result(given: &Option<Ty>, name: Span) -> Result<(), Unbuilt>
-    ensures { is_ok result ≡ is_built_result (option_map view_ty given.now) }
-{
-    match given {
-        Some(of_type) => check_type(of_type, Some(name)),
-        None => Ok(()),
-    }
-}
-
-fn check_value_type(of_type: &ValueType, name: Span) -> Result<(), Unbuilt>
-    ensures { is_ok result ≡ is_built_value_type (view_value_type of_type.now) }
-{
-    match of_type {
-        ValueType::Void => Ok(()),
-        ValueType::Null => stop(Construct::Null, name),
-        ValueType::Value { of_type } => check_type(of_type, Some(name)),
-    }
-}
-
-fn check_kind(kind: Kind, name: Span) -> Result<(), Unbuilt>
-    ensures { is_ok result ≡ is_built_kind kind }
-{
-    match kind {
-        Kind::Int | Kind::Nullable | Kind::NonNull | Kind::Fat => Ok(()),
-        Kind::Handle => stop(Construct::Handle, name),
-        Kind::Key => stop(Construct::Key, name),
-    }
 }
 
 /// In a chain whose value has this type.
@@ -129,12 +69,13 @@ fn check_operator(operator: PointerOperator, of_type: &Ty, name: Span) -> Result
     }
 }
 
+#[cycle(expression)]
 fn check_placement(placement: &Placement, name: Span) -> Result<(), Unbuilt>
     ensures { is_ok result ≡ is_built_placement (view_placement placement.now) }
 {
     match placement {
         Placement::OnHeap | Placement::AsUnique => Ok(()),
-        Placement::ByHandle { .. } => stop(Construct::RegionNew, name),
+        Placement::ByHandle { handle } => check_expression(handle, name),
     }
 }
 
@@ -149,40 +90,26 @@ fn check_size(values: &[Converted], name: Span) -> Result<(), Unbuilt>
     }
 }
 
-/// What an expression is, of a form that is not built.
-fn form_of(expression: &Expr) -> Construct {
-    match expression {
-        Expr::HeapRegion => Construct::Handle,
-        Expr::FreeKey { .. } => Construct::FreeKey,
-        _ => Construct::AddressOf,
-    }
-}
-
 #[cycle(expression)]
 fn check_expression(expression: &Expr, name: Span) -> Result<(), Unbuilt>
     ensures { is_ok result ≡ is_built_expression (view_expression expression.now) }
 {
     match expression {
-        Expr::Number { .. } | Expr::NullPointer | Expr::Counter { .. } => Ok(()),
-        Expr::Copy { of_type, .. } | Expr::Move { of_type, .. } | Expr::Peek { of_type, .. } => {
-            check_type(of_type, Some(name))
-        }
+        Expr::Number { .. }
+        | Expr::NullPointer
+        | Expr::HeapRegion
+        | Expr::Counter { .. }
+        | Expr::Copy { .. }
+        | Expr::Move { .. }
+        | Expr::Peek { .. } => Ok(()),
         Expr::Load { source } => check_place(source, name),
-        Expr::AddressOfCell { place, of_type } => {
-            check_place(place, name)?;
-            check_type(of_type, Some(name))
-        }
+        Expr::AddressOf { .. } => stop(Construct::AddressOf, name),
+        Expr::AddressOfCell { place, .. } => check_place(place, name),
         Expr::NumberOfElements { pointer } | Expr::FreeUnique { pointer } => {
             check_expression(pointer, name)
         }
-        Expr::Call {
-            arguments,
-            result,
-            ..
-        } => {
-            check_arguments(arguments, name)?;
-            check_value_type(result, name)
-        }
+        Expr::FreeKey { key } => check_expression(key, name),
+        Expr::Call { arguments, .. } => check_arguments(arguments, name),
         Expr::Unary { operand, .. } => check_expression(operand, name),
         Expr::Binary {
             first,
@@ -190,33 +117,20 @@ fn check_expression(expression: &Expr, name: Span) -> Result<(), Unbuilt>
             of_type,
         } => {
             check_expression(first, name)?;
-            check_operations(rest, of_type, name)?;
-            check_type(of_type, Some(name))
+            check_operations(rest, of_type, name)
         }
-        Expr::Assign { value, result, .. } => {
-            check_converted(value, name)?;
-            check_value_type(result, name)
-        }
-        Expr::Store {
-            target,
-            value,
-            result,
-        } => {
+        Expr::Assign { value, .. } => check_converted(value, name),
+        Expr::Store { target, value, .. } => {
             check_place(target, name)?;
-            check_converted(value, name)?;
-            check_value_type(result, name)
+            check_converted(value, name)
         }
         Expr::New {
             placement,
             initial,
-            of_type,
+            ..
         } => {
             check_placement(placement, name)?;
-            check_initial(initial, name)?;
-            check_type(of_type, Some(name))
-        }
-        Expr::HeapRegion | Expr::AddressOf { .. } | Expr::FreeKey { .. } => {
-            stop(form_of(expression), name)
+            check_initial(initial, name)
         }
     }
 }
@@ -226,29 +140,12 @@ fn check_place(place: &Dereference, name: Span) -> Result<(), Unbuilt>
     ensures { is_ok result ≡ is_built_place (view_dereference place.now) }
 {
     match place {
-        Dereference::Target {
-            kind,
-            pointer,
-            of_type,
+        Dereference::Target { pointer, .. } | Dereference::Member { pointer, .. } => {
+            check_expression(pointer, name)
         }
-        | Dereference::Member {
-            kind,
-            pointer,
-            of_type,
-            ..
-        } => {
+        Dereference::Element { pointer, index, .. } => {
             check_expression(pointer, name)?;
-            check_kind(*kind, name)?;
-            check_type(of_type, Some(name))
-        }
-        Dereference::Element {
-            pointer,
-            index,
-            of_type,
-        } => {
-            check_expression(pointer, name)?;
-            check_expression(index, name)?;
-            check_type(of_type, Some(name))
+            check_expression(index, name)
         }
     }
 }
@@ -258,23 +155,18 @@ fn check_initial(initial: &Initial, name: Span) -> Result<(), Unbuilt>
     ensures { is_ok result ≡ is_built_initial (view_initial initial.now) }
 {
     match initial {
-        Initial::Plain { kind, value } => {
-            check_expression(value, name)?;
-            check_kind(*kind, name)
-        }
+        Initial::Plain { value, .. } => check_expression(value, name),
         Initial::Fields { values } => {
             check_size(values, name)?;
             check_arguments(values, name)
         }
         Initial::Array {
             length,
-            kind,
             element,
             ..
         } => {
             check_expression(length, name)?;
-            check_expression(element, name)?;
-            check_kind(*kind, name)
+            check_expression(element, name)
         }
     }
 }
@@ -283,9 +175,7 @@ fn check_initial(initial: &Initial, name: Span) -> Result<(), Unbuilt>
 fn check_converted(converted: &Converted, name: Span) -> Result<(), Unbuilt>
     ensures { is_ok result ≡ is_built_converted (view_converted converted.now) }
 {
-    check_expression(&converted.value, name)?;
-    check_kind(converted.from, name)?;
-    check_kind(converted.to, name)
+    check_expression(&converted.value, name)
 }
 
 #[cycle(expression)]
@@ -335,7 +225,7 @@ fn check_side(side: &Side, name: Span) -> Result<(), Unbuilt>
     ensures { is_ok result ≡ is_built_side (view_side side.now) }
 {
     match side {
-        Side::Variable { of_type, .. } => check_type(of_type, Some(name)),
+        Side::Variable { .. } => Ok(()),
         Side::Cell { place } => check_place(place, name),
     }
 }
@@ -412,11 +302,11 @@ fn check_items(items: &[Item], name: Span) -> Result<(), Unbuilt>
     for item in items {
         match item {
             Item::Execute { statement } => check_statement(statement, name)?,
-            Item::Local { of_type, value, .. } => {
-                check_type(of_type, Some(name))?;
-                check_value(value, name)?;
-            }
-            _ => return stop(Construct::Region, name),
+            Item::Local { value, .. } => check_value(value, name)?,
+            Item::Region { .. }
+            | Item::Open { .. }
+            | Item::Alias { .. }
+            | Item::DynamicRegion { .. } => {}
         }
     }
     Ok(())
@@ -443,29 +333,9 @@ fn check_default(default: &Option<Body>, name: Span) -> Result<(), Unbuilt>
     }
 }
 
-fn check_structs(structs: &[StructType]) -> Result<(), Unbuilt>
-    ensures { is_ok result ≡ list_all is_built_struct (map view_struct structs.now) }
-{
-    for given in structs {
-        check_types(&given.fields, None)?;
-    }
-    Ok(())
-}
-
-fn check_globals(globals: &[Global]) -> Result<(), Unbuilt>
-    ensures { is_ok result ≡ list_all is_built_global (map view_global globals.now) }
-{
-    for global in globals {
-        check_type(&global.of_type, None)?;
-    }
-    Ok(())
-}
-
 fn check_function(function: &Function) -> Result<(), Unbuilt>
     ensures { is_ok result ≡ is_built_function (view_function function.now) }
 {
-    check_types(&function.parameters, Some(function.span))?;
-    check_result(&function.result, function.span)?;
     check_items(&function.body, function.span)
 }
 
@@ -482,7 +352,5 @@ fn check_functions(functions: &[Function]) -> Result<(), Unbuilt>
 pub fn check_built(tree: &TypedTree) -> Result<(), Unbuilt>
     ensures { is_ok result ≡ is_built (view_program tree.now) }
 {
-    check_structs(&tree.structs)?;
-    check_globals(&tree.globals)?;
     check_functions(&tree.functions)
 }

@@ -10,8 +10,8 @@ use std::fmt;
 
 /// Why the text in the file `name` was refused: the place and what is wrong there, the line with a
 /// mark under the place, the types or regions at hand, and what to do. Where the program has what is
-/// not built yet, the place is that of the function that has it, if one does. Where a variable is
-/// empty or locked, where it came to be so.
+/// not built yet, the place is that of the function that has it. Where a variable is empty or locked,
+/// where it came to be so.
 #[derive(Drop)]
 pub struct Message<'a> {
     pub name: &'a str,
@@ -29,11 +29,11 @@ impl Message<'_> {
         match self.unbuilt {
             Some(
                 Unbuilt {
-                    span: Some(Span { line, column }),
+                    span: Span { line, column },
                     ..
                 },
             ) => (line, column),
-            _ => (self.fault.line, self.fault.column),
+            None => (self.fault.line, self.fault.column),
         }
     }
 }

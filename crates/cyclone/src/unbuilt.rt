@@ -16,12 +16,6 @@ pub fn name_of(construct: Construct) -> &'static str {
         Construct::Struct => "a struct of this size",
         Construct::Exception => "an exception with this number",
         Construct::Sum => "a sum of a pointer that is compared at once",
-        Construct::Null => "NULL where no pointer is wanted",
-        Construct::Handle => "the handle of a region",
-        Construct::Key => "the key of a region",
         Construct::AddressOf => "& of a variable",
-        Construct::FreeKey => "free_ukey",
-        Construct::RegionNew => "rnew with the handle of a region",
-        Construct::Region => "a region or an alias",
     }
 }

@@ -21,7 +21,7 @@ use Rattle.cyc_types.specs.Types as types
 use Rattle.cyc_types.specs.TypedTrees.{Lvalue, Side, VariableSide, CellSide, Converted, Signature, type_of}
 use Rattle.cyc_types.specs.TypedTrees as typed
 use Rattle.cyc_types.specs.IntPart.{is_empty, is_left_out, is_int_base, is_int_type, is_int_expression, are_int_expressions, are_int_operations, is_int_option, is_int_statement, is_int_body, are_int_items, are_int_members, is_int_list, are_int_parameters, is_int_value, is_int_result, is_int_declaration, is_int_program}
-use Rattle.cyc_types.specs.Built.{is_built_type, is_built_result, is_built_value_type, is_built_kind, is_built_expression, is_built_converted, are_built_arguments, are_built_operations, is_built_value, is_built_statement, are_built_items, is_built_struct, is_built_global, is_built_function, is_built}
+use Rattle.cyc_types.specs.Built.{is_built_expression, is_built_converted, are_built_arguments, are_built_operations, is_built_value, is_built_statement, are_built_items, is_built_function, is_built}
 use Rattle.cyc_types.specs.Rules.{Rule, Derives}
 use Rattle.cyc_types.specs.typing.Scopes.{signature_of_ints, RegionName, StructName, Exception, Meaning, Unknown, Fixed, Counter, Routine, Declared, Ordinary, LocalVariable, Scope, meaning_in, meaning_among, meaning_of, behind, in_block, in_body, with_local}
 use Rattle.cyc_types.specs.typing.Scopes as scopes
@@ -66,10 +66,6 @@ ints_listed : (structs : List StructName) (n : Naming) (ps : ParameterList) → 
 ints_listed structs n Void i = tt
 ints_listed structs n (Listed ms) i = ints_for structs n ms i
 
-ints_built : (ts : List Ty) → AreAllInt ts → list_all is_built_type ts ≡ true
-ints_built [] k = refl
-ints_built (t ∷ ts) (i, k) = both (is_built_type t) (list_all is_built_type ts) (ap is_built_type i) (ints_built ts k)
-
 -- an int, or none
 abbrev IsIntResult : Option Ty → Type 0
 IsIntResult None = Unit {0}
@@ -78,10 +74,6 @@ IsIntResult (Some t) = t ≡ Int
 result_int : (k : Known) (names : List RegionName) (r : Option WrittenType) → is_int_result r ≡ true → IsIntResult (result_written k names r)
 result_int k names None i = tt
 result_int k names (Some w) i = int_written k.structs names _ w i
-
-result_built : (r : Option Ty) → IsIntResult r → is_built_result r ≡ true
-result_built None i = refl
-result_built (Some t) i = ap is_built_type i
 
 -- ---- what names mean
 
@@ -197,22 +189,6 @@ operand_ints : (g : Scope) → AreInts g → (seen : Bool) (e : Expression) → 
 operand_ints g k true e w a d = seen_ints g k e (rule g e) w a d
 operand_ints g k false e w a d = w a d
 
-value_type_built : (v : ValueType) → IsIntValue v → is_built_value_type v ≡ true
-value_type_built types.Void i = refl
-value_type_built types.Null i = absurd i
-value_type_built (Value t) i = ap is_built_type i
-
-kind_built : (v : ValueType) → IsIntValue v → is_built_kind (kind_of_value v) ≡ true
-kind_built types.Void i = refl
-kind_built types.Null i = absurd i
-kind_built (Value t) i = ap (λ u. is_built_kind (kind_of u)) i
-
--- an int that is converted to one
-converted_built : (a : typed.Expression) (t : Ty) → IsInt a → t ≡ Int → is_built_converted (converted a t) ≡ true
-converted_built a t (built, value) i =
-    both (is_built_expression a) (is_built_kind (kind_of_value (type_of a)) && is_built_kind (kind_of t)) built
-    (both (is_built_kind (kind_of_value (type_of a))) (is_built_kind (kind_of t)) (kind_built (type_of a) value) (ap (λ u. is_built_kind (kind_of u)) i))
-
 abbrev AreIntValues : List typed.Expression → Type 0
 AreIntValues [] = Unit {0}
 AreIntValues (a ∷ as') = IsInt a × AreIntValues as'
@@ -221,7 +197,7 @@ passed_built : (m : List Region) (as' : List typed.Expression) (ts : List Ty) �
 passed_built m [] ts i k = refl
 passed_built m (a ∷ as') [] i k = refl
 passed_built m (a ∷ as') (t ∷ ts) (i, is) (k, ks) =
-    both (is_built_converted (converted a (substituted_ty m t))) (are_built_arguments (passed as' (map (substituted_ty m) ts))) (converted_built a (substituted_ty m t) i (ap (substituted_ty m) k))
+    both (is_built_converted (converted a (substituted_ty m t))) (are_built_arguments (passed as' (map (substituted_ty m) ts))) i.0
     (passed_built m as' ts is ks)
 
 called_ints : (g : Scope) (m : Meaning) (p : Place) (es : Expressions) (as' : List typed.Expression) → IsIntMeaning m → AreIntValues as' → HasInts (called g m p es as')
@@ -231,11 +207,7 @@ called_ints g (Fixed l t) p es as' k i a d = absurd d
 called_ints g (Counter n) p es as' k i a d = absurd d
 called_ints g (Routine f s) p es as' (parameters, result) i a (kept, eq) =
     let value : IsIntValue (result_type (instantiated (instance_of s as') s).result) = go (instance_of s as') s.result result in
-    subst IsInt (sym eq) (
-      both (are_built_arguments (passed as' (instantiated (instance_of s as') s).parameters)) (is_built_value_type (result_type (instantiated (instance_of s as') s).result))
-          (passed_built (instance_of s as') as' s.parameters i parameters) (value_type_built _ value),
-      value,
-    )
+    subst IsInt (sym eq) (passed_built (instance_of s as') as' s.parameters i parameters, value)
   where
     go : (m : List Region) (r : Option Ty) → IsIntResult r → IsIntValue (result_type (option_map (substituted_ty m) r))
     go m None k = tt
@@ -314,7 +286,7 @@ found_int g k p e x i (b, kb, d) = absurd d
 assignment_int : (s : Side) (b : typed.Expression) → IsIntSide s → IsInt b → IsInt (assignment s b)
 assignment_int (VariableSide l t) b k i =
     let value : IsIntValue (assigned_type t) = subst (λ u. IsIntValue (assigned_type u)) (sym k) refl in
-    (both (is_built_converted (converted b t)) (is_built_value_type (assigned_type t)) (converted_built b t i k) (value_type_built (assigned_type t) value), value)
+    (i.0, value)
 assignment_int (CellSide c) b k i = absurd k
 
 -- ---- all forms of expressions
@@ -334,8 +306,7 @@ mutual
       let (first, value) = operand_ints g k (is_looking_first os) e (λ c d. expression_int g k e one c d) b kb in
       let (chain, type_int) = chain_int g k (place_of e) (peeked_local b) (type_of b) os bs rest value ks in
       subst IsInt (sym eq) (
-        both (is_built_expression b) (are_built_operations bs.1 bs.0 && is_built_type bs.1) first
-            (both (are_built_operations bs.1 bs.0) (is_built_type bs.1) (subst (λ t. are_built_operations t bs.0 ≡ true) (sym type_int) chain) (ap is_built_type type_int)),
+        both (is_built_expression b) (are_built_operations bs.1 bs.0) first (subst (λ t. are_built_operations t bs.0 ≡ true) (sym type_int) chain),
         type_int,
       )
   expression_int g k (Assign e v) i a (x, kx, (b, kb, (kept, eq))) =
@@ -367,11 +338,11 @@ initial_int : (g : Scope) → AreInts g → (w : WrittenType) (x : Named) (v : O
     → (c.0 ≡ Int) × (is_built_value c.1 ≡ true)
 initial_int g k w x None c i j (kept, eq) = subst (λ (z : Ty × Option Converted). (z.0 ≡ Int) × (is_built_value z.1 ≡ true)) (sym eq) (int_written g.structs g.names _ w i, refl)
 initial_int g k w x (Some e) c i j (a, h, (kept, eq)) =
-    subst (λ (z : Ty × Option Converted). (z.0 ≡ Int) × (is_built_value z.1 ≡ true)) (sym eq) (int_written g.structs g.names _ w i, converted_built a _ (expression_int g k e j a h) (int_written g.structs g.names _ w i))
+    subst (λ (z : Ty × Option Converted). (z.0 ≡ Int) × (is_built_value z.1 ≡ true)) (sym eq) (int_written g.structs g.names _ w i, (expression_int g k e j a h).0)
 
 value_int : (g : Scope) (r : Option Ty) (p q : Place) (a : typed.Expression) (c : Option Converted) → IsIntResult r → IsInt a → Derives (returned g r p q a) c → is_built_value c ≡ true
 value_int g None p q a c k i d = absurd d
-value_int g (Some t) p q a c k i (kept, eq) = ap is_built_value eq ∙ converted_built a t i k
+value_int g (Some t) p q a c k i (kept, eq) = ap is_built_value eq ∙ i.0
 
 returned_int : (g : Scope) → AreInts g → (p : Place) (v : Option Expression) (c : Option Converted) → is_int_option v ≡ true → Derives (rule_returned g p v) c → is_built_value c ≡ true
 returned_int g k p None c i (kept, eq) = ap is_built_value eq
@@ -416,28 +387,10 @@ mutual
       let (local, initial) = initial_int g k w x v c of_type value kc in
       let same : declared_type j ≡ Int = ap declared_type is_j ∙ local in
       ap are_built_items (eq ∙ ap (λ l. typed.MoreItems l ks) is_j)
-      ∙ both (is_built_type c.0) (is_built_value c.1 && are_built_items ks) (ap is_built_type local)
-      (both (is_built_value c.1) (are_built_items ks) initial (items_int (behind_item g (Local w x v) j) (with_int g x (declared_type j) same k) is ks rest hs))
+      ∙ both (is_built_value c.1) (are_built_items ks) initial (items_int (behind_item g (Local w x v) j) (with_int g x (declared_type j) same k) is ks rest hs)
   items_int g k (MoreItems j is) js i d = absurd (cc)
 
 -- ---- programs
-
-no_structs : (tree : List Declaration) → is_int_program tree ≡ true → structs_of tree ≡ []
-no_structs [] i = refl
-no_structs (StructType s rs ms ∷ tree) i = absurd (cc)
-no_structs (Exceptions cs ∷ tree) i = absurd (cc)
-no_structs (Global w x v ∷ tree) i = no_structs tree (and_parts (is_int_declaration (Global w x v)) (is_int_program tree) i).1
-no_structs (Function r x ps b ∷ tree) i = no_structs tree (and_parts (is_int_declaration (Function r x ps b)) (is_int_program tree) i).1
-
-globals_int : (k : Known) (tree : List Declaration) → is_int_program tree ≡ true → list_all is_built_global (globals_of k tree) ≡ true
-globals_int k [] i = refl
-globals_int k (StructType s rs ms ∷ tree) i = absurd (cc)
-globals_int k (Exceptions cs ∷ tree) i = absurd (cc)
-globals_int k (Global w x v ∷ tree) i =
-    let (one, rest) = and_parts (is_int_declaration (Global w x v)) (is_int_program tree) i in
-    let of_type : is_int_type w ≡ true = (and_parts (is_int_type w) (is_int_value v) one).0 in
-    both (is_built_type (type_written k.structs k.regions _ w)) (list_all is_built_global (globals_of k tree)) (ap is_built_type (int_written k.structs k.regions _ w of_type)) (globals_int k tree rest)
-globals_int k (Function r x ps b ∷ tree) i = globals_int k tree (and_parts (is_int_declaration (Function r x ps b)) (is_int_program tree) i).1
 
 functions_int : (p : Program) → AreIntsIn p.declared → (tree : List Declaration) (fs : List typed.Function) → is_int_program tree ≡ true → Derives (rule_functions p tree) fs → list_all is_built_function fs ≡ true
 functions_int p k [] fs i (u, eq) = ap (list_all is_built_function) eq
@@ -452,18 +405,10 @@ functions_int p k (Function r x ps (Braces o is q) ∷ tree) fs i (f, (js, h, (u
     let (ints, returns) = signature_int p.known r ps result parameters in
     let scope : AreInts (body_scope p s x ps) = (parameters_int (members_of ps.list) s.parameters 0 [] p.declared ints (λ y. k y.name), returns) in
     ap (list_all is_built_function) (eq ∙ ap (λ l. l ∷ gs) is_f)
-    ∙ both (list_all is_built_type s.parameters && (is_built_result s.result && are_built_items js)) (list_all is_built_function gs)
-    (both (list_all is_built_type s.parameters) (is_built_result s.result && are_built_items js) (ints_built s.parameters ints)
-    (both (is_built_result s.result) (are_built_items js) (result_built s.result returns) (items_int (body_scope p s x ps) scope is js body h)))
-    (functions_int p k tree gs rest hs)
+    ∙ both (are_built_items js) (list_all is_built_function gs) (items_int (body_scope p s x ps) scope is js body h) (functions_int p k tree gs rest hs)
 
 pub program_int : (texts : List (List ℕ)) (tree : List Declaration) (p : typed.Program) → is_int_program tree ≡ true → IsTypedProgram texts tree p → is_built p ≡ true
 program_int texts tree p i (u, heads, (v, main, (fs, functions, (w, eq)))) =
     let q : Program = program_known texts tree in
     let declared : AreIntsIn q.declared = before_ints texts (declared_from q.known 0 0 tree) (declared_ints q.known 0 0 tree i) in
-    let no_struct : list_all is_built_struct p.structs ≡ true =
-    ap (λ (z : typed.Program). list_all is_built_struct z.structs) eq ∙ ap (λ ss. list_all is_built_struct (struct_types ss q.fields)) (no_structs tree i) in
-    let globals : list_all is_built_global p.globals ≡ true = ap (λ (z : typed.Program). list_all is_built_global z.globals) eq ∙ globals_int q.known tree i in
-    let all : list_all is_built_function p.functions ≡ true = ap (λ (z : typed.Program). list_all is_built_function z.functions) eq ∙ functions_int q declared tree fs i functions in
-    both (list_all is_built_struct p.structs) (list_all is_built_global p.globals && list_all is_built_function p.functions) no_struct
-    (both (list_all is_built_global p.globals) (list_all is_built_function p.functions) globals all)
+    ap (λ (z : typed.Program). list_all is_built_function z.functions) eq ∙ functions_int q declared tree fs i functions

@@ -7,5 +7,5 @@ returns-clause-heap c = λ text p a kept. c.heap_programs_are_sound.ensures p (c
 pub returns-clause-scopes : goal.returns-clause-scopes
 returns-clause-scopes c = λ text p a kept. c.programs_that_free_no_object_are_sound.ensures p (c.typed_trees_are_well_typed.ensures (names_in a.tokens) a.tree p a.typed) a.allowed kept
 
-pub returns-clause-built : goal.returns-clause-built
-returns-clause-built c = λ text p a built frees. c.built_programs_that_free_no_object_are_sound.ensures p (c.typed_trees_are_well_typed.ensures (names_in a.tokens) a.tree p a.typed) a.allowed built frees
+pub returns-clause-lasting : goal.returns-clause-lasting
+returns-clause-lasting c = λ text p a ends. c.programs_that_end_nothing_are_sound.ensures p (c.typed_trees_are_well_typed.ensures (names_in a.tokens) a.tree p a.typed) a.allowed ends
