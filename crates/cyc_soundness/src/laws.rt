@@ -1,10 +1,11 @@
 //! Laws of the definitions in `specs/`. Each function does nothing: its contract is the law, and so it is proved with
 //! the crate.
 
-ghost use Rattle.std.specs.Prelude.{◌≡◌, true, List};
+ghost use Rattle.std.specs.Prelude.{◌≡◌, ℕ, true, List};
+ghost use Rattle.cyc_syntax.specs.Trees.{Declaration};
 ghost use Rattle.cyc_types.specs.Types.{Ty, ValueType};
 ghost use Rattle.cyc_types.specs.TypedTrees.{Program};
-ghost use Rattle.cyc_types.specs.Built.{is_built};
+ghost use Rattle.cyc_types.specs.typing.Programs.{IsTypedProgram};
 ghost use Rattle.cyc_types.specs.typing.Tests.{kind_of};
 ghost use Rattle.cyc_types.specs.typing.WellTyped.{Context, Converts, IsWellTypedProgram};
 ghost use Rattle.cyc_types.specs.flow.Programs.{IsAllowedProgram};
@@ -54,9 +55,8 @@ pub fn programs_that_free_no_object_are_sound()
     ensures { (p : Program) → IsWellTypedProgram p → IsAllowedProgram p → FreesNoObject p → IsSound p }
 {}
 
-/// No run of a program that is built and gives no object back is ever dead or wrong, where the typing rules and the flow rules
-/// accept it. Both are computed, and nothing is asked of its types: what is built makes objects in the heap and unique ones
-/// alone, and takes the address of no local, so with no `ufree` nothing ends that a pointer may lead to.
-pub fn built_programs_that_free_no_object_are_sound()
-    ensures { (p : Program) → IsWellTypedProgram p → IsAllowedProgram p → is_built p ≡ true → frees_no_object p ≡ true → IsSound p }
+/// No run of a program that the typing rules derive from a tree and the flow rules accept is ever dead or wrong, where no expression
+/// gives an object back: nothing else is asked of it.
+pub fn typed_programs_that_free_no_object_are_sound()
+    ensures { (texts : List (List ℕ)) (tree : List Declaration) (p : Program) → IsTypedProgram texts tree p → IsAllowedProgram p → frees_no_object p ≡ true → IsSound p }
 {}
