@@ -13,7 +13,6 @@ use Rattle.cyc_syntax.specs.Trees.{Named, BaseType, Int, Struct, Handle, Key, Wr
 use Rattle.cyc_types.specs.TypedTrees as typed
 use Rattle.cyc_types.specs.Rules.{Checked}
 use Rattle.cyc_types.specs.typing.Programs.{rule_program, check_of, IsTypedProgram}
-use Rattle.cyc_types.specs.typing.WellTyped.{IsWellTypedProgram}
 use Rattle.cyc_types.specs.flow.Programs.{flow_of, IsAllowedProgram}
 use Rattle.cyc_types.specs.flow.Programs as flow
 use Rattle.cyc_types.proofs.RuleLaws.{answers_tree}
@@ -21,10 +20,10 @@ use Rattle.cyc_types.proofs.typing.ProgramLemmas.{program_well}
 use Rattle.cyc_meaning.specs.State.{Status, HasEnded, status_of}
 use Rattle.cyc_meaning.specs.Run.{run}
 use Rattle.cyc_soundness.specs.Classes.{IsOfTheHeap, IsOfScopes, FreesNoObject}
-use Rattle.cyc_soundness.specs.Endings.{ends_nothing}
+use Rattle.cyc_soundness.specs.Frees.{frees_no_object}
 use Rattle.cyc_soundness.specs.Sound.{IsSound}
 use Rattle.cyc_soundness.proofs.Whole.{heap_sound, lending_sound, scopes_sound}
-use Rattle.cyc_soundness.proofs.EndingLemmas.{lasting_sound}
+use Rattle.cyc_soundness.proofs.FormedLemmas.{typed_sound}
 
 -- ---- what is said of a text
 
@@ -43,27 +42,27 @@ abbrev EndsByScope : Checked typed.Program → Status → Type 0
 EndsByScope = EndsIn IsOfScopes
 
 -- and so no run of it is dead or wrong
-never_dead_in : (class : typed.Program → Type 0) → ((p : typed.Program) → IsWellTypedProgram p → IsAllowedProgram p → class p → IsSound p) → (texts : List (List ℕ)) (tree : List Declaration) (s : Status)
+never_dead_in : (class : typed.Program → Type 0) (texts : List (List ℕ)) (tree : List Declaration) → ((p : typed.Program) → IsTypedProgram texts tree p → IsAllowedProgram p → class p → IsSound p) → (s : Status)
     → EndsIn class (check_of texts tree) s → (p : typed.Program) × IsTypedProgram texts tree p × IsSound p × (status_of (run p [] 200) ≡ s)
-never_dead_in class sound texts tree s ends = go (check_of texts tree) refl ends
+never_dead_in class texts tree sound s ends = go (check_of texts tree) refl ends
   where
     go : (r : Checked typed.Program) → check_of texts tree ≡ r → EndsIn class r s → (p : typed.Program) × IsTypedProgram texts tree p × IsSound p × (status_of (run p [] 200) ≡ s)
     go (Ok p) is (allowed, kept, ended) =
         let derived : IsTypedProgram texts tree p = answers_tree (rule_program texts tree) p is in
-        (p, derived, sound p (program_well texts tree p derived) (answers_tree (flow.rule_program p) tt allowed) kept, ended)
+        (p, derived, sound p derived (answers_tree (flow.rule_program p) tt allowed) kept, ended)
     go (Err f) is none = absurd none
 
 pub never_dead : (texts : List (List ℕ)) (tree : List Declaration) (s : Status) → Ends (check_of texts tree) s
     → (p : typed.Program) × IsTypedProgram texts tree p × IsSound p × (status_of (run p [] 200) ≡ s)
-never_dead texts tree s ends = never_dead_in IsOfTheHeap heap_sound texts tree s ends
+never_dead texts tree s ends = never_dead_in IsOfTheHeap texts tree (λ p derived. heap_sound p (program_well texts tree p derived)) s ends
 
 pub never_dead_by_scope : (texts : List (List ℕ)) (tree : List Declaration) (s : Status) → EndsByScope (check_of texts tree) s
     → (p : typed.Program) × IsTypedProgram texts tree p × IsSound p × (status_of (run p [] 200) ≡ s)
-never_dead_by_scope texts tree s ends = never_dead_in IsOfScopes scopes_sound texts tree s ends
+never_dead_by_scope texts tree s ends = never_dead_in IsOfScopes texts tree (λ p derived. scopes_sound p (program_well texts tree p derived)) s ends
 
 pub never_dead_with_loans : (texts : List (List ℕ)) (tree : List Declaration) (s : Status) → EndsWithLoans (check_of texts tree) s
     → (p : typed.Program) × IsTypedProgram texts tree p × IsSound p × (status_of (run p [] 200) ≡ s)
-never_dead_with_loans texts tree s ends = never_dead_in FreesNoObject lending_sound texts tree s ends
+never_dead_with_loans texts tree s ends = never_dead_in FreesNoObject texts tree (λ p derived. lending_sound p (program_well texts tree p derived)) s ends
 
 -- ---- trees
 
@@ -158,18 +157,17 @@ by_handle : Ends (check_of texts (
     ∷ [])) (HasEnded (Returned (pos 6)))
 by_handle = (refl, ((tt, (tt, tt), (tt, tt)), (((tt, tt), tt), tt)), refl)
 
--- ---- texts in which nothing ends
+-- ---- texts in which no object is given back, and those in which one is
 
--- what keeps all that it makes, and what has an `ufree`
 abbrev KeepsObjects : typed.Program → Type 0
-KeepsObjects p = ends_nothing p ≡ true
+KeepsObjects p = frees_no_object p ≡ true
 
 abbrev FreesObjects : typed.Program → Type 0
-FreesObjects p = ends_nothing p ≡ false
+FreesObjects p = frees_no_object p ≡ false
 
-pub never_dead_lasting : (texts : List (List ℕ)) (tree : List Declaration) (s : Status) → EndsIn KeepsObjects (check_of texts tree) s
+pub never_dead_typed : (texts : List (List ℕ)) (tree : List Declaration) (s : Status) → EndsIn KeepsObjects (check_of texts tree) s
     → (p : typed.Program) × IsTypedProgram texts tree p × IsSound p × (status_of (run p [] 200) ≡ s)
-never_dead_lasting texts tree s ends = never_dead_in KeepsObjects lasting_sound texts tree s ends
+never_dead_typed texts tree s ends = never_dead_in KeepsObjects texts tree (λ p derived. typed_sound texts tree p derived) s ends
 
 -- int main(){ int @`U p = rnew(unique_region) 5; int ?n = new {for i < 3 : i * i}; *p :=: n[2]; return *p + numelts(n); }
 objects_kept : EndsIn KeepsObjects (check_of texts (

@@ -1,6 +1,7 @@
 -- Why a class of programs that close regions by keys has to ask that no field is a key: the judgement on typed trees does not. Here is a
--- tree that it and the flow rules accept, in which a struct has a key, which is read twice and so is used twice: a run of it is dead. No
--- text has such a tree, since a field that is a key is refused where its struct is declared.
+-- tree that it and the flow rules accept, in which a struct has a key, which is read twice and so is used twice: a run of it is dead. What
+-- the typing rules derive is no such tree (`typed_trees_are_formed` of `cyc_types`), since a field that is a key is refused where its
+-- struct is declared.
 use Rattle.std.proofs.Common.{◌≡◌, ℕ, suc, ◌<◌, true, [], ◌∷◌, Some, Ok, inl, refl, arith}
 use Rattle.cyc_syntax.specs.declared.tree.PointerKind.TheVariants as marks
 use Rattle.cyc_types.specs.declared.region.Region.TheVariants as regions

@@ -1,6 +1,6 @@
 -- Why a class asks which regions the types of locals name: the judgement on typed trees does not. Here is a tree that it and the flow
--- rules accept, in which the type of a local names a region that is opened further on: a run of it is dead. No text has such a tree, since
--- a name of a region is known from where it is declared on.
+-- rules accept, in which the type of a local names a region that is opened further on: a run of it is dead. What the typing rules
+-- derive is no such tree (`typed_trees_are_formed` of `cyc_types`), since a name of a region is known from where it is declared on.
 use Rattle.std.proofs.Common.{◌≡◌, ℕ, suc, ◌<◌, [], ◌∷◌, Some, Ok, inl, inr, refl, arith}
 use Rattle.cyc_syntax.specs.declared.tree.PointerKind.TheVariants as marks
 use Rattle.cyc_types.specs.declared.region.Region.TheVariants as regions

@@ -21,8 +21,8 @@ mod Calls
 mod Unwinding
 -- what `cyc_system` cites
 pub mod Whole
--- where nothing ends
-mod EndingLemmas
+-- what comes of texts
+mod FormedLemmas
 -- texts, and programs that the rules accept and refuse
 mod Examples
 mod LaterRegions

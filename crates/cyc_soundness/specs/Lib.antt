@@ -5,5 +5,5 @@ pub mod Frames
 pub mod Stacks
 -- which programs a theorem speaks of
 pub mod Classes
-pub mod Endings
+pub mod Frees
 pub mod Sound

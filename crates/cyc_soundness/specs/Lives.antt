@@ -1,7 +1,7 @@
 -- TYPES AS A RUN READS THEM. Trees name regions, which mean something in their function alone. States speak of lives: the region of a
 -- number, or a unique object. A type of a tree becomes one of a state by what each region of its function stands for. (One language of
 -- types in two readings is this project's own choice.)
-use Rattle.std.specs.Prelude.{◌≢◌, ℕ, ◌<◌, Bool, true, false, List, [], ◌∷◌, map}
+use Rattle.std.specs.Prelude.{◌≢◌, ℕ, Bool, true, false, List, [], map}
 use Rattle.cyc_syntax.specs.declared.tree.PointerKind.{PointerKind}
 use Rattle.cyc_types.specs.declared.region.Region.{Region}
 use Rattle.cyc_types.specs.declared.region.Region.TheVariants as regions
@@ -9,6 +9,7 @@ use Rattle.cyc_types.specs.declared.typed.Kind.{Kind}
 use Rattle.cyc_types.specs.declared.typed.Kind.TheVariants as kinds
 use Rattle.cyc_types.specs.Types.{Ty, ValueType}
 use Rattle.cyc_types.specs.Types as types
+pub use Rattle.cyc_types.specs.typing.Formed.{AllOf, AllIn, IsKnown}
 use Rattle.cyc_meaning.specs.Values.{kind_of_mark}
 
 -- How long something is there: to the end of a region, or until it is given back; nothing is there that is null for good. With a region
@@ -93,28 +94,11 @@ pub data Reading : Type 0 where
 
 -- ---- which regions a type names
 
-abbrev pub AllOf : (Region → Type 0) → List Region → Type 0
-AllOf P [] = Unit {0}
-AllOf P (r ∷ rs) = P r × AllOf P rs
-
-abbrev pub AllIn : (Region → Type 0) → Ty → Type 0
-AllIn P types.Int = Unit {0}
-AllIn P (types.Pointer k t r) = AllIn P t × P r
-AllIn P (types.Handle r) = P r
-AllIn P (types.Key r) = P r
-AllIn P (types.Struct n rs) = AllOf P rs
-
 -- of what an expression gives
 abbrev pub AllInValue : (Region → Type 0) → ValueType → Type 0
 AllInValue P types.Void = Unit {0}
 AllInValue P types.Null = Unit {0}
 AllInValue P (types.Value t) = AllIn P t
-
--- a region variable with a number below this one, if it is a variable
-abbrev pub IsKnown : ℕ → Region → Type 0
-IsKnown n regions.Heap = Unit {0}
-IsKnown n regions.Unique = Unit {0}
-IsKnown n (regions.Variable m) = m < n
 
 -- another region than the variable of this number
 abbrev pub IsOther : ℕ → Region → Type 0

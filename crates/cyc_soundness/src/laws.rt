@@ -1,9 +1,11 @@
 //! Laws of the definitions in `specs/`. Each function does nothing: its contract is the law, and so it is proved with
 //! the crate.
 
-ghost use Rattle.std.specs.Prelude.{◌≡◌, true, List};
+ghost use Rattle.std.specs.Prelude.{◌≡◌, ℕ, true, List};
+ghost use Rattle.cyc_syntax.specs.Trees.{Declaration};
 ghost use Rattle.cyc_types.specs.Types.{Ty, ValueType};
 ghost use Rattle.cyc_types.specs.TypedTrees.{Program};
+ghost use Rattle.cyc_types.specs.typing.Programs.{IsTypedProgram};
 ghost use Rattle.cyc_types.specs.typing.Tests.{kind_of};
 ghost use Rattle.cyc_types.specs.typing.WellTyped.{Context, Converts, IsWellTypedProgram};
 ghost use Rattle.cyc_types.specs.flow.Programs.{IsAllowedProgram};
@@ -15,7 +17,7 @@ ghost use Rattle.cyc_soundness.specs.Worlds.{Typing, AgreesWith, HasType, IsResu
 ghost use Rattle.cyc_soundness.specs.Frames.{InScope, Exits};
 ghost use Rattle.cyc_soundness.specs.Stacks.{Want, IsStack};
 ghost use Rattle.cyc_soundness.specs.Classes.{IsOfTheHeap, IsOfScopes, FreesNoObject, Source};
-ghost use Rattle.cyc_soundness.specs.Endings.{ends_nothing};
+ghost use Rattle.cyc_soundness.specs.Frees.{frees_no_object};
 ghost use Rattle.cyc_soundness.specs.Sound.{IsSound};
 
 /// What is known of a world only grows, and what was typed stays so: a value keeps its type for good, and a control stack
@@ -53,9 +55,8 @@ pub fn programs_that_free_no_object_are_sound()
     ensures { (p : Program) → IsWellTypedProgram p → IsAllowedProgram p → FreesNoObject p → IsSound p }
 {}
 
-/// No run of a program without `ufree`, regions of its own, keys, `open`, aliases and `&` of locals is ever dead or wrong, where
-/// the typing rules and the flow rules accept it. That is computed, and nothing is asked of its types: its objects are made in the
-/// heap and unique ones, by handles of others or not, so nothing ends that a pointer may lead to.
-pub fn programs_that_end_nothing_are_sound()
-    ensures { (p : Program) → IsWellTypedProgram p → IsAllowedProgram p → ends_nothing p ≡ true → IsSound p }
+/// No run of a program that the typing rules derive from a tree and the flow rules accept is ever dead or wrong, where no expression
+/// gives an object back: nothing else is asked of it.
+pub fn typed_programs_that_free_no_object_are_sound()
+    ensures { (texts : List (List ℕ)) (tree : List Declaration) (p : Program) → IsTypedProgram texts tree p → IsAllowedProgram p → frees_no_object p ≡ true → IsSound p }
 {}

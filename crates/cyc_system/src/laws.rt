@@ -10,8 +10,7 @@ ghost use Rattle.cyc_store.specs.New.{IsNew};
 ghost use Rattle.cyc_machine.specs.Bounds.{Bounds, AreAllowed};
 ghost use Rattle.cyc_words.specs.declared.fault.Fault.{Fault};
 ghost use Rattle.cyc_types.specs.TypedTrees.{Program};
-ghost use Rattle.cyc_soundness.specs.Classes.{IsOfTheHeap, FreesNoObject};
-ghost use Rattle.cyc_soundness.specs.Endings.{ends_nothing};
+ghost use Rattle.cyc_soundness.specs.Frees.{frees_no_object};
 ghost use Rattle.cyc_soundness.specs.Sound.{IsSound};
 ghost use Rattle.cyc_system.specs.Front.{IsAcceptedText, IsRefusedText};
 ghost use Rattle.cyc_system.specs.Compiled.{IsCompiledText};
@@ -34,18 +33,12 @@ pub fn accepted_or_refused()
     cyc_types::laws::allowed_or_stopped();
 }
 
-/// No run of the program of an accepted text is ever dead or wrong, if the program frees no object: so what `compile` answers for it
-/// is its image. Where nothing ends that a pointer may lead to, nothing else is asked; else that types name regions which are declared
-/// before them, and that no field is a key. A text without `ufree`, regions, keys, aliases and `&` of locals is of the first sort.
+/// No run of the program of an accepted text is ever dead or wrong, if no expression of it gives an object back by `ufree`: so what
+/// `compile` answers for it is its image. Nothing else is asked.
 pub fn programs_that_free_no_object_are_sound()
-    ensures heap { (text : List ℕ) (p : Program) → IsAcceptedText text p → IsOfTheHeap p → IsSound p }
-    ensures scopes { (text : List ℕ) (p : Program) → IsAcceptedText text p → FreesNoObject p → IsSound p }
-    ensures lasting { (text : List ℕ) (p : Program) → IsAcceptedText text p → ends_nothing p ≡ true → IsSound p }
+    ensures { (text : List ℕ) (p : Program) → IsAcceptedText text p → frees_no_object p ≡ true → IsSound p }
 {
-    cyc_types::laws::typed_trees_are_well_typed();
-    cyc_soundness::laws::heap_programs_are_sound();
-    cyc_soundness::laws::programs_that_free_no_object_are_sound();
-    cyc_soundness::laws::programs_that_end_nothing_are_sound();
+    cyc_soundness::laws::typed_programs_that_free_no_object_are_sound();
 }
 
 /// What `compile` answers is read as an image, and the machine never answers that it has no place for it.

@@ -5,6 +5,8 @@ pub mod ExpressionLemmas
 pub mod CountLemmas
 pub mod StatementLemmas
 pub mod NamingLemmas
+pub mod FormedLemmas
+pub mod FormedPrograms
 pub mod ProgramLemmas
 pub mod WeightLemmas
 pub mod IntLemmas

@@ -6,6 +6,7 @@ ghost use Rattle.cyc_syntax.specs.Weight.{tree_weight};
 ghost use Rattle.cyc_types.specs.TypedTrees.{Statement, Function, Program};
 ghost use Rattle.cyc_types.specs.typing.Programs.{IsTypedProgram, IsRefusedProgram, check_of};
 ghost use Rattle.cyc_types.specs.typing.WellTyped.{IsWellTypedProgram};
+ghost use Rattle.cyc_types.specs.typing.Formed.{IsFormedProgram};
 ghost use Rattle.cyc_types.specs.flow.Programs.{IsAllowedProgram, IsStoppedProgram, flow_of};
 ghost use Rattle.cyc_types.specs.IntPart.{is_int_program};
 ghost use Rattle.cyc_types.specs.Built.{is_built};
@@ -51,6 +52,11 @@ pub fn flow_checking_is_flow()
 /// What the typing rules derive is well typed.
 pub fn typed_trees_are_well_typed()
     ensures { (texts : List (List ℕ)) (tree : List Declaration) (p : Program) → IsTypedProgram texts tree p → IsWellTypedProgram p }
+{}
+
+/// What the typing rules derive declares no type with a region that is not there yet.
+pub fn typed_trees_are_formed()
+    ensures { (texts : List (List ℕ)) (tree : List Declaration) (p : Program) → IsTypedProgram texts tree p → IsFormedProgram p }
 {}
 
 /// A program over ints is built.

@@ -24,7 +24,7 @@ use Rattle.cyc_types.proofs.typing.ExpressionLemmas.{IsKeyOfVariable}
 abbrev pub IsBase : List RegionName → Type 0
 IsBase names = (x : ℕ) → (region_among names x ≡ None) ⊎ ((region_among names x ≡ Some Heap) ⊎ (region_among names x ≡ Some Unique))
 
-none_is_not_some : {A : Type 0} (x : A) → ◌≡◌ {A = Option A} None (Some x) → ⊥
+pub none_is_not_some : {A : Type 0} (x : A) → ◌≡◌ {A = Option A} None (Some x) → ⊥
 none_is_not_some x e = absurd (cc)
 
 -- a name stands for what it stood for before, or for a variable below this one

@@ -330,7 +330,7 @@ main_well k b (Function r x ps c ∷ ds) (u, (o, resulting, (v, ((new, (main, z)
 
 -- ---- programs
 
-base_before : (texts : List (List ℕ)) → IsBase (regions_before texts)
+pub base_before : (texts : List (List ℕ)) → IsBase (regions_before texts)
 base_before texts x = go (nat_eq (number_of texts (bytes "H")) x) (nat_eq (number_of texts (bytes "U")) x)
   where
     go : (a b : Bool) → let o = cond a (Some regions.Heap) (cond b (Some regions.Unique) None) in (o ≡ None) ⊎ ((o ≡ Some regions.Heap) ⊎ (o ≡ Some regions.Unique))

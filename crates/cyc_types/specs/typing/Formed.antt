@@ -1,0 +1,78 @@
+-- WHICH REGIONS THE DECLARED TYPES OF A PROGRAM NAME: the type of a local only those that are declared before it, that of a global no
+-- variable, and that of a field the parameters of its struct. So no type leads to a region that is declared further on. No field is a key.
+use Rattle.std.specs.Prelude.{◌≡◌, ℕ, suc, ◌+◌, ◌<◌, false, List, [], ◌∷◌}
+use Rattle.cyc_types.specs.declared.region.Region.{Region}
+use Rattle.cyc_types.specs.declared.region.Region.TheVariants as regions
+use Rattle.cyc_types.specs.Types.{Ty, Int, Pointer, Handle, Key, Struct}
+use Rattle.cyc_types.specs.Declarations.{declared_regions, item_regions}
+use Rattle.cyc_types.specs.TypedTrees.{Statement, Block, If, While, Try, Items, NoItems, MoreItems, Execute, Declare, DeclareRegion, OpenRegion, DeclareAlias, DeclareKey, Clauses, NoClauses, Default, Case, StructType, GlobalVariable, Function, Program}
+use Rattle.cyc_types.specs.typing.Tests.{is_key}
+
+-- ---- types
+
+abbrev pub AllOf : (Region → Type 0) → List Region → Type 0
+AllOf P [] = Unit {0}
+AllOf P (r ∷ rs) = P r × AllOf P rs
+
+-- of all regions in a type
+abbrev pub AllIn : (Region → Type 0) → Ty → Type 0
+AllIn P Int = Unit {0}
+AllIn P (Pointer k t r) = AllIn P t × P r
+AllIn P (Handle r) = P r
+AllIn P (Key r) = P r
+AllIn P (Struct n rs) = AllOf P rs
+
+-- a region variable with a number below this one, if it is a variable
+abbrev pub IsKnown : ℕ → Region → Type 0
+IsKnown n regions.Heap = Unit {0}
+IsKnown n regions.Unique = Unit {0}
+IsKnown n (regions.Variable m) = m < n
+
+-- ---- statements where the next region gets this number
+
+abbrev mutual
+  pub IsFormedStatement : ℕ → Statement → Type 0
+  IsFormedStatement n (Block r js) = AreFormedItems (suc n) js
+  IsFormedStatement n (If a s t) = IsFormedStatement n s × IsFormedStatement (n + declared_regions s) t
+  IsFormedStatement n (While p a s) = IsFormedStatement n s
+  IsFormedStatement n (Try s cs) = IsFormedStatement n s × AreFormedClauses (n + declared_regions s) cs
+  IsFormedStatement n s = Unit {0}
+
+  -- an alias has the type of what it shares, but for its own region
+  pub AreFormedItems : ℕ → Items → Type 0
+  AreFormedItems n NoItems = Unit {0}
+  AreFormedItems n (MoreItems (Execute s) js) = IsFormedStatement n s × AreFormedItems (n + declared_regions s) js
+  AreFormedItems n (MoreItems (Declare l t v) js) = AllIn (IsKnown n) t × AreFormedItems n js
+  AreFormedItems n (MoreItems (DeclareRegion r l) js) = AreFormedItems (suc n) js
+  AreFormedItems n (MoreItems (OpenRegion r l p k) js) = AreFormedItems n js
+  AreFormedItems n (MoreItems (DeclareAlias r l t p s) js) = AreFormedItems (suc n) js
+  AreFormedItems n (MoreItems (DeclareKey r l) js) = AreFormedItems (suc n) js
+
+  pub AreFormedClauses : ℕ → Clauses → Type 0
+  AreFormedClauses n NoClauses = Unit {0}
+  AreFormedClauses n (Default r js) = AreFormedItems (suc n) js
+  AreFormedClauses n (Case e v r js cs) = AreFormedItems (suc n) js × AreFormedClauses (n + suc (item_regions js)) cs
+
+-- ---- programs
+
+abbrev pub AreFormedFunctions : List Function → Type 0
+AreFormedFunctions [] = Unit {0}
+AreFormedFunctions (h ∷ hs) = AreFormedItems (suc h.variables) h.body × AreFormedFunctions hs
+
+abbrev pub AreFormedGlobals : List GlobalVariable → Type 0
+AreFormedGlobals [] = Unit {0}
+AreFormedGlobals (v ∷ vs) = AllIn (IsKnown 0) v.of_type × AreFormedGlobals vs
+
+-- the fields of a struct with so many parameters
+abbrev pub AreFormedFields : (parameters : ℕ) → List Ty → Type 0
+AreFormedFields n [] = Unit {0}
+AreFormedFields n (t ∷ ts) = AllIn (IsKnown n) t × (is_key t ≡ false) × AreFormedFields n ts
+
+abbrev pub AreFormedStructs : List StructType → Type 0
+AreFormedStructs [] = Unit {0}
+AreFormedStructs (s ∷ ss) = AreFormedFields s.parameters s.fields × AreFormedStructs ss
+
+pub record IsFormedProgram (p : Program) : Type 0 where
+  pub functions : AreFormedFunctions p.functions
+  pub globals : AreFormedGlobals p.globals
+  pub structs : AreFormedStructs p.structs
