@@ -8,3 +8,4 @@ pub mod NamingLemmas
 pub mod ProgramLemmas
 pub mod WeightLemmas
 pub mod IntLemmas
+pub mod TextLemmas
