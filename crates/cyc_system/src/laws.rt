@@ -11,6 +11,7 @@ ghost use Rattle.cyc_machine.specs.Bounds.{Bounds, AreAllowed};
 ghost use Rattle.cyc_words.specs.declared.fault.Fault.{Fault};
 ghost use Rattle.cyc_types.specs.TypedTrees.{Program};
 ghost use Rattle.cyc_types.specs.Built.{is_built};
+ghost use Rattle.cyc_types.specs.Texts.{IsOfTextProgram};
 ghost use Rattle.cyc_soundness.specs.Classes.{IsOfTheHeap, FreesNoObject};
 ghost use Rattle.cyc_soundness.specs.Frees.{frees_no_object};
 ghost use Rattle.cyc_soundness.specs.Sound.{IsSound};
@@ -34,6 +35,12 @@ pub fn accepted_or_refused()
     cyc_types::laws::typed_or_refused();
     cyc_types::laws::allowed_or_stopped();
 }
+
+/// What the program of an accepted text has beyond what the typing rules ask: its structs have from 1 to 64 fields, the numbers of its
+/// exceptions are words, and arithmetic on pointers stands in chains of its own.
+pub fn accepted_programs_are_of_texts()
+    ensures { (text : List ℕ) (p : Program) → IsAcceptedText text p → IsOfTextProgram p }
+{}
 
 /// No run of the program of an accepted text is ever dead or wrong, if the program frees no object: so what `compile` answers for it
 /// is its image. Where nothing ends that a pointer may lead to, nothing else is asked; else that types name regions which are declared

@@ -10,12 +10,14 @@ use Rattle.cyc_syntax.specs.declared.tokens.Sign.TheVariants as signs
 use Rattle.cyc_syntax.specs.declared.tree.PrefixOperator.TheVariants as prefixes
 use Rattle.cyc_syntax.specs.declared.tree.BinaryOperator.{BinaryOperator}
 use Rattle.cyc_syntax.specs.declared.tree.BinaryOperator.TheVariants as operators
-use Rattle.cyc_syntax.specs.Symbols.{Place}
+use Rattle.cyc_syntax.specs.Symbols.{Place, Symbol}
 use Rattle.cyc_syntax.specs.Trees.{Named, WrittenType, Expression, Number, Character, Null, HeapRegion, UniqueRegion, Variable, Call, Bracketed, NumberOfElements, FreeUnique, FreeKey, Chained, Prefixed, New, RegionNew, Binary, Assign, Initial, Plain, Fields, Array, Expressions, NoExpressions, MoreExpressions, Postfixes, NoPostfixes, ThenIndex, ThenField, Operations, NoOperations, ThenOperation, Statement, Block, Labelled, Empty, Evaluate, Swap, If, IfElse, While, Return, Break, Continue, Throw, Try, Body, Braces, Items, NoItems, MoreItems, Execute, Local, Region, Alias, DynamicRegion, Clauses, NoClauses, Default, Case, Member, Constructor, Declaration, StructType, Exceptions, Global, Function, place_of}
 use Rattle.cyc_syntax.specs.Yields.{Leaf, Yield}
 use Rattle.cyc_syntax.specs.Yields as yields
 use Rattle.cyc_syntax.specs.Weight.{sum_of, constructor_weight, tree_weight}
-use Rattle.cyc_syntax.specs.Grammar.{level, binary_level, unary_level, assignment_level, IsExpression, IsInitial, AreExpressions, ArePostfixes, AreOperations, IsExpressionOrNone, IsStatement, IsBody, AreItems, AreClauses, AreDeclarations, max_items, IsWithin, IsWithinLimits}
+use Rattle.cyc_syntax.specs.Grammar.{level, binary_level, unary_level, assignment_level, IsExpression, IsInitial, AreExpressions, ArePostfixes, AreOperations, IsExpressionOrNone, IsStatement, IsBody, AreItems, AreClauses, AreDeclarations, HasTree, max_items, IsWithin, IsWithinLimits}
+use Rattle.cyc_syntax.specs.TokenRule.{max_tokens}
+use Rattle.cyc_syntax.proofs.WeightLemmas.{tree_weight-length}
 use Rattle.cyc_types.specs.declared.typed.Operator.{Operator}
 use Rattle.cyc_types.specs.declared.typed.LogicalOperator.{LogicalOperator}
 use Rattle.cyc_types.specs.declared.typed.PointerOperator.{PointerOperator}
@@ -522,10 +524,12 @@ exceptions_few (Exceptions cs ∷ tree) =
 exceptions_few (Global t x v ∷ tree) = omega (arith, exceptions_few tree)
 exceptions_few (Function r x ps b ∷ tree) = omega (arith, exceptions_few tree)
 
--- A tree by the grammar within the limits, of no more tokens than a word tells: what the rules derive from it is of a text.
-pub program_of_text : (texts : List (List ℕ)) (tree : List Declaration) (p : typed.Program) → AreDeclarations tree → IsWithinLimits tree → tree_weight tree + 5 < 2 ^ 32 → IsTypedProgram texts tree p
+-- A tree of so few symbols, within the limits: what the rules derive from it is of a text.
+pub program_of_text : (texts : List (List ℕ)) (symbols : List Symbol) (tree : List Declaration) (p : typed.Program) → HasTree symbols tree → IsWithinLimits tree → length symbols ≤ max_tokens → IsTypedProgram texts tree p
     → IsOfTextProgram p
-program_of_text texts tree p formed within light (u, heads, (v, main, (fs, functions, (w, eq)))) =
+program_of_text texts symbols tree p has within short (u, heads, (v, main, (fs, functions, (w, eq)))) =
     let known : Program = program_known texts tree in
     let many : length known.exceptions ≡ 4 + length (exceptions_of tree) = length-append (exceptions_before texts) (exceptions_of tree) in
-    subst IsOfTextProgram (sym eq) (functions_text known (fields_few known.known tree within, omega (arith, many, exceptions_few tree, light)) tree formed fs functions)
+    let weight : tree_weight tree ≡ length symbols = tree_weight-length symbols tree has in
+    let few : ProgramKnowsFew known = (fields_few known.known tree within, omega (arith, many, exceptions_few tree, weight, short)) in
+    subst IsOfTextProgram (sym eq) (functions_text known few tree has.formed fs functions)
