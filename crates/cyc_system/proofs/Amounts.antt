@@ -1,19 +1,28 @@
--- How heavy the program of a text may be.
-use Rattle.std.proofs.Common.{ℕ, ◌≤◌, List, arith}
+-- What the limits of a text say of its program: how heavy it may be, and what it has beyond what the typing rules ask.
+use Rattle.std.proofs.Common.{ℕ, ◌≤◌, List, length, arith}
 use Rattle.std.proofs.lemmas.List.{length-map}
 use Rattle.cyc_syntax.specs.TokenRule.{max_tokens}
 use Rattle.cyc_syntax.specs.Names.{distinct_texts}
 use Rattle.cyc_syntax.specs.Symbols.{texts_in, symbol_of, symbols_of}
 use Rattle.cyc_syntax.proofs.WeightLemmas.{tree_weight-length}
 use Rattle.cyc_types.specs.TypedTrees.{Program}
+use Rattle.cyc_types.specs.Texts.{IsOfTextProgram}
 use Rattle.cyc_types.specs.Weight.{program_weight}
+use Rattle.cyc_types.proofs.typing.TextLemmas.{program_of_text}
 use Rattle.cyc_types.proofs.typing.WeightLemmas.{program_lighter}
 use Rattle.cyc_system.specs.Front.{names_in, IsAcceptedText}
+
+-- as many symbols as tokens
+symbols_few : (text : List ℕ) (p : Program) (a : IsAcceptedText text p) → length (symbols_of a.tokens) ≤ max_tokens
+symbols_few text p a = let tokens = length-map a.tokens (symbol_of (distinct_texts (texts_in a.tokens))) in omega (arith, tokens, a.has_tokens.within.count)
 
 -- the typed program of a text weighs no more than the text may have tokens
 pub accepted_light : (text : List ℕ) (p : Program) → IsAcceptedText text p → program_weight p ≤ max_tokens
 accepted_light text p a =
     let tree = program_lighter (names_in a.tokens) a.tree p a.typed in
     let symbols = tree_weight-length (symbols_of a.tokens) a.tree a.has_tree.has in
-    let tokens = length-map a.tokens (symbol_of (distinct_texts (texts_in a.tokens))) in
-    omega (arith, tree, symbols, tokens, a.has_tokens.within.count)
+    omega (arith, tree, symbols, symbols_few text p a)
+
+-- its structs have few fields, the numbers of its exceptions are words, and arithmetic on pointers stands alone
+pub accepted_of_text : (text : List ℕ) (p : Program) → IsAcceptedText text p → IsOfTextProgram p
+accepted_of_text text p a = program_of_text (names_in a.tokens) (symbols_of a.tokens) a.tree p a.has_tree.has a.has_tree.within (symbols_few text p a) a.typed

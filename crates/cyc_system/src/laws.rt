@@ -10,6 +10,7 @@ ghost use Rattle.cyc_store.specs.New.{IsNew};
 ghost use Rattle.cyc_machine.specs.Bounds.{Bounds, AreAllowed};
 ghost use Rattle.cyc_words.specs.declared.fault.Fault.{Fault};
 ghost use Rattle.cyc_types.specs.TypedTrees.{Program};
+ghost use Rattle.cyc_types.specs.Texts.{IsOfTextProgram};
 ghost use Rattle.cyc_soundness.specs.Frees.{frees_no_object};
 ghost use Rattle.cyc_soundness.specs.Sound.{IsSound};
 ghost use Rattle.cyc_system.specs.Front.{IsAcceptedText, IsRefusedText};
@@ -32,6 +33,12 @@ pub fn accepted_or_refused()
     cyc_types::laws::typed_or_refused();
     cyc_types::laws::allowed_or_stopped();
 }
+
+/// What the program of an accepted text has beyond what the typing rules ask: its structs have from 1 to 64 fields, the numbers of its
+/// exceptions are words, and arithmetic on pointers stands in chains of its own.
+pub fn accepted_programs_are_of_texts()
+    ensures { (text : List ℕ) (p : Program) → IsAcceptedText text p → IsOfTextProgram p }
+{}
 
 /// No run of the program of an accepted text is ever dead or wrong, if no expression of it gives an object back by `ufree`: so what
 /// `compile` answers for it is its image. Nothing else is asked.

@@ -10,3 +10,4 @@ pub mod FormedPrograms
 pub mod ProgramLemmas
 pub mod WeightLemmas
 pub mod IntLemmas
+pub mod TextLemmas

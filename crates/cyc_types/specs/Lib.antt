@@ -11,6 +11,7 @@ pub mod typing
 pub mod flow
 pub mod Numbered
 pub mod Built
+pub mod Texts
 pub mod Weight
 pub mod Outlives
 -- what the functions inside these crates promise each other: the rules as functions, and the table of constraints
