@@ -62,6 +62,17 @@ module _ (source : Program) (pages calls : ℕ) where
             subst (Executes source pages calls (Running focus k e w) next rest) (sym is) (goes choice served).0,
       )
 
+  -- the store is called, and that is all
+  pub by_asking : (focus : Focus) (k : List Entry) (e : Environment) (w : World) (c : Configuration) (next : State) (request : Request)
+      → step source (Running focus k e w) ≡ next → SharedAt source pages calls k e w c
+      → At (code_of source c.active.function) c.active.next (instructions.Ask request)
+      → refusal c.store (plain_step.call_in c.active.slots request) ≡ None
+      → ((choice : services.Choice) → plain_step.IsServed c.store (plain_step.call_in c.active.slots request) choice
+      → Matches source pages calls next (plain.Running (served_to choice c (plain_requests.destination_of request) (plain_step.call_in c.active.slots request)))
+      × (plain_step.is_within pages calls (plain.Running (served_to choice c (plain_requests.destination_of request) (plain_step.call_in c.active.slots request))) ≡ true))
+      → IsMatched source pages calls (Running focus k e w) (plain.Running c)
+  by_asking focus k e w c next request does shared here free goes = asks_then focus k e w c next request 0 does shared.same_output here tt free goes
+
   -- There is no room: both runs are full.
   pub by_full : (focus : Focus) (k : List Entry) (e : Environment) (w : World) (c : Configuration) (next : State) (request : Request)
       → step source (Running focus k e w) ≡ next → is_within pages calls next ≡ false → SharedAt source pages calls k e w c

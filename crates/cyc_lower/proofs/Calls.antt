@@ -18,7 +18,7 @@ use Rattle.cyc_plain.specs.declared.instruction.Instruction.TheVariants as instr
 use Rattle.cyc_store.specs.State.{StoreState}
 use Rattle.cyc_plain.specs.State as plain
 use Rattle.cyc_plain.specs.State.{Words, put, copied, Handler, Frame, Configuration}
-use Rattle.cyc_plain.specs.Step.{Choice, operand_word, with_slots, at, advanced, performed, executed}
+use Rattle.cyc_plain.specs.Step.{Choice, operand_word, with_slots, advanced, performed, executed}
 use Rattle.cyc_plain.specs.Step as plain_step
 use Rattle.cyc_plain.proofs.RunLaws.{limited-full}
 use Rattle.cyc_plain.specs.Straight.{At}

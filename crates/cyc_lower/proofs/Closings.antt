@@ -1,9 +1,8 @@
 -- Lexical regions are closed down to a mark, by the store, and it is told how many are open then. The source closes one at a step, and the
 -- store several of them at once.
-use Rattle.std.proofs.Common.{◌≡◌, ◌≢◌, ℕ, suc, ◌+◌, ◌≤◌, ◌<◌, Bool, true, List, [], ◌∷◌, ◌++◌, length, Option, None, Some, slice_get, set, refl, sym, ap, subst, ◌∙◌, arith}
+use Rattle.std.proofs.Common.{◌≡◌, ◌≢◌, ℕ, suc, ◌+◌, ◌≤◌, ◌<◌, true, List, [], ◌∷◌, Option, None, Some, refl, sym, ap, subst, arith}
 use Rattle.std.specs.Prelude.{Contains}
 use Rattle.std.specs.List.{AllByRecursion}
-use Rattle.std.proofs.lemmas.Option.{same_Some, none-some}
 use Rattle.cyc_words.specs.Simulation.{IsDistinct}
 use Rattle.cyc_types.specs.TypedTrees.{Program}
 use Rattle.cyc_words.specs.Demand.{demand_of}
@@ -20,23 +19,23 @@ use Rattle.cyc_plain.specs.Program.{CodePlace, places_of}
 use Rattle.cyc_plain.specs.Straight.{At}
 use Rattle.cyc_plain.specs.State as plain
 use Rattle.cyc_plain.specs.State.{Words, put, Frame, Configuration}
-use Rattle.cyc_plain.specs.Step.{at, advanced, with_slots, served_to, IsServed}
+use Rattle.cyc_plain.specs.Step.{at, served_to}
 use Rattle.cyc_plain.specs.Step as plain_step
 use Rattle.cyc_plain.proofs.Steps.{step_serves}
 use Rattle.cyc_plain.proofs.SlotLaws.{put-same, put-other}
 use Rattle.cyc_meaning.specs.FrameCount.{words_of_all}
-use Rattle.cyc_meaning.specs.State.{Region, Object, World, closed, Environment, Entry, CloseLexical, Focus, State, Running}
+use Rattle.cyc_meaning.specs.State.{Object, World, closed, Environment, Entry, CloseLexical, Focus, State, Running}
 use Rattle.cyc_meaning.specs.Step.{step}
 use Rattle.cyc_objects.specs.Tables.{Tables}
 use Rattle.cyc_objects.specs.Related.{Related, scopes, closed_to}
-use Rattle.cyc_objects.proofs.Closing.{scopes-same, scopes-closed, down-less, closed-behind, closed-at_once, refusal-close_to}
+use Rattle.cyc_objects.proofs.Closing.{scopes-closed, down-less, closed-behind, closed-at_once, refusal-close_to}
 use Rattle.cyc_objects.proofs.Scopes.{Ends}
 use Rattle.cyc_lower.specs.Slots.{global_types}
 use Rattle.cyc_lower.specs.Lowering.{lower_program, scopes_of}
 use Rattle.cyc_lower.proofs.Slots.{scopes_behind}
 use Rattle.cyc_lower.proofs.Data.{data_behind}
 use Rattle.cyc_lower.proofs.Stands.{ToldAt, ClosedAt}
-use Rattle.cyc_lower.proofs.Relation.{IsTold, HasScopes, IsAhead, store_by, silent, scopes_in, Waiting, DataAt, ScopesBy, SharedBy, SharedAt, Matches, code_of, bounds_at, types_at}
+use Rattle.cyc_lower.proofs.Relation.{IsTold, HasScopes, store_by, silent, scopes_in, Waiting, DataAt, ScopesBy, SharedBy, SharedAt, Matches, code_of, bounds_at, types_at}
 use Rattle.cyc_lower.proofs.Matched.{Inside, IsMatched, Executes, executes, by_places, place_in, known, apart, elsewhere, output_way, inside_within}
 
 -- what the word holds then

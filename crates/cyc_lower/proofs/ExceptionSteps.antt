@@ -1,5 +1,5 @@
 -- The steps of exceptions: a `try` is entered, an exception is thrown, and comes to the clauses of a handler.
-use Rattle.std.proofs.Common.{◌≡◌, ◌≢◌, ℕ, suc, ◌+◌, ◌≤◌, ◌<◌, Bool, true, false, List, [], ◌∷◌, length, Option, None, Some, slice_get, refl, sym, ap, subst, ◌∙◌, arith, inl, inr}
+use Rattle.std.proofs.Common.{◌≡◌, ◌≢◌, ℕ, suc, ◌+◌, ◌≤◌, ◌<◌, Bool, true, false, List, [], ◌∷◌, length, Option, None, Some, refl, sym, ap, subst, ◌∙◌, arith, inl, inr}
 use Rattle.std.specs.List.{AllByRecursion}
 use Rattle.cyc_words.specs.Simulation.{IsDistinct}
 use Rattle.std.specs.Prelude.{Contains, ◌==◌, ◌%◌, ◌^◌, not, if◌then◌else◌}
@@ -13,7 +13,6 @@ use Rattle.cyc_types.specs.TypedTrees as typed
 use Rattle.cyc_plain.specs.declared.instruction.Comparison.TheVariants as comparisons
 use Rattle.cyc_plain.specs.declared.instruction.Operand.{Operand}
 use Rattle.cyc_plain.specs.declared.instruction.Operand.TheVariants as operands
-use Rattle.cyc_plain.specs.declared.instruction.Instruction.{Instruction}
 use Rattle.cyc_plain.specs.declared.instruction.Instruction.TheVariants as instructions
 use Rattle.cyc_plain.specs.declared.limits.TheConstants.{RECORD_WORDS}
 use Rattle.cyc_plain.specs.Program.{CodePlace, places_of}
@@ -21,19 +20,19 @@ use Rattle.cyc_plain.specs.declared.instruction.Request.TheVariants as requests
 use Rattle.cyc_plain.specs.Straight.{At}
 use Rattle.cyc_plain.specs.State as plain
 use Rattle.cyc_plain.specs.State.{Words, put, copied, Activation, Frame, Configuration}
-use Rattle.cyc_plain.specs.Step.{Choice, at, with_slots, advanced, operand_word, is_intact, lands, throws, tries, opens, performed}
+use Rattle.cyc_plain.specs.Step.{Choice, at, with_slots, advanced, operand_word, lands, throws, tries, opens, performed}
 use Rattle.cyc_plain.specs.Step as plain_step
 use Rattle.cyc_plain.proofs.SlotLaws.{put-same, put-other, copied-inside, copied-below, copied-above}
 use Rattle.cyc_plain.specs.Operators.{compares}
-use Rattle.cyc_meaning.specs.Values.{Value, Int, Operand as Kinded, words_of_kind}
-use Rattle.cyc_meaning.specs.State.{World, Environment, variable, made, opened, closed, with_local, region_at, ThrowWith, Entry, Needs, NeedsPlace, Discard, Rest, Join, Loop, CloseRegion, CloseLexical, EndLoan, Handler, Caller, Main, Focus, Evaluating, Executing, Proceeding, Naming, Throwing, Catching, Running, Ended, State, Region, Access}
+use Rattle.cyc_meaning.specs.Values.{Int, Operand as Kinded, words_of_kind}
+use Rattle.cyc_meaning.specs.State.{World, Environment, variable, made, opened, closed, with_local, region_at, ThrowWith, Entry, Needs, NeedsPlace, Discard, Rest, Join, Loop, CloseRegion, CloseLexical, EndLoan, Handler, Caller, Main, Evaluating, Executing, Proceeding, Naming, Throwing, Catching, Running, Ended, State, Region, Access}
 use Rattle.cyc_meaning.specs.Nesting.{IsNested}
 use Rattle.cyc_meaning.specs.Regions.{closing_lexical}
-use Rattle.cyc_meaning.specs.Step.{inside, region_end, step}
+use Rattle.cyc_meaning.specs.Step.{inside}
 use Rattle.cyc_meaning.specs.Exceptions.{catches}
 use Rattle.cyc_lower.specs.declared.statements.Exits.{Exits}
 use Rattle.cyc_lower.specs.Slots.{slot_of}
-use Rattle.cyc_lower.specs.Lowering.{tag_operand, other_jump, lower_program, inside_try, scopes_of}
+use Rattle.cyc_lower.specs.Lowering.{tag_operand, lower_program, inside_try, scopes_of}
 use Rattle.cyc_objects.specs.Tables.{Variable, Tables, with_row, with_handle}
 use Rattle.cyc_objects.specs.Related as objects
 use Rattle.cyc_objects.proofs.Scopes.{scopes-counted, ends-newest}
@@ -42,11 +41,11 @@ use Rattle.cyc_objects.proofs.Values.{Is-grows, Grows-row, Grows-handle}
 use Rattle.cyc_lower.proofs.Slots.{slot-room, room-inside}
 use Rattle.cyc_lower.proofs.Widths.{kind_positive, HasRoom, Outside}
 use Rattle.cyc_lower.proofs.Moves.{moved_slots, put_elsewhere, moves, moved_is, moved_elsewhere}
-use Rattle.cyc_lower.proofs.Stands.{ThrownAt, CaughtAt, ItemsAt, ClausesAt, KeptAt, RestoredAt}
+use Rattle.cyc_lower.proofs.Stands.{CaughtAt, ItemsAt, ClausesAt, KeptAt, RestoredAt}
 use Rattle.cyc_lower.proofs.Sharing.{shared_less, shared_declared, row_declared, shared_opened, shared_closed, shared_left}
-use Rattle.cyc_lower.proofs.Relation.{behind_records, scopes_in, IsTold, IsKept, HasScopes, SharedBy, IsIntact, HandlersStand, CatchesAt, CaughtBy, DataIn, types_at, starts_at, held, callers, homes, Shared, SharedAt, StatementStack, Related, Matches, as_operand, behind_statement, in_place, by_jumps, code_of, bounds_at, base_of, floor, Arrives, DataAt}
-use Rattle.cyc_lower.proofs.Data.{handlers_same, handlers_beside, data_written, data_declared, data_returned, data_grows, record_below}
-use Rattle.cyc_lower.proofs.Accesses.{IsWell, is_declared, is_closed, home_there}
+use Rattle.cyc_lower.proofs.Relation.{behind_records, scopes_in, IsTold, IsKept, HasScopes, SharedBy, IsIntact, HandlersStand, DataIn, types_at, starts_at, held, callers, SharedAt, StatementStack, Matches, as_operand, behind_statement, in_place, by_jumps, code_of, bounds_at, floor, Arrives, DataAt}
+use Rattle.cyc_lower.proofs.Data.{handlers_beside, data_written, data_declared, data_returned, data_grows}
+use Rattle.cyc_lower.proofs.Accesses.{is_declared, is_closed, home_there}
 use Rattle.cyc_lower.proofs.Matched.{Inside, inside_by, inside_within, IsMatched, Executes, executes, by_places, known, elsewhere, output_way, silently, by_one, by_one_printed, by_two, place_in}
 use Rattle.cyc_lower.proofs.Closings.{closing_rest, closing_distinct, closing_known, closing_apart, closing_executes, data_told, shared_behind, settled}
 use Rattle.cyc_lower.proofs.Handling.{intact, closes_here, newest_open, caught_by, raised}

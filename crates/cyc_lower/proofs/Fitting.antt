@@ -28,10 +28,10 @@ use Rattle.cyc_types.specs.Numbered.{Numbering, signatures_of, IsSignature, argu
 use Rattle.cyc_meaning.specs.Pointers.{result_kind as operator_kind}
 use Rattle.cyc_lower.specs.Lowerable.{IsLowerable, IsLowerableConverted, AreLowerableArguments, AreLowerableOperations, IsLowerableReturn, IsLowerableInitial, IsLowerableStatement, AreLowerableItems, AreLowerableFunctions, IsLowerableProgram, is_comparison, are_sums, stands_alone, IsLowerableCell, IsLowerableObject, IsLowerableSide, IsLowerableThrown, IsLowerableCaught, AreLowerableClauses, is_converted, is_pointer}
 use Rattle.cyc_store.specs.declared.range.TheConstants.{MOST_BLOCK_WORDS}
-use Rattle.cyc_meaning.specs.Values.{kind_of, is_thin, words_of_kind, is_kind}
+use Rattle.cyc_meaning.specs.Values.{kind_of, is_thin, words_of_kind}
 use Rattle.cyc_meaning.specs.FrameCount.{result_words, words_of_all, operand_words}
 use Rattle.cyc_lower.specs.Slots.{Types, counted, global_types}
-use Rattle.cyc_lower.specs.Lowering.{types_of, are_as_wide, passed_words, all_passed, results_of, left_kind, scopes_of, is_handle, may_open, scopes_if, lower_globals}
+use Rattle.cyc_lower.specs.Lowering.{types_of, passed_words, all_passed, results_of, left_kind, scopes_of, is_handle, may_open, scopes_if, lower_globals}
 use Rattle.cyc_lower.proofs.Widths.{kind_of_result, result_kind, called_kind, given, passed_kind, type_words, HasRoom, HasGlobal, chain_kind, HasField}
 use Rattle.cyc_lower.proofs.Slots.{words-there, words_positive}
 use Rattle.cyc_plain.proofs.Placed.{below_of_get}

@@ -1,5 +1,5 @@
 -- What becomes of the open handlers where a statement leaves some of them.
-use Rattle.std.proofs.Common.{◌≡◌, ℕ, suc, ◌+◌, ◌≤◌, ◌<◌, Bool, true, false, List, [], ◌∷◌, Option, None, Some, refl, sym, ap, subst, ◌∙◌, arith}
+use Rattle.std.proofs.Common.{◌≡◌, ℕ, suc, ◌+◌, ◌<◌, Bool, true, false, List, [], ◌∷◌, Option, None, Some, refl, sym, ap, subst, ◌∙◌, arith}
 use Rattle.std.specs.Prelude.{◌==◌, if◌then◌else◌}
 use Rattle.std.proofs.lemmas.Bool.{eq-eqb, eqb-true, and_from, false_from_ne_true}
 use Rattle.std.proofs.lemmas.Option.{same_Some, none-some}
@@ -18,7 +18,7 @@ use Rattle.cyc_lower.specs.declared.statements.Opened.{Opened}
 use Rattle.cyc_lower.specs.Lowering.{outermost, with_handler, with_mark, scopes_of}
 use Rattle.cyc_lower.proofs.Weights.{weight}
 use Rattle.cyc_lower.proofs.Stands.{HandlersAt, MarksAt}
-use Rattle.cyc_lower.proofs.Relation.{IsIntact, HandlersStand, left_by, SharedAt, SharedBy, StatementStack, Related, Matches, code_of, bounds_at, types_at, base_of, floor, scopes_in, IsTold, IsMark, HasScopes, Newest, opened_by, CaughtBy, DataIn}
+use Rattle.cyc_lower.proofs.Relation.{IsIntact, HandlersStand, left_by, SharedAt, SharedBy, StatementStack, Related, Matches, code_of, bounds_at, types_at, floor, scopes_in, IsTold, IsMark, HasScopes, Newest, opened_by, CaughtBy, DataIn}
 use Rattle.cyc_lower.proofs.Sharing.{shared_ahead}
 use Rattle.cyc_lower.proofs.Data.{calls_counted, record_below}
 use Rattle.cyc_lower.proofs.Matched.{IsMatched, silently, by_one}

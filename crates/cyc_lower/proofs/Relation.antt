@@ -44,7 +44,7 @@ use Rattle.cyc_lower.specs.declared.statements.Exits.{Exits}
 use Rattle.cyc_lower.specs.declared.statements.Opened.{Opened}
 use Rattle.cyc_meaning.specs.Pointers.{result_kind as operator_kind}
 use Rattle.cyc_lower.specs.Slots.{Types, Starts, starts_of, slot_of, global_of, global_types}
-use Rattle.cyc_lower.specs.Lowering.{most_elements, unary_operator, failing_comparison, operand_of, move_of, low_byte, converts_there, all_passed, compared_of, break_target, continue_target, results_of, lower_program, outside_loops, slot_types, raises_of, right_slot, tag_operand, followed_operand, reached_operand, globals_of, scopes_of, nothing_opened, with_handler, with_mark, inside_try, inside_region, behind_record_in}
+use Rattle.cyc_lower.specs.Lowering.{unary_operator, failing_comparison, operand_of, move_of, low_byte, converts_there, all_passed, compared_of, break_target, continue_target, results_of, lower_program, outside_loops, slot_types, raises_of, right_slot, tag_operand, followed_operand, reached_operand, globals_of, scopes_of, nothing_opened, with_handler, with_mark, inside_try, inside_region, behind_record_in}
 use Rattle.cyc_lower.proofs.Widths.{kind_of_result, given, called_kind, HasRoom, Outside, chain_kind, HasGlobal, made_kind}
 use Rattle.cyc_lower.proofs.Stands.{BegunAt, ElementsAt, CheckAt, ConversionAt, PlaceAt, OperatorAt, TruthAt, CopyAt, ExpressionAt, ArgumentsAt, OperationsAt, ValueAt, ConditionAt, FailingAt, ComparesAt, DiscardedAt, StatementAt, ItemsAt, PointerAt, StoresAt, ObjectAt, AddressAt, ConvertedOperandAt, FreedAt, HasSide, SideAt, ReadAt, WriteAt, ExchangeAt, LeaveAt, ClausesAt, CountAt, SavedAt, LoadedAt, FollowedAt, ReachedAt, GlobalAt, ClosedAt, MarksAt, RestoredAt, MadeAt, NamedAt}
 
@@ -407,7 +407,7 @@ module _ (source : Program) where
   abbrev pub opened_by : (loop : Bool) → ℕ → List Entry → Opened
   opened_by loop g [] = nothing_opened
   opened_by loop g (Loop condition body ∷ k) = if loop then nothing_opened else opened_by loop g k
-  opened_by loop g (Handler clauses ∷ k) = with_handler (opened_by loop g k) (floor g k)
+  opened_by loop g (Handler handler ∷ k) = with_handler (opened_by loop g k) (floor g k)
   opened_by loop g (CloseLexical region ∷ k) = with_mark (opened_by loop g k) (floor g k)
   opened_by loop g (Caller e ∷ k) = nothing_opened
   opened_by loop g (Main ∷ k) = nothing_opened

@@ -1,9 +1,8 @@
 -- Lexical regions are left by `break`, `continue` and `return`: the plain program closes them where the source leaves the outermost of them.
-use Rattle.std.proofs.Common.{◌≡◌, ℕ, suc, ◌<◌, Bool, List, ◌∷◌, length, Option, None, Some, refl, sym, subst, ◌∙◌, arith}
+use Rattle.std.proofs.Common.{◌≡◌, ℕ, suc, ◌<◌, Bool, List, ◌∷◌, Option, None, Some, refl, sym, subst, arith}
 use Rattle.cyc_types.specs.TypedTrees.{Program}
-use Rattle.cyc_store.specs.Services as services
 use Rattle.cyc_plain.specs.State as plain
-use Rattle.cyc_plain.specs.State.{Words, Configuration}
+use Rattle.cyc_plain.specs.State.{Configuration}
 use Rattle.cyc_meaning.specs.State.{Region, World, Found, region_at, closed, Environment, Entry, CloseLexical, Focus, Running}
 use Rattle.cyc_meaning.specs.Nesting.{IsNested}
 use Rattle.cyc_meaning.specs.Step.{step}

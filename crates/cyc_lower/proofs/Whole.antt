@@ -11,8 +11,8 @@ use Rattle.cyc_types.specs.Types.{Ty, words_of}
 use Rattle.cyc_types.specs.Types as types
 use Rattle.cyc_types.specs.typing.WellTyped.{IsWellTypedGlobal, AreWellTypedGlobals}
 use Rattle.cyc_words.specs.Simulation as simulation
-use Rattle.cyc_words.specs.Simulation.{Failed, Matching, NeverFails, Follows, Steps}
-use Rattle.cyc_store.specs.State.{StoreState, sizes_in}
+use Rattle.cyc_words.specs.Simulation.{Failed, Matching, Steps}
+use Rattle.cyc_store.specs.State.{StoreState}
 use Rattle.cyc_store.specs.New.{IsNew}
 use Rattle.cyc_store.specs.declared.range.TheConstants.{MOST_PAGES}
 use Rattle.cyc_store.proofs.NewStores.{new_demand}
@@ -32,6 +32,9 @@ use Rattle.cyc_meaning.specs.Run.{start, is_within, limited_step}
 use Rattle.cyc_lower.specs.Lowering.{initial_word, lower_global, lower_program, lower_globals, scopes_of, scopes_if, scopes_words, may_open}
 use Rattle.cyc_lower.specs.Lowered.{FollowsSource}
 use Rattle.cyc_meaning.specs.SourceMachine.{status_in}
+use Rattle.cyc_meaning.specs.Nesting.{IsNested, Nests}
+use Rattle.cyc_meaning.proofs.Nested.{nests_start}
+use Rattle.cyc_lower.proofs.Scoped.{nests_kept}
 use Rattle.cyc_objects.specs.Tables.{Variable, Tables, first_tables}
 use Rattle.cyc_objects.specs.Related as objects
 use Rattle.cyc_objects.proofs.Start.{start-related}
@@ -41,7 +44,7 @@ use Rattle.cyc_lower.proofs.Data.{no_locals_hold, IsWord-is}
 use Rattle.cyc_lower.proofs.Accesses.{IsWell}
 use Rattle.cyc_lower.proofs.Matched.{IsMatched, above, below, matching}
 use Rattle.cyc_lower.proofs.Evaluations.{evaluating, locating}
-use Rattle.cyc_lower.proofs.Keeping.{keeping, stepped_keeping}
+use Rattle.cyc_lower.proofs.Keeping.{keeping, stepped_keeping, keeping_above, stepped_above}
 use Rattle.cyc_lower.proofs.Allocations.{writing}
 use Rattle.cyc_lower.proofs.Arrays.{beginning, repeating}
 use Rattle.cyc_lower.proofs.Values.{given}
@@ -125,28 +128,28 @@ globals_many (g ∷ gs) = omega (arith, globals_many gs)
 module _ (source : Program) (pages calls : ℕ) (well_typed : AreWellTypedGlobals source.globals) (stand : FunctionsStand source pages calls) (of_words : HasWords (lower_program source)) where
   -- ---- all steps
 
-  stepping : (focus : Focus) (k : List Entry) (e : Environment) (w : World) (c : Configuration) → IsWell (step source (Running focus k e w)) → plain.HoldsWords (plain.Running c) → Related source pages calls focus k e w c
+  stepping : (focus : Focus) (k : List Entry) (e : Environment) (w : World) (c : Configuration) → IsWell (step source (Running focus k e w)) → IsNested k e w → plain.HoldsWords (plain.Running c) → Related source pages calls focus k e w c
       → IsMatched source pages calls (Running focus k e w) (plain.Running c)
-  stepping (Evaluating a) k e w c well words related = evaluating source pages calls a k e w c well related
-  stepping (Locating x) k e w c well words related = locating source pages calls x k e w c well related
-  stepping (Given v) k e w c well words related = given source pages calls v k e w c of_words words well related
-  stepping (Executing s) k e w c well words related = executing source pages calls s k e w c well related
-  stepping Proceeding k e w c well words related = proceeding source pages calls k e w c well related
-  stepping (Calling f before) k e w c well words related = calling source pages calls stand f before k e w c well related
-  stepping (Entering h arguments) k e w c well words related = entering source pages calls h arguments k e w c well related
-  stepping (Binding n types arguments body) k e w c well words related = binding source pages calls n types arguments body k e w c well related
-  stepping Breaking k e w c well words related = breaking source pages calls k e w c well related
-  stepping Continuing k e w c well words related = continuing source pages calls k e w c well related
-  stepping (Returning v) k e w c well words related = returning source pages calls v k e w c well related
-  stepping (Throwing tag value) k e w c well words related = throwing source pages calls tag value k e w c well related
-  stepping (Catching tag value handler) k e w c well words related = catching source pages calls tag value handler k e w c well related
-  stepping (Naming n v js) k e w c well words related = naming source pages calls n v js k e w c well related
-  stepping (GivenPlace place) k e w c well words related = given_place source pages calls place k e w c well related
-  stepping (Writing writes (Some pointer)) k e w c well words related = writing source pages calls writes pointer k e w c words well related
-  stepping (Writing writes None) k e w c well words related = writing_sides source pages calls writes k e w c words well related
-  stepping (Beginning owner count level wanted element) k e w c well words related = beginning source pages calls owner count level wanted element k e w c well related
-  stepping (Repeating object count index level wanted element) k e w c well words related = repeating source pages calls object count index level wanted element k e w c well related
-  stepping (Swapping kind left right before) k e w c well words related = swapping source pages calls kind left right before k e w c well related
+  stepping (Evaluating a) k e w c well nested words related = evaluating source pages calls a k e w c well related
+  stepping (Locating x) k e w c well nested words related = locating source pages calls x k e w c well related
+  stepping (Given v) k e w c well nested words related = given source pages calls v k e w c of_words words well related
+  stepping (Executing s) k e w c well nested words related = executing source pages calls s k e w c well related
+  stepping Proceeding k e w c well nested words related = proceeding source pages calls k e w c nested well related
+  stepping (Calling f before) k e w c well nested words related = calling source pages calls stand f before k e w c well related
+  stepping (Entering h arguments) k e w c well nested words related = entering source pages calls h arguments k e w c well related
+  stepping (Binding n types arguments body) k e w c well nested words related = binding source pages calls n types arguments body k e w c well related
+  stepping Breaking k e w c well nested words related = breaking source pages calls k e w c nested well related
+  stepping Continuing k e w c well nested words related = continuing source pages calls k e w c nested well related
+  stepping (Returning v) k e w c well nested words related = returning source pages calls v k e w c nested well related
+  stepping (Throwing tag value) k e w c well nested words related = throwing source pages calls tag value k e w c nested well related
+  stepping (Catching tag value handler) k e w c well nested words related = catching source pages calls tag value handler k e w c well related
+  stepping (Naming n v js) k e w c well nested words related = naming source pages calls n v js k e w c well related
+  stepping (GivenPlace place) k e w c well nested words related = given_place source pages calls place k e w c well related
+  stepping (Writing writes (Some pointer)) k e w c well nested words related = writing source pages calls writes pointer k e w c words well related
+  stepping (Writing writes None) k e w c well nested words related = writing_sides source pages calls writes k e w c words well related
+  stepping (Beginning owner count level wanted element) k e w c well nested words related = beginning source pages calls owner count level wanted element k e w c well related
+  stepping (Repeating object count index level wanted element) k e w c well nested words related = repeating source pages calls object count index level wanted element k e w c well related
+  stepping (Swapping kind left right before) k e w c well nested words related = swapping source pages calls kind left right before k e w c well related
 
   -- what fails is within all limits
   failed_within : (s : State) → status_in (status_of s) ≡ Failed → is_within pages calls s ≡ true
@@ -167,15 +170,20 @@ module _ (source : Program) (pages calls : ℕ) (well_typed : AreWellTypedGlobal
   abbrev matching_words : Matching (above source pages calls) (below source pages calls)
   matching_words = keeping (above source pages calls) (below source pages calls) (matching source pages calls) plain.HoldsWords words_kept
 
-  steps : Steps (above source pages calls) (below source pages calls) matching_words
-  steps (Running focus k e w) (plain.Running c) (related, words) running never =
-      stepped_keeping (above source pages calls) (below source pages calls) (matching source pages calls) plain.HoldsWords words_kept (Running focus k e w) (plain.Running c) words
-      (stepping focus k e w c (goes_well (Running focus k e w) never) words related)
-  steps (Running focus k e w) (plain.Ended ending output input) (related, words) running never = absurd related
-  steps (Running focus k e w) (plain.Stuck output input) (related, words) running never = absurd related
+  -- and of which the source's regions nest
+  abbrev matching_nested : Matching (above source pages calls) (below source pages calls)
+  matching_nested = keeping_above (above source pages calls) (below source pages calls) matching_words Nests (nests_kept source pages calls)
+
+  steps : Steps (above source pages calls) (below source pages calls) matching_nested
+  steps (Running focus k e w) (plain.Running c) ((related, words), nested) running never =
+      stepped_above (above source pages calls) (below source pages calls) matching_words Nests (nests_kept source pages calls) (Running focus k e w) (plain.Running c) nested
+      (stepped_keeping (above source pages calls) (below source pages calls) (matching source pages calls) plain.HoldsWords words_kept (Running focus k e w) (plain.Running c) words
+      (stepping focus k e w c (goes_well (Running focus k e w) never) nested words related))
+  steps (Running focus k e w) (plain.Ended ending output input) ((related, words), nested) running never = absurd related
+  steps (Running focus k e w) (plain.Stuck output input) ((related, words), nested) running never = absurd related
   steps (Ended ending output input) t related running never = absurd (let f : simulation.Ended ending ≡ simulation.Running = running in cc)
-  steps (Dead output input) t (related, words) running never = absurd related
-  steps (Wrong output input) t (related, words) running never = absurd related
+  steps (Dead output input) t ((related, words), nested) running never = absurd related
+  steps (Wrong output input) t ((related, words), nested) running never = absurd related
 
   -- ---- the start
 
@@ -236,11 +244,14 @@ module _ (source : Program) (pages calls : ℕ) (well_typed : AreWellTypedGlobal
   follows_source : (store : StoreState) (input : List ℕ) → IsNew pages store → 1 ≤ pages → pages ≤ MOST_PAGES → 1 ≤ calls → AllByRecursion (λ b. b < 256) input → FollowsSource source (lower_program source) pages calls store input
   follows_source store input new some_page few_pages some_call bytes never =
       let (h, starts, there) = from_start (slice_get source.functions source.main) input refl some_call (never 0 (start source input) refl) in
-      simulates (above source pages calls) (below source pages calls) matching_words steps (lawful (lower_program source) pages calls) [] (start source input) never
+      simulates (above source pages calls) (below source pages calls) matching_nested steps (lawful (lower_program source) pages calls) [] (start source input) never
       (plain_step.start (lower_program source) store input)
       (ap (λ s. status_in (status_of s)) starts) (
-        subst (λ s. Matches source pages calls s (plain_step.start (lower_program source) store input)) (sym starts) (start_related h store input there new some_page few_pages some_call),
-        words_at_start (lower_program source) store input of_words (subst (λ (s : StoreState). stores.AreWords s.memory) (sym new.2) new.1) bytes,
+        (
+          subst (λ s. Matches source pages calls s (plain_step.start (lower_program source) store input)) (sym starts) (start_related h store input there new some_page few_pages some_call),
+          words_at_start (lower_program source) store input of_words (subst (λ (s : StoreState). stores.AreWords s.memory) (sym new.2) new.1) bytes,
+        ),
+        nests_start source input,
       )
 
 -- The lowered program of one that fits does what that does.
