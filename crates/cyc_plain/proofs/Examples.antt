@@ -42,14 +42,14 @@ empty_store = stores.start 3 (λ (address : ℕ). 0)
 
 -- the state of a program after so many steps, with room for so many calls
 abbrev after : ℕ → ℕ → Program → List ℕ → State
-after steps calls p input = run p 3 calls zeros steps (start p empty_store input)
+after steps calls p input = run p 3 calls zeros steps (start p 0x7ffff000 empty_store input)
 
 -- the same from a store with a block of two words
 abbrev two_words : StoreState
 two_words = stores.made_in empty_store 1 (record { address = 0x20000000; size = 2 })
 
 abbrev after_with_block : ℕ → Program → State
-after_with_block steps p = run p 3 1 zeros steps (start p two_words [])
+after_with_block steps p = run p 3 1 zeros steps (start p 0x7ffff000 two_words [])
 
 -- ---- constants and operators
 
@@ -282,7 +282,7 @@ words_are_moved = refl
 -- from a new store of three pages, where each block is made at this address, and each region gets this handle
 abbrev after_calls : (steps : ℕ) → List Instruction → Status
 after_calls steps code =
-    status_of (run (program code) 3 1 (record { contents = λ (slot : ℕ). 0; serving = record { handle = 7; address = 0x20000000; memory = λ (address : ℕ). 0 } }) steps (start (program code) empty_store []))
+    status_of (run (program code) 3 1 (record { contents = λ (slot : ℕ). 0; base = 0; serving = record { handle = 7; address = 0x20000000; memory = λ (address : ℕ). 0 } }) steps (start (program code) 0x7ffff000 empty_store []))
 
 abbrev allocate : (handle words : Operand) → Instruction
 allocate handle words = instructions.Ask (requests.Allocate 2 handle words)
@@ -347,7 +347,7 @@ block_is_freed_once = refl
 abbrev after_throws : (steps : ℕ) → List Instruction → List Instruction → Status
 after_throws steps code callee =
     status_of (run (record { functions = function 0 code ∷ function 0 callee ∷ []; globals = []; main = 0 }) 3 2 zeros steps
-    (start (record { functions = function 0 code ∷ function 0 callee ∷ []; globals = []; main = 0 }) empty_store []))
+    (start (record { functions = function 0 code ∷ function 0 callee ∷ []; globals = []; main = 0 }) 0x7ffff000 empty_store []))
 
 exception_is_caught : after_throws 4 (instructions.Try 0 3 ∷ instructions.Throw (Word 5) (Word 9) ∷ Return 0 ∷ instructions.Finish 1 ∷ []) [] ≡ Ended (Returned (pos 9))
 exception_is_caught = refl

@@ -19,7 +19,8 @@ ghost use Rattle.cyc_words.specs.Simulation.{Run, Path, IsDistinct};
 ghost use Rattle.cyc_words.specs.Simulation as simulation;
 ghost use Rattle.cyc_plain.specs.State.{Words, Configuration, State, HoldsWords, put, copied, output_of, input_of, place_of, status_of};
 ghost use Rattle.cyc_plain.specs.State as state;
-ghost use Rattle.cyc_plain.specs.Step.{Choice, IsServed, Step, asked, call_in, instruction_at, is_within, limited_step, machine, served_to, start, step};
+ghost use Rattle.cyc_plain.specs.Memory.{IsBelow};
+ghost use Rattle.cyc_plain.specs.Step.{Choice, IsServed, Step, asked, call_in, called, instruction_at, is_within, limited_step, machine, served_to, start, step};
 ghost use Rattle.cyc_plain.specs.Straight.{HasAt, AreStraight, executed_in, places_behind};
 ghost use Rattle.cyc_plain.specs.WellFormed.{IsWellFormed, HasWords, DividesByZero, AsksForNoWord, AsksInVain, AsksForHandlers};
 
@@ -37,10 +38,14 @@ pub fn output_grows()
         → (read : List ℕ) × (input_of old ≡ read ++ input_of new) }
 {}
 
-/// From every state there is a step where the store is not called, and where it refuses what it is called for. (Of a
-/// call that it does not refuse the relation says what may be chosen, and the store that is called that something is.)
+/// From every state there is a step where nothing is called, where a function is whose slots have room below, and where the
+/// store refuses what it is called for. (Of a call that it does not refuse the relation says what may be chosen, and the
+/// store that is called that something is.)
 pub fn steps_go_on()
-    ensures free { (program : Program) (pages calls : ℕ) (old : State) → asked program old ≡ None → (new : State) × Step program pages calls old new }
+    ensures free { (program : Program) (pages calls : ℕ) (old : State) → asked program old ≡ None → called program old ≡ None
+        → (new : State) × Step program pages calls old new }
+    ensures called { (program : Program) (pages calls : ℕ) (c : Configuration) (function base : ℕ) → called program (state.Running c) ≡ Some function
+        → IsBelow program function base c.active.base → (new : State) × Step program pages calls (state.Running c) new }
     ensures refused { (program : Program) (pages calls : ℕ) (c : Configuration) (call : Call) (why : Refusal)
         → asked program (state.Running c) ≡ Some call → refusal c.store call ≡ Some why
         → (new : State) × Step program pages calls (state.Running c) new }
@@ -49,8 +54,8 @@ pub fn steps_go_on()
 /// A run keeps its limits: a step that keeps them is the program's own, and one that does not ends the run with `Full`, with
 /// output and input as before it.
 pub fn limits_are_kept()
-    ensures starts { (program : Program) (pages calls : ℕ) (store : StoreState) (input : List ℕ) → IsNew pages store → 1 ≤ pages → 1 ≤ calls
-        → is_within pages calls (start program store input) ≡ true }
+    ensures starts { (program : Program) (pages calls base : ℕ) (store : StoreState) (input : List ℕ) → IsNew pages store → 1 ≤ pages → 1 ≤ calls
+        → is_within pages calls (start program base store input) ≡ true }
     ensures stays { (program : Program) (pages calls count : ℕ) (old new : State) → is_within pages calls old ≡ true
         → Run (machine program pages calls) count old new → is_within pages calls new ≡ true }
     ensures within { (program : Program) (pages calls : ℕ) (choice : Choice) (old : State) → is_within pages calls (step program choice old) ≡ true
@@ -80,16 +85,16 @@ pub fn calls_are_served()
 /// have, where the store refuses what it is called for, not for want of room, and at an instruction that closes a
 /// handler, throws, or returns from a function that opens some.
 pub fn few_get_stuck()
-    ensures { (program : Program) (pages calls count : ℕ) (store : StoreState) (input : List ℕ) (old new : State) → IsWellFormed program
-        → Run (machine program pages calls) count (start program store input) old → status_of old ≡ simulation.Running
+    ensures { (program : Program) (pages calls count base : ℕ) (store : StoreState) (input : List ℕ) (old new : State) → IsWellFormed program
+        → Run (machine program pages calls) count (start program base store input) old → status_of old ≡ simulation.Running
         → Step program pages calls old new → status_of new ≡ simulation.Failed
         → DividesByZero program old ⊎ (AsksForNoWord program old ⊎ (AsksInVain program old ⊎ AsksForHandlers program old)) }
 {}
 
 /// In a run of a program whose numbers are words, from a store of words and on an input of bytes, every value is a word.
 pub fn values_are_words()
-    ensures { (program : Program) (pages calls count : ℕ) (store : StoreState) (input : List ℕ) (new : State) → HasWords program
-        → stores.AreWords store.memory → AllByRecursion (λ b. b < 256) input → Run (machine program pages calls) count (start program store input) new
+    ensures { (program : Program) (pages calls count base : ℕ) (store : StoreState) (input : List ℕ) (new : State) → HasWords program
+        → stores.AreWords store.memory → AllByRecursion (λ b. b < 256) input → Run (machine program pages calls) count (start program base store input) new
         → HoldsWords new }
 {}
 
