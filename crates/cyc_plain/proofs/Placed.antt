@@ -6,7 +6,7 @@ use Rattle.std.specs.Prelude.{All, IsSomeAnd, ◌==◌, if◌then◌else◌, ◌
 use Rattle.std.specs.List.{AllByRecursion}
 use Rattle.cyc_words.specs.Ending.{Uncaught, Full}
 use Rattle.cyc_words.specs.Word.{signed, add_of}
-use Rattle.cyc_store.specs.State.{StoreState, word_at}
+use Rattle.cyc_store.specs.State.{StoreState}
 use Rattle.cyc_store.specs.Services as services
 use Rattle.cyc_store.specs.Services.{Call, Refusal, refusal}
 use Rattle.cyc_plain.specs.declared.instruction.Instruction.{Instruction}
@@ -19,7 +19,7 @@ use Rattle.cyc_words.specs.Simulation as simulation
 use Rattle.cyc_words.specs.Simulation.{Run}
 use Rattle.cyc_plain.specs.Program.{Routine, Program, no_routine, routine_at}
 use Rattle.cyc_plain.specs.State.{put, Handler, Open, Caught, Activation, Frame, Configuration, State, Running, Ended, Stuck, status_of, place_of}
-use Rattle.cyc_plain.specs.Memory.{global_at, slot_at, put_or, with_waiting, memory_at, with_found}
+use Rattle.cyc_plain.specs.Memory.{Range, OfGlobals, OfStore, OfSlots, range_of, global_at, slot_at, put_or, with_waiting, memory_at, with_global, with_slot, with_word}
 use Rattle.cyc_plain.specs.Step.{Choice, gives, operand_word, returns, loads, saves, advanced, asks, is_intact, tries, closes, lands, throws, finishes, call_in, call_of, asked, performed, executed, instruction_at, step, Step, start, machine}
 use Rattle.cyc_plain.specs.WellFormed.{IsInRange, IsRoutine, IsWellFormed, leaves, DividesByZero, AsksForNoWord, AsksInVain, AsksForHandlers}
 use Rattle.cyc_plain.proofs.RunLaws.{limited_either, if_either}
@@ -123,15 +123,22 @@ module _ (program : Program) (well : IsWellFormed program) (choice : Choice) (c 
   loaded destination None next = tt
   loaded destination (Some word) next = (next, handling, waiting)
 
-  written : (address word : ℕ) (stored global slot : Option ℕ) → IsPlacedAt program c.active.function (c.active.next + 1) → IsPlaced program (Running (advanced (with_found program c address word stored global slot)))
-  written address word (Some old) global slot next = (next, handling, waiting)
-  written address word None (Some number) slot next = (next, handling, waiting)
-  written address word None None (Some number) next = (next, handling, waiting)
-  written address word None None None next = (next, handling, waiting_written program c.frames address word waiting)
+  written : (address word : ℕ) (range : Range) → IsPlacedAt program c.active.function (c.active.next + 1) → IsPlaced program (Running (advanced (with_word program c address word range)))
+  written address word OfGlobals next = go (global_at program address)
+    where
+      go : (number : Option ℕ) → IsPlaced program (Running (advanced (with_global c number word)))
+      go (Some number) = (next, handling, waiting)
+      go None = (next, handling, waiting)
+  written address word OfStore next = (next, handling, waiting)
+  written address word OfSlots next = go (slot_at program c.active address)
+    where
+      go : (slot : Option ℕ) → IsPlaced program (Running (advanced (with_slot program c slot address word)))
+      go (Some number) = (next, handling, waiting)
+      go None = (next, handling, waiting_written program c.frames address word waiting)
 
   saved : (address word : ℕ) (found : Option ℕ) → IsPlacedAt program c.active.function (c.active.next + 1) → IsPlaced program (saves program c address word found)
   saved address word None next = tt
-  saved address word (Some old) next = written address word (word_at c.store address) (global_at program address) (slot_at program c.active address) next
+  saved address word (Some old) next = written address word (range_of address) next
 
   served : (destination : ℕ) (call : Call) (o : Option Refusal) → IsPlacedAt program c.active.function (c.active.next + 1) → IsPlaced program (asks choice.serving c destination call o)
   served destination call None next = (next, handling, waiting)

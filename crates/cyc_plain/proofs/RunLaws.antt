@@ -6,7 +6,7 @@ use Rattle.cyc_words.specs.Ending.{Ending, Uncaught, Full}
 use Rattle.cyc_words.specs.Word.{signed, add_of}
 use Rattle.cyc_words.specs.Prefix.{IsPrefix}
 use Rattle.cyc_words.proofs.PrefixLemmas.{IsPrefix-refl, IsPrefix-append}
-use Rattle.cyc_store.specs.State.{StoreState, word_at}
+use Rattle.cyc_store.specs.State.{StoreState}
 use Rattle.cyc_store.specs.Services as services
 use Rattle.cyc_store.specs.Services.{Call, Refusal, refusal}
 use Rattle.cyc_store.specs.New.{IsNew}
@@ -19,7 +19,7 @@ use Rattle.cyc_words.specs.Simulation as simulation
 use Rattle.cyc_words.specs.Simulation.{Status, IsLawful, Run}
 use Rattle.cyc_plain.specs.Program.{Program, routine_at}
 use Rattle.cyc_plain.specs.State.{Words, AreWords, put, Handler, Open, Caught, Activation, Frame, Configuration, State, Running, Ended, Stuck, output_of, input_of, status_of, place_of}
-use Rattle.cyc_plain.specs.Memory.{IsBelow, global_at, slot_at, memory_at, with_found}
+use Rattle.cyc_plain.specs.Memory.{IsBelow, Range, OfGlobals, OfStore, OfSlots, range_of, global_at, slot_at, memory_at, with_global, with_slot, with_word}
 use Rattle.cyc_plain.specs.Step.{Choice, IsAllowed, MayServe, MayLie, gives, operand_word, returns, loads, saves, advanced, asks, is_intact, tries, closes, lands, throws, finishes, call_in, call_of, asked, callee_of, called, performed, executed, instruction_at, step, is_within, limited, limited_step, Step, start, machine}
 use Rattle.cyc_words.proofs.Simulation.{Run-grows, Run-stays}
 
@@ -75,15 +75,22 @@ loaded : (c : Configuration) (destination : ℕ) (found : Option ℕ) → GoesOn
 loaded c destination None = same c
 loaded c destination (Some word) = same c
 
-written : (program : Program) (c : Configuration) (address word : ℕ) (stored global slot : Option ℕ) → GoesOn c (Running (advanced (with_found program c address word stored global slot)))
-written program c address word (Some old) global slot = same c
-written program c address word None (Some number) slot = same c
-written program c address word None None (Some number) = same c
-written program c address word None None None = same c
+written : (program : Program) (c : Configuration) (address word : ℕ) (range : Range) → GoesOn c (Running (advanced (with_word program c address word range)))
+written program c address word OfGlobals = go (global_at program address)
+  where
+    go : (number : Option ℕ) → GoesOn c (Running (advanced (with_global c number word)))
+    go (Some number) = same c
+    go None = same c
+written program c address word OfStore = same c
+written program c address word OfSlots = go (slot_at program c.active address)
+  where
+    go : (slot : Option ℕ) → GoesOn c (Running (advanced (with_slot program c slot address word)))
+    go (Some number) = same c
+    go None = same c
 
 saved : (program : Program) (c : Configuration) (address word : ℕ) (found : Option ℕ) → GoesOn c (saves program c address word found)
 saved program c address word None = same c
-saved program c address word (Some old) = written program c address word (word_at c.store address) (global_at program address) (slot_at program c.active address)
+saved program c address word (Some old) = written program c address word (range_of address)
 
 served : (serving : services.Choice) (c : Configuration) (destination : ℕ) (call : Call) (o : Option Refusal) → GoesOn c (asks serving c destination call o)
 served serving c destination call None = same c

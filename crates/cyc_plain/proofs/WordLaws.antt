@@ -25,7 +25,7 @@ use Rattle.cyc_words.specs.Simulation.{Run}
 use Rattle.cyc_plain.specs.Program.{Program, CodePlace, no_routine, routine_at}
 use Rattle.cyc_plain.specs.declared.limits.TheConstants.{RECORD_WORDS}
 use Rattle.cyc_plain.specs.State.{Words, AreWords, put, copied, Handler, Open, Caught, Activation, Frame, Configuration, State, Running, Ended, Stuck, place_of, HoldsWords}
-use Rattle.cyc_plain.specs.Memory.{global_at, slot_at, slot_or, word_waiting, put_or, with_waiting, word_found, memory_at, with_found}
+use Rattle.cyc_plain.specs.Memory.{Range, OfGlobals, OfStore, OfSlots, range_of, global_at, slot_at, word_or, word_waiting, put_or, with_waiting, word_in, memory_at, with_global, with_slot, with_word}
 use Rattle.cyc_plain.specs.Step.{Choice, IsAllowed, IsServed, MayServe, HasAnswerWords, gives, operand_word, returns, loads, saves, advanced, told, asks, is_intact, tries, closes, lands, throws, finishes, call_in, call_of, performed, executed, instruction_at, step, start, machine}
 use Rattle.cyc_plain.specs.WellFormed.{IsOfWord, HasWord, HasWords}
 use Rattle.cyc_plain.proofs.RunLaws.{limited_either, if_either}
@@ -103,14 +103,15 @@ abbrev AreWordsOf : Option ℕ → Type 0
 AreWordsOf (Some word) = IsWord word
 AreWordsOf None = Unit {0}
 
+or_word : (number : Option ℕ) (words : Words) (other : Option ℕ) → AreWords words → AreWordsOf other → AreWordsOf (word_or number words other)
+or_word (Some number) words other all rest = all number
+or_word None words other all rest = rest
+
 -- a slot of a call that waits is read, and written
 waiting_word : (program : Program) (frames : List Frame) (address : ℕ) → AreFrames frames → AreWordsOf (word_waiting program frames address)
 waiting_word program [] address all = tt
-waiting_word program (f ∷ frames) address (first, rest) = go (slot_at program f.caller address) (waiting_word program frames address rest)
-  where
-    go : (slot : Option ℕ) → AreWordsOf (word_waiting program frames address) → AreWordsOf (slot_or slot f.caller.slots (word_waiting program frames address))
-    go (Some number) others = first number
-    go None others = others
+waiting_word program (f ∷ frames) address (first, rest) =
+    or_word (slot_at program f.caller address) f.caller.slots (word_waiting program frames address) first (waiting_word program frames address rest)
 
 waiting_words : (program : Program) (frames : List Frame) (address word : ℕ) → AreFrames frames → IsWord word → AreFrames (with_waiting program frames address word)
 waiting_words program [] address word all w = tt
@@ -142,25 +143,32 @@ module _ (program : Program) (choice : Choice) (allowed : AreWords choice.conten
   stored_word address true None = tt
   stored_word address true (Some h) = store address
 
-  found_word : (address : ℕ) (stored global slot : Option ℕ) → AreWordsOf stored → AreWordsOf (word_found program c address stored global slot)
-  found_word address (Some word) global slot is_word = is_word
-  found_word address None (Some number) slot is_word = globals number
-  found_word address None None (Some number) is_word = slots number
-  found_word address None None None is_word = waiting_word program c.frames address frames
+  found_word : (address : ℕ) (range : Range) → AreWordsOf (word_in program c address range)
+  found_word address OfGlobals = or_word (global_at program address) c.globals None globals tt
+  found_word address OfStore = stored_word address (address % 4 == 0) (holder (homes c.store) address)
+  found_word address OfSlots =
+      or_word (slot_at program c.active address) c.active.slots (word_waiting program c.frames address) slots (waiting_word program c.frames address frames)
 
   loaded : (destination : ℕ) (found : Option ℕ) → AreWordsOf found → HoldsWords (loads c destination found)
   loaded destination None is_word = tt
   loaded destination (Some word) is_word = given destination word is_word
 
-  written : (address word : ℕ) (stored global slot : Option ℕ) → IsWord word → HoldsWords (Running (advanced (with_found program c address word stored global slot)))
-  written address word (Some old) global slot w = (slots, frames, globals, stored_words c.store address word (word_at c.store address) store w, input)
-  written address word None (Some number) slot w = (slots, frames, put_words c.globals number word globals w, store, input)
-  written address word None None (Some number) w = (put_words c.active.slots number word slots w, frames, globals, store, input)
-  written address word None None None w = (slots, waiting_words program c.frames address word frames w, globals, store, input)
+  written : (address word : ℕ) (range : Range) → IsWord word → HoldsWords (Running (advanced (with_word program c address word range)))
+  written address word OfGlobals w = go (global_at program address)
+    where
+      go : (number : Option ℕ) → HoldsWords (Running (advanced (with_global c number word)))
+      go (Some number) = (slots, frames, put_words c.globals number word globals w, store, input)
+      go None = (slots, frames, globals, store, input)
+  written address word OfStore w = (slots, frames, globals, stored_words c.store address word (word_at c.store address) store w, input)
+  written address word OfSlots w = go (slot_at program c.active address)
+    where
+      go : (slot : Option ℕ) → HoldsWords (Running (advanced (with_slot program c slot address word)))
+      go (Some number) = (put_words c.active.slots number word slots w, frames, globals, store, input)
+      go None = (slots, waiting_words program c.frames address word frames w, globals, store, input)
 
   saved : (address word : ℕ) (found : Option ℕ) → IsWord word → HoldsWords (saves program c address word found)
   saved address word None w = tt
-  saved address word (Some old) w = written address word (word_at c.store address) (global_at program address) (slot_at program c.active address) w
+  saved address word (Some old) w = written address word (range_of address) w
 
   served : (destination : ℕ) (call : Call) (o : Option Refusal) → (o ≡ None → IsServed c.store call choice.serving) → HoldsWords (asks choice.serving c destination call o)
   served destination call None serves =
@@ -229,8 +237,7 @@ module _ (program : Program) (choice : Choice) (allowed : AreWords choice.conten
       (slots, frames, put_words c.globals global (operand_word c.active.slots source) globals (known source w), store, input)
   performs (instructions.Load destination address offset) w serves =
       let at : ℕ = add_of (operand_word c.active.slots address) offset in
-      loaded destination (memory_at program c at)
-      (found_word at (word_at c.store at) (global_at program at) (slot_at program c.active at) (stored_word at (at % 4 == 0) (holder (homes c.store) at)))
+      loaded destination (memory_at program c at) (found_word at (range_of at))
   performs (instructions.Store address offset source) (first, second, third) serves =
       let at : ℕ = add_of (operand_word c.active.slots address) offset in
       saved at (operand_word c.active.slots source) (memory_at program c at) (known source third)

@@ -1,5 +1,6 @@
--- Memory as loads and stores see it: the words of the store's live blocks, those of the globals, and of each call under way the
--- slots whose address its code takes. Every other slot is private to its call, as a register is: no store by an address changes it.
+-- Memory as loads and stores see it. It has three ranges: the words of the globals, those of the store's live blocks, and of each
+-- call under way the slots whose address its code takes. Every other slot is private to its call, as a register is: no store by an
+-- address changes it.
 use Rattle.std.specs.Prelude.{◌≡◌, ℕ, ◌+◌, ◌-◌, ◌*◌, ◌/◌, ◌%◌, ◌^◌, ◌≤◌, Bool, false, ◌&&◌, ◌||◌, ◌==◌, nat_le, nat_lt, if◌then◌else◌, List, [], ◌∷◌, length, Option, Some, None}
 use Rattle.cyc_store.specs.State.{word_at, saved}
 use Rattle.cyc_store.specs.declared.range.TheConstants.{STORE_BASE, PAGE_WORDS, MOST_PAGES}
@@ -56,15 +57,15 @@ slot_at program a address = numbered (is_pinned (routine_at program a.function).
 
 -- ---- the calls that wait
 
-abbrev pub slot_or : Option ℕ → Words → (other : Option ℕ) → Option ℕ
-slot_or (Some slot) slots other = Some (slots slot)
-slot_or None slots other = other
+abbrev pub word_or : Option ℕ → Words → (other : Option ℕ) → Option ℕ
+word_or (Some number) words other = Some (words number)
+word_or None words other = other
 
 -- the word at an address, where it is that of a slot of one of these calls
 abbrev pub word_waiting : Program → List Frame → (address : ℕ) → Option ℕ
 word_waiting program [] address = None
 word_waiting program (f ∷ frames) address =
-    slot_or (slot_at program f.caller address) f.caller.slots (word_waiting program frames address)
+    word_or (slot_at program f.caller address) f.caller.slots (word_waiting program frames address)
 
 abbrev pub put_or : Option ℕ → (word : ℕ) → Frame → (frames others : List Frame) → List Frame
 put_or (Some slot) word f frames others =
@@ -79,27 +80,40 @@ with_waiting program (f ∷ frames) address word =
 
 -- ---- loads and stores
 
--- by the word of a live block at the address, the global there, and the slot there of the call that is executed
-abbrev pub word_found : Program → Configuration → (address : ℕ) → (stored global slot : Option ℕ) → Option ℕ
-word_found program c address (Some word) global slot = Some word
-word_found program c address None (Some number) slot = Some (c.globals number)
-word_found program c address None None (Some number) = Some (c.active.slots number)
-word_found program c address None None None = word_waiting program c.frames address
+-- which range an address is in
+pub data Range : Type 0 where
+  OfGlobals : Range
+  OfStore : Range
+  OfSlots : Range
+
+abbrev pub range_of : (address : ℕ) → Range
+range_of address =
+    if nat_lt address STORE_BASE then OfGlobals else if nat_lt address slots_base then OfStore else OfSlots
+
+abbrev pub word_in : Program → Configuration → (address : ℕ) → Range → Option ℕ
+word_in program c address OfGlobals = word_or (global_at program address) c.globals None
+word_in program c address OfStore = word_at c.store address
+word_in program c address OfSlots =
+    word_or (slot_at program c.active address) c.active.slots (word_waiting program c.frames address)
 
 -- the word at an address, where there is one
 abbrev pub memory_at : Program → Configuration → (address : ℕ) → Option ℕ
-memory_at program c address =
-    word_found program c address (word_at c.store address) (global_at program address) (slot_at program c.active address)
+memory_at program c address = word_in program c address (range_of address)
 
-abbrev pub with_found : Program → Configuration → (address word : ℕ) → (stored global slot : Option ℕ) → Configuration
-with_found program c address word (Some old) global slot = record c { store = saved c.store address word }
-with_found program c address word None (Some number) slot = record c { globals = put c.globals number word }
-with_found program c address word None None (Some number) =
+abbrev pub with_global : Configuration → Option ℕ → (word : ℕ) → Configuration
+with_global c (Some number) word = record c { globals = put c.globals number word }
+with_global c None word = c
+
+abbrev pub with_slot : Program → Configuration → Option ℕ → (address word : ℕ) → Configuration
+with_slot program c (Some number) address word =
     record c { active = record c.active { slots = put c.active.slots number word } }
-with_found program c address word None None None =
-    record c { frames = with_waiting program c.frames address word }
+with_slot program c None address word = record c { frames = with_waiting program c.frames address word }
+
+abbrev pub with_word : Program → Configuration → (address word : ℕ) → Range → Configuration
+with_word program c address word OfGlobals = with_global c (global_at program address) word
+with_word program c address word OfStore = record c { store = saved c.store address word }
+with_word program c address word OfSlots = with_slot program c (slot_at program c.active address) address word
 
 -- the word at an address is written, where there is one
 abbrev pub with_memory : Program → Configuration → (address word : ℕ) → Configuration
-with_memory program c address word =
-    with_found program c address word (word_at c.store address) (global_at program address) (slot_at program c.active address)
+with_memory program c address word = with_word program c address word (range_of address)
