@@ -8,7 +8,7 @@ use Rattle.cyc_plain.specs.declared.instruction.Instruction.{Instruction}
 use Rattle.cyc_plain.specs.declared.instruction.Instruction.TheVariants as instructions
 use Rattle.cyc_plain.specs.declared.limits.TheConstants.{GLOBALS_BASE}
 use Rattle.cyc_plain.specs.Program.{Program, routine_at}
-use Rattle.cyc_plain.specs.State.{Words, put, Activation, Frame, Configuration}
+use Rattle.cyc_plain.specs.State.{Words, put, Activation, Frame, Configuration, State, Running, Ended, Stuck}
 
 -- ---- where the slots of calls lie
 
@@ -30,6 +30,11 @@ abbrev pub AreBelow : Program → (function base : ℕ) → List Frame → Type 
 AreBelow program function base [] = IsBelow program function base slots_end
 AreBelow program function base (f ∷ frames) =
     IsBelow program function base f.caller.base × AreBelow program f.caller.function f.caller.base frames
+
+abbrev pub LieBelow : Program → State → Type 0
+LieBelow program (Running c) = AreBelow program c.active.function c.active.base c.frames
+LieBelow program (Ended ending output input) = Unit {0}
+LieBelow program (Stuck output input) = Unit {0}
 
 -- ---- which words have an address
 

@@ -1,11 +1,11 @@
 //! Laws of the definitions in `specs/`. Each function does nothing: its contract is the law, and so it is proved with
 //! the crate. The lemmas behind them stand in `proofs/` for other proofs to cite.
 
-ghost use Rattle.std.specs.Prelude.{◌≡◌, ◌≢◌, ◌⊎◌, ℕ, ◌+◌, ◌<◌, ◌≤◌, List, length, ◌++◌, true, false, Some, None, Contains};
+ghost use Rattle.std.specs.Prelude.{◌≡◌, ◌≢◌, ◌⊎◌, ℕ, ◌+◌, ◌*◌, ◌<◌, ◌≤◌, List, length, ◌++◌, true, false, Some, None, slice_get, Contains};
 ghost use Rattle.std.specs.List.{AllByRecursion};
 ghost use Rattle.cyc_words.specs.Ending.{Ending, Full};
 ghost use Rattle.cyc_words.specs.Prefix.{IsPrefix};
-ghost use Rattle.cyc_store.specs.State.{StoreState};
+ghost use Rattle.cyc_store.specs.State.{StoreState, word_at};
 ghost use Rattle.cyc_store.specs.State as stores;
 ghost use Rattle.cyc_store.specs.New.{IsNew};
 ghost use Rattle.cyc_store.specs.Services as services;
@@ -17,9 +17,11 @@ ghost use Rattle.cyc_plain.specs.declared.instruction.Instruction.{Instruction};
 ghost use Rattle.cyc_plain.specs.declared.instruction.Instruction.TheVariants as instructions;
 ghost use Rattle.cyc_words.specs.Simulation.{Run, Path, IsDistinct};
 ghost use Rattle.cyc_words.specs.Simulation as simulation;
-ghost use Rattle.cyc_plain.specs.State.{Words, Configuration, State, HoldsWords, put, copied, output_of, input_of, place_of, status_of};
+ghost use Rattle.cyc_plain.specs.State.{Words, Frame, Configuration, State, HoldsWords, put, copied, output_of, input_of, place_of, status_of};
 ghost use Rattle.cyc_plain.specs.State as state;
-ghost use Rattle.cyc_plain.specs.Memory.{IsBelow};
+ghost use Rattle.cyc_plain.specs.Memory.{slots_base, slots_end, IsBelow, LieBelow, is_pinned, memory_at};
+ghost use Rattle.cyc_plain.specs.declared.limits.TheConstants.{GLOBALS_BASE};
+ghost use Rattle.cyc_store.specs.declared.range.TheConstants.{STORE_BASE};
 ghost use Rattle.cyc_plain.specs.Step.{Choice, IsServed, Step, asked, call_in, called, instruction_at, is_within, limited_step, machine, served_to, start, step};
 ghost use Rattle.cyc_plain.specs.Straight.{HasAt, AreStraight, executed_in, places_behind};
 ghost use Rattle.cyc_plain.specs.WellFormed.{IsWellFormed, HasWords, DividesByZero, AsksForNoWord, AsksInVain, AsksForHandlers};
@@ -96,6 +98,27 @@ pub fn values_are_words()
     ensures { (program : Program) (pages calls count base : ℕ) (store : StoreState) (input : List ℕ) (new : State) → HasWords program
         → stores.AreWords store.memory → AllByRecursion (λ b. b < 256) input → Run (machine program pages calls) count (start program base store input) new
         → HoldsWords new }
+{}
+
+/// The slots of the calls under way lie one below the other, in each state of a run from a start where those of `main` lie so.
+pub fn calls_lie_apart()
+    ensures { (program : Program) (pages calls count base : ℕ) (store : StoreState) (input : List ℕ) (new : State)
+        → IsBelow program program.main base slots_end → Run (machine program pages calls) count (start program base store input) new → LieBelow program new }
+{}
+
+/// A word of memory is found by its address: that of a global, that of the store, and where the calls lie so, each slot that an
+/// instruction of its function names, of the call that is executed and of each one that waits.
+pub fn words_have_addresses()
+    ensures global { (program : Program) (c : Configuration) (number : ℕ) → IsWellFormed program → number < length program.globals
+        → memory_at program c (GLOBALS_BASE + 4 * number) ≡ Some (c.globals number) }
+    ensures store { (program : Program) (c : Configuration) (address : ℕ) → STORE_BASE ≤ address → address < slots_base
+        → memory_at program c address ≡ word_at c.store address }
+    ensures active { (program : Program) (c : Configuration) (slot : ℕ) → IsWellFormed program → LieBelow program (state.Running c)
+        → is_pinned (routine_at program c.active.function).code slot ≡ true
+        → memory_at program c (c.active.base + 4 * slot) ≡ Some (c.active.slots slot) }
+    ensures waiting { (program : Program) (c : Configuration) (k slot : ℕ) (f : Frame) → IsWellFormed program → LieBelow program (state.Running c)
+        → slice_get c.frames k ≡ Some f → is_pinned (routine_at program f.caller.function).code slot ≡ true
+        → memory_at program c (f.caller.base + 4 * slot) ≡ Some (f.caller.slots slot) }
 {}
 
 /// Where an instruction stands is one of the program's places.
