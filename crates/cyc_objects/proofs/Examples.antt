@@ -119,7 +119,7 @@ points-to number row = record {
   address = STORE_BASE;
   kinds = kinds.Int ∷ [];
   row = row;
-  range = record { low = first; high = let fits : 536870916 < 4294967296 = omega arith in fits };
+  range = record { low = let some : 0 < 536870912 = omega arith in some; high = let fits : 536870916 < 4294967296 = omega arith in fits };
   inside = let one : 0 < 1 = omega arith in one;
   at = refl;
 }
