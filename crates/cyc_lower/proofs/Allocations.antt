@@ -11,6 +11,7 @@ use Rattle.cyc_types.specs.declared.typed.Kind.{Kind}
 use Rattle.cyc_types.specs.declared.typed.Kind.TheVariants as kinds
 use Rattle.cyc_types.specs.TypedTrees.{Arguments, NoArguments, MoreArguments, Convert, Program}
 use Rattle.cyc_store.specs.State.{StoreState, demand}
+use Rattle.cyc_store.specs.State as store_state
 use Rattle.cyc_store.specs.Services as services
 use Rattle.cyc_store.specs.Services.{Allocate, IsAllowed, served, refusal, full_at, is_size}
 use Rattle.cyc_store.specs.declared.range.TheConstants.{HEAP, UNIQUE, MOST_BLOCK_WORDS}
@@ -22,7 +23,7 @@ use Rattle.cyc_plain.specs.declared.instruction.Request.{Request}
 use Rattle.cyc_plain.specs.declared.instruction.Request.TheVariants as requests
 use Rattle.cyc_plain.specs.State as plain
 use Rattle.cyc_plain.specs.State.{Words, put, Configuration, with_memory}
-use Rattle.cyc_plain.specs.Step.{Choice, advanced, served_to, performed}
+use Rattle.cyc_plain.specs.Step.{Choice, advanced, operand_word, served_to, performed}
 use Rattle.cyc_plain.specs.Step as plain_step
 use Rattle.cyc_plain.specs.Requests as plain_requests
 use Rattle.cyc_plain.specs.Straight.{At}
@@ -46,14 +47,15 @@ use Rattle.cyc_objects.proofs.Making.{open-home, allocated, allocated-unique, re
 use Rattle.cyc_lower.specs.Lowering.{lower_program}
 use Rattle.cyc_lower.proofs.Widths.{kind_positive, wide_kind, Outside}
 use Rattle.cyc_lower.proofs.Stands.{StoresAt, ObjectAt}
-use Rattle.cyc_lower.proofs.Relation.{types_on, starts_on, IsWord, IsIn, IsObject, words_held, height, Holds, HoldsFrom, held, callers, homes, silent, DataIn, SharedAt, in_temporary, into_slot, LandsStack, ValueStack, Matches, code_of, bounds_at, types_at, base_of, top, IsHandleOf, contents, floor}
+use Rattle.cyc_lower.proofs.Relation.{types_on, starts_on, IsWord, IsIn, IsObject, words_held, height, Holds, HoldsFrom, held, callers, homes, silent, DataIn, SharedAt, in_temporary, into_slot, LandsMade, ValueStack, Matches, code_of, bounds_at, types_at, base_of, top, IsHandleOf, HasHandle, contents, floor}
+use Rattle.cyc_lower.proofs.Handles.{has_handle}
 use Rattle.cyc_lower.proofs.Data.{Is-same, height-least, one_word, Holds-same, Holds-rest, Holds-grows, HoldsFrom-grows, in_order, words-reverse, data_above, data_grows, variables_grow, contents_made, data_written}
 use Rattle.cyc_lower.proofs.Accesses.{IsWell, is_fitting}
 use Rattle.cyc_lower.proofs.Paths.{by_path}
 use Rattle.cyc_lower.proofs.WideCells.{store_links, store_path, store_last, shared_stored, data_stored}
 use Rattle.cyc_lower.proofs.CellWrites.{SameVariables, data_beside, cell_is_there, saves_there, shared_saved, data_saved}
 use Rattle.cyc_lower.proofs.Matched.{IsMatched, below, silently, by_places, by_one, shared_way, shared_within, place_in, known, Executes}
-use Rattle.cyc_lower.proofs.Evaluations.{IsStep, landed_moved}
+use Rattle.cyc_lower.proofs.Evaluations.{IsStep, made_moved}
 
 -- a sum that does not wrap
 add_is : (a b : ℕ) → a + b < 4294967296 → add_of a b ≡ a + b
@@ -110,6 +112,14 @@ pub record Makes (t : Tables) (w : World) (s : StoreState) (owner : Owner) (hand
   pub related : (choice : services.Choice) → refusal s (Allocate handle (block_size cells)) ≡ None → IsAllowed s (Allocate handle (block_size cells)) choice
       → objects.Related (with_row t (Placed choice.address (kinds_of cells))) (silent new) (served s (Allocate handle (block_size cells)) choice)
 
+-- a store has as many pages with a block more
+asked_pages : (s : StoreState) (handle words : ℕ) (choice : services.Choice) → (served s (Allocate handle words) choice).pages ≡ s.pages
+asked_pages s handle words choice = by (handle == UNIQUE)
+  where
+    by : (unique : Bool) → (if unique then store_state.made_unique s (services.block_of handle words choice) else store_state.made_in s handle (services.block_of handle words choice)).pages ≡ s.pages
+    by true = refl
+    by false = refl
+
 -- a region where something is made is open
 region_there : (a : Access Region) (region : ℕ) (cells : List Cell) (w new : World) → created_in w region a cells ≡ Found new → (r : Region) × (a ≡ Found r)
 region_there (Found r) region cells w new found = (r, refl)
@@ -120,17 +130,17 @@ cells_sized : (cells : List Cell) → block_size cells ≤ MOST_BLOCK_WORDS → 
 cells_sized cells few = and_from _ _ (le-leb 1 (block_size cells) (le-max_left 1 (words_of_cells cells))) (le-leb (block_size cells) MOST_BLOCK_WORDS few)
 
 module _ {t : Tables} {w : World} {s : StoreState} (related : objects.Related t (silent w) s) (cells : List Cell) (blank : AreBlank cells) (few : block_size cells ≤ MOST_BLOCK_WORDS) where
-  -- in the heap
-  made_there : (r : Region) → region_at w heap_number ≡ Found r → Makes t w s (InRegion heap_number) HEAP cells (made_in w heap_number r cells)
-  made_there r found =
-      let (there, kept) = open-home related heap_number HEAP r found related.heap in record {
-        creates = ap (λ a. created_in w heap_number a cells) found;
+  -- in a region that is open
+  made_there : (region handle : ℕ) (r : Region) → region_at w region ≡ Found r → slice_get t.handles region ≡ Some (Some handle) → Makes t w s (InRegion region) handle cells (made_in w region r cells)
+  made_there region handle r found entry =
+      let (there, kept) = open-home related region handle r found entry in record {
+        creates = ap (λ a. created_in w region a cells) found;
         joined = refl;
         output = refl;
         input = refl;
-        pages = λ choice. refl;
-        refuses = refusal-allocate related heap_number HEAP r cells there kept related.heap (cells_sized cells few);
-        related = λ choice free allowed. allocated related heap_number HEAP r cells there kept related.heap choice blank free allowed;
+        pages = λ choice. asked_pages s handle (block_size cells) choice;
+        refuses = refusal-allocate related region handle r cells there kept entry (cells_sized cells few);
+        related = λ choice free allowed. allocated related region handle r cells there kept entry choice blank free allowed;
       }
 
   -- an object with a pointer of its own
@@ -145,11 +155,10 @@ module _ {t : Tables} {w : World} {s : StoreState} (related : objects.Related t 
     related = λ choice free allowed. allocated-unique related cells choice blank (omega (arith, few)) free allowed;
   }
 
-  pub made_for : (owner : Owner) (handle : ℕ) (made : World) → IsHandleOf owner handle → created w owner cells ≡ Found made → (new : World) × Makes t w s owner handle cells new
-  made_for (InRegion region) handle made (region_is, handle_is) creates =
-      let (r, found) = region_there (region_at w heap_number) heap_number cells w made (subst (λ n. created_in w n (region_at w n) cells ≡ Found made) region_is creates) in
-      let new = made_in w heap_number r cells in
-      (new, subst (λ h. Makes t w s (InRegion region) h cells new) (sym handle_is) (subst (λ n. Makes t w s (InRegion n) HEAP cells new) (sym region_is) (made_there r found)))
+  pub made_for : (owner : Owner) (handle : ℕ) (made : World) → HasHandle t owner handle → created w owner cells ≡ Found made → (new : World) × Makes t w s owner handle cells new
+  made_for (InRegion region) handle made entry creates =
+      let (r, found) = region_there (region_at w region) region cells w made creates in
+      (made_in w region r cells, made_there region handle r found entry)
   made_for (Unique true) handle made handle_is creates = (made_unique w cells, subst (λ h. Makes t w s (Unique true) h cells (made_unique w cells)) (sym handle_is) made_alone)
   made_for (Unique false) handle made owned creates = absurd owned
 
@@ -297,23 +306,25 @@ module _ (source : Program) (pages calls : ℕ) where
         some_cells (u ∷ us) one = omega arith
 
   -- an object of values that stand in slots
-  pub made_object : (owner : Owner) (handle : ℕ) → IsHandleOf owner handle → (focus : Focus) (k₀ k : List Entry) (e : Environment) (w : World) (c : Configuration) (vs : List Kinded) (d q : ℕ)
-      → step source (Running focus k₀ e w) ≡ makes_of owner vs k e w
+  pub made_object : (owner : Owner) (handle : Operand) (focus : Focus) (k₀ k : List Entry) (e : Environment) (w : World) (c : Configuration) (vs : List Kinded) (d q : ℕ)
+      → IsHandleOf owner handle (top source c.active.function k) k → step source (Running focus k₀ e w) ≡ makes_of owner vs k e w
       → IsWell (makes_of owner vs k e w) → SharedAt source pages calls k₀ e w c → (shared : SharedAt source pages calls k e w c) → DataIn source shared.tables c.active.slots k e w c
       → Holds shared.tables c.active.slots (floor source c.active.function k) (held k) → HoldsFrom shared.tables c.active.slots (top source c.active.function k) vs
       → ObjectAt (code_of source c.active.function) (bounds_at source c.active.function) (types_on source c.active.function k) handle (length vs) (words_held vs) (top source c.active.function k) d c.active.next q
-      → LandsStack source c.active.function e.locals kinds.NonNull d q c.frames k → IsMatched source pages calls (Running focus k₀ e w) (plain.Running c)
-  made_object owner handle owned focus k₀ k e w c vs d q does well shared₀ shared facts holds values (m, single, some, few, ask, stores, move, end) lands =
+      → LandsMade source c.active.function e.locals kinds.NonNull d q c.frames k → IsMatched source pages calls (Running focus k₀ e w) (plain.Running c)
+  made_object owner handle focus k₀ k e w c vs d q owned does well shared₀ shared facts holds values (m, single, some, few, ask, stores, move, end) lands =
       let t = top source c.active.function k in
+      let word = operand_word c.active.slots handle in
+      let has = has_handle shared.tables c.active.slots (floor source c.active.function k) owner handle k shared.related.heap owned holds in
       let cells = blanks_of vs in
       let (made, creates) = object_made (created w owner cells) (length w.objects) vs k e w well in
-      let (new, makes) = made_for shared.related cells (operands-blank vs) (size_fits vs some few) owner handle made owned creates in
+      let (new, makes) = made_for shared.related cells (operands-blank vs) (size_fits vs some few) owner word made has creates in
       let pointer : Kinded = record { kind = kinds.NonNull; value = Thin (length w.objects) 0 } in
       let next = Running (Writing (writes_from (length w.objects) 0 vs) (Some pointer)) k e new in
       let is_next : step source (Running focus k₀ e w) ≡ next = does ∙ ap (λ a. filled a (length w.objects) vs k e w) makes.creates in
-      let request = requests.Allocate (t + words_held vs) (operands.Word handle) (operands.Word (block_size cells)) in
+      let request = requests.Allocate (t + words_held vs) handle (operands.Word (block_size cells)) in
       let here : At (code_of source c.active.function) c.active.next (instructions.Ask request)
-      = subst (λ n. At (code_of source c.active.function) c.active.next (instructions.Ask (requests.Allocate (t + words_held vs) (operands.Word handle) (operands.Word n)))) (sized vs some few) ask in
+      = subst (λ n. At (code_of source c.active.function) c.active.next (instructions.Ask (requests.Allocate (t + words_held vs) handle (operands.Word n)))) (sized vs some few) ask in
       elim (cases_Bool (nat_lt c.store.pages (pages_of new))) [
         | inl over ↦
             by_full focus k₀ e w c next request is_next
@@ -323,10 +334,10 @@ module _ (source : Program) (pages calls : ℕ) where
             let free = makes.refuses ∙ ap full_at room in
             by_asking focus k₀ e w c next request is_next shared₀ here free
             (λ choice served.
-            let made = shared_made k e w c shared facts holds vs owner handle new makes some few choice free served in (
+            let made = shared_made k e w c shared facts holds vs owner word new makes some few choice free served in (
               (
                 made,
-                data_made k e w c shared facts holds vs owner handle new makes some few choice free served,
+                data_made k e w c shared facts holds vs owner word new makes some few choice free served,
                 (
                   length w.objects,
                   [],
@@ -338,17 +349,17 @@ module _ (source : Program) (pages calls : ℕ) where
                   q,
                   refl,
                   refl,
-                  object_there k e w c shared facts holds vs owner handle new makes some few choice free served,
+                  object_there k e w c shared facts holds vs owner word new makes some few choice free served,
                   single,
-                  values_made k e w c shared facts holds vs owner handle new makes some few choice free served values,
+                  values_made k e w c shared facts holds vs owner word new makes some few choice free served values,
                   stores,
                   move,
                   end,
-                  holds_made k e w c shared facts holds vs owner handle new makes some few choice free served,
+                  holds_made k e w c shared facts holds vs owner word new makes some few choice free served,
                   lands,
                 ),
               ),
-              shared_within source pages calls k e new (served_to choice c (t + words_held vs) (Allocate handle (block_size cells))) made,
+              shared_within source pages calls k e new (served_to choice c (t + words_held vs) (Allocate word (block_size cells))) made,
             ))
       ]
 
@@ -366,7 +377,7 @@ module _ (source : Program) (pages calls : ℕ) where
       let makes = makes_of owner (v ∷ []) k e w in
       let does : step source (Running (Given v) (Needs (MakePlain owner kind) ∷ k) e w) ≡ makes = ap (λ (b : Bool). if b then makes else wrong w) (is_fitting (is_kind v.kind kind) makes w well) in
       let words : words_of_kind v.kind ≡ words_held (v ∷ []) = omega arith in
-      made_object owner handle owned (Given v) (Needs (MakePlain owner kind) ∷ k) k e w c (v ∷ []) d q does (subst IsWell does well) shared shared facts holds
+      made_object owner handle (Given v) (Needs (MakePlain owner kind) ∷ k) k e w c (v ∷ []) d q owned does (subst IsWell does well) shared shared facts holds
       (subst (IsIn shared.tables v c.active.slots) there is, tt)
       (subst (λ n. ObjectAt (code_of source g) (bounds_at source g) (types_on source g k) handle 1 n t d c.active.next q) words (m, single, some, few, ask, stores, move, end))
       lands
@@ -385,7 +396,7 @@ module _ (source : Program) (pages calls : ℕ) where
       let held_all : Holds shared.tables c.active.slots base ((v ∷ earlier) ++ held k) = (subst (IsIn shared.tables v c.active.slots) there is, holds) in
       let words : all ≡ words_held values = omega (arith, long, words-reverse (v ∷ earlier)) in
       let count : length earlier + suc 0 ≡ length values = omega (arith, length-reverse (v ∷ earlier)) in
-      made_object owner handle owned (Given v) (Needs (MakeFields owner earlier NoArguments) ∷ k) k e w c values d q refl well shared shared facts (Holds-rest shared.tables c.active.slots base (v ∷ earlier) (held k) held_all)
+      made_object owner handle (Given v) (Needs (MakeFields owner earlier NoArguments) ∷ k) k e w c values d q owned refl well shared shared facts (Holds-rest shared.tables c.active.slots base (v ∷ earlier) (held k) held_all)
       (in_order shared.tables c.active.slots base (v ∷ earlier) (held k) held_all)
       (subst (λ n. ObjectAt (code_of source g) (bounds_at source g) (types_on source g k) handle n (words_held values) t d c.active.next q) count
       (subst (λ n. ObjectAt (code_of source g) (bounds_at source g) (types_on source g k) handle (length earlier + suc 0) n t d c.active.next q) words
@@ -426,7 +437,7 @@ module _ (source : Program) (pages calls : ℕ) where
       (held_in : HoldsFrom shared.tables c.active.slots (slot + words_of_kind u.kind) us)
       (stores : StoresAt (code_of source c.active.function) (bounds_at source c.active.function) (types_on source c.active.function k) (words_held us + words_of_kind u.kind) address (4 * words_of_kinds done) slot c.active.next m)
       (move : At (code_of source c.active.function) m (instructions.Move d (operands.Slot address))) (end : m + 1 ≡ q) (holds : Holds shared.tables c.active.slots (floor source c.active.function k) (held k))
-      (lands : LandsStack source c.active.function e.locals kinds.NonNull d q c.frames k) where
+      (lands : LandsMade source c.active.function e.locals kinds.NonNull d q c.frames k) where
     abbrev next_write : Focus
     next_write = Writing (writes_from object (suc (length done)) us) (Some pointer)
 
@@ -548,7 +559,7 @@ module _ (source : Program) (pages calls : ℕ) where
       let points : Points shared.tables object 0 (c.active.slots address) = first_cell shared.tables object (c.active.slots address) (done ++ []) there in
       let v : Kinded = record { kind = kinds.NonNull; value = Thin object 0 } in
       by_one source pages calls (ap (λ (x : Kinded). Running (Given x) k e w) is) shared (subst (λ p. At (code_of source c.active.function) p (instructions.Move d (operands.Slot address))) (sym at) move)
-      (λ choice. landed_moved source pages calls v (operands.Slot address) d k e w c q choice shared points facts holds (omega (arith, at, end)) lands)
+      (λ choice. made_moved source pages calls v (operands.Slot address) d k e w c q choice shared points facts holds (omega (arith, at, end)) lands)
     where
       first_cell : (t : Tables) (object address : ℕ) (kinds : List Kind) → IsObject t object address kinds → Points t object 0 address
       first_cell t object address kinds is = record { address = address; kinds = kinds; row = is.row; range = is.range; inside = is.some; at = omega arith }

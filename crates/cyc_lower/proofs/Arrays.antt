@@ -26,7 +26,7 @@ use Rattle.cyc_plain.specs.declared.instruction.Request.TheVariants as requests
 use Rattle.cyc_plain.specs.Operators.{truth}
 use Rattle.cyc_plain.specs.State as plain
 use Rattle.cyc_plain.specs.State.{Words, put, Configuration, with_memory}
-use Rattle.cyc_plain.specs.Step.{Choice, with_slots, at, advanced, served_to, performed}
+use Rattle.cyc_plain.specs.Step.{Choice, operand_word, with_slots, at, advanced, served_to, performed}
 use Rattle.cyc_plain.specs.Step as plain_step
 use Rattle.cyc_plain.specs.Straight.{At}
 use Rattle.cyc_plain.proofs.SlotLaws.{put-same, put-other}
@@ -51,7 +51,8 @@ use Rattle.cyc_objects.proofs.Making.{blanks-blank, part-made}
 use Rattle.cyc_lower.specs.Lowering.{is_in, most_elements, scale_of, lower_program}
 use Rattle.cyc_lower.proofs.Widths.{Outside, same_kind, wide_kind}
 use Rattle.cyc_lower.proofs.Stands.{CopyBy, BegunAt, ElementsAt, StoresAt}
-use Rattle.cyc_lower.proofs.Relation.{IsWord, IsIn, height, Holds, held, callers, counters_of, arrays_in, IsHandleOf, homes, silent, DataIn, SharedAt, in_temporary, into_slot, LandsStack, ValueStack, Related, Matches, code_of, bounds_at, types_on, base_of, floor, top, contents}
+use Rattle.cyc_lower.proofs.Handles.{has_handle}
+use Rattle.cyc_lower.proofs.Relation.{IsWord, IsIn, height, Holds, held, callers, counters_of, arrays_in, IsHandleOf, homes, silent, DataIn, SharedAt, in_temporary, into_slot, LandsMade, ValueStack, Related, Matches, code_of, bounds_at, types_on, base_of, floor, top, contents}
 use Rattle.cyc_lower.proofs.Data.{Is-same, height-least, one_word, Holds-same, Holds-grows, data_written, data_grows, variables_grow, contents_made}
 use Rattle.cyc_lower.proofs.Accesses.{IsWell, is_fitting}
 use Rattle.cyc_lower.proofs.Counters.{counters-many, counter_same, counted_before}
@@ -63,7 +64,7 @@ use Rattle.cyc_lower.proofs.Elements.{scaled}
 use Rattle.cyc_lower.proofs.CellWrites.{SameVariables, data_beside, cell_is_there, saves_there, saved_there, shared_saved, data_saved}
 use Rattle.cyc_lower.proofs.Levels.{lands_arrays}
 use Rattle.cyc_lower.proofs.Matched.{IsMatched, above, below, Executes, executes, by_places, by_one, by_two, by_three, shared_way, shared_within, output_way, place_in, apart, known}
-use Rattle.cyc_lower.proofs.Evaluations.{IsStep, landed, landed_moved}
+use Rattle.cyc_lower.proofs.Evaluations.{IsStep, landed_made, made_moved}
 use Rattle.cyc_lower.proofs.Handling.{raised}
 use Rattle.cyc_lower.proofs.Allocations.{Makes, made_for, past_pages, by_asking, by_full}
 use Rattle.cyc_words.proofs.WordLemmas.{IsWord-add_of, IsWord-mul_of, IsWord-shl_of}
@@ -153,11 +154,11 @@ module _ (source : Program) (pages calls : ℕ) where
     -- what stands behind the length
     abbrev Waits : (p : ℕ) → Type 0
     Waits p =
-        (handle : ℕ) × (d : ℕ) × (h : ℕ) × (r : ℕ) × (s : ℕ) × (q : ℕ) × IsHandleOf owner handle
+        (handle : Operand) × (d : ℕ) × (h : ℕ) × (r : ℕ) × (s : ℕ) × (q : ℕ) × IsHandleOf owner handle t k
         × BegunAt (code_of source c.active.function) (bounds_at source c.active.function) (types_on source c.active.function k) handle (words_of_kind wanted) t p h
         × (level ≡ length (counters_of (floor source c.active.function k) k))
         × ElementsAt (code_of source c.active.function) (bounds_at source c.active.function) (types_on source c.active.function k) element (words_of_kind wanted) t d h r s q
-        × LandsStack source c.active.function e.locals kinds.Fat d q c.frames k
+        × LandsMade source c.active.function e.locals kinds.Fat d q c.frames k
 
     -- it is not too long: all that the store is asked for comes to slots
     begins : (focus : Focus) (k₀ : List Entry) (n : ℕ) → step source (Running focus k₀ e w) ≡ Running (Beginning owner n level wanted element) k e w → SharedAt source pages calls k₀ e w c
@@ -364,45 +365,47 @@ module _ (source : Program) (pages calls : ℕ) where
   beginning owner count level wanted element k e w c well (shared, facts, (handle, d, h, r, s, q, owned, ask, next_is, few, long, start, block, level_is, elements, holds, lands)) =
       let g = c.active.function in
       let t = top source g k in
+      let word = operand_word c.active.slots handle in
+      let has = has_handle shared.tables c.active.slots (floor source g k) owner handle k shared.related.heap owned holds in
       let cells = blanks count wanted in
       let size : c.active.slots (t + 3) ≡ block_size cells = block ∙ ap (max 1) (sym (blank_words count wanted)) in
       let small : block_size cells ≤ MOST_BLOCK_WORDS = omega (arith, size, block, at_most (count * words_of_kind wanted) few) in
       let (made, creates) = array_made (created w owner cells) (length w.objects) count level wanted element k e w well in
-      let (new, makes) = made_for shared.related cells (blanks-blank count wanted) small owner handle made owned creates in
+      let (new, makes) = made_for shared.related cells (blanks-blank count wanted) small owner word made has creates in
       let next = Running (Repeating (length w.objects) count 0 level wanted element) k e new in
       let does : step source (Running (Beginning owner count level wanted element) k e w) ≡ next = ap (λ a. begun a (length w.objects) count level wanted element k e w) makes.creates in
-      let request = requests.Allocate t (operands.Word handle) (operands.Slot (t + 3)) in
-      let refuses = ap (λ n. refusal c.store (Allocate handle n)) size ∙ makes.refuses in
+      let request = requests.Allocate t handle (operands.Slot (t + 3)) in
+      let refuses = ap (λ n. refusal c.store (Allocate word n)) size ∙ makes.refuses in
       elim (cases_Bool (nat_lt c.store.pages (pages_of new))) [
         | inl over ↦
             by_full source pages calls (Beginning owner count level wanted element) k e w c next request does
             (past_pages pages (pages_of new) _ (subst (λ p. nat_lt p (pages_of new) ≡ true) shared.same_pages over)) shared ask (refuses ∙ ap full_at over)
         | inr room ↦
             let free = refuses ∙ ap full_at room in
-            let free_block = sym (ap (λ n. refusal c.store (Allocate handle n)) size) ∙ free in
+            let free_block = sym (ap (λ n. refusal c.store (Allocate word n)) size) ∙ free in
             by_asking source pages calls (Beginning owner count level wanted element) k e w c next request does shared ask free
             (λ choice served.
-            let given = subst (λ n. plain_step.IsServed c.store (Allocate handle n) choice) size served in
-            let later = shared_made k e w c shared facts holds count wanted owner handle new makes choice free_block given in
-            subst (λ n. Matches source pages calls next (plain.Running (served_to choice c t (Allocate handle n))) × (plain_step.is_within pages calls (plain.Running (served_to choice c t (Allocate handle n))) ≡ true)) (sym size) (
+            let given = subst (λ n. plain_step.IsServed c.store (Allocate word n) choice) size served in
+            let later = shared_made k e w c shared facts holds count wanted owner word new makes choice free_block given in
+            subst (λ n. Matches source pages calls next (plain.Running (served_to choice c t (Allocate word n))) × (plain_step.is_within pages calls (plain.Running (served_to choice c t (Allocate word n))) ≡ true)) (sym size) (
               (
                 later,
-                data_made k e w c shared facts holds count wanted owner handle new makes choice free_block given,
+                data_made k e w c shared facts holds count wanted owner word new makes choice free_block given,
                 (
                   d,
                   r,
                   s,
                   q,
-                  array_there k e w c shared facts holds count wanted owner handle new makes choice free_block given small long start,
+                  array_there k e w c shared facts holds count wanted owner word new makes choice free_block given small long start,
                   omega arith,
                   few,
                   level_is,
                   subst (λ n. ElementsAt (code_of source g) (bounds_at source g) (types_on source g k) element (words_of_kind wanted) t d n r s q) (sym next_is) elements,
-                  holds_made k e w c shared facts holds count wanted owner handle new makes choice free_block given,
+                  holds_made k e w c shared facts holds count wanted owner word new makes choice free_block given,
                   lands,
                 ),
               ),
-              shared_within source pages calls k e new (served_to choice c t (Allocate handle (block_size cells))) later,
+              shared_within source pages calls k e new (served_to choice c t (Allocate word (block_size cells))) later,
             ))
       ]
     where
@@ -419,7 +422,7 @@ module _ (source : Program) (pages calls : ℕ) where
       → Holds shared.tables c.active.slots (floor source c.active.function k) (held k)
       → At (code_of source c.active.function) c.active.next (instructions.Branch comparisons.Equal (operands.Slot (top source c.active.function k + 2)) (operands.Slot (top source c.active.function k + 1)) s)
       → c.active.next < s → At (code_of source c.active.function) s (instructions.Move (top source c.active.function k + 2) (operands.Word 0)) → is_in (operands.Slot (top source c.active.function k)) d ≡ there
-      → CopyBy (code_of source c.active.function) there 3 (operands.Slot (top source c.active.function k)) d (s + 1) q → LandsStack source c.active.function e.locals kinds.Fat d q c.frames k
+      → CopyBy (code_of source c.active.function) there 3 (operands.Slot (top source c.active.function k)) d (s + 1) q → LandsMade source c.active.function e.locals kinds.Fat d q c.frames k
       → IsMatched source pages calls (Running (Repeating object count index level wanted element) k e w) (plain.Running c)
   ends object count index level wanted element k e w c d s q there does last shared facts (part, long, now) holds branch before restart told copy lands =
       by there told copy
@@ -461,13 +464,13 @@ module _ (source : Program) (pages calls : ℕ) where
       by true told end =
           let d_is : t ≡ d = eqb-true t d told in
           by_two source pages calls c0 does shared shared branch jumps restart (λ same. omega (arith, same, before))
-          (λ choice. landed source pages calls v s1 d k e w c0 q shared (subst (Is shared.tables kinds.Fat (Fat object 0 count 0) s1) d_is pointer)
+          (λ choice. landed_made source pages calls v s1 d k e w c0 q shared (subst (Is shared.tables kinds.Fat (Fat object 0 count 0) s1) d_is pointer)
           (λ m out. elsewhere m (subst (λ n. Outside n 3 m) (sym d_is) out)) facts holds end lands)
       by false told (move, end) =
           by_three source pages calls c0 c1 does shared (shared_within source pages calls k e w c0 shared) (shared_way source pages calls (Repeating object count index level wanted element) k e w c0 shared)
           (shared_within source pages calls k e w c1 shared) (shared_way source pages calls (Repeating object count index level wanted element) k e w c1 shared)
           branch jumps restart (λ choice. refl) move (λ same. omega (arith, same, before)) (λ same. omega (arith, same, before)) (λ same. omega (arith, same))
-          (λ choice. landed_moved source pages calls v (operands.Slot t) d k e w c1 q choice shared pointer
+          (λ choice. made_moved source pages calls v (operands.Slot t) d k e w c1 q choice shared pointer
           (data_written source shared.tables g w.objects e.locals k c.active.slots s1 c.active.handlers c.globals c.frames t 3 (omega (arith, height-least (floor source g k) (held k))) elsewhere facts)
           (Holds-same shared.tables c.active.slots s1 (floor source g k) (held k) (λ m short. elsewhere m (inl (omega (arith, short)))) holds) end lands)
 
@@ -505,7 +508,7 @@ module _ (source : Program) (pages calls : ℕ) where
             variables = shared.variables;
             few_pages = shared.few_pages;
             fits = shared.fits;
-            counters = ((nested, levels, counter_same e.counters level index), counted_before e.counters level index k (omega (arith, nested)) shared.counters);
+            counters = (((nested, levels, counter_same e.counters level index), counted_before e.counters level index k (omega (arith, nested)) shared.counters.0), shared.counters.1);
           } in
           by_one source pages calls
           (ap (λ (b : Bool). if b then gives kinds.Fat (Fat object 0 count 0) k e w else Running (Evaluating element) stack inner w) told) shared branch
@@ -529,7 +532,7 @@ module _ (source : Program) (pages calls : ℕ) where
       (holds : Holds shared₀.tables c.active.slots (floor source c.active.function k) (held k)) (d h s q : ℕ) (inside : index < count) (few : count * words_of_kind wanted ≤ MOST_BLOCK_WORDS)
       (level_is : level ≡ length (counters_of (floor source c.active.function k) k))
       (elements : ElementsAt (code_of source c.active.function) (bounds_at source c.active.function) (types_on source c.active.function k) element (words_of_kind wanted) (top source c.active.function k) d h c.active.next s q)
-      (lands : LandsStack source c.active.function e.locals kinds.Fat d q c.frames k) (cell : Located) (found : cell_at w object index ≡ Found cell) (same : cell.cell.kind ≡ wanted) (fits : v.kind ≡ wanted)
+      (lands : LandsMade source c.active.function e.locals kinds.Fat d q c.frames k) (cell : Located) (found : cell_at w object index ≡ Found cell) (same : cell.cell.kind ≡ wanted) (fits : v.kind ≡ wanted)
       (does : step source (Running (Given v) (Needs (FillElement object count index level wanted element) ∷ k) e w)
       ≡ Running (Repeating object count (suc index) level wanted element) k e (written w object index cell v.value)) where
     abbrev g : ℕ
@@ -551,7 +554,7 @@ module _ (source : Program) (pages calls : ℕ) where
     entry = Needs (FillElement object count index level wanted element)
 
     abbrev shared : SharedAt source pages calls k e w c
-    shared = shared_less source pages calls (FillElement object count index level wanted element) k e w c shared₀
+    shared = shared_less source None pages calls (FillElement object count index level wanted element) k e w c shared₀
 
     abbrev new : World
     new = written w object index cell v.value

@@ -5,7 +5,7 @@ use Rattle.std.proofs.lemmas.Bool.{eqb-true, eq-eqb, false_from_ne_true}
 use Rattle.std.proofs.lemmas.Option.{same_Some, none-some}
 use Rattle.cyc_plain.specs.State.{Words}
 use Rattle.cyc_meaning.specs.Values.{Operand as Kinded}
-use Rattle.cyc_meaning.specs.State.{FreeObject, CountElements, Index, Advance, LoadFrom, TakeAddress, StoreTo, Awaiting, ConvertTo, Operate, Chain, Apply, ApplyPointer, Follow, FollowMember, Decide, Store, StoreCell, Pass, MakePlain, MakeFields, MakeArray, FillElement, Entry, Needs, NeedsPlace, Caller}
+use Rattle.cyc_meaning.specs.State.{FreeObject, CloseByKey, PlaceBy, BesideHandle, CountElements, Index, Advance, LoadFrom, TakeAddress, StoreTo, Awaiting, ConvertTo, Operate, Chain, Apply, ApplyPointer, Follow, FollowMember, Decide, Store, StoreCell, Pass, MakePlain, MakeFields, MakeArray, FillElement, Entry, Needs, NeedsPlace, Caller}
 use Rattle.cyc_objects.specs.Tables.{Tables}
 use Rattle.cyc_lower.proofs.Relation.{words_held, height, Holds, held, counters_of, arrays_in, AreCounted}
 use Rattle.cyc_lower.proofs.Data.{Holds-rest, height-append}
@@ -33,6 +33,8 @@ counters-many base (Needs CountElements ∷ k) = counters-many base k
 counters-many base (Needs (Store place) ∷ k) = counters-many base k
 counters-many base (Needs (StoreCell peek place) ∷ k) = counters-many base k
 counters-many base (Needs (Pass callee before cs) ∷ k) = counters-many base k
+counters-many base (Needs (PlaceBy initial) ∷ k) = counters-many base k
+counters-many base (Needs (BesideHandle region) ∷ k) = counters-many base k
 counters-many base (Needs (MakePlain owner kind) ∷ k) = counters-many base k
 counters-many base (Needs (MakeFields owner before cs) ∷ k) = counters-many base k
 counters-many base (Needs (MakeArray owner level kind a) ∷ k) = counters-many base k
@@ -41,6 +43,7 @@ counters-many base (Needs (FillElement object count index level kind a) ∷ k) =
 counters-many base (Needs (Follow pointer target) ∷ k) = counters-many base k
 counters-many base (Needs (FollowMember pointer fields field) ∷ k) = counters-many base k
 counters-many base (Needs FreeObject ∷ k) = counters-many base k
+counters-many base (Needs CloseByKey ∷ k) = counters-many base k
 counters-many base (Needs (Index peek target i) ∷ k) = counters-many base k
 counters-many base (Needs (Advance peek target pointer) ∷ k) = counters-many base k
 counters-many base (NeedsPlace (LoadFrom cell) ∷ k) = counters-many base k
@@ -61,6 +64,8 @@ counters_low base (Needs CountElements ∷ k) level slot found = counters_low ba
 counters_low base (Needs (Store place) ∷ k) level slot found = counters_low base k level slot found
 counters_low base (Needs (StoreCell peek place) ∷ k) level slot found = omega (arith, counters_low base k level slot found)
 counters_low base (Needs (Pass callee before cs) ∷ k) level slot found = omega (arith, height-append base before (held k), counters_low base k level slot found)
+counters_low base (Needs (PlaceBy initial) ∷ k) level slot found = counters_low base k level slot found
+counters_low base (Needs (BesideHandle region) ∷ k) level slot found = omega (arith, counters_low base k level slot found)
 counters_low base (Needs (MakePlain owner kind) ∷ k) level slot found = counters_low base k level slot found
 counters_low base (Needs (MakeFields owner before cs) ∷ k) level slot found = omega (arith, height-append base before (held k), counters_low base k level slot found)
 counters_low base (Needs (MakeArray owner inner kind a) ∷ k) level slot found = counters_low base k level slot found
@@ -71,6 +76,7 @@ counters_low base (Needs (FillElement object count index inner kind a) ∷ k) le
 counters_low base (Needs (Follow pointer target) ∷ k) level slot found = counters_low base k level slot found
 counters_low base (Needs (FollowMember pointer fields field) ∷ k) level slot found = counters_low base k level slot found
 counters_low base (Needs FreeObject ∷ k) level slot found = counters_low base k level slot found
+counters_low base (Needs CloseByKey ∷ k) level slot found = counters_low base k level slot found
 counters_low base (Needs (Index peek target i) ∷ k) level slot found = counters_low base k level slot found
 counters_low base (Needs (Advance peek target pointer) ∷ k) level slot found = omega (arith, counters_low base k level slot found)
 counters_low base (NeedsPlace (LoadFrom cell) ∷ k) level slot found = counters_low base k level slot found
@@ -95,6 +101,8 @@ counters_hold t counters slots base (Needs CountElements ∷ k) count holds leve
 counters_hold t counters slots base (Needs (Store place) ∷ k) count holds level slot found = counters_hold t counters slots base k count holds level slot found
 counters_hold t counters slots base (Needs (StoreCell peek place) ∷ k) count holds level slot found = counters_hold t counters slots base k count holds.1 level slot found
 counters_hold t counters slots base (Needs (Pass callee before cs) ∷ k) count holds level slot found = counters_hold t counters slots base k count (Holds-rest t slots base before (held k) holds) level slot found
+counters_hold t counters slots base (Needs (PlaceBy initial) ∷ k) count holds level slot found = counters_hold t counters slots base k count holds level slot found
+counters_hold t counters slots base (Needs (BesideHandle region) ∷ k) count holds level slot found = counters_hold t counters slots base k count holds.1 level slot found
 counters_hold t counters slots base (Needs (MakePlain owner kind) ∷ k) count holds level slot found = counters_hold t counters slots base k count holds level slot found
 counters_hold t counters slots base (Needs (MakeFields owner before cs) ∷ k) count holds level slot found = counters_hold t counters slots base k count (Holds-rest t slots base before (held k) holds) level slot found
 counters_hold t counters slots base (Needs (MakeArray owner inner kind a) ∷ k) count holds level slot found = counters_hold t counters slots base k count holds level slot found
@@ -106,6 +114,7 @@ counters_hold t counters slots base (Needs (FillElement object count index inner
 counters_hold t counters slots base (Needs (Follow pointer target) ∷ k) count holds level slot found = counters_hold t counters slots base k count holds level slot found
 counters_hold t counters slots base (Needs (FollowMember pointer fields field) ∷ k) count holds level slot found = counters_hold t counters slots base k count holds level slot found
 counters_hold t counters slots base (Needs FreeObject ∷ k) count holds level slot found = counters_hold t counters slots base k count holds level slot found
+counters_hold t counters slots base (Needs CloseByKey ∷ k) count holds level slot found = counters_hold t counters slots base k count holds level slot found
 counters_hold t counters slots base (Needs (Index peek target i) ∷ k) count holds level slot found = counters_hold t counters slots base k count holds level slot found
 counters_hold t counters slots base (Needs (Advance peek target pointer) ∷ k) count holds level slot found = counters_hold t counters slots base k count holds.1 level slot found
 counters_hold t counters slots base (NeedsPlace (LoadFrom cell) ∷ k) count holds level slot found = counters_hold t counters slots base k count holds level slot found

@@ -8,6 +8,7 @@ use Rattle.cyc_types.specs.TypedTrees.{Program}
 use Rattle.cyc_plain.specs.State as plain
 use Rattle.cyc_plain.specs.State.{Words, put, copied, Frame}
 use Rattle.cyc_plain.specs.Step.{operand_word}
+use Rattle.cyc_plain.specs.declared.limits.TheConstants.{RECORD_WORDS}
 use Rattle.cyc_plain.proofs.SlotLaws.{put-same, put-other, copied-inside}
 use Rattle.cyc_types.specs.declared.typed.Kind.{Kind}
 use Rattle.cyc_types.specs.declared.typed.Kind.TheVariants as kinds
@@ -15,14 +16,15 @@ use Rattle.cyc_meaning.specs.Values.{Value, Int, Null, Thin, Handle, Key, Operan
 use Rattle.cyc_meaning.specs.State.{Object, Environment, with_local, Entry, Handler, Caller, Main, calls_in, CloseLexical, EndLoan, Loop}
 use Rattle.cyc_meaning.specs.FrameCount.{words_of_all}
 use Rattle.cyc_lower.specs.Slots.{starts_of, slot_of, global_of, global_types, Types}
+use Rattle.cyc_lower.specs.Lowering.{behind_record_in, scopes_of}
 use Rattle.cyc_lower.proofs.Widths.{words_in, HasRoom, HasGlobal, Outside}
-use Rattle.cyc_lower.proofs.Slots.{slot-room, slot-apart, global-apart, global-inside}
+use Rattle.cyc_lower.proofs.Slots.{slot-room, slot-apart, global-room, global-apart, global-inside, scopes_behind}
 use Rattle.cyc_plain.specs.declared.instruction.Operand.{Operand as Place}
 use Rattle.cyc_plain.specs.declared.instruction.Operand.TheVariants as operands
 use Rattle.cyc_objects.specs.Tables.{Variable, Tables, Grows}
 use Rattle.cyc_objects.specs.Words.{Points, Is}
 use Rattle.cyc_objects.proofs.Values.{Is-grows, Is-same as words_same}
-use Rattle.cyc_lower.proofs.Relation.{behind_records, floor, HandlersStand, callers, IsWord, IsIn, Waiting, AreOfVariables, words_held, height, Holds, HoldsFrom, content_of, contents, LocalsHold, GlobalsHold, FramesHold, DataAt, types_at, starts_at, base_of, left_by}
+use Rattle.cyc_lower.proofs.Relation.{behind_records, scopes_in, IsKept, IsTold, floor, HandlersStand, callers, IsWord, IsIn, Waiting, AreOfVariables, words_held, height, Holds, HoldsFrom, content_of, contents, LocalsHold, GlobalsHold, FramesHold, DataAt, types_at, starts_at, base_of, left_by}
 
 -- ---- values in slots
 
@@ -429,6 +431,26 @@ module _ (t : Tables) where
               ),
         )
 
+    -- words behind all globals are written
+    pub data_behind : (g : ℕ) (objects : List Object) (locals : ℕ → Option ℕ) (outer : List Waiting) (slots globals after : Words) (frames : List Frame)
+        → ((m : ℕ) → m < words_of_all (global_types source.globals) → after m ≡ globals m)
+        → DataAt source t g objects locals outer slots globals frames → DataAt source t g objects locals outer slots after frames
+    data_behind g objects locals outer slots globals after frames same (low, below, hold, waiting, words) = (
+      low,
+      below,
+      hold,
+      waiting,
+      λ n less.
+          let (row, held) = words n less in (
+            row,
+            λ v has.
+                let (is, room) = held v has in
+                let first = global_of (starts_at source g) n in
+                let inside = global-room (types_at source g) n less in
+                (words_same t v.kind v.value globals after first first (λ i few. same (first + i) (omega (arith, few, room, inside))) is, room),
+          ),
+    )
+
     pub data_declared : (g : ℕ) (objects : List Object) (e : Environment) (outer : List Waiting) (slots other globals : Words) (frames : List Frame) (number many : ℕ) (x : Object)
         → number < length (types_at source g).locals → many ≤ words_in (types_at source g).locals number → slice_get t.rows (length objects) ≡ Some Variable
         → ((m : ℕ) → Outside (slot_of (starts_at source g) number) many m → other m ≡ slots m)
@@ -444,8 +466,8 @@ module _ (t : Tables) where
         )
 
     -- the callee has no locals yet, and its caller waits
-    pub data_called : (g callee : ℕ) (objects : List Object) (e : Environment) (temporaries : ℕ → ℕ) (values : List Operand) (outer : List Waiting) (slots other globals : Words) (f : Frame) (frames : List Frame)
-        → f.caller.function ≡ g → f.caller.slots ≡ slots → Holds t slots (temporaries (base_of source g)) values → DataAt source t g objects e.locals outer slots globals frames
+    pub data_called : (g callee : ℕ) (objects : List Object) (e : Environment) (temporaries : Option ℕ → ℕ → ℕ) (values : List Operand) (outer : List Waiting) (slots other globals : Words) (f : Frame) (frames : List Frame)
+        → f.caller.function ≡ g → f.caller.slots ≡ slots → Holds t slots (temporaries (scopes_of source) (base_of source g)) values → DataAt source t g objects e.locals outer slots globals frames
         → DataAt source t callee objects (λ (number : ℕ). None) (record { locals = e.locals; temporaries = temporaries; values = values } ∷ outer) other globals (f ∷ frames)
     data_called g callee objects e temporaries values outer slots other globals f frames function_is slots_are holds (low, below, hold, waiting, words) = (
       length objects,
@@ -457,7 +479,7 @@ module _ (t : Tables) where
         (
           subst (λ n. LocalsHold t (types_at source n) objects e.locals low (length objects) f.caller.slots) (sym function_is)
               (subst (λ (s : Words). LocalsHold t (types_at source g) objects e.locals low (length objects) s) (sym slots_are) hold),
-          subst (λ n. Holds t f.caller.slots (temporaries (base_of source n)) values) (sym function_is) (subst (λ (s : Words). Holds t s (temporaries (base_of source g)) values) (sym slots_are) holds),
+          subst (λ n. Holds t f.caller.slots (temporaries (scopes_of source) (base_of source n)) values) (sym function_is) (subst (λ (s : Words). Holds t s (temporaries (scopes_of source) (base_of source g)) values) (sym slots_are) holds),
         ),
         waiting,
       ),
@@ -479,18 +501,47 @@ module _ (t : Tables) where
 
     -- what the caller holds
     pub held_by_caller : (g : ℕ) (objects : List Object) (locals : ℕ → Option ℕ) (e : Waiting) (outer : List Waiting) (slots globals : Words) (f : Frame) (frames : List Frame)
-        → DataAt source t g objects locals (e ∷ outer) slots globals (f ∷ frames) → Holds t f.caller.slots (e.temporaries (base_of source f.caller.function)) e.values
+        → DataAt source t g objects locals (e ∷ outer) slots globals (f ∷ frames) → Holds t f.caller.slots (e.temporaries (scopes_of source) (base_of source f.caller.function)) e.values
     held_by_caller g objects locals e outer slots globals f frames (low, below, hold, (under, less, (waits, values), waiting), words) = values
+
+-- ---- the word that tells how many lexical regions are open
+
+-- it stays where a global is written
+pub told_beside : (source : Program) (g number : ℕ) (kind : Kind) (globals after : Words) (many : ℕ) → HasGlobal (types_at source g) number kind
+    → ((m : ℕ) → Outside (global_of (starts_at source g) number) (words_of_kind kind) m → after m ≡ globals m) → IsTold (scopes_of source) globals many → IsTold (scopes_of source) after many
+told_beside source g number kind globals after many room elsewhere told = by (scopes_of source) (scopes_behind source) told
+  where
+    by : (o : Option ℕ) → ((place : ℕ) → o ≡ Some place → words_of_all (global_types source.globals) ≡ place) → IsTold o globals many → IsTold o after many
+    by None behind told = told
+    by (Some place) behind told =
+        elsewhere place (inr (omega (arith, behind place refl, room, global-room (types_at source g) number (global-inside (types_at source g) number kind room)))) ∙ told
 
 -- ---- records of handlers
 
+record-least : (scopes : Option ℕ) (slot : ℕ) → slot + RECORD_WORDS ≤ behind_record_in scopes slot
+record-least None slot = omega arith
+record-least (Some place) slot = omega arith
+
 -- temporaries begin behind the locals
-pub behind-least : (k : List Entry) (slot : ℕ) → slot ≤ behind_records k slot
-behind-least [] slot = omega arith
-behind-least (Handler handler ∷ k) slot = omega (arith, behind-least k slot)
-behind-least (Caller e ∷ k) slot = omega arith
-behind-least (Main ∷ k) slot = omega arith
-behind-least (entry ∷ k) slot = behind-least k slot
+behind-least : (k : List Entry) (scopes : Option ℕ) (slot : ℕ) → slot ≤ behind_records k scopes slot
+behind-least [] scopes slot = omega arith
+behind-least (Handler handler ∷ k) scopes slot = omega (arith, behind-least k scopes slot, record-least scopes (behind_records k scopes slot))
+behind-least (CloseLexical region ∷ k) scopes slot = omega (arith, behind-least k scopes slot)
+behind-least (Caller e ∷ k) scopes slot = omega arith
+behind-least (Main ∷ k) scopes slot = omega arith
+behind-least (entry ∷ k) scopes slot = behind-least k scopes slot
+
+pub floor-least : (source : Program) (g : ℕ) (k : List Entry) → base_of source g ≤ floor source g k
+floor-least source g k = behind-least k (scopes_of source) (base_of source g)
+
+-- the record of a handler ends before the temporaries, with what is kept behind it
+pub record_below : (source : Program) (g : ℕ) (k : List Entry) → floor source g k + RECORD_WORDS ≤ behind_record_in (scopes_of source) (floor source g k)
+record_below source g k = record-least (scopes_of source) (floor source g k)
+
+kept_same : (scopes : Option ℕ) (slots other : Words) (slot many : ℕ) → (slot + RECORD_WORDS < behind_record_in scopes slot → other (slot + RECORD_WORDS) ≡ slots (slot + RECORD_WORDS))
+    → IsKept scopes slots (slot + RECORD_WORDS) many → IsKept scopes other (slot + RECORD_WORDS) many
+kept_same None slots other slot many same kept = tt
+kept_same (Some place) slots other slot many same kept = same (omega arith) ∙ kept
 
 module _ (source : Program) where
   -- slots that are equal between the locals and the temporaries have the same records
@@ -499,17 +550,19 @@ module _ (source : Program) where
   handlers_same g slots other handlers frames [] same stand = absurd stand
   handlers_same g slots other [] frames (Handler handler ∷ k) same stand = absurd stand
   handlers_same g slots other (plain.Caught ∷ handlers) frames (Handler handler ∷ k) same stand = absurd stand
-  handlers_same g slots other (plain.Open index first contents ∷ handlers) frames (Handler handler ∷ k) same (is, (zeroth, second, third, fourth), catches, rest) =
-      let least = behind-least k (base_of source g) in (
+  handlers_same g slots other (plain.Open index first contents ∷ handlers) frames (Handler handler ∷ k) same (is, (zeroth, second, third, fourth), kept, catches, rest) =
+      let least = floor-least source g k in
+      let inside = record_below source g k in (
         is,
         (
-          same first (omega (arith, is, least)) (omega (arith, is)) ∙ zeroth,
-          same (first + 1) (omega (arith, is, least)) (omega (arith, is)) ∙ second,
-          same (first + 2) (omega (arith, is, least)) (omega (arith, is)) ∙ third,
-          same (first + 3) (omega (arith, is, least)) (omega (arith, is)) ∙ fourth,
+          same first (omega (arith, is, least)) (omega (arith, is, inside)) ∙ zeroth,
+          same (first + 1) (omega (arith, is, least)) (omega (arith, is, inside)) ∙ second,
+          same (first + 2) (omega (arith, is, least)) (omega (arith, is, inside)) ∙ third,
+          same (first + 3) (omega (arith, is, least)) (omega (arith, is, inside)) ∙ fourth,
         ),
+        kept_same (scopes_of source) slots other (floor source g k) (scopes_in k) (λ inside. same (floor source g k + RECORD_WORDS) (omega (arith, least)) inside) kept,
         catches,
-        handlers_same g slots other handlers frames k (λ n from to. same n from (omega (arith, to))) rest,
+        handlers_same g slots other handlers frames k (λ n from to. same n from (omega (arith, to, inside))) rest,
       )
   handlers_same g slots other handlers frames (Caller e ∷ k) same stand = stand
   handlers_same g slots other handlers frames (Main ∷ k) same stand = stand
@@ -529,7 +582,7 @@ module _ (source : Program) where
       → DataAt source t g objects locals (callers k) slots globals frames × HandlersStand source g slots handlers frames k
       → DataAt source t g objects locals (callers k) after globals frames × HandlersStand source g after handlers frames k
   data_written t g objects locals k slots after handlers globals frames n many above same (facts, stand) = (
-    data_above t source g objects locals (callers k) slots after globals frames n many (omega (arith, above, behind-least k (base_of source g))) same facts,
+    data_above t source g objects locals (callers k) slots after globals frames n many (omega (arith, above, floor-least source g k)) same facts,
     handlers_same g slots after handlers frames k (λ m from to. same m (inl (omega (arith, to, above)))) stand,
   )
 
@@ -538,7 +591,7 @@ module _ (source : Program) where
   calls_counted g slots handlers frames [] stand = absurd stand
   calls_counted g slots [] frames (Handler handler ∷ k) stand = absurd stand
   calls_counted g slots (plain.Caught ∷ handlers) frames (Handler handler ∷ k) stand = absurd stand
-  calls_counted g slots (plain.Open index first contents ∷ handlers) frames (Handler handler ∷ k) (is, intact, catches, rest) = calls_counted g slots handlers frames k rest
+  calls_counted g slots (plain.Open index first contents ∷ handlers) frames (Handler handler ∷ k) (is, intact, kept, catches, rest) = calls_counted g slots handlers frames k rest
   calls_counted g slots handlers [] (Caller e ∷ k) (none, rest) = absurd rest
   calls_counted g slots handlers (f ∷ frames) (Caller e ∷ k) (none, rest) = ap suc (calls_counted f.caller.function f.caller.slots f.caller.handlers frames k rest)
   calls_counted g slots handlers [] (Main ∷ []) (none, last) = refl
@@ -599,7 +652,7 @@ module _ (t u : Tables) (grows : Grows t u) where
     below,
     (
       locals_grow (types_at source f.caller.function) objects x.locals low high f.caller.slots hold,
-      Holds-grows f.caller.slots (x.temporaries (base_of source f.caller.function)) x.values values,
+      Holds-grows f.caller.slots (x.temporaries (scopes_of source) (base_of source f.caller.function)) x.values values,
     ),
     frames_grow source objects low frames outer rest,
   )

@@ -30,7 +30,7 @@ use Rattle.cyc_types.specs.Numbered.{argument_count}
 use Rattle.cyc_store.specs.declared.range.TheConstants.{HEAP, UNIQUE}
 use Rattle.cyc_types.specs.Types.{ValueType, Void, words_of}
 use Rattle.cyc_types.specs.TypeView.{view_ty, view_value_type}
-use Rattle.cyc_types.specs.TypedTrees.{Load, New, OnHeap, AsUnique, ByHandle, Initial, Plain, Fields, Array, Dereference, Target, Lvalue, Local, Global, Expression, Number, Copy, Call, Unary, Binary, Assign, Converted, Convert, Arguments, Operations, NoOperations, ThenCompute, ThenTest, Move, Peek, AddressOfCell, Store, Member, Element, FreeUnique, NumberOfElements, type_of_place}
+use Rattle.cyc_types.specs.TypedTrees.{Load, New, OnHeap, AsUnique, ByHandle, FreeKey, Initial, Plain, Fields, Array, Dereference, Target, Lvalue, Local, Global, Expression, Number, Copy, Call, Unary, Binary, Assign, Converted, Convert, Arguments, Operations, NoOperations, ThenCompute, ThenTest, Move, Peek, AddressOfCell, Store, Member, Element, FreeUnique, NumberOfElements, type_of_place}
 use Rattle.cyc_types.specs.TypedTreeView.{view_lvalue, view_initial, view_expression, view_converted, arguments_of, operations_of, view_dereference}
 use Rattle.cyc_types.specs.declared.typed.Kind.{Kind}
 use Rattle.cyc_meaning.specs.Values.{words_of_kind, is_thin}
@@ -54,10 +54,10 @@ behind xs ys some = omega (arith, length-append xs ys)
 before : (xs ys : List Instruction) → 0 < length xs → 0 < length (xs ++ ys)
 before xs ys some = omega (arith, length-append xs ys)
 
-loaded_some : (narrow : Bool) (o : Operand) (bytes d : ℕ)
-    → 0 < length (if narrow then instructions.Load d o bytes ∷ [] else address_code o bytes d ++ (instructions.Load (d + 2) (operands.Slot d) 8 ∷ instructions.Load (d + 1) (operands.Slot d) 4 ∷ instructions.Load d (operands.Slot d) 0 ∷ []))
-loaded_some true o bytes d = omega arith
-loaded_some false o bytes d = behind (address_code o bytes d) _ (omega arith)
+loaded_some : (narrow : Bool) (o : Operand) (bytes d t : ℕ)
+    → 0 < length (if narrow then instructions.Load d o bytes ∷ [] else address_code o bytes t ++ (instructions.Load (d + 2) (operands.Slot t) 8 ∷ instructions.Load (d + 1) (operands.Slot t) 4 ∷ instructions.Load d (operands.Slot t) 0 ∷ []))
+loaded_some true o bytes d t = omega arith
+loaded_some false o bytes d t = behind (address_code o bytes t) _ (omega arith)
 
 counted_some : (o : Operand) (p d : ℕ) → 0 < length (count_code o p d)
 counted_some (operands.Slot n) p d = omega arith
@@ -269,7 +269,7 @@ stores_end old code many address first i done (suc left, count, made) = absurd (
 
 -- ---- arrays
 
-pub made_begun : (starts : Starts) (old m1 m2 : List Instruction) (handle words behind t : ℕ) → behind ≡ t + 3 → m1 ≡ old ++ measured_code starts words (behind - 2) (behind - 1) t
+pub made_begun : (starts : Starts) (old m1 m2 : List Instruction) (handle : Operand) (words behind t : ℕ) → behind ≡ t + 3 → m1 ≡ old ++ measured_code starts words (behind - 2) (behind - 1) t
     → m2 ≡ m1 ++ asked_code handle words behind t → m2 ≡ old ++ begun_code starts handle words t
 made_begun starts old m1 m2 handle words behind t is e1 e2 =
     let x : behind - 2 ≡ t + 1 = omega (arith, is) in
@@ -282,7 +282,7 @@ made_begun starts old m1 m2 handle words behind t is e1 e2 =
 -- the elements, whose loop begins at place head
 pub made_elements : (starts : Starts) (counters : List ℕ) (a : Expression) (old begun made filled patched new : List Instruction) (x : Instruction) (last : Condition) (words head behind d t : ℕ) → behind ≡ t + 3
     → counters ≡ starts.counters ++ (behind - 1) ∷ [] → head ≡ length old → begun ≡ old ++ x ∷ []
-    → made ≡ begun ++ expression_code (record { locals = starts.locals; structs = starts.structs; raises = starts.raises; counters = counters; globals = starts.globals }) a (length begun) behind behind
+    → made ≡ begun ++ expression_code (record { locals = starts.locals; structs = starts.structs; raises = starts.raises; counters = counters; globals = starts.globals; scopes = starts.scopes }) a (length begun) behind behind
     → filled ≡ made ++ written_code words head (behind - 1) behind (behind + words) t → last ≡ last_element (behind - 2) (behind - 1)
     → patched ≡ set filled head (failing_jump last (length filled)) → new ≡ patched ++ restarted_code d (behind - 1) t
     → new ≡ old ++ elements_code words (expression_code (with_counter starts (t + 2)) a (length old + 1) (t + 3) (t + 3)) (length old) d t
@@ -292,7 +292,7 @@ made_elements starts counters a old begun made filled patched new i last words h
     let z : behind + words ≡ t + 3 + words = omega (arith, is) in
     let first : made ≡ begun ++ expression_code (with_counter starts (t + 2)) a (length begun) (t + 3) (t + 3)
     = e1
-    ∙ ap (λ (cs : List ℕ). begun ++ expression_code (record { locals = starts.locals; structs = starts.structs; raises = starts.raises; counters = cs; globals = starts.globals }) a (length begun) behind behind) (counters_are ∙ ap (λ (n : ℕ). starts.counters ++ n ∷ []) y)
+    ∙ ap (λ (cs : List ℕ). begun ++ expression_code (record { locals = starts.locals; structs = starts.structs; raises = starts.raises; counters = cs; globals = starts.globals; scopes = starts.scopes }) a (length begun) behind behind) (counters_are ∙ ap (λ (n : ℕ). starts.counters ++ n ∷ []) y)
     ∙ ap (λ (n : ℕ). begun ++ expression_code (with_counter starts (t + 2)) a (length begun) n n) is in
     let second : filled ≡ made ++ filled_code words (length old) t
     = e2
@@ -412,16 +412,17 @@ module _ (starts : Starts) where
     expression_some (Assign (Local w n) c ty) p d t = before (initial_code starts c p (slot_of starts n) t) _ (initial_some c p (slot_of starts n) t)
     expression_some (Assign (Global n) c ty) p d t =
         before (converted_operand_code starts c p t ++ _) (copy_code (passed_words c) (converted_operand starts c t) d) (behind (converted_operand_code starts c p t) _ (saves (passed_words c) (global_of starts n) (converted_operand starts c t) (passed_some c)))
-    expression_some (Load x) p d t = behind (place_code starts x p t) _ (loaded_some (words_of (type_of_place x) == 1) (place_operand starts x t) (place_offset starts x) d)
+    expression_some (Load x) p d t = behind (place_code starts x p t) _ (loaded_some (words_of (type_of_place x) == 1) (place_operand starts x t) (place_offset starts x) d t)
     expression_some (AddressOfCell x ty) p d t = before (place_code starts x p t) _ (place_some x p t)
     expression_some (Store x c ty) p d t = before (store_code starts x c p t) _ (before (store_address_code starts x p t) _ (before (place_code starts x p t) _ (place_some x p t)))
     expression_some (FreeUnique a) p d t = behind (value_code starts a p t) _ (omega arith)
-    expression_some (New OnHeap i ty) p d t = made_some i HEAP p d t
-    expression_some (New AsUnique i ty) p d t = made_some i UNIQUE p d t
-    expression_some (New (ByHandle h) i ty) p d t = omega arith
+    expression_some (FreeKey a) p d t = behind (value_code starts a p t) _ (omega arith)
+    expression_some (New OnHeap i ty) p d t = made_some i (operands.Word HEAP) p d t
+    expression_some (New AsUnique i ty) p d t = made_some i (operands.Word UNIQUE) p d t
+    expression_some (New (ByHandle a) i ty) p d t = before (expression_code starts a p t t) _ (expression_some a p t t)
     expression_some a p d t = omega arith
 
-    made_some : (i : Initial) (handle p d t : ℕ) → 0 < length (made_code starts i handle p d t)
+    made_some : (i : Initial) (handle : Operand) (p d t : ℕ) → 0 < length (made_code starts i handle p d t)
     made_some (Plain kind a) handle p d t = behind (expression_code starts a p t t) (object_code handle (words_of_kind kind) d t) (omega arith)
     made_some (Fields cs) handle p d t = behind (arguments_code starts cs p t) (object_code handle (all_passed cs) d t) (omega arith)
     made_some (Array w level n kind a) handle p d t = behind (expression_code starts n p t t) _ (omega arith)
@@ -528,7 +529,7 @@ module _ (starts : Starts) where
       ∙ ap (λ (a : Expression). old ++ expression_code starts a (length old) d t) (sym (call_viewed value f v ty is items same))
 
   -- a new struct, of its fields
-  pub made_fields : (value : InitialCode) (v : Vec ConvertedCode Heap) (items : List ConvertedCode) (old m1 m2 : List Instruction) (handle many d t : ℕ) → value ≡ initial.Fields v → items ≡ v.items → many ≡ all_passed (arguments_of items)
+  pub made_fields : (value : InitialCode) (v : Vec ConvertedCode Heap) (items : List ConvertedCode) (old m1 m2 : List Instruction) (handle : Operand) (many d t : ℕ) → value ≡ initial.Fields v → items ≡ v.items → many ≡ all_passed (arguments_of items)
       → m1 ≡ old ++ arguments_code starts (arguments_of items) (length old) t → m2 ≡ m1 ++ object_code handle many d t → m2 ≡ old ++ made_code starts (view_initial value) handle (length old) d t
   made_fields value v items old m1 m2 handle many d t is same count first second =
       let cs = arguments_of v.items in

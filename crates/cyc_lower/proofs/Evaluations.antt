@@ -25,13 +25,13 @@ use Rattle.cyc_plain.specs.State.{Words, put, Frame, Configuration}
 use Rattle.cyc_plain.specs.Straight.{At as CodeAt}
 use Rattle.cyc_plain.specs.Step.{Choice, with_slots, advanced, performed, at}
 use Rattle.cyc_plain.proofs.SlotLaws.{put-same}
-use Rattle.cyc_meaning.specs.Values.{Int, Null, Thin, Operand as Kinded, kind_of, words_of_kind, is_thin}
+use Rattle.cyc_meaning.specs.Values.{Int, Null, Thin, Handle, Operand as Kinded, kind_of, words_of_kind, is_thin}
 use Rattle.cyc_store.specs.declared.range.TheConstants.{HEAP, UNIQUE}
 use Rattle.cyc_meaning.specs.SourceMachine.{status_in}
-use Rattle.cyc_meaning.specs.State.{status_of, InRegion, World, heap_number, Environment, ConvertTo, Operate, Chain, Apply, Store, Pass, MakePlain, MakeFields, MakeArray, Choose, Test, Follow, LoadFrom, Entry, Needs, NeedsPlace, Discard, Focus, Evaluating, Locating, Given, Running, FollowMember, TakeAddress, StoreTo, Owner, Unique, FreeObject, CountElements, Index, Advance}
+use Rattle.cyc_meaning.specs.State.{status_of, InRegion, World, heap_number, Environment, ConvertTo, Operate, Chain, Apply, Store, Pass, PlaceBy, MakePlain, MakeFields, MakeArray, Choose, Test, Follow, LoadFrom, Entry, Needs, NeedsPlace, Discard, Focus, Evaluating, Locating, Given, Running, FollowMember, TakeAddress, StoreTo, Owner, Unique, FreeObject, CloseByKey, CountElements, Index, Advance}
 use Rattle.cyc_lower.proofs.Counters.{CountersHold, counters_hold, counters_low}
 use Rattle.cyc_meaning.specs.Step.{counts, target_of, target_by, object_of, assigned, passes, step, loaded_from}
-use Rattle.cyc_meaning.specs.Allocation.{makes, allocates}
+use Rattle.cyc_meaning.specs.Allocation.{makes}
 use Rattle.cyc_lower.specs.Slots.{slot_of, field_in, global_of, Types, starts_of}
 use Rattle.cyc_meaning.specs.Places.{locates_member}
 use Rattle.cyc_lower.proofs.PlaceWords.{field_bytes}
@@ -39,12 +39,13 @@ use Rattle.cyc_lower.proofs.Slots.{slot-room, slot-low}
 use Rattle.cyc_lower.proofs.Widths.{kind_positive, type_words, made_kind, HasRoom, Outside}
 use Rattle.cyc_lower.proofs.Moves.{moved_slots, moves, put_elsewhere, moved_elsewhere, moved_is}
 use Rattle.cyc_lower.specs.Lowering.{counter_operand, failing_comparison, operand_of, value_slot, source_of, source_slot, are_as_wide, converts_there, all_passed, move_of, left_with, slot_with, compared_or, compared_of, lower_program, null_of, followed_operand, span_in, operand_or, reached_operand, pointer_of, load_word}
-use Rattle.cyc_lower.proofs.Weights.{weight, stack_weight, expression_weight, arguments_weight}
+use Rattle.cyc_lower.proofs.Weights.{weight, stack_weight, expression_weight, arguments_weight, object_weight}
 use Rattle.cyc_lower.proofs.Stands.{CopyBy, CopyAt, OperandBy, InitialBy, ExpressionAt, ArgumentsAt, ObjectAt, MadeAt, ValueAt, PairAt, ConditionAt, AssignmentAt, PrintedAt, DiscardedAt, StoredAt, CountAt, LoadedAt, ReturnedAt, ReachedAt, EachAt}
 use Rattle.cyc_objects.specs.Tables.{Tables}
 use Rattle.cyc_objects.specs.Words.{Is}
-use Rattle.cyc_lower.proofs.Relation.{counters_of, types_on, starts_on, IsIn, types_at, starts_at, given_at, called_at, words_held, height, Holds, held, contents, callers, in_temporary, in_local, drops, leaves, copies, prints_only, gives_byte, DataIn, SharedAt, CallAt, to_slot, to_jump, ValueStack, PlaceStack, ConditionStack, DroppedStack, AheadStack, LandsStack, HandsOnStack, PrintsStack, RightAt, EvaluatingAt, as_operand, into_slot, for_effect, as_right, as_condition, in_operand, ahead, with_left, Related, Matches, code_of, bounds_in, bounds_at, base_of, top, IsHandleOf, floor, IsLow}
-use Rattle.cyc_lower.proofs.Data.{IsWord-is, height-least, Holds-same, Holds-above, data_above, behind-least, data_written}
+use Rattle.cyc_lower.proofs.Relation.{counters_of, types_on, starts_on, IsIn, types_at, starts_at, given_at, called_at, words_held, height, Holds, held, kept, contents, callers, in_temporary, in_local, drops, leaves, copies, prints_only, gives_byte, DataIn, SharedAt, CallAt, to_slot, to_jump, ValueStack, PlaceStack, ConditionStack, DroppedStack, AheadStack, LandsStack, LandsMade, HandsOnStack, PrintsStack, RightAt, EvaluatingAt, as_operand, into_slot, for_effect, as_right, as_condition, in_operand, ahead, with_left, Related, Matches, code_of, bounds_in, bounds_at, base_of, top, IsHandleOf, floor, IsLow}
+use Rattle.cyc_lower.proofs.Handles.{kept_holds, kept_low}
+use Rattle.cyc_lower.proofs.Data.{IsWord-is, height-least, Holds-same, Holds-above, data_above, floor-least, data_written}
 use Rattle.cyc_types.specs.Numbered.{Numbering}
 use Rattle.cyc_meaning.specs.FrameCount.{words_of_all}
 use Rattle.cyc_lower.proofs.Accesses.{IsWell, is_loaded}
@@ -62,28 +63,40 @@ module _ (source : Program) (pages calls : ℕ) where
   IsStep focus k e w c = IsWell (step source (Running focus k e w)) → Related source pages calls focus k e w c → IsMatched source pages calls (Running focus k e w) (plain.Running c)
 
   -- a value comes to a slot and those behind it, and the next instruction is the one behind
+  pub landed_made : (v : Kinded) (after : Words) (d : ℕ) (k : List Entry) (e : Environment) (w : World) (c : Configuration) (q : ℕ) (shared : SharedAt source pages calls k e w c) → Is shared.tables v.kind v.value after d
+      → ((m : ℕ) → Outside d (words_of_kind v.kind) m → after m ≡ c.active.slots m)
+      → DataIn source shared.tables c.active.slots k e w c → Holds shared.tables c.active.slots (floor source c.active.function k) (held k)
+      → c.active.next + 1 ≡ q → LandsMade source c.active.function e.locals v.kind d q c.frames k
+      → Related source pages calls (Given v) k e w (advanced (with_slots c after))
+  landed_made v after d k e w c q shared is same facts holds end (in_temporary least stack) =
+      let base = floor source c.active.function k in (
+        shared,
+        in_operand (operands.Slot d)
+            (data_written source shared.tables c.active.function w.objects e.locals k c.active.slots after c.active.handlers c.globals c.frames d (words_of_kind v.kind) (omega (arith, least, height-least base (kept k))) same facts)
+            is
+            (Holds-same shared.tables c.active.slots after base (kept k) (λ m below. same m (inl (omega (arith, below, least)))) (kept_holds shared.tables c.active.slots base k holds))
+            (subst (λ r. ValueStack source c.active.function e.locals v.kind (operands.Slot d) r c.frames k) (sym end) stack),
+      )
+  landed_made v after d k e w c q shared is same facts holds end (in_local below stack) =
+      let base = floor source c.active.function k in (
+        shared,
+        ahead d (c.active.slots, λ m out. sym (same m out), facts)
+            is
+            (Holds-above shared.tables c.active.slots after base (kept k) (λ m above. same m (inr (omega (arith, below, above, floor-least source c.active.function k)))) (kept_holds _ _ _ k holds))
+            (subst (λ r. AheadStack source c.active.function e.locals v.kind d r c.frames k) (sym end) stack),
+      )
+
+  pub lands_made : (g : ℕ) (locals : ℕ → Option ℕ) (kind : Kind) (d q : ℕ) (frames : List Frame) (k : List Entry) → LandsStack source g locals kind d q frames k → LandsMade source g locals kind d q frames k
+  lands_made g locals kind d q frames k (in_temporary least stack) = in_temporary (omega (arith, least, kept_low (floor source g k) k)) stack
+  lands_made g locals kind d q frames k (in_local below stack) = in_local below stack
+
   pub landed : (v : Kinded) (after : Words) (d : ℕ) (k : List Entry) (e : Environment) (w : World) (c : Configuration) (q : ℕ) (shared : SharedAt source pages calls k e w c) → Is shared.tables v.kind v.value after d
       → ((m : ℕ) → Outside d (words_of_kind v.kind) m → after m ≡ c.active.slots m)
       → DataIn source shared.tables c.active.slots k e w c → Holds shared.tables c.active.slots (floor source c.active.function k) (held k)
       → c.active.next + 1 ≡ q → LandsStack source c.active.function e.locals v.kind d q c.frames k
       → Related source pages calls (Given v) k e w (advanced (with_slots c after))
-  landed v after d k e w c q shared is same facts holds end (in_temporary least stack) =
-      let base = floor source c.active.function k in (
-        shared,
-        in_operand (operands.Slot d)
-            (data_written source shared.tables c.active.function w.objects e.locals k c.active.slots after c.active.handlers c.globals c.frames d (words_of_kind v.kind) (omega (arith, least, height-least base (held k))) same facts)
-            is
-            (Holds-same shared.tables c.active.slots after base (held k) (λ m below. same m (inl (omega (arith, below, least)))) holds)
-            (subst (λ r. ValueStack source c.active.function e.locals v.kind (operands.Slot d) r c.frames k) (sym end) stack),
-      )
-  landed v after d k e w c q shared is same facts holds end (in_local below stack) =
-      let base = floor source c.active.function k in (
-        shared,
-        ahead d (c.active.slots, λ m out. sym (same m out), facts)
-            is
-            (Holds-above shared.tables c.active.slots after base (held k) (λ m above. same m (inr (omega (arith, below, above, behind-least k (base_of source c.active.function))))) holds)
-            (subst (λ r. AheadStack source c.active.function e.locals v.kind d r c.frames k) (sym end) stack),
-      )
+  landed v after d k e w c q shared is same facts holds end lands =
+      landed_made v after d k e w c q shared is same facts holds end (lands_made c.active.function e.locals v.kind d q c.frames k lands)
 
   -- the same for an int
   pub landed_word : (a word d : ℕ) (k : List Entry) (e : Environment) (w : World) (c : Configuration) (q : ℕ) → word ≡ a
@@ -95,15 +108,22 @@ module _ (source : Program) (pages calls : ℕ) where
       (λ m out. put_elsewhere c.active.slots d word 1 m (omega arith) out) facts holds end lands
 
   -- a value that is moved from an operand
+  pub made_moved : (v : Kinded) (o : Operand) (d : ℕ) (k : List Entry) (e : Environment) (w : World) (c : Configuration) (q : ℕ) (choice : Choice) (shared : SharedAt source pages calls k e w c) → IsIn shared.tables v c.active.slots o
+      → DataIn source shared.tables c.active.slots k e w c → Holds shared.tables c.active.slots (floor source c.active.function k) (held k)
+      → c.active.next + 1 ≡ q → LandsMade source c.active.function e.locals v.kind d q c.frames k
+      → Matches source pages calls (Running (Given v) k e w) (performed (lower_program source) choice c (move_of (words_of_kind v.kind) d o))
+  made_moved v o d k e w c q choice shared is facts holds end lands =
+      let words = words_of_kind v.kind in
+      subst (Matches source pages calls (Running (Given v) k e w)) (sym (moves (lower_program source) choice c words d o))
+      (landed_made v (moved_slots c.active.slots words d o) d k e w c q shared (moved_is shared.tables v c.active.slots d o is)
+      (λ m out. moved_elsewhere c.active.slots words d o m (kind_positive v.kind) out) facts holds end lands)
+
   pub landed_moved : (v : Kinded) (o : Operand) (d : ℕ) (k : List Entry) (e : Environment) (w : World) (c : Configuration) (q : ℕ) (choice : Choice) (shared : SharedAt source pages calls k e w c) → IsIn shared.tables v c.active.slots o
       → DataIn source shared.tables c.active.slots k e w c → Holds shared.tables c.active.slots (floor source c.active.function k) (held k)
       → c.active.next + 1 ≡ q → LandsStack source c.active.function e.locals v.kind d q c.frames k
       → Matches source pages calls (Running (Given v) k e w) (performed (lower_program source) choice c (move_of (words_of_kind v.kind) d o))
   landed_moved v o d k e w c q choice shared is facts holds end lands =
-      let words = words_of_kind v.kind in
-      subst (Matches source pages calls (Running (Given v) k e w)) (sym (moves (lower_program source) choice c words d o))
-      (landed v (moved_slots c.active.slots words d o) d k e w c q shared (moved_is shared.tables v c.active.slots d o is)
-      (λ m out. moved_elsewhere c.active.slots words d o m (kind_positive v.kind) out) facts holds end lands)
+      made_moved v o d k e w c q choice shared is facts holds end (lands_made c.active.function e.locals v.kind d q c.frames k lands)
 
   -- what stands behind a slot, at an equal place
   pub lands_at : (g : ℕ) (locals : ℕ → Option ℕ) (kind : Kind) (d p q : ℕ) (frames : List Frame) (k : List Entry) → p ≡ q → LandsStack source g locals kind d q frames k
@@ -142,8 +162,8 @@ module _ (source : Program) (pages calls : ℕ) where
       }
 
   pub reads : (tables : Tables) (a : Expression) (o : Operand) (k : List Entry) (e : Environment) (w : World) (c : Configuration) → operand_of (starts_on source c.active.function k) a ≡ Some o → IsWell (step source (Running (Evaluating a) k e w))
-      → CountersHold e.counters c.active.slots (floor source c.active.function k) k → DataIn source tables c.active.slots k e w c → IsRead tables a o k e w c
-  reads tables (Number n) o k e w c known well count facts =
+      → CountersHold e.counters c.active.slots (floor source c.active.function k) k → DataIn source tables c.active.slots k e w c → slice_get tables.handles heap_number ≡ Some (Some HEAP) → IsRead tables a o k e w c
+  reads tables (Number n) o k e w c known well count facts heap =
       record {
         value = record { kind = kinds.Int; value = Int n };
         gives = refl;
@@ -151,7 +171,7 @@ module _ (source : Program) (pages calls : ℕ) where
         same = refl;
         some = refl;
       }
-  reads tables typed.NullPointer o k e w c known well count facts =
+  reads tables typed.NullPointer o k e w c known well count facts heap =
       record {
         value = record { kind = kinds.Nullable; value = Null };
         gives = refl;
@@ -159,10 +179,13 @@ module _ (source : Program) (pages calls : ℕ) where
         same = refl;
         some = refl;
       }
-  reads tables (Copy (Local p n) t) o k e w c known well count facts = reads_local tables (Copy (Local p n) t) n t o k e w c refl refl refl known well facts
-  reads tables (typed.Move p n t) o k e w c known well count facts = reads_local tables (typed.Move p n t) n t o k e w c refl refl refl known well facts
-  reads tables (typed.Peek p n t) o k e w c known well count facts = reads_local tables (typed.Peek p n t) n t o k e w c refl refl refl known well facts
-  reads tables (typed.Counter l) o k e w c known well count facts = read_counter (slice_get (counters_of (floor source c.active.function k) k) l) refl known
+  reads tables typed.HeapRegion o k e w c known well count facts heap =
+      let v : Kinded = record { kind = kinds.Handle; value = Handle heap_number } in
+      record { value = v; gives = refl; is = subst (IsIn tables v c.active.slots) (same_Some (operands.Word HEAP) o known) heap; same = refl; some = refl }
+  reads tables (Copy (Local p n) t) o k e w c known well count facts heap = reads_local tables (Copy (Local p n) t) n t o k e w c refl refl refl known well facts
+  reads tables (typed.Move p n t) o k e w c known well count facts heap = reads_local tables (typed.Move p n t) n t o k e w c refl refl refl known well facts
+  reads tables (typed.Peek p n t) o k e w c known well count facts heap = reads_local tables (typed.Peek p n t) n t o k e w c refl refl refl known well facts
+  reads tables (typed.Counter l) o k e w c known well count facts heap = read_counter (slice_get (counters_of (floor source c.active.function k) k) l) refl known
     where
       read_counter : (slot : Option ℕ) → slice_get (counters_of (floor source c.active.function k) k) l ≡ slot → counter_operand slot ≡ Some o → IsRead tables (typed.Counter l) o k e w c
       read_counter None none known = absurd (none-some o known)
@@ -175,7 +198,7 @@ module _ (source : Program) (pages calls : ℕ) where
             same = refl;
             some = refl;
           }
-  reads tables a o k e w c known well count facts = absurd (none-some o known)
+  reads tables a o k e w c known well count facts heap = absurd (none-some o known)
 
   -- ---- calls
 
@@ -225,10 +248,10 @@ module _ (source : Program) (pages calls : ℕ) where
   known_operand : (a : Expression) (o : Operand) (k : List Entry) (e : Environment) (w : World) (c : Configuration) (q : ℕ) → operand_of (starts_on source c.active.function k) a ≡ Some o → c.active.next ≡ q → At_step a k e w c
       → ValueStack source c.active.function e.locals (given_at source c.active.function a) o q c.frames k → IsBegun a k e w c
   known_operand a o k e w c q known end (well, shared, facts, holds) stack =
-      let found = reads shared.tables a o k e w c known well (counters_hold shared.tables e.counters c.active.slots (floor source c.active.function k) k shared.counters holds) facts in
+      let found = reads shared.tables a o k e w c known well (counters_hold shared.tables e.counters c.active.slots (floor source c.active.function k) k shared.counters.0 holds) facts shared.related.heap in
       silently source pages calls (Running (Evaluating a) k e w) (Running (Given found.value) k e w) (plain.Running c) found.gives (
         shared,
-        in_operand o facts found.is holds
+        in_operand o facts found.is (kept_holds _ _ _ k holds)
             (subst (λ i. ValueStack source c.active.function e.locals i o c.active.next c.frames k) (sym found.same)
             (subst (λ r. ValueStack source c.active.function e.locals (given_at source c.active.function a) o r c.frames k) (sym end) stack)),
       )
@@ -363,35 +386,36 @@ module _ (source : Program) (pages calls : ℕ) where
       by_one source pages calls (does ∙ found.gives) shared (subst (λ x. CodeAt (code_of source g) c.active.next (move_of x d o)) (sym (type_words t)) at)
       (λ choice. landed_moved v o d k e w c q choice shared (facts.0.2.holds n found.number v found.there found.has).0 facts holds end lands)
 
-  -- the values of a new object come to slots, in the region of this handle
-  made_of : (placement : Placement) (owner : Owner) (handle : ℕ) (i : Initial) (t : Ty) (k : List Entry) (e : Environment) (w : World) (c : Configuration) (d q : ℕ) → allocates placement i k e w ≡ makes owner i k e w
-      → IsHandleOf owner handle → At_step (typed.New placement i t) k e w c
+  -- The values of a new object come to slots, in the region of this handle. What is done weighs more than what it holds.
+  pub made_of : (focus : Focus) (k₀ : List Entry) (owner : Owner) (handle : Operand) (i : Initial) (k : List Entry) (e : Environment) (w : World) (c : Configuration) (d q : ℕ)
+      → step source (Running focus k₀ e w) ≡ makes owner i k e w → suc (object_weight i + stack_weight k) < weight (Running focus k₀ e w)
+      → IsHandleOf owner handle (top source c.active.function k) k → (shared : SharedAt source pages calls k e w c) → DataIn source shared.tables c.active.slots k e w c
+      → Holds shared.tables c.active.slots (floor source c.active.function k) (held k)
       → MadeAt (code_of source c.active.function) (bounds_at source c.active.function) (types_on source c.active.function k) i handle d (top source c.active.function k) c.active.next q
-      → LandsStack source c.active.function e.locals (made_kind i) d q c.frames k → IsBegun (typed.New placement i t) k e w c
-  made_of placement owner handle (typed.Plain kind a) t k e w c d q does owned (well, shared, facts, holds) (m, at_a, wide, object) lands =
+      → LandsMade source c.active.function e.locals (made_kind i) d q c.frames k → IsMatched source pages calls (Running focus k₀ e w) (plain.Running c)
+  made_of focus k₀ owner handle (typed.Plain kind a) k e w c d q does lighter owned shared facts holds (m, at_a, wide, object) lands =
       let g = c.active.function in
-      silently source pages calls (Running (Evaluating (typed.New placement (typed.Plain kind a) t)) k e w) (Running (Evaluating a) (Needs (MakePlain owner kind) ∷ k) e w) (plain.Running c) does (
+      silently source pages calls (Running focus k₀ e w) (Running (Evaluating a) (Needs (MakePlain owner kind) ∷ k) e w) (plain.Running c) does (
         shared,
         facts,
         into_slot (top source g k) m at_a holds
             (in_temporary (omega arith) (handle, d, q, owned, refl, subst (λ n. ObjectAt (code_of source g) (bounds_at source g) (types_on source g k) handle 1 n (top source g k) d m q) (sym wide) object, lands)),
       )
-      (omega arith)
-  made_of placement owner handle (typed.Fields NoArguments) t k e w c d q does owned known (p, at_cs, (m, single, some, few, ask, stores, move, there)) lands = absurd (omega (arith, some))
-  made_of placement owner handle (typed.Fields (MoreArguments (Convert from to a) cs)) t k e w c d q does owned (well, shared, facts, holds) (p, (r, (s, at_a, at_to), at_cs), (m, single, some, few, ask, stores, move, there)) lands =
-      silently source pages calls (Running (Evaluating (typed.New placement (typed.Fields (MoreArguments (Convert from to a) cs)) t)) k e w)
-      (Running (Evaluating a) (Needs (ConvertTo from to (target_by a)) ∷ Needs (MakeFields owner [] cs) ∷ k) e w) (plain.Running c) does (
+      (omega (arith, lighter))
+  made_of focus k₀ owner handle (typed.Fields NoArguments) k e w c d q does lighter owned shared facts holds (p, at_cs, (m, single, some, few, ask, stores, move, there)) lands = absurd (omega (arith, some))
+  made_of focus k₀ owner handle (typed.Fields (MoreArguments (Convert from to a) cs)) k e w c d q does lighter owned shared facts holds (p, (r, (s, at_a, at_to), at_cs), (m, single, some, few, ask, stores, move, there)) lands =
+      silently source pages calls (Running focus k₀ e w) (Running (Evaluating a) (Needs (ConvertTo from to (target_by a)) ∷ Needs (MakeFields owner [] cs) ∷ k) e w) (plain.Running c) does (
         shared,
         facts,
         into_slot (top source c.active.function k) s at_a holds
             (in_temporary (omega arith) (r, at_to, (handle, d, p, q, words_of_kind to + all_passed cs, owned, refl, at_cs, (m, omega (arith, single), some, few, ask, stores, move, there), omega arith, lands))),
       )
-      (omega arith)
-  made_of placement owner handle (typed.Array p level n kind a) t k e w c d q does owned (well, shared, facts, holds) (m, h, r, s, at_n, begun, level_is, at_a) lands =
+      (omega (arith, lighter))
+  made_of focus k₀ owner handle (typed.Array p level n kind a) k e w c d q does lighter owned shared facts holds (m, h, r, s, at_n, begun, level_is, at_a) lands =
       let g = c.active.function in
-      silently source pages calls (Running (Evaluating (typed.New placement (typed.Array p level n kind a) t)) k e w) (Running (Evaluating n) (Needs (MakeArray owner level kind a) ∷ k) e w) (plain.Running c) does
+      silently source pages calls (Running focus k₀ e w) (Running (Evaluating n) (Needs (MakeArray owner level kind a) ∷ k) e w) (plain.Running c) does
       (shared, facts, into_slot (top source g k) m at_n holds (in_temporary (omega arith) (handle, d, h, r, s, q, owned, refl, begun, level_is, at_a, lands)))
-      (omega arith)
+      (omega (arith, lighter))
 
   -- a value comes from a global
   global_comes : {focus : Focus} (v : Kinded) (words first d : ℕ) (k : List Entry) (e : Environment) (w : World) (c : Configuration) (q : ℕ) → words_of_kind v.kind ≡ words
@@ -416,8 +440,11 @@ module _ (source : Program) (pages calls : ℕ) where
   comes typed.NullPointer k e w c d q (well, shared, facts, holds) (at, end) lands =
       let v : Kinded = record { kind = kinds.Nullable; value = Null } in
       by_one source pages calls refl shared at (λ choice. landed_moved v (operands.Word 0) d k e w c q choice shared refl facts holds end lands)
+  comes typed.HeapRegion k e w c d q (well, shared, facts, holds) (at, end) lands =
+      let v : Kinded = record { kind = kinds.Handle; value = Handle heap_number } in
+      by_one source pages calls refl shared at (λ choice. landed_moved v (operands.Word HEAP) d k e w c q choice shared shared.related.heap facts holds end lands)
   comes (typed.Counter l) k e w c d q (well, shared, facts, holds) (slot, there, at, end) lands =
-      let (index, now, is) = counters_hold shared.tables e.counters c.active.slots (floor source c.active.function k) k shared.counters holds l slot there in
+      let (index, now, is) = counters_hold shared.tables e.counters c.active.slots (floor source c.active.function k) k shared.counters.0 holds l slot there in
       by_one source pages calls (ap (λ (i : Option ℕ). counts i k e w) now) shared at
       (λ choice. landed_word index (c.active.slots slot) d k e w c q is shared facts holds end lands)
   comes (Copy (Local p n) t) k e w c d q (well, shared, facts, holds) (at, end) lands = comes_from (Copy (Local p n) t) n t k e w c d q refl well shared facts holds at end lands
@@ -458,7 +485,7 @@ module _ (source : Program) (pages calls : ℕ) where
       let g = c.active.function in
       let kind = kind_of (type_of_place x) in
       silently source pages calls (Running (Evaluating (typed.Load x)) k e w) (Running (Locating x) (NeedsPlace (LoadFrom kind) ∷ k) e w) (plain.Running c) refl
-      (shared, facts, (o, offset, r, at, holds, (d, q, subst (λ n. LoadedAt (code_of source g) n o offset d r q) (sym (type_words (type_of_place x))) load, lands)))
+      (shared, facts, (o, offset, r, at, holds, (d, q, subst (λ n. LoadedAt (code_of source g) n o offset d (top source g k) r q) (sym (type_words (type_of_place x))) load, lands)))
       (omega arith)
   comes (typed.AddressOfCell x t) k e w c d q (well, shared, facts, holds) (o, offset, r, at, address) lands =
       silently source pages calls (Running (Evaluating (typed.AddressOfCell x t)) k e w) (Running (Locating x) (NeedsPlace TakeAddress ∷ k) e w) (plain.Running c) refl
@@ -469,9 +496,18 @@ module _ (source : Program) (pages calls : ℕ) where
       silently source pages calls (Running (Evaluating (typed.FreeUnique a)) k e w) (Running (Evaluating a) (Needs FreeObject ∷ k) e w) (plain.Running c) refl
       (shared, facts, as_operand o m at_a holds (d, q, (jump, ask, end), lands))
       (omega arith)
-  comes (typed.New typed.OnHeap i t) k e w c d q known at lands = made_of typed.OnHeap (InRegion heap_number) HEAP i t k e w c d q refl (refl, refl) known at lands
-  comes (typed.New typed.AsUnique i t) k e w c d q known at lands = made_of typed.AsUnique (Unique true) UNIQUE i t k e w c d q refl refl known at lands
-  comes (typed.New (typed.ByHandle h) i t) k e w c d q known at lands = absurd at
+  comes (typed.FreeKey a) k e w c d q (well, shared, facts, holds) (o, m, at_a, here, end) lands =
+      silently source pages calls (Running (Evaluating (typed.FreeKey a)) k e w) (Running (Evaluating a) (Needs CloseByKey ∷ k) e w) (plain.Running c) refl
+      (shared, facts, as_operand o m at_a holds (d, q, here, end, lands))
+      (omega arith)
+  comes (typed.New typed.OnHeap i t) k e w c d q (well, shared, facts, holds) at lands =
+      made_of (Evaluating (typed.New typed.OnHeap i t)) k (InRegion heap_number) (operands.Word HEAP) i k e w c d q refl (omega arith) (refl, refl) shared facts holds at (lands_made c.active.function e.locals (made_kind i) d q c.frames k lands)
+  comes (typed.New typed.AsUnique i t) k e w c d q (well, shared, facts, holds) at lands =
+      made_of (Evaluating (typed.New typed.AsUnique i t)) k (Unique true) (operands.Word UNIQUE) i k e w c d q refl (omega arith) refl shared facts holds at (lands_made c.active.function e.locals (made_kind i) d q c.frames k lands)
+  comes (typed.New (typed.ByHandle a) i t) k e w c d q (well, shared, facts, holds) (m, at_a, at) lands =
+      silently source pages calls (Running (Evaluating (typed.New (typed.ByHandle a) i t)) k e w) (Running (Evaluating a) (Needs (PlaceBy i) ∷ k) e w) (plain.Running c) refl
+      (shared, facts, into_slot (top source c.active.function k) m at_a holds (in_temporary (omega arith) (d, q, refl, at, lands)))
+      (omega arith)
   comes a k e w c d q known at lands = absurd at
 
   -- a value that is in its slot is not copied
@@ -499,6 +535,7 @@ module _ (source : Program) (pages calls : ℕ) where
       in_counter None none at = in_top (typed.Counter l) k e w c o q known at stack
       in_counter (Some slot) there (is, end) = known_operand (typed.Counter l) o k e w c q (ap counter_operand there ∙ ap Some (sym is)) end known stack
   operand typed.NullPointer k e w c o q known (is, end) stack = known_operand typed.NullPointer o k e w c q (ap Some (sym is)) end known stack
+  operand typed.HeapRegion k e w c o q known (is, end) stack = known_operand typed.HeapRegion o k e w c q (ap Some (sym is)) end known stack
   operand (Copy (Local p n) t) k e w c o q known (is, end) stack = known_operand (Copy (Local p n) t) o k e w c q (ap Some (sym is)) end known stack
   operand (typed.Move p n t) k e w c o q known (is, end) stack = known_operand (typed.Move p n t) o k e w c q (ap Some (sym is)) end known stack
   operand (typed.Peek p n t) k e w c o q known (is, end) stack = known_operand (typed.Peek p n t) o k e w c q (ap Some (sym is)) end known stack
@@ -516,6 +553,7 @@ module _ (source : Program) (pages calls : ℕ) where
   operand (Assign (Global n) c' t) k e w c o q known at stack = in_top (Assign (Global n) c' t) k e w c o q known at stack
   operand (typed.Load x) k e w c o q known at stack = in_top (typed.Load x) k e w c o q known at stack
   operand (typed.FreeUnique a) k e w c o q known at stack = in_top (typed.FreeUnique a) k e w c o q known at stack
+  operand (typed.FreeKey a) k e w c o q known at stack = in_top (typed.FreeKey a) k e w c o q known at stack
   operand (typed.New x i t) k e w c o q known at stack = in_top (typed.New x i t) k e w c o q known at stack
   operand (typed.AddressOfCell x t) k e w c o q known at stack = in_top (typed.AddressOfCell x t) k e w c o q known at stack
   operand (typed.Store x v t) k e w c o q known at stack = in_top (typed.Store x v t) k e w c o q known at stack
@@ -535,7 +573,7 @@ module _ (source : Program) (pages calls : ℕ) where
   for_its_effect (Unary u a) k e w c q known (o, at) stack = in_top (Unary u a) k e w c o q known at (dropped_value c.active.function e.locals (given_at source c.active.function (Unary u a)) o q c.frames k stack)
   for_its_effect (Binary a os t) k e w c q known (o, at) stack = in_top (Binary a os t) k e w c o q known at (dropped_value c.active.function e.locals (given_at source c.active.function (Binary a os t)) o q c.frames k stack)
   for_its_effect typed.NullPointer k e w c q known (o, at) stack = operand typed.NullPointer k e w c o q known at (dropped_value c.active.function e.locals (given_at source c.active.function typed.NullPointer) o q c.frames k stack)
-  for_its_effect typed.HeapRegion k e w c q known (o, (is, at)) stack = absurd at
+  for_its_effect typed.HeapRegion k e w c q known (o, at) stack = operand typed.HeapRegion k e w c o q known at (dropped_value c.active.function e.locals (given_at source c.active.function typed.HeapRegion) o q c.frames k stack)
   for_its_effect (typed.Counter l) k e w c q known (o, at) stack = operand (typed.Counter l) k e w c o q known at (dropped_value c.active.function e.locals (given_at source c.active.function (typed.Counter l)) o q c.frames k stack)
   for_its_effect (typed.Move p n t) k e w c q known (o, at) stack = operand (typed.Move p n t) k e w c o q known at (dropped_value c.active.function e.locals (given_at source c.active.function (typed.Move p n t)) o q c.frames k stack)
   for_its_effect (typed.Peek p n t) k e w c q known (o, at) stack = operand (typed.Peek p n t) k e w c o q known at (dropped_value c.active.function e.locals (given_at source c.active.function (typed.Peek p n t)) o q c.frames k stack)
@@ -544,7 +582,7 @@ module _ (source : Program) (pages calls : ℕ) where
   for_its_effect (typed.AddressOfCell x t) k e w c q known (o, at) stack = in_top (typed.AddressOfCell x t) k e w c o q known at (dropped_value c.active.function e.locals (given_at source c.active.function (typed.AddressOfCell x t)) o q c.frames k stack)
   for_its_effect (typed.NumberOfElements a) k e w c q known (o, at) stack = in_top (typed.NumberOfElements a) k e w c o q known at (dropped_value c.active.function e.locals (given_at source c.active.function (typed.NumberOfElements a)) o q c.frames k stack)
   for_its_effect (typed.FreeUnique a) k e w c q known (o, at) stack = in_top (typed.FreeUnique a) k e w c o q known at (dropped_value c.active.function e.locals (given_at source c.active.function (typed.FreeUnique a)) o q c.frames k stack)
-  for_its_effect (typed.FreeKey a) k e w c q known (o, (is, at)) stack = absurd at
+  for_its_effect (typed.FreeKey a) k e w c q known (o, at) stack = in_top (typed.FreeKey a) k e w c o q known at (dropped_value c.active.function e.locals (given_at source c.active.function (typed.FreeKey a)) o q c.frames k stack)
   for_its_effect (typed.Store x (Convert from to a) t) k e w c q known (o, at) stack = cell_begins x from to a t k e w c o q known at (drops stack)
   for_its_effect (typed.New x i t) k e w c q known (o, at) stack = in_top (typed.New x i t) k e w c o q known at (dropped_value c.active.function e.locals (given_at source c.active.function (typed.New x i t)) o q c.frames k stack)
 
@@ -552,12 +590,12 @@ module _ (source : Program) (pages calls : ℕ) where
   beside_left : (a : Expression) (k : List Entry) (e : Environment) (w : World) (c : Configuration) → IsWell (step source (Running (Evaluating a) k e w)) → (shared : SharedAt source pages calls k e w c) → DataIn source shared.tables c.active.slots k e w c
       → RightAt source shared.tables a e.locals c.active.function c.active.next c.active.slots c.frames k → IsBegun a k e w c
   beside_left a (Needs (Apply u left) ∷ k) e w c well shared facts (l, r, known, is_left, holds, applied) =
-      let found = reads shared.tables a r (Needs (Apply u left) ∷ k) e w c known well (counters_hold shared.tables e.counters c.active.slots (floor source c.active.function k) k shared.counters holds) facts in
+      let found = reads shared.tables a r (Needs (Apply u left) ∷ k) e w c known well (counters_hold shared.tables e.counters c.active.slots (floor source c.active.function k) k shared.counters.0 holds) facts shared.related.heap in
       silently source pages calls (Running (Evaluating a) (Needs (Apply u left) ∷ k) e w) (Running (Given found.value) (Needs (Apply u left) ∷ k) e w) (plain.Running c) found.gives
       (shared, with_left facts (l, r, is_left, found.is, holds, applied))
       (omega (arith, found.some))
   beside_left a (Needs (Advance peek target base) ∷ k) e w c well shared facts (n, x, q, known, is_base, low, holds, advances) =
-      let found = reads shared.tables a x (Needs (Advance peek target base) ∷ k) e w c known well (counters_hold shared.tables e.counters c.active.slots (floor source c.active.function k) k shared.counters holds) facts in
+      let found = reads shared.tables a x (Needs (Advance peek target base) ∷ k) e w c known well (counters_hold shared.tables e.counters c.active.slots (floor source c.active.function k) k shared.counters.0 holds) facts shared.related.heap in
       silently source pages calls (Running (Evaluating a) (Needs (Advance peek target base) ∷ k) e w) (Running (Given found.value) (Needs (Advance peek target base) ∷ k) e w) (plain.Running c) found.gives
       (shared, with_left facts (n, x, q, found.is, is_base, low, holds, advances))
       (omega (arith, found.some))
@@ -622,6 +660,7 @@ module _ (source : Program) (pages calls : ℕ) where
       by : (x : Expression) → IsLow (operand_or (operand_of (starts_of types) x) (value_slot (starts_of types) x t)) t
       by (Number n) = tt
       by typed.NullPointer = tt
+      by typed.HeapRegion = tt
       by (Copy (Local p n) ty) = local_low n
       by (typed.Move p n ty) = local_low n
       by (typed.Peek p n ty) = local_low n
@@ -683,7 +722,7 @@ module _ (source : Program) (pages calls : ℕ) where
             x,
             q,
             refl,
-            operand_low (types_on source g k) a (top source g k) (operands.Slot n) (omega (arith, height-least (floor source g k) (held k), behind-least k (base_of source g))) (counters_low (floor source g k) k)
+            operand_low (types_on source g k) a (top source g k) (operands.Slot n) (omega (arith, height-least (floor source g k) (held k), floor-least source g k)) (counters_low (floor source g k) k)
                 (operand_is (code_of source g) (bounds_at source g) (types_on source g k) a (top source g k) c.active.next m (operands.Slot n) at_pointer),
             i_is ∙ ap Some (sym y_is),
             subst (λ p. CodeAt (code_of source g) p (instructions.Binary plain_binary.Add (top source g k + 2) (operands.Slot (n + 2)) x)) (sym ends) sum,
@@ -697,7 +736,7 @@ module _ (source : Program) (pages calls : ℕ) where
       let g = c.active.function in
       let there = subst (λ b. PlaceStack source g e.locals (followed_operand (is_thin pointer) (span_in t) x (top source g k)) b q c.frames k) none (subst (λ y. PlaceStack source g e.locals y offset q c.frames k) is place) in
       silently source pages calls (Running (Locating (Target pointer a t)) k e w) (Running (Evaluating a) (Needs (Follow pointer (target_of t)) ∷ k) e w) (plain.Running c) refl
-      (shared, facts, as_operand x m at_a holds (q, operand_low (types_on source g k) a (top source g k) x (omega (arith, height-least (floor source g k) (held k), behind-least k (base_of source g))) (counters_low (floor source g k) k) (operand_is (code_of source g) (bounds_at source g) (types_on source g k) a (top source g k) c.active.next m x at_a), access, there))
+      (shared, facts, as_operand x m at_a holds (q, operand_low (types_on source g k) a (top source g k) x (omega (arith, height-least (floor source g k) (held k), floor-least source g k)) (counters_low (floor source g k) k) (operand_is (code_of source g) (bounds_at source g) (types_on source g k) a (top source g k) c.active.next m x at_a), access, there))
       (omega arith)
   locating (Member pointer a s field t) k e w c well (shared, facts, (o, offset, q, (m, at_a, thin, check, (st, there, inside), is), holds, place)) =
       let fields = map kind_of st.fields in

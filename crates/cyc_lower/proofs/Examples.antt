@@ -312,7 +312,7 @@ source_catches_null = refl
 -- ---- code, with the blocks that raise exceptions behind it
 
 abbrev code_of_body : Items → List Instruction
-code_of_body body = function_code [] [] (function [] ints body)
+code_of_body body = function_code [] [] None (function [] ints body)
 
 -- a loop, with its two jumps in front
 loop_code : code_of_body (all (While nowhere (local 0) Break ∷ returns (local 1) ∷ [])) ≡
@@ -358,7 +358,7 @@ chain_code : code_of_body (all (Evaluate (sets 0 (two (local 1) (ThenCompute Sub
 chain_code = refl
 
 -- a local behind a fat pointer has the slot behind its three words, and temporaries stand behind both
-wide_code : function_code [] [] (function [] (Pointer Fat Int Heap ∷ Int ∷ []) (all (Evaluate (sets 1 (two (local 1) (ThenCompute Add (Number 1) NoOperations))) ∷ []))) ≡
+wide_code : function_code [] [] None (function [] (Pointer Fat Int Heap ∷ Int ∷ []) (all (Evaluate (sets 1 (two (local 1) (ThenCompute Add (Number 1) NoOperations))) ∷ []))) ≡
     instructions.Binary plain_binary.Add 3 (Slot 3) (Constant 1)
     ∷ instructions.Finish 4 ∷ blocks
 wide_code = refl
@@ -373,7 +373,7 @@ int_global = record { name = 0; of_type = Int; value = Word 7 }
 words_of_globals : lower_globals (fat_global ∷ int_global ∷ []) ≡ 0 ∷ 0 ∷ 0 ∷ 7 ∷ []
 words_of_globals = refl
 
-wide_globals : function_code [] (starts_from 0 (global_types (fat_global ∷ int_global ∷ []))) (function [] (Pointer Fat Int Heap ∷ Int ∷ []) (all (
+wide_globals : function_code [] (starts_from 0 (global_types (fat_global ∷ int_global ∷ []))) None (function [] (Pointer Fat Int Heap ∷ Int ∷ []) (all (
     Evaluate (Assign (Local nowhere 0) (Convert kinds.Fat kinds.Fat (Copy (Global 0) (Pointer Fat Int Heap))) (Value (Pointer Fat Int Heap)))
     ∷ Evaluate (Assign (Global 0) (Convert kinds.Fat kinds.Fat (Copy (Local nowhere 0) (Pointer Fat Int Heap))) (Value (Pointer Fat Int Heap)))
     ∷ Evaluate (sets 1 (global 1)) ∷ []))) ≡

@@ -38,7 +38,7 @@ use Rattle.cyc_lower.proofs.Moves.{moved_slots, moves, moved_is, moved_elsewhere
 use Rattle.cyc_lower.proofs.Stands.{ThrownAt, CaughtAt, ItemsAt, ClausesAt}
 use Rattle.cyc_lower.proofs.Sharing.{shared_less, shared_declared, row_declared, shared_opened, shared_closed, shared_left}
 use Rattle.cyc_lower.proofs.Relation.{AreCounted, behind_records, IsIntact, Opened, HandlersStand, CatchesAt, CaughtBy, DataIn, types_at, starts_at, held, callers, homes, Shared, SharedAt, StatementStack, Related, Matches, as_operand, behind_statement, in_place, by_jumps, code_of, bounds_at, base_of, floor, Arrives, DataAt}
-use Rattle.cyc_lower.proofs.Data.{behind-least, handlers_same, handlers_beside, data_written, data_declared, data_returned, data_grows}
+use Rattle.cyc_lower.proofs.Data.{handlers_same, handlers_beside, data_written, data_declared, data_returned, data_grows, record_below}
 use Rattle.cyc_lower.proofs.Accesses.{IsWell, is_declared, is_closed, home_there}
 use Rattle.cyc_lower.proofs.Matched.{IsMatched, silently, by_one, by_two, by_two_places, place_in, shared_within, shared_way}
 use Rattle.cyc_lower.proofs.Handling.{intact, closes_here, newest_open, caught_by, raised}
@@ -63,25 +63,50 @@ module _ (source : Program) (pages calls : ℕ) where
   opens_one choice c first p (plain.Open index other contents ∷ handlers) g slots frames k stand = refl
   opens_one choice c first p (plain.Caught ∷ handlers) g slots frames k stand = absurd (never_caught g slots handlers frames k stand)
 
+  -- What is kept behind its record.
+  abbrev kept_slots : (scopes : Option ℕ) → Configuration → (slot : ℕ) → Words
+  kept_slots None c slot = c.active.slots
+  kept_slots (Some global) c slot = put c.active.slots slot (c.globals global)
+
+  kept_there : (scopes : Option ℕ) (c : Configuration) (slot many : ℕ) → IsTold scopes c.globals many → IsKept scopes (kept_slots scopes c slot) slot many
+  kept_there None c slot many told = tt
+  kept_there (Some global) c slot many told = put-same c.active.slots slot (c.globals global) ∙ told
+
+  kept_elsewhere : (scopes : Option ℕ) (c : Configuration) (slot n : ℕ) → Outside slot 1 n → kept_slots scopes c slot n ≡ c.active.slots n
+  kept_elsewhere None c slot n out = refl
+  kept_elsewhere (Some global) c slot n out = put_elsewhere c.active.slots slot (c.globals global) 1 n (omega arith) out
+
+  kept_same : (scopes : Option ℕ) (slots after : Words) (slot many : ℕ) → after slot ≡ slots slot → IsKept scopes slots slot many → IsKept scopes after slot many
+  kept_same None slots after slot many same kept = tt
+  kept_same (Some global) slots after slot many same kept = same ∙ kept
+
   -- its handler is opened, whose record has words that may be any
   pub begins : (s : Statement) (handler : Clauses) (k : List Entry) (e : Environment) (w : World) (c : Configuration) → IsStep source pages calls (Executing (typed.Try s handler)) k e w c
-  begins s handler k e w c well (shared, facts, (exits, q, (m, opening, body, leave, over, clauses), stack)) =
-      by_one source pages calls refl shared opening
-      (λ choice. subst (Matches source pages calls (Running (Executing s) (Handler handler ∷ k) e w)) (sym (opens_one choice c t (m + 1 + 1) c.active.handlers c.active.function c.active.slots c.frames k facts.1))
-      (inside_one choice))
+  begins s handler k e w c well (shared, facts, (exits, q, (r, m, u, keeping, opening, body, leave, over, restoring, clauses), stack)) =
+      by_keeping (scopes_of source) refl keeping
     where
       t : ℕ
       t = floor source c.active.function k
 
-      recorded : Choice → Words
-      recorded choice = copied choice.contents 0 RECORD_WORDS c.active.slots t
+      slot : ℕ
+      slot = t + RECORD_WORDS
 
-      elsewhere : (choice : Choice) (n : ℕ) → Outside t RECORD_WORDS n → recorded choice n ≡ c.active.slots n
-      elsewhere choice n (inl below) = copied-below choice.contents c.active.slots 0 RECORD_WORDS t n below
-      elsewhere choice n (inr above) = copied-above choice.contents c.active.slots 0 RECORD_WORDS t n above
+      kept : Words
+      kept = kept_slots (scopes_of source) c slot
+
+      recorded : Choice → Words
+      recorded choice = copied choice.contents 0 RECORD_WORDS kept t
+
+      beside : (choice : Choice) (n : ℕ) → Outside t RECORD_WORDS n → recorded choice n ≡ kept n
+      beside choice n (inl below) = copied-below choice.contents kept 0 RECORD_WORDS t n below
+      beside choice n (inr above) = copied-above choice.contents kept 0 RECORD_WORDS t n above
+
+      elsewhere : (choice : Choice) (n : ℕ) → Outside t (suc RECORD_WORDS) n → recorded choice n ≡ c.active.slots n
+      elsewhere choice n (inl below) = beside choice n (inl below) ∙ kept_elsewhere (scopes_of source) c slot n (inl (omega (arith, below)))
+      elsewhere choice n (inr above) = beside choice n (inr (omega (arith, above))) ∙ kept_elsewhere (scopes_of source) c slot n (inr (omega (arith, above)))
 
       recorded_at : (choice : Choice) (i : ℕ) → i < RECORD_WORDS → recorded choice (t + i) ≡ choice.contents i
-      recorded_at choice i few = copied-inside choice.contents c.active.slots 0 RECORD_WORDS t i few ∙ ap choice.contents (let z : 0 + i ≡ i = omega arith in z)
+      recorded_at choice i few = copied-inside choice.contents kept 0 RECORD_WORDS t i few ∙ ap choice.contents (let z : 0 + i ≡ i = omega arith in z)
 
       whole : (choice : Choice) → IsIntact (recorded choice) t choice.contents
       whole choice = (
@@ -91,26 +116,48 @@ module _ (source : Program) (pages calls : ℕ) where
         recorded_at choice 3 (omega arith),
       )
 
-      inside_one : (choice : Choice) → Matches source pages calls (Running (Executing s) (Handler handler ∷ k) e w) (opens choice c t)
+      -- it is opened in this state
+      begun : Configuration
+      begun = with_slots (at c r) kept
+
+      inside_one : (choice : Choice) → Matches source pages calls (Running (Executing s) (Handler handler ∷ k) e w) (opens choice begun t)
       inside_one choice =
-          let (written, others) = data_written source shared.tables c.active.function w.objects e.locals k c.active.slots (recorded choice) c.active.handlers c.globals c.frames t RECORD_WORDS (omega arith) (elsewhere choice) facts in (
+          let (written, others) = data_written source shared.tables c.active.function w.objects e.locals k c.active.slots (recorded choice) c.active.handlers c.globals c.frames t (suc RECORD_WORDS) (omega arith) (elsewhere choice) facts in
+          let is_kept = kept_same (scopes_of source) kept (recorded choice) slot (scopes_in k) (beside choice slot (inr (omega arith))) (kept_there (scopes_of source) c slot (scopes_in k) shared.counters.1) in (
             shared,
-            (written, (refl, whole choice, (exits, m + 1 + 1, m + 1, q, opening, clauses, over, stack), others)),
-            (exits, m, body, (q, leave, over, stack)),
+            (written, (refl, whole choice, is_kept, (exits, m + 1 + 1, u, m + 1, q, opening, restoring, clauses, over, stack), others)),
+            (inside_try exits t, m, body, (exits, q, refl, leave, over, stack)),
           )
+
+      opens_here : (choice : Choice) → Matches source pages calls (Running (Executing s) (Handler handler ∷ k) e w) (tries choice begun t (m + 1 + 1) c.active.handlers)
+      opens_here choice =
+          subst (Matches source pages calls (Running (Executing s) (Handler handler ∷ k) e w)) (sym (opens_one choice begun t (m + 1 + 1) c.active.handlers c.active.function c.active.slots c.frames k facts.1)) (inside_one choice)
+
+      by_keeping : (scopes : Option ℕ) → scopes_of source ≡ scopes → KeptAt (code_of source c.active.function) (bounds_at source c.active.function) (types_at source c.active.function) scopes slot c.active.next r
+          → IsMatched source pages calls (Running (Executing (typed.Try s handler)) k e w) (plain.Running c)
+      by_keeping None none end =
+          let begun_is : begun ≡ c = ap (λ (o : Option ℕ). with_slots (at c r) (kept_slots o c slot)) none ∙ ap (λ n. at c n) (sym end) in
+          by_one source pages calls refl shared (subst (λ n. At (code_of source c.active.function) n (instructions.Try t (m + 1 + 1))) (sym end) opening)
+          (λ choice. subst (λ (d : Configuration). Matches source pages calls (Running (Executing s) (Handler handler ∷ k) e w) (tries choice d t (m + 1 + 1) c.active.handlers)) begun_is (opens_here choice))
+      by_keeping (Some global) some (here, behind) =
+          by_two source pages calls begun refl shared shared here
+          (λ choice. ap plain.Running (
+          ap (λ n. with_slots (at c n) (put c.active.slots slot (c.globals global))) behind
+          ∙ ap (λ (o : Option ℕ). with_slots (at c r) (kept_slots o c slot)) (sym some)))
+          opening (λ equal. omega (arith, equal, behind)) (λ choice. opens_here choice)
 
   -- its body is done: the handler is closed, and the clauses are jumped over
   pub ends : (handler : Clauses) (k : List Entry) (e : Environment) (w : World) (c : Configuration) (exits : Exits) → (shared : SharedAt source pages calls k e w c)
       → DataIn source shared.tables c.active.slots (Handler handler ∷ k) e w c → StatementStack source c.active.function exits c.active.next c.frames (Handler handler ∷ k)
       → IsMatched source pages calls (Running Proceeding (Handler handler ∷ k) e w) (plain.Running c)
-  ends handler k e w c exits shared (facts, stand) (q, leave, over, stack) =
+  ends handler k e w c exits shared (facts, stand) (outer, q, is, leave, over, stack) =
       let t = floor source c.active.function k in
-      let (index, first, contents, later, are, (first_is, same, catches_at, others)) = newest_open c.active.handlers _ stand in
+      let (index, first, contents, later, are, (first_is, same, kept, catches_at, others)) = newest_open c.active.handlers _ stand in
       let d : Configuration = advanced (record c { active = record c.active { handlers = later } }) in
       by_two source pages calls d refl shared shared leave
       (λ choice. ap (λ (handlers : List plain.Handler). plain_step.closes c t handlers) are ∙ closes_here c t index first contents later first_is same)
       over (λ equal. omega (arith, equal))
-      (λ choice. (shared, behind_statement exits (facts, others) stack))
+      (λ choice. (shared, behind_statement outer (facts, others) stack))
 
   -- ---- a throw
 

@@ -29,6 +29,7 @@ use Rattle.cyc_objects.proofs.Pointers.{not-null, part-not-null, thin-to_fat}
 use Rattle.cyc_lower.specs.Lowering.{jump_if_zero, lower_program}
 use Rattle.cyc_lower.proofs.Widths.{Outside}
 use Rattle.cyc_lower.proofs.Stands.{CountAt, WidenedAt}
+use Rattle.cyc_lower.proofs.Handles.{kept_holds}
 use Rattle.cyc_lower.proofs.Relation.{IsIn, floor, types_at, Holds, held, callers, in_operand, DataIn, SharedAt, ValueStack, LandsStack, Related, Matches, code_of, bounds_at, base_of, top}
 use Rattle.cyc_lower.proofs.Data.{height-least, Holds-same, data_written}
 use Rattle.cyc_lower.proofs.Accesses.{IsWell}
@@ -269,7 +270,7 @@ module _ (source : Program) (pages calls : ℕ) where
       let null = null_only shared.tables v.kind v.value found.value x narrow zero found.gives is in
       silently source pages calls (Running (Given v) (Needs (ConvertTo from kinds.Fat target) ∷ k) e w) (Running (Given u) k e w) (plain.Running c)
       (does ∙ ap (λ (r : Result). computed kinds.Fat r k e w) found.gives)
-      (shared, in_operand (operands.Word x) facts (subst (λ (y : Value). IsIn shared.tables (record { kind = kinds.Fat; value = y }) c.active.slots (operands.Word x)) (sym null) zero) holds (subst (λ r. ValueStack source c.active.function e.locals kinds.Fat (operands.Word x) r c.frames k) (sym end) stack))
+      (shared, in_operand (operands.Word x) facts (subst (λ (y : Value). IsIn shared.tables (record { kind = kinds.Fat; value = y }) c.active.slots (operands.Word x)) (sym null) zero) (kept_holds _ _ _ k holds) (subst (λ r. ValueStack source c.active.function e.locals kinds.Fat (operands.Word x) r c.frames k) (sym end) stack))
       (omega arith)
   widens from target v (operands.Slot n) q k e w c does well narrow shared facts is holds (there, first, second, end) stack =
       let found = is_widened v.value k e w well in
@@ -289,6 +290,6 @@ module _ (source : Program) (pages calls : ℕ) where
         in_operand (operands.Slot n)
             (data_written source shared.tables g w.objects e.locals k slots after c.active.handlers c.globals c.frames (n + 1) 2 (omega (arith, there, height-least base (held k))) (λ m out. widened_elsewhere slots n m out) facts)
             (widened_is shared.tables v.kind v.value found.value slots n narrow found.gives is)
-            (Holds-same shared.tables slots after base (held k) (λ m below. widened_elsewhere slots n m (inl (omega (arith, below, there)))) holds)
+            (kept_holds _ _ _ k (Holds-same shared.tables slots after base (held k) (λ m below. widened_elsewhere slots n m (inl (omega (arith, below, there)))) holds))
             (subst (λ r. ValueStack source g e.locals kinds.Fat (operands.Slot n) r c.frames k) (sym behind) stack),
       ))

@@ -28,7 +28,7 @@ use Rattle.cyc_store.specs.declared.range.TheConstants.{MOST_BLOCK_WORDS}
 use Rattle.cyc_meaning.specs.Values.{kind_of, is_thin, words_of_kind, is_kind}
 use Rattle.cyc_meaning.specs.FrameCount.{result_words, words_of_all, operand_words}
 use Rattle.cyc_lower.specs.Slots.{Types, counted, global_types}
-use Rattle.cyc_lower.specs.Lowering.{types_of, are_as_wide, passed_words, all_passed, results_of, left_kind}
+use Rattle.cyc_lower.specs.Lowering.{types_of, are_as_wide, passed_words, all_passed, results_of, left_kind, scopes_of}
 use Rattle.cyc_lower.proofs.Widths.{kind_of_result, result_kind, called_kind, given, passed_kind, type_words, HasRoom, HasGlobal, chain_kind, HasField}
 use Rattle.cyc_lower.proofs.Slots.{words-there, words_positive}
 use Rattle.cyc_plain.proofs.Placed.{below_of_get}
@@ -46,6 +46,7 @@ module _ (b : Numbering) where
     pub Fits : (types : Types) → Expression → Type 0
     Fits types (Number n) = Unit {0}
     Fits types NullPointer = Unit {0}
+    Fits types HeapRegion = Unit {0}
     Fits types (Counter l) = l < length types.counters
     Fits types (Copy l t) = FitsPlace b types l (kind_of t)
     Fits types (Move p n t) = FitsPlace b types (Local p n) (kind_of t)
@@ -59,8 +60,10 @@ module _ (b : Numbering) where
     Fits types (Assign l c t) = FitsPlace b types l (passed_kind c) × FitsConverted types c
     Fits types (Load x) = FitsCell types x
     Fits types (FreeUnique a) = Fits types a
+    Fits types (FreeKey a) = Fits types a
     Fits types (New OnHeap i t) = FitsObject types i
     Fits types (New AsUnique i t) = FitsObject types i
+    Fits types (New (ByHandle a) i t) = (given b.functions a ≡ kinds.Handle) × Fits types a × FitsObject types i
     Fits types (AddressOfCell x t) = FitsCell types x
     Fits types (Store x c t) = FitsCell types x × FitsConverted types c
     Fits types a = ⊥
@@ -142,13 +145,13 @@ module _ (b : Numbering) (types : Types) where
     FitClauses l (Default r js) = FitItems l js
     FitClauses l (Case tag x r js cs) = IsWord tag × FitsCaught x × FitItems l js × FitClauses l cs
 
-abbrev pub AreFitting : List StructType → List GlobalVariable → List Signature → List Function → Type 0
-AreFitting structs globals functions [] = Unit {0}
-AreFitting structs globals functions (h ∷ hs) =
-    FitItems (numbering_of (length globals) functions h) (types_of structs (global_types globals) h) false h.body × AreFitting structs globals functions hs
+abbrev pub AreFitting : List StructType → List GlobalVariable → (scopes : Option ℕ) → List Signature → List Function → Type 0
+AreFitting structs globals scopes functions [] = Unit {0}
+AreFitting structs globals scopes functions (h ∷ hs) =
+    FitItems (numbering_of (length globals) functions h) (types_of structs (global_types globals) scopes h) false h.body × AreFitting structs globals scopes functions hs
 
 pub record IsFitting (p : Program) : Type 0 where
-  pub functions : AreFitting p.structs p.globals (signatures_of p.functions) p.functions
+  pub functions : AreFitting p.structs p.globals (scopes_of p) (signatures_of p.functions) p.functions
   pub globals : AreWellTypedGlobals p.globals
   pub main : slice_get (signatures_of p.functions) p.main ≡ Some (signature_of_ints [])
 
@@ -391,6 +394,7 @@ module _ (b : Numbering) where
     fits : (types : Types) → (a : Expression) (c : Context) (v : ValueType) → Suits b types c → IsLowerable b a → WellTyped c a v → IsGiven (given b.functions a) v × Fits b types a
     fits types (Number n) c v suits numbered is = (subst (IsGiven kinds.Int) (sym is) refl, tt)
     fits types NullPointer c v suits numbered is = (subst (IsGiven kinds.Nullable) (sym is) refl, tt)
+    fits types HeapRegion c v suits numbered is = (subst (IsGiven kinds.Handle) (sym is) refl, tt)
     fits types (Copy (Local p n) t) c v suits few (there, stays, is) = (subst (IsGiven (kind_of t)) (sym is) refl, (few, room_in b types c n t (kind_of t) suits there.1 refl))
     fits types (Move p n t) c v suits few (there, moved, is) = (subst (IsGiven (kind_of t)) (sym is) refl, (few, room_in b types c n t (kind_of t) suits there.1 refl))
     fits types (Peek p n t) c v suits few well = absurd well
@@ -450,7 +454,16 @@ module _ (b : Numbering) where
         (pointer_given b types mark u r t v mark_is t_is is, fits_object types (Fields cs) c mark u suits numbered (n, rs, s, there, many, passed, u_is, mark_is))
     fits types (New AsUnique (Array p level n kind a) t) c v suits numbered (mark, u, r, place, (level_is, length, well, unlocked, kind_is, mark_is), t_is, is) =
         (array_given b types mark u r t v mark_is t_is is, fits_object types (Array p level n kind a) c mark u suits numbered (level_is, length, well, unlocked, kind_is, mark_is))
-    fits types (New (ByHandle h) i t) c v suits numbered well = absurd numbered
+    fits types (FreeKey a) c v suits numbered (r, well, is) = (subst (IsGiven kinds.Int) (sym is) tt, (fits types a c _ suits numbered well).1)
+    fits types (New (ByHandle a) (Plain kind x) t) c v suits (handle, numbered) (mark, u, r, (well, live), made, t_is, is) =
+        let (given_is, fitting) = fits types a c (Value (type_forms.Handle r)) suits handle well in
+        (pointer_given b types mark u r t v made.3 t_is is, (given_is, fitting, fits_object types (Plain kind x) c mark u suits numbered made))
+    fits types (New (ByHandle a) (Fields cs) t) c v suits (handle, numbered) (mark, u, r, (well, live), (n, rs, s, there, many, passed, u_is, mark_is), t_is, is) =
+        let (given_is, fitting) = fits types a c (Value (type_forms.Handle r)) suits handle well in
+        (pointer_given b types mark u r t v mark_is t_is is, (given_is, fitting, fits_object types (Fields cs) c mark u suits numbered (n, rs, s, there, many, passed, u_is, mark_is)))
+    fits types (New (ByHandle a) (Array p level n kind x) t) c v suits (handle, numbered) (mark, u, r, (well, live), (level_is, length, element, unlocked, kind_is, mark_is), t_is, is) =
+        let (given_is, fitting) = fits types a c (Value (type_forms.Handle r)) suits handle well in
+        (array_given b types mark u r t v mark_is t_is is, (given_is, fitting, fits_object types (Array p level n kind x) c mark u suits numbered (level_is, length, element, unlocked, kind_is, mark_is)))
     fits types a c v suits numbered well = absurd numbered
 
     fits_object : (types : Types) → (i : Initial) (c : Context) (mark : PointerKind) (u : Ty) → Suits b types c → IsLowerableObject b i → IsMade c i mark u → FitsObject b types i
@@ -605,10 +618,10 @@ module _ (b : Numbering) (types : Types) where
 
 -- ---- programs
 
-functions_fit : (p : Program) (hs : List Function) → AreLowerableFunctions (length p.globals) (signatures_of p.functions) hs → AreWellTypedFunctions p hs → AreFitting p.structs p.globals (signatures_of p.functions) hs
+functions_fit : (p : Program) (hs : List Function) → AreLowerableFunctions (length p.globals) (signatures_of p.functions) hs → AreWellTypedFunctions p hs → AreFitting p.structs p.globals (scopes_of p) (signatures_of p.functions) hs
 functions_fit p [] numbered well = tt
 functions_fit p (h ∷ hs) (one, all) (well, rest) =
-    (body_fits (numbering_of (length p.globals) (signatures_of p.functions) h) (types_of p.structs (global_types p.globals) h) h.body (body_context p h) refl refl refl refl refl refl one well.body, functions_fit p hs all rest)
+    (body_fits (numbering_of (length p.globals) (signatures_of p.functions) h) (types_of p.structs (global_types p.globals) (scopes_of p) h) h.body (body_context p h) refl refl refl refl refl refl one well.body, functions_fit p hs all rest)
 
 pub is_fitting_program : (p : Program) → IsLowerableProgram p → IsWellTypedProgram p → IsFitting p
 is_fitting_program p numbered well = record {

@@ -6,35 +6,22 @@ use Rattle.std.specs.declared.boxed.Box.{Box}
 use Rattle.std.specs.declared.alloc.Global.{Global as Heap}
 use Rattle.cyc_types.specs.declared.typed.Stmt.{Stmt}
 use Rattle.cyc_types.specs.declared.typed.Stmt.TheVariants as stmt
-use Rattle.cyc_types.specs.declared.typed.Item.{Item as ItemCode}
-use Rattle.cyc_types.specs.declared.typed.Item.TheVariants as item
 use Rattle.cyc_types.specs.declared.typed.Clause.{Clause}
 use Rattle.cyc_types.specs.declared.typed.Body.{Body}
 use Rattle.cyc_types.specs.TypedTrees.{Statement, Try, Items, NoItems, Clauses, NoClauses, Default, Case}
 use Rattle.cyc_types.specs.TypedTreeView.{view_statement, items_of, clauses_of, default_of}
 use Rattle.cyc_types.proofs.TypedTreeViewLemmas.{view_try}
-use Rattle.cyc_plain.specs.declared.limits.TheConstants.{RECORD_WORDS}
 use Rattle.cyc_plain.specs.declared.instruction.Instruction.{Instruction}
 use Rattle.cyc_plain.specs.declared.instruction.Instruction.TheVariants as instructions
 use Rattle.cyc_meaning.specs.FrameCount.{kept_by_items, kept_by_clauses}
 use Rattle.cyc_lower.specs.declared.statements.Exits.{Exits}
 use Rattle.cyc_lower.specs.Slots.{Starts}
-use Rattle.cyc_lower.specs.Lowering.{statement_code, clauses_code, caught_code, items_code, other_jump, clause_code, try_code}
-use Rattle.cyc_lower.specs.Emission.{case_code, caught_items_code, BeginClauses, kept_by_item}
-use Rattle.cyc_lower.proofs.Emitting.{Remains, goes_on_by, written_back}
+use Rattle.cyc_lower.specs.Lowering.{statement_code, clauses_code, caught_code, items_code, other_jump, inside_try, behind_record, behind_record_in, kept_code, restored_code}
+use Rattle.cyc_lower.specs.Emission.{case_code, caught_items_code, BeginClauses}
+use Rattle.cyc_lower.proofs.Emitting.{Remains, goes_on_by, joined, written_back}
 use Rattle.cyc_lower.proofs.Branching.{branched}
 
 -- ---- what is kept
-
-item_kept : (y : ItemCode) (js : List ItemCode) → kept_by_items (items_of (y ∷ js)) ≡ kept_by_item y + kept_by_items (items_of js)
-item_kept (item.Execute s) js = refl
-item_kept (item.Region r n) js = refl
-item_kept y js = omega arith
-
-pub kept_of_item : (js : List ItemCode) (i : ℕ) (x : ItemCode) → i < length js → x ≡ get_or js i x → kept_by_item x ≤ kept_by_items (items_of js)
-kept_of_item [] i x inside at = absurd (omega (arith, inside))
-kept_of_item (y ∷ js) zero x inside at = let e = ap kept_by_item at in omega (arith, item_kept y js, e)
-kept_of_item (y ∷ js) (suc i) x inside at = omega (arith, item_kept y js, kept_of_item js i x (omega (arith, inside)) at)
 
 pub kept_of_clause : (cs : List Clause) (i : ℕ) (x : Clause) → i < length cs → x ≡ get_or cs i x → kept_by_items (items_of x.items.items) ≤ kept_by_clauses (clauses_of cs NoClauses)
 kept_of_clause [] i x inside at = absurd (omega (arith, inside))
@@ -91,30 +78,34 @@ module _ (starts : Starts) (tag : ℕ) (x : Option ℕ) (js : Items) (out : ℕ)
 
 -- ---- a `try`
 
-module _ (starts : Starts) (s : Statement) (cs : Clauses) (exits : Exits) (t : ℕ) (old : List Instruction) (x y : Instruction) (m1 m2 m3 m4 m5 m6 m7 : List Instruction) (opening out : ℕ) where
-  pub made_try : opening ≡ length old → m1 ≡ old ++ x ∷ [] → m2 ≡ m1 ++ statement_code starts s (length m1) exits (t + RECORD_WORDS) → m3 ≡ m2 ++ instructions.Leave t ∷ [] → out ≡ length m3 → m4 ≡ m3 ++ y ∷ []
-      → m5 ≡ set m4 opening (instructions.Try t (length m4)) → m6 ≡ m5 ++ clauses_code starts cs (length m5) out exits t → m7 ≡ set m6 out (instructions.Jump (length m6))
-      → m7 ≡ old ++ statement_code starts (Try s cs) (length old) exits t
-  made_try h1 e1 e2 e3 h2 e4 e5 e6 e7 =
-      let first : ℕ → List Instruction = λ p. statement_code starts s p exits (t + RECORD_WORDS) ++ instructions.Leave t ∷ [] in
-      let second : ℕ → List Instruction = λ p. clauses_code starts cs p out exits t in
-      let p = length old + 1 in
+module _ (starts : Starts) (s : Statement) (cs : Clauses) (exits : Exits) (t : ℕ) (old : List Instruction) (x y : Instruction) (m0 m1 m2 m3 m4 m5 m6 m7 m8 : List Instruction) (opening out : ℕ) where
+  pub made_try : m0 ≡ old ++ kept_code starts t → opening ≡ length m0 → m1 ≡ m0 ++ x ∷ [] → m2 ≡ m1 ++ statement_code starts s (length m1) (inside_try exits t) (behind_record starts t) → m3 ≡ m2 ++ instructions.Leave t ∷ []
+      → out ≡ length m3 → m4 ≡ m3 ++ y ∷ [] → m5 ≡ set m4 opening (instructions.Try t (length m4)) → m6 ≡ m5 ++ restored_code starts t → m7 ≡ m6 ++ clauses_code starts cs (length m6) out exits t
+      → m8 ≡ set m7 out (instructions.Jump (length m7)) → m8 ≡ old ++ statement_code starts (Try s cs) (length old) exits t
+  made_try e0 h1 e1 e2 e3 h2 e4 e5 e6 e7 e8 =
+      let kept = kept_code starts t in
+      let restored = restored_code starts t in
+      let first : ℕ → List Instruction = λ p. statement_code starts s p (inside_try exits t) (behind_record starts t) ++ instructions.Leave t ∷ [] in
+      let second : ℕ → List Instruction = λ p. restored ++ clauses_code starts cs (p + length restored) out exits t in
+      let p = length old + length kept + 1 in
       let q = p + length (first p) + 1 in
       let made : m3 ≡ m1 ++ first (length m1)
-      = e3 ∙ ap (λ (l : List Instruction). l ++ instructions.Leave t ∷ []) e2 ∙ append_assoc m1 (statement_code starts s (length m1) exits (t + RECORD_WORDS)) (instructions.Leave t ∷ []) in
-      let l1 : length m1 ≡ p = ap length e1 ∙ length-append old (x ∷ []) in
+      = e3 ∙ ap (λ (l : List Instruction). l ++ instructions.Leave t ∷ []) e2 ∙ append_assoc m1 (statement_code starts s (length m1) (inside_try exits t) (behind_record starts t)) (instructions.Leave t ∷ []) in
+      let l0 : length m0 ≡ length old + length kept = ap length e0 ∙ length-append old kept in
+      let l1 : length m1 ≡ p = ap length e1 ∙ length-append m0 (x ∷ []) ∙ ap (λ (n : ℕ). n + 1) l0 in
       let there : out ≡ p + length (first p) = h2 ∙ ap length made ∙ length-append m1 (first (length m1)) ∙ ap (λ (n : ℕ). n + length (first n)) l1 in
-      branched old [] x y first second (λ (n : ℕ). instructions.Try t n) (λ (n : ℕ). instructions.Jump n) old m1 m3 m4 m5 m6 m7
-      (sym (append-nil old)) e1 made e4 (e5 ∙ ap (λ (n : ℕ). set m4 n (instructions.Try t (length m4))) h1) e6 (e7 ∙ ap (λ (n : ℕ). set m6 n (instructions.Jump (length m6))) h2)
-      p (omega arith) q refl
-      ∙ ap (λ (n : ℕ). old ++ (instructions.Try t q ∷ (first p ++ (instructions.Jump (q + length (clauses_code starts cs q n exits t)) ∷ clauses_code starts cs q n exits t)))) there
+      let behind : m7 ≡ m5 ++ second (length m5) = joined m5 restored (λ (n : ℕ). clauses_code starts cs n out exits t) m6 m7 e6 e7 in
+      branched old kept x y first second (λ (n : ℕ). instructions.Try t n) (λ (n : ℕ). instructions.Jump n) m0 m1 m3 m4 m5 m7 m8
+      e0 e1 made e4 (e5 ∙ ap (λ (n : ℕ). set m4 n (instructions.Try t (length m4))) h1) behind (e8 ∙ ap (λ (n : ℕ). set m7 n (instructions.Jump (length m7))) h2)
+      p refl q refl
+      ∙ ap (λ (n : ℕ). old ++ (kept ++ (instructions.Try t q ∷ (first p ++ (instructions.Jump (q + length (restored ++ clauses_code starts cs (q + length restored) n exits t)) ∷ (restored ++ clauses_code starts cs (q + length restored) n exits t)))))) there
 
-module _ (starts : Starts) (value : Stmt) (b : Box Stmt Heap) (v : Vec Clause Heap) (d : Option Body) (is : value ≡ stmt.Try b v d) (body : Stmt) (at : body ≡ b.value) (clauses : List Clause) (same : clauses ≡ v.items) (exits : Exits) (t : ℕ) (old : List Instruction) (x : Instruction) (m1 m2 m3 m4 m5 m6 : List Instruction) (opening out : ℕ) where
-  pub made_handler : opening ≡ length old → m1 ≡ old ++ x ∷ [] → m2 ≡ m1 ++ statement_code starts (view_statement body) (length m1) exits (t + RECORD_WORDS) → out ≡ length m2 + 1
-      → m3 ≡ set (m2 ++ instructions.Leave t ∷ instructions.Jump 0 ∷ []) opening (instructions.Try t (length m2 + 2)) → BeginClauses starts clauses out exits t m3 m4
-      → m5 ≡ m4 ++ clauses_code starts (default_of d) (length m4) 0 exits t → m6 ≡ set m5 out (instructions.Jump (length m5))
-      → m6 ≡ old ++ statement_code starts (view_statement value) (length old) exits t
-  made_handler h1 e1 e2 h2 e3 begin e5 e6 =
+module _ (starts : Starts) (value : Stmt) (b : Box Stmt Heap) (v : Vec Clause Heap) (d : Option Body) (is : value ≡ stmt.Try b v d) (body : Stmt) (at : body ≡ b.value) (clauses : List Clause) (same : clauses ≡ v.items) (exits : Exits) (t : ℕ) (old : List Instruction) (x : Instruction) (m0 m1 m2 m3 m4 m5 m6 m7 : List Instruction) (opening out : ℕ) where
+  pub made_handler : m0 ≡ old ++ kept_code starts t → opening ≡ length m0 → m1 ≡ m0 ++ x ∷ [] → m2 ≡ m1 ++ statement_code starts (view_statement body) (length m1) (inside_try exits t) (behind_record starts t) → out ≡ length m2 + 1
+      → m3 ≡ set (m2 ++ instructions.Leave t ∷ instructions.Jump 0 ∷ []) opening (instructions.Try t (length m2 + 2)) → m4 ≡ m3 ++ restored_code starts t → BeginClauses starts clauses out exits t m4 m5
+      → m6 ≡ m5 ++ clauses_code starts (default_of d) (length m5) 0 exits t → m7 ≡ set m6 out (instructions.Jump (length m6))
+      → m7 ≡ old ++ statement_code starts (view_statement value) (length old) exits t
+  made_handler e0 h1 e1 e2 h2 e3 e4 begin e6 e7 =
       let left = m2 ++ instructions.Leave t ∷ [] in
       let jumped = left ++ instructions.Jump 0 ∷ [] in
       let long : length left ≡ length m2 + 1 = length-append m2 (instructions.Leave t ∷ []) in
@@ -124,12 +115,18 @@ module _ (starts : Starts) (value : Stmt) (b : Box Stmt Heap) (v : Vec Clause He
       let e : view_statement value ≡ Try (view_statement body) cs
       = ap view_statement is ∙ view_try b v d ∙ ap (λ (x : Stmt). Try (view_statement x) (clauses_of v.items (default_of d))) (sym at)
       ∙ ap (λ (cs : List Clause). Try (view_statement body) (clauses_of cs (default_of d))) (sym same) in
-      made_try starts (view_statement body) cs exits t old x (instructions.Jump 0) m1 m2 left jumped m3 m5 m6 opening out
-      h1 e1 e2 refl (h2 ∙ sym long) refl
+      made_try starts (view_statement body) cs exits t old x (instructions.Jump 0) m0 m1 m2 left jumped m3 m4 m6 m7 opening out
+      e0 h1 e1 e2 refl (h2 ∙ sym long) refl
       (e3 ∙ ap (λ (l : List Instruction). set l opening (instructions.Try t (length m2 + 2))) (sym (append_assoc m2 (instructions.Leave t ∷ []) (instructions.Jump 0 ∷ [])))
       ∙ ap (λ (n : ℕ). set jumped opening (instructions.Try t n)) all)
-      (e5 ∙ ap (λ (l : List Instruction). m4 ++ l) (default_alike starts d (length m4) out exits t) ∙ begin (default_of d)) e6
+      e4
+      (e6 ∙ ap (λ (l : List Instruction). m5 ++ l) (default_alike starts d (length m5) out exits t) ∙ begin (default_of d)) e7
       ∙ ap (λ (s : Statement). old ++ statement_code starts s (length old) exits t) (sym e)
+
+-- the record and what is kept behind it have room
+pub record_room : (scopes : Option ℕ) (t : ℕ) → behind_record_in scopes t ≤ t + 6
+record_room None t = omega arith
+record_room (Some global) t = omega arith
 
 -- ---- lengths
 

@@ -28,7 +28,7 @@ use Rattle.cyc_words.proofs.Matching.{by_none, way_before}
 use Rattle.cyc_plain.proofs.Steps.{step_performs, place_known}
 use Rattle.cyc_plain.specs.Straight.{At}
 use Rattle.cyc_words.specs.Demand.{demand_of}
-use Rattle.cyc_meaning.specs.State.{FreeObject, CountElements, Index, Advance, ThrowWith, SwapLeft, SwapRight, Handler, World, Environment, ConvertTo, Operate, Chain, Apply, ApplyPointer, Follow, LoadFrom, Decide, Store, Pass, MakePlain, MakeFields, MakeArray, FillElement, Initialise, Choose, Test, Return, Entry, Needs, NeedsPlace, Discard, Rest, Join, Loop, CloseRegion, Caller, Main, counted, calls_in, Focus, Evaluating, Locating, Given, Executing, Proceeding, Calling, Entering, Binding, Writing, Beginning, Repeating, Breaking, Continuing, Returning, Throwing, State, Running, Ended, Dead, Wrong, output_of, input_of, status_of, GivenPlace, FollowMember, TakeAddress, StoreTo, StoreCell}
+use Rattle.cyc_meaning.specs.State.{FreeObject, CloseByKey, PlaceBy, BesideHandle, CountElements, Index, Advance, ThrowWith, SwapLeft, SwapRight, Handler, World, Environment, ConvertTo, Operate, Chain, Apply, ApplyPointer, Follow, LoadFrom, Decide, Store, Pass, MakePlain, MakeFields, MakeArray, FillElement, Initialise, Choose, Test, Return, Entry, Needs, NeedsPlace, Discard, Rest, Join, Loop, CloseRegion, Caller, Main, counted, calls_in, Focus, Evaluating, Locating, Given, Executing, Proceeding, Calling, Entering, Binding, Writing, Beginning, Repeating, Breaking, Continuing, Returning, Throwing, State, Running, Ended, Dead, Wrong, output_of, input_of, status_of, GivenPlace, FollowMember, TakeAddress, StoreTo, StoreCell}
 use Rattle.cyc_meaning.specs.Step.{step}
 use Rattle.cyc_meaning.specs.Run.{is_within, limited_step}
 use Rattle.cyc_objects.specs.Tables.{Tables}
@@ -36,10 +36,10 @@ use Rattle.cyc_objects.proofs.RegionLemmas.{counted-same}
 use Rattle.cyc_lower.specs.declared.statements.Exits.{Exits}
 use Rattle.cyc_lower.specs.Lowering.{reached_operand, followed_operand, compared_of, outside_loops, lower_program}
 use Rattle.cyc_meaning.specs.Pointers.{result_kind as operator_kind}
-use Rattle.cyc_lower.proofs.Widths.{chain_kind}
+use Rattle.cyc_lower.proofs.Widths.{chain_kind, made_kind}
 use Rattle.cyc_meaning.specs.SourceMachine.{status_in, source_machine}
 use Rattle.cyc_lower.proofs.Weights.{weight}
-use Rattle.cyc_lower.proofs.Relation.{base_of, Lands, in_temporary, in_local, HandsOn, drops, leaves, copies, Prints, prints_only, gives_byte, SharedAt, to_slot, to_jump, ValueStack, PlaceStack, ConditionStack, DroppedStack, AheadStack, StatementStack, LandsStack, PrintsStack, AppliedStack, RightAt, ReadyAt, EvaluatingAt, as_operand, into_slot, for_effect, as_right, as_condition, FocusAt, GivenAt, in_operand, nowhere, ahead, compared, with_left, ProceedingAt, behind_statement, behind_call, behind_wrong, Related, Matches, code_of, given_at, called_at, returned_at, top}
+use Rattle.cyc_lower.proofs.Relation.{base_of, Lands, in_temporary, in_local, HandsOn, drops, leaves, copies, Prints, prints_only, gives_byte, SharedAt, to_slot, to_jump, ValueStack, PlaceStack, ConditionStack, DroppedStack, AheadStack, StatementStack, LandsMade, PrintsStack, AppliedStack, RightAt, ReadyAt, EvaluatingAt, as_operand, into_slot, for_effect, as_right, as_condition, FocusAt, GivenAt, in_operand, nowhere, ahead, compared, with_left, ProceedingAt, behind_statement, behind_call, behind_wrong, Related, Matches, code_of, given_at, called_at, returned_at, top}
 use Rattle.cyc_lower.proofs.Relation.{held, height, counters_of, arrays_in}
 use Rattle.cyc_lower.proofs.Matched.{by_lands, by_hands, by_prints}
 
@@ -83,6 +83,9 @@ module _ (source : Program) where
         by_lands source lands (λ stack. value_arrays g locals kinds.Int (operands.Slot d) q frames k stack) (λ stack. ahead_arrays g locals kinds.Int d q frames k stack)
     value_arrays g locals kind o p frames (Needs (Pass (callees.Function n) before cs) ∷ k) (d, m, q, all, is, at, call, long, lands) =
         by_lands source lands (λ stack. value_arrays g locals (called_at source g (callees.Function n)) (operands.Slot d) q frames k stack) (λ stack. ahead_arrays g locals (called_at source g (callees.Function n)) d q frames k stack)
+    value_arrays g locals kind o p frames (Needs (PlaceBy initial) ∷ k) (d, q, is, at, lands) =
+        by_lands source lands (λ stack. value_arrays g locals (made_kind initial) (operands.Slot d) q frames k stack) (λ stack. ahead_arrays g locals (made_kind initial) d q frames k stack)
+    value_arrays g locals kind o p frames (Needs (BesideHandle region) ∷ k) stack = value_arrays g locals kind o p frames k stack
     value_arrays g locals kind o p frames (Needs (MakePlain owner wanted) ∷ k) (handle, d, q, owned, is, at, lands) =
         by_lands source lands (λ stack. value_arrays g locals kinds.NonNull (operands.Slot d) q frames k stack) (λ stack. ahead_arrays g locals kinds.NonNull d q frames k stack)
     value_arrays g locals kind o p frames (Needs (MakeFields owner before cs) ∷ k) (handle, d, m, q, all, owned, is, at_cs, at, long, lands) =
@@ -105,6 +108,8 @@ module _ (source : Program) where
     value_arrays g locals kind o p frames (Needs (FollowMember pointer fields field) ∷ k) (c, q, thin, check, inside, is, place) = place_arrays g locals o c q frames k place
     value_arrays g locals kind o p frames (Discard ∷ k) (exits, stack) = statement_arrays g exits p frames k stack
     value_arrays g locals kind o p frames (Needs FreeObject ∷ k) (d, q, freed, lands) =
+        by_lands source lands (λ stack. value_arrays g locals kinds.Int (operands.Slot d) q frames k stack) (λ stack. ahead_arrays g locals kinds.Int d q frames k stack)
+    value_arrays g locals kind o p frames (Needs CloseByKey ∷ k) (d, q, at, end, lands) =
         by_lands source lands (λ stack. value_arrays g locals kinds.Int (operands.Slot d) q frames k stack) (λ stack. ahead_arrays g locals kinds.Int d q frames k stack)
     value_arrays g locals kind o p frames (Needs (ThrowWith tag) ∷ k) (exits, q, small, at, stack) = statement_arrays g exits q frames k stack
     value_arrays g locals kind o p frames (entry ∷ k) stack = absurd stack
@@ -134,6 +139,7 @@ module _ (source : Program) where
     ahead_arrays : (g : ℕ) (locals : ℕ → Option ℕ) (kind : Kind) (n p : ℕ) (frames : List Frame) (k : List Entry) → AheadStack source g locals kind n p frames k → AllCount k
     ahead_arrays g locals kind n p frames (Needs (ConvertTo from to target) ∷ k) (quiet, stack) = ahead_arrays g locals to n p frames k stack
     ahead_arrays g locals kind n p frames (Needs (Chain NoOperations) ∷ k) stack = ahead_arrays g locals kind n p frames k stack
+    ahead_arrays g locals kind n p frames (Needs (BesideHandle region) ∷ k) stack = ahead_arrays g locals kind n p frames k stack
     ahead_arrays g locals kind n p frames (Needs (Store place) ∷ k) (number, object, is, found, same, room, hands) =
         by_hands source hands (λ stack. dropped_arrays g p frames k stack) (λ stack. value_arrays g locals kind (operands.Slot n) p frames k stack)
         (λ d r lands. by_lands source lands (λ stack. value_arrays g locals kind (operands.Slot d) r frames k stack) (λ stack. ahead_arrays g locals kind d r frames k stack))
@@ -145,12 +151,12 @@ module _ (source : Program) where
     statement_arrays g exits p frames (Join ∷ k) (q, at, stack) = statement_arrays g exits q frames k stack
     statement_arrays g exits p frames (Loop a s ∷ k) (outer, q, at, jump, stack) = statement_arrays g outer q frames k stack
     statement_arrays g exits p frames (CloseRegion r h ∷ k) (q, at, stack) = statement_arrays g exits q frames k stack
-    statement_arrays g exits p frames (Handler handler ∷ k) (q, leave, jump, stack) = statement_arrays g exits q frames k stack
+    statement_arrays g exits p frames (Handler handler ∷ k) (outer, q, is, leave, jump, stack) = statement_arrays g outer q frames k stack
     statement_arrays g exits p frames (Caller e ∷ k) stack = refl
     statement_arrays g exits p [] (Main ∷ []) (s, at, outside, last) = refl
     statement_arrays g exits p (f ∷ frames) (Main ∷ k) (s, at, outside, last) = absurd last
     statement_arrays g exits p [] (Main ∷ entry ∷ k) (s, at, outside, last) = absurd last
     statement_arrays g exits p frames k stack = absurd stack
 
-  pub lands_arrays : (g : ℕ) (locals : ℕ → Option ℕ) (kind : Kind) (d p : ℕ) (frames : List Frame) (k : List Entry) → LandsStack source g locals kind d p frames k → arrays_in k ≡ length (counters_of 0 k)
+  pub lands_arrays : (g : ℕ) (locals : ℕ → Option ℕ) (kind : Kind) (d p : ℕ) (frames : List Frame) (k : List Entry) → LandsMade source g locals kind d p frames k → arrays_in k ≡ length (counters_of 0 k)
   lands_arrays g locals kind d p frames k lands = by_lands source lands (λ stack. value_arrays g locals kind (operands.Slot d) p frames k stack) (λ stack. ahead_arrays g locals kind d p frames k stack)

@@ -10,6 +10,7 @@ pub mod Lengths
 -- a run of the plain program is one of the source
 pub mod Relation
 pub mod Matched
+pub mod Closings
 pub mod Handling
 pub mod Paths
 pub mod GlobalSteps
@@ -23,6 +24,7 @@ pub mod WideCells
 pub mod Allocations
 pub mod Arrays
 pub mod UniqueBlocks
+pub mod Keys
 pub mod PlaceWords
 pub mod CellLoads
 mod CellReads
@@ -39,6 +41,7 @@ pub mod Accesses
 pub mod Branching
 pub mod Handlers
 pub mod Conditions
+pub mod Handles
 pub mod Counters
 pub mod Calls
 pub mod ExceptionSteps

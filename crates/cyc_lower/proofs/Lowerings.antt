@@ -1,5 +1,5 @@
 -- The lowered program is one that the lowering promises.
-use Rattle.std.proofs.Common.{◌≡◌, ◌⊎◌, ℕ, zero, suc, ◌<◌, ◌≤◌, ◌*◌, List, [], ◌∷◌, map, Some, Result, Ok, Err, refl, sym, ap, subst, ◌∙◌, arith, length, slice_get}
+use Rattle.std.proofs.Common.{◌≡◌, ◌⊎◌, ℕ, zero, suc, ◌<◌, ◌≤◌, ◌*◌, List, [], ◌∷◌, map, Option, Some, Result, Ok, Err, refl, sym, ap, subst, ◌∙◌, arith, length, slice_get}
 use Rattle.std.specs.Prelude.{sum_by}
 use Rattle.std.proofs.lemmas.List.Sums.{sum_by-cons}
 use Rattle.std.proofs.lemmas.Option.{none-some}
@@ -14,40 +14,41 @@ use Rattle.cyc_types.specs.Weight.{function_weight, program_weight}
 use Rattle.cyc_plain.specs.Program.{Program as PlainProgram, size}
 use Rattle.cyc_plain.specs.WellFormed.{IsPlain}
 use Rattle.cyc_syntax.specs.TokenRule.{max_tokens}
-use Rattle.cyc_lower.specs.Lowering.{lower_function, lower_program, globals_of}
+use Rattle.cyc_lower.specs.Lowering.{lower_function, lower_program, globals_of, scopes_of}
 use Rattle.cyc_lower.specs.declared.limits.TheConstants.{MOST_FUNCTIONS}
 use Rattle.cyc_lower.specs.Lowered.{AreLoweredFunctions, CanBeLowered, HasTooMany, IsAccepted, IsLowered, size_per_weight}
 use Rattle.cyc_lower.proofs.Routines.{one_too_many}
 use Rattle.cyc_lower.proofs.Fitting.{is_fitting_program}
 use Rattle.cyc_lower.proofs.Sizes.{function_size}
-use Rattle.cyc_lower.proofs.WellFormed.{globals_counted, well_formed}
+use Rattle.cyc_lower.proofs.WellFormed.{all_counted, well_formed}
 use Rattle.cyc_lower.proofs.WordLemmas.{has_words}
 use Rattle.cyc_lower.proofs.Whole.{follows}
 
-functions_lowered : (structs : List StructType) (globals : List ℕ) (hs : List Function) → AreLoweredFunctions hs (map (lower_function structs globals) hs)
-functions_lowered structs globals [] = tt
-functions_lowered structs globals (h ∷ hs) = (record { name = refl; frame = refl; small = function_size structs globals h }, functions_lowered structs globals hs)
+functions_lowered : (structs : List StructType) (globals : List ℕ) (scopes : Option ℕ) (hs : List Function) → AreLoweredFunctions hs (map (lower_function structs globals scopes) hs)
+functions_lowered structs globals scopes [] = tt
+functions_lowered structs globals scopes (h ∷ hs) = (record { name = refl; frame = refl; small = function_size structs globals scopes h }, functions_lowered structs globals scopes hs)
 
 pub is_lowered : (source : Program) → IsWellTypedProgram source → CanBeLowered source → IsLowered source (lower_program source)
 is_lowered source well fit = record {
   well_formed = well_formed source (is_fitting_program source fit.lowerable well) fit.of_words fit.few_globals;
   words = has_words source fit.of_words;
-  functions = functions_lowered source.structs (globals_of source) source.functions;
-  globals = sym (globals_counted source.globals);
+  functions = functions_lowered source.structs (globals_of source) (scopes_of source) source.functions;
+  globals = omega (arith, all_counted source);
   follows = λ pages calls store input new some_page few_pages some_call bytes.
       follows source (is_fitting_program source fit.lowerable well) (has_words source fit.of_words) pages calls store input new some_page few_pages some_call bytes;
 }
 
-functions_small : (structs : List StructType) (globals : List ℕ) (hs : List Function) → sum_by size (map (lower_function structs globals) hs) ≤ size_per_weight * sum_of function_weight hs
-functions_small structs globals [] = omega arith
-functions_small structs globals (h ∷ hs) = omega (arith, sum_by-cons size (lower_function structs globals h) (map (lower_function structs globals) hs), function_size structs globals h, functions_small structs globals hs)
+functions_small : (structs : List StructType) (globals : List ℕ) (scopes : Option ℕ) (hs : List Function) → sum_by size (map (lower_function structs globals scopes) hs) ≤ size_per_weight * sum_of function_weight hs
+functions_small structs globals scopes [] = omega arith
+functions_small structs globals scopes (h ∷ hs) =
+    omega (arith, sum_by-cons size (lower_function structs globals scopes h) (map (lower_function structs globals scopes) hs), function_size structs globals scopes h, functions_small structs globals scopes hs)
 
 -- what is true of every plain program is true of this one
 pub is_plain : (source : Program) → IsWellTypedProgram source → CanBeLowered source → program_weight source ≤ max_tokens → IsPlain (lower_program source)
 is_plain source well fit light = record {
   well_formed = well_formed source (is_fitting_program source fit.lowerable well) fit.of_words fit.few_globals;
   words = has_words source fit.of_words;
-  small = omega (arith, functions_small source.structs (globals_of source) source.functions, light);
+  small = omega (arith, functions_small source.structs (globals_of source) (scopes_of source) source.functions, light);
 }
 
 numbered_below : {X : Type 0} (xs : List X) (n : ℕ) (x : X) → slice_get xs n ≡ Some x → n < length xs

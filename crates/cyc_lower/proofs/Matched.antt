@@ -33,13 +33,13 @@ use Rattle.cyc_meaning.specs.Run.{is_within, limited_step}
 use Rattle.cyc_objects.specs.Tables.{Tables}
 use Rattle.cyc_objects.proofs.RegionLemmas.{counted-same}
 use Rattle.cyc_lower.specs.declared.statements.Exits.{Exits}
-use Rattle.cyc_lower.specs.Lowering.{compared_of, outside_loops, lower_program, followed_operand}
+use Rattle.cyc_lower.specs.Lowering.{compared_of, outside_loops, lower_program, followed_operand, scopes_of}
 use Rattle.cyc_meaning.specs.Pointers.{result_kind as operator_kind}
 use Rattle.cyc_lower.proofs.Widths.{chain_kind}
 use Rattle.cyc_meaning.specs.SourceMachine.{status_in, source_machine}
 use Rattle.cyc_lower.proofs.Weights.{weight}
 use Rattle.cyc_lower.proofs.Data.{calls_counted, calls_left}
-use Rattle.cyc_lower.proofs.Relation.{base_of, Lands, in_temporary, in_local, HandsOn, drops, leaves, copies, Prints, prints_only, gives_byte, SharedAt, to_slot, to_jump, ValueStack, PlaceStack, ConditionStack, DroppedStack, AheadStack, StatementStack, LandsStack, PrintsStack, AppliedStack, RightAt, ReadyAt, EvaluatingAt, as_operand, into_slot, for_effect, as_right, as_condition, FocusAt, GivenAt, in_operand, nowhere, ahead, compared, with_left, ProceedingAt, behind_statement, behind_call, behind_wrong, Related, Matches, code_of, given_at, called_at, returned_at, top, DataFor, handling}
+use Rattle.cyc_lower.proofs.Relation.{base_of, Lands, in_temporary, in_local, HandsOn, drops, leaves, copies, Prints, prints_only, gives_byte, SharedAt, SharedBy, to_slot, to_jump, ValueStack, PlaceStack, ConditionStack, DroppedStack, AheadStack, StatementStack, LandsStack, PrintsStack, AppliedStack, RightAt, ReadyAt, EvaluatingAt, as_operand, into_slot, for_effect, as_right, as_condition, FocusAt, GivenAt, in_operand, nowhere, ahead, compared, with_left, ProceedingAt, behind_statement, behind_call, behind_wrong, Related, Matches, code_of, given_at, called_at, returned_at, top, DataFor, handling}
 
 module _ (source : Program) where
   -- ---- where a value goes
@@ -59,12 +59,26 @@ module _ (source : Program) where
   by_prints (prints_only stack) first second = first stack
   by_prints (gives_byte d at stack) first second = second d stack
 
-  -- what a related state shares
-  pub shared_of : (pages calls : ℕ) (focus : Focus) (k : List Entry) (e : Environment) (w : World) (c : Configuration) → Related source pages calls focus k e w c → SharedAt source pages calls k e w c
-  shared_of pages calls (Throwing tag value) k e w c r = r.0
-  shared_of pages calls (Given v) k e w c r = r.0
-  shared_of pages calls Proceeding k e w c r = r.0
-  shared_of pages calls focus k e w c r = r.0
+  -- what is printed, and the limits of both
+  abbrev pub Inside : (pages calls : ℕ) → World → Configuration → Type 0
+  Inside pages calls w c = (c.output ≡ w.output) × (demand c.store ≤ pages) × (suc (length c.frames) ≤ calls) × (demand_of (counted w.regions) w.classes ≤ pages)
+
+  pub inside_by : (closing : Option ℕ) (pages calls : ℕ) (k : List Entry) (e : Environment) (w : World) (c : Configuration) → SharedBy source closing pages calls k e w c → Inside pages calls w c
+  inside_by None pages calls k e w c s =
+      (s.same_output, s.few_pages, s.fits, omega (arith, s.few_pages, ap (λ l. demand_of l c.store.classes) (sym (counted-same s.related.regions)) ∙ ap (demand_of (counted w.regions)) s.related.classes))
+  inside_by (Some mark) pages calls k e w c s =
+      (
+        s.same_output,
+        omega (arith, s.counters.1.1.demand, s.same_pages),
+        s.fits,
+        omega (arith, s.few_pages, ap (λ l. demand_of l c.store.classes) (sym (counted-same s.related.regions)) ∙ ap (demand_of (counted w.regions)) s.related.classes),
+      )
+
+  pub inside_of : (pages calls : ℕ) (focus : Focus) (k : List Entry) (e : Environment) (w : World) (c : Configuration) → Related source pages calls focus k e w c → Inside pages calls w c
+  inside_of pages calls (Throwing tag value) k e w c r = inside_by (scopes_of source) pages calls k e w c r.0
+  inside_of pages calls (Given v) k e w c r = inside_by None pages calls k e w c r.0
+  inside_of pages calls Proceeding k e w c r = inside_by None pages calls k e w c r.0
+  inside_of pages calls focus k e w c r = inside_by None pages calls k e w c r.0
 
   -- ---- calls under way
 
@@ -107,13 +121,13 @@ module _ (source : Program) (pages calls : ℕ) where
 
   pub related_within : (focus : Focus) (k : List Entry) (e : Environment) (w : World) (c : Configuration) → Related source pages calls focus k e w c → is_within pages calls (Running focus k e w) ≡ true
   related_within focus k e w c r =
-      let s = shared_of source pages calls focus k e w c r in
-      let demands : demand c.store ≡ demand_of (counted w.regions) w.classes =
-      ap (λ l. demand_of l c.store.classes) (sym (counted-same s.related.regions)) ∙ ap (demand_of (counted w.regions)) s.related.classes in
-      and_from _ _ (le-leb _ pages (omega (arith, demands, s.few_pages))) (le-leb _ calls (depth_fits source pages calls focus k e w c r))
+      and_from _ _ (le-leb _ pages (inside_of source pages calls focus k e w c r).3) (le-leb _ calls (depth_fits source pages calls focus k e w c r))
+
+  pub inside_within : (w : World) (c : Configuration) → Inside source pages calls w c → plain_step.is_within pages calls (plain.Running c) ≡ true
+  inside_within w c inside = and_from _ _ (le-leb _ pages inside.1) (le-leb _ calls inside.2)
 
   pub shared_within : (k : List Entry) (e : Environment) (w : World) (c : Configuration) → SharedAt source pages calls k e w c → plain_step.is_within pages calls (plain.Running c) ≡ true
-  shared_within k e w c s = and_from _ _ (le-leb _ pages s.few_pages) (le-leb _ calls s.fits)
+  shared_within k e w c s = inside_within w c (inside_by source None pages calls k e w c s)
 
   pub matches_within : (s : State) (t : plain.State) → Matches source pages calls s t → is_within pages calls s ≡ true
   matches_within (Running focus k e w) (plain.Running c) m = related_within focus k e w c m
@@ -124,7 +138,7 @@ module _ (source : Program) (pages calls : ℕ) where
   matches_within (Wrong output input) t m = absurd m
 
   pub matches_within_below : (s : State) (t : plain.State) → Matches source pages calls s t → plain_step.is_within pages calls t ≡ true
-  matches_within_below (Running focus k e w) (plain.Running c) m = shared_within k e w c (shared_of source pages calls focus k e w c m)
+  matches_within_below (Running focus k e w) (plain.Running c) m = inside_within w c (inside_of source pages calls focus k e w c m)
   matches_within_below (Running focus k e w) (plain.Ended ending output input) m = absurd m
   matches_within_below (Running focus k e w) (plain.Stuck output input) m = absurd m
   matches_within_below (Ended ending output input) (plain.Running c) m = absurd m
@@ -145,7 +159,7 @@ module _ (source : Program) (pages calls : ℕ) where
   -- ---- the matching
 
   pub outputs : (s : State) (t : plain.State) → Matches source pages calls s t → plain.output_of t ≡ output_of s
-  outputs (Running focus k e w) (plain.Running c) m = (shared_of source pages calls focus k e w c m).same_output
+  outputs (Running focus k e w) (plain.Running c) m = (inside_of source pages calls focus k e w c m).0
   outputs (Running focus k e w) (plain.Ended ending output input) m = absurd m
   outputs (Running focus k e w) (plain.Stuck output input) m = absurd m
   outputs (Ended ending output input) (plain.Running c) m = absurd m
@@ -239,15 +253,22 @@ module _ (source : Program) (pages calls : ℕ) where
   pub apart : (c d : Configuration) → c.active.next ≢ d.active.next → place_in c ≢ place_in d
   apart c d other same = other (ap (λ (p : CodePlace). p.index) same)
 
+  -- one instruction, where this is printed
+  pub by_one_printed : {focus : Focus} {k : List Entry} {e : Environment} {w : World} {c : Configuration} {next : State} {i : Instruction}
+      → step source (Running focus k e w) ≡ next → c.output ≡ w.output → At (code_of source c.active.function) c.active.next i
+      → ((choice : Choice) → Matches source pages calls next (performed (lower_program source) choice c i))
+      → IsMatched (Running focus k e w) (plain.Running c)
+  by_one_printed {focus} {k} {e} {w} {c} {next} {i} does output at goes =
+      by_places (Running focus k e w) next (place_in c) [] (plain.Running c) does (tt, tt) (known c i at, tt)
+      (executes (Running focus k e w) next c i [] at (λ choice. matches_within_below next (performed (lower_program source) choice c i) (goes choice)) (output_way focus k e w c output) goes)
+
   -- one instruction
   pub by_one : {focus : Focus} {k : List Entry} {e : Environment} {w : World} {c : Configuration} {next : State} {i : Instruction}
       → step source (Running focus k e w) ≡ next → SharedAt source pages calls k e w c
       → At (code_of source c.active.function) c.active.next i
       → ((choice : Choice) → Matches source pages calls next (performed (lower_program source) choice c i))
       → IsMatched (Running focus k e w) (plain.Running c)
-  by_one {focus} {k} {e} {w} {c} {next} {i} does shared at goes =
-      by_places (Running focus k e w) next (place_in c) [] (plain.Running c) does (tt, tt) (known c i at, tt)
-      (executes (Running focus k e w) next c i [] at (λ choice. matches_within_below next (performed (lower_program source) choice c i) (goes choice)) (shared_way focus k e w c shared) goes)
+  by_one {focus} {k} {e} {w} {c} {next} {i} does shared at goes = by_one_printed does shared.same_output at goes
 
   -- two, of which the first is known, at any places
   pub by_two_places : {focus : Focus} {k : List Entry} {e : Environment} {w : World} {c : Configuration} {next : State} {i j : Instruction} (d : Configuration)

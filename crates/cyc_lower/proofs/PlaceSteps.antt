@@ -1,5 +1,5 @@
 -- The steps behind a place that a pointer leads to: its cell is read, its address is taken, or waits for what is stored there.
-use Rattle.std.proofs.Common.{◌≡◌, ℕ, zero, suc, ◌+◌, ◌*◌, ◌^◌, ◌<◌, Bool, true, false, List, [], ◌∷◌, Option, None, Some, refl, sym, ap, subst, ◌∙◌, arith, add-zero, inl}
+use Rattle.std.proofs.Common.{◌≡◌, ◌⊎◌, ℕ, zero, suc, ◌+◌, ◌*◌, ◌^◌, ◌<◌, ◌≤◌, Bool, true, false, List, [], ◌∷◌, Option, None, Some, refl, sym, ap, subst, ◌∙◌, arith, add-zero, inl, inr}
 use Rattle.std.specs.Prelude.{◌==◌, if◌then◌else◌}
 use Rattle.std.proofs.lemmas.Bool.{eqb-true}
 use Rattle.cyc_words.specs.Word.{add_of}
@@ -13,7 +13,7 @@ use Rattle.cyc_plain.specs.declared.instruction.Operand.TheVariants as operands
 use Rattle.cyc_plain.specs.declared.instruction.Instruction.{Instruction}
 use Rattle.cyc_plain.specs.declared.instruction.Instruction.TheVariants as instructions
 use Rattle.cyc_plain.specs.State as plain
-use Rattle.cyc_plain.specs.State.{put, Configuration}
+use Rattle.cyc_plain.specs.State.{put, Frame, Configuration}
 use Rattle.cyc_plain.specs.Step.{Choice, operand_word, with_slots, at, advanced, loads, performed}
 use Rattle.cyc_plain.specs.Straight.{At}
 use Rattle.cyc_plain.proofs.SlotLaws.{put-same}
@@ -27,8 +27,8 @@ use Rattle.cyc_objects.proofs.Cells.{found-alive, cell-live, cell-read}
 use Rattle.cyc_lower.specs.Lowering.{is_in, move_of, source_of, source_slot, lower_program, right_slot}
 use Rattle.cyc_lower.proofs.Widths.{kind_positive, same_kind, wide_kind, Outside}
 use Rattle.cyc_lower.proofs.Moves.{put_elsewhere}
-use Rattle.cyc_lower.proofs.Relation.{types_on, starts_on, Matches, held, callers, types_at, starts_at, Holds, DataIn, SharedAt, LandsStack, HandsOnStack, Related, code_of, bounds_at, base_of, top, floor}
-use Rattle.cyc_lower.proofs.Data.{Is-same, height-least, Holds-same, data_above, data_written}
+use Rattle.cyc_lower.proofs.Relation.{types_on, starts_on, Matches, held, callers, types_at, starts_at, Holds, DataIn, SharedAt, in_temporary, in_local, LandsStack, HandsOnStack, Related, code_of, bounds_at, base_of, top, floor}
+use Rattle.cyc_lower.proofs.Data.{Is-same, height-least, floor-least, Holds-same, data_above, data_written}
 use Rattle.cyc_lower.proofs.Stands.{CopyBy, AddressAt, OperandBy, ExpressionAt, ConvertedOperandAt, LoadedBy, SavedAt}
 use Rattle.cyc_lower.proofs.CellReads.{word_read, wide_read}
 use Rattle.cyc_lower.proofs.AddressSteps.{Brought, in_slot, by_word, brought}
@@ -134,68 +134,80 @@ module _ (source : Program) (pages calls : ℕ) where
 
   -- ---- a cell is loaded
 
-  -- by its three words, behind which its address has come to the slot of the first
+  -- the slot of its address is none of the last two that it comes to
+  lands_apart : (g : ℕ) (locals : ℕ → Option ℕ) (kind : Kind) (d q : ℕ) (frames : List Frame) (k : List Entry) → kind ≡ kinds.Fat → LandsStack source g locals kind d q frames k → (top source g k ≤ d) ⊎ (d + 3 ≤ top source g k)
+  lands_apart g locals kind d q frames k fat (in_temporary least stack) = inl least
+  lands_apart g locals kind d q frames k fat (in_local below stack) = inr (omega (arith, below, ap words_of_kind fat, floor-least source g k, height-least (floor source g k) (held k)))
+
+  -- by its three words, where its address is in the first temporary
   loads_wide : (object offset d r q : ℕ) (kind : Kind) (k : List Entry) (e : Environment) (w : World) (c : Configuration) → kind ≡ kinds.Fat → IsWell (loaded kind (cell_at w object offset) k e w)
       → (shared : SharedAt source pages calls (NeedsPlace (LoadFrom kind) ∷ k) e w c) → DataIn source shared.tables c.active.slots k e w c → Holds shared.tables c.active.slots (floor source c.active.function k) (held k)
-      → Brought source shared.tables object offset d r c
-      → At (code_of source c.active.function) r (instructions.Load (d + 2) (operands.Slot d) 8) → At (code_of source c.active.function) (r + 1) (instructions.Load (d + 1) (operands.Slot d) 4)
-      → At (code_of source c.active.function) (r + 1 + 1) (instructions.Load d (operands.Slot d) 0) → r + 1 + 1 + 1 ≡ q
+      → Brought source shared.tables object offset (top source c.active.function k) r c
+      → At (code_of source c.active.function) r (instructions.Load (d + 2) (operands.Slot (top source c.active.function k)) 8)
+      → At (code_of source c.active.function) (r + 1) (instructions.Load (d + 1) (operands.Slot (top source c.active.function k)) 4)
+      → At (code_of source c.active.function) (r + 1 + 1) (instructions.Load d (operands.Slot (top source c.active.function k)) 0) → r + 1 + 1 + 1 ≡ q
       → LandsStack source c.active.function e.locals kind d q c.frames k
       → IsMatched source pages calls (Running (GivenPlace (Thin object offset)) (NeedsPlace (LoadFrom kind) ∷ k) e w) (plain.Running c)
   loads_wide object offset d r q kind k e w c fat well shared facts holds (in_slot same points) at_first at_second at_third end lands =
       let g = c.active.function in
+      let t = top source g k in
+      let apart = lands_apart g e.locals kind d q c.frames k fat lands in
       let found = is_read kind (cell_at w object offset) k e w well in
       let v : Kinded = record { kind = kind; value = found.value } in
       let wide = found.same ∙ fat in
-      let content = wide_read shared.related object offset (c.active.slots d) found.at found.value found.there points wide found.has in
-      let after = all_in source shared.tables w c shared.related object offset d found.at found.value found.there points wide content in
-      by_path source pages calls (GivenPlace (Thin object offset)) (NeedsPlace (LoadFrom kind) ∷ k) e w c (Running (Given v) k e w) (load_links source shared.tables w c shared.related object offset d found.at found.value found.there points wide content) (instructions.Load d (operands.Slot d) 0)
+      let content = wide_read shared.related object offset (c.active.slots t) found.at found.value found.there points wide found.has in
+      let after = all_in source shared.tables w c shared.related object offset d t apart found.at found.value found.there points wide content in
+      by_path source pages calls (GivenPlace (Thin object offset)) (NeedsPlace (LoadFrom kind) ∷ k) e w c (Running (Given v) k e w) (load_links source shared.tables w c shared.related object offset d t apart found.at found.value found.there points wide content) (instructions.Load d (operands.Slot t) 0)
       found.gives shared
-      (load_path source shared.tables w c shared.related object offset d found.at found.value found.there points wide content
-      (subst (λ n. At (code_of source g) n (instructions.Load (d + 2) (operands.Slot d) 8)) (sym same) at_first)
-      (subst (λ n. At (code_of source g) (n + 1) (instructions.Load (d + 1) (operands.Slot d) 4)) (sym same) at_second))
-      (subst (λ n. At (code_of source g) (n + 1 + 1) (instructions.Load d (operands.Slot d) 0)) (sym same) at_third)
+      (load_path source shared.tables w c shared.related object offset d t apart found.at found.value found.there points wide content
+      (subst (λ n. At (code_of source g) n (instructions.Load (d + 2) (operands.Slot t) 8)) (sym same) at_first)
+      (subst (λ n. At (code_of source g) (n + 1) (instructions.Load (d + 1) (operands.Slot t) 4)) (sym same) at_second))
+      (subst (λ n. At (code_of source g) (n + 1 + 1) (instructions.Load d (operands.Slot t) 0)) (sym same) at_third)
       (λ choice. subst (Matches source pages calls (Running (Given v) k e w))
-      (sym (load_last source shared.tables w c shared.related object offset d found.at found.value found.there points wide content choice))
+      (sym (load_last source shared.tables w c shared.related object offset d t apart found.at found.value found.there points wide content choice))
       (landed source pages calls v after d k e w (at c (c.active.next + 1 + 1)) q shared
-      (subst (λ i. Is shared.tables i found.value after d) (sym fat) (loaded_is source shared.tables w c shared.related object offset d found.at found.value found.there points wide content))
-      (λ m out. loaded_elsewhere source shared.tables w c shared.related object offset d found.at found.value found.there points wide content m (subst (λ i. Outside d (words_of_kind i) m) fat out))
+      (subst (λ i. Is shared.tables i found.value after d) (sym fat) (loaded_is source shared.tables w c shared.related object offset d t apart found.at found.value found.there points wide content))
+      (λ m out. loaded_elsewhere source shared.tables w c shared.related object offset d t apart found.at found.value found.there points wide content m (subst (λ i. Outside d (words_of_kind i) m) fat out))
       facts holds (ap (λ n. n + 1 + 1 + 1) same ∙ end) lands))
   loads_wide object offset d r q kind k e w c fat well shared facts holds (by_word i word here goes same points) at_first at_second at_third end lands =
       let g = c.active.function in
-      let b : Configuration = advanced (with_slots c (put c.active.slots d word)) in
+      let t = top source g k in
+      let base = floor source g k in
+      let apart = lands_apart g e.locals kind d q c.frames k fat lands in
+      let brings = put c.active.slots t word in
+      let b : Configuration = advanced (with_slots c brings) in
       let found = is_read kind (cell_at w object offset) k e w well in
       let v : Kinded = record { kind = kind; value = found.value } in
       let wide = found.same ∙ fat in
-      let points_there = subst (Points shared.tables object offset) (sym (put-same c.active.slots d word)) points in
-      let content = wide_read shared.related object offset (b.active.slots d) found.at found.value found.there points_there wide found.has in
-      let after = all_in source shared.tables w b shared.related object offset d found.at found.value found.there points_there wide content in
+      let points_there = subst (Points shared.tables object offset) (sym (put-same c.active.slots t word)) points in
+      let content = wide_read shared.related object offset (b.active.slots t) found.at found.value found.there points_there wide found.has in
+      let after = all_in source shared.tables w b shared.related object offset d t apart found.at found.value found.there points_there wide content in
       by_path source pages calls (GivenPlace (Thin object offset)) (NeedsPlace (LoadFrom kind) ∷ k) e w c (Running (Given v) k e w)
-      (record { instruction = i; behind = b } ∷ load_links source shared.tables w b shared.related object offset d found.at found.value found.there points_there wide content) (instructions.Load d (operands.Slot d) 0)
+      (record { instruction = i; behind = b } ∷ load_links source shared.tables w b shared.related object offset d t apart found.at found.value found.there points_there wide content) (instructions.Load d (operands.Slot t) 0)
       found.gives shared (
         here,
         goes,
         omega arith,
         is_quiet c b.active,
-        load_path source shared.tables w b shared.related object offset d found.at found.value found.there points_there wide content
-            (subst (λ n. At (code_of source g) n (instructions.Load (d + 2) (operands.Slot d) 8)) (sym same) at_first)
-            (subst (λ n. At (code_of source g) (n + 1) (instructions.Load (d + 1) (operands.Slot d) 4)) (sym same) at_second),
+        load_path source shared.tables w b shared.related object offset d t apart found.at found.value found.there points_there wide content
+            (subst (λ n. At (code_of source g) n (instructions.Load (d + 2) (operands.Slot t) 8)) (sym same) at_first)
+            (subst (λ n. At (code_of source g) (n + 1) (instructions.Load (d + 1) (operands.Slot t) 4)) (sym same) at_second),
       )
-      (subst (λ n. At (code_of source g) (n + 1 + 1) (instructions.Load d (operands.Slot d) 0)) (sym same) at_third)
+      (subst (λ n. At (code_of source g) (n + 1 + 1) (instructions.Load d (operands.Slot t) 0)) (sym same) at_third)
       (λ choice. subst (Matches source pages calls (Running (Given v) k e w))
-      (sym (load_last source shared.tables w b shared.related object offset d found.at found.value found.there points_there wide content choice))
-      (landed source pages calls v after d k e w (at c (c.active.next + 1 + 1 + 1)) q shared
-      (subst (λ i. Is shared.tables i found.value after d) (sym fat) (loaded_is source shared.tables w b shared.related object offset d found.at found.value found.there points_there wide content))
-      (λ m out.
-      let beside = subst (λ i. Outside d (words_of_kind i) m) fat out in
-      loaded_elsewhere source shared.tables w b shared.related object offset d found.at found.value found.there points_there wide content m beside ∙ put_elsewhere c.active.slots d word 3 m (omega arith) beside)
-      facts holds (ap (λ n. n + 1 + 1 + 1) same ∙ end) lands))
+      (sym (load_last source shared.tables w b shared.related object offset d t apart found.at found.value found.there points_there wide content choice))
+      (landed source pages calls v after d k e w (at b (b.active.next + 1 + 1)) q shared
+      (subst (λ i. Is shared.tables i found.value after d) (sym fat) (loaded_is source shared.tables w b shared.related object offset d t apart found.at found.value found.there points_there wide content))
+      (λ m out. loaded_elsewhere source shared.tables w b shared.related object offset d t apart found.at found.value found.there points_there wide content m (subst (λ i. Outside d (words_of_kind i) m) fat out))
+      (data_written source shared.tables g w.objects e.locals k c.active.slots brings c.active.handlers c.globals c.frames t 1 (height-least base (held k)) (λ m out. put_elsewhere c.active.slots t word 1 m (omega arith) out) facts)
+      (Holds-same shared.tables c.active.slots brings base (held k) (λ m below. put_elsewhere c.active.slots t word 1 m (omega arith) (inl below)) holds)
+      (ap (λ n. n + 1 + 1 + 1) same ∙ end) lands))
 
   loads_cell : (narrow : Bool) (object offset more : ℕ) (o : Operand) (d q : ℕ) (kind : Kind) (k : List Entry) (e : Environment) (w : World) (c : Configuration) → (words_of_kind kind == 1) ≡ narrow
       → IsWell (loaded kind (cell_at w object offset) k e w)
       → (shared : SharedAt source pages calls (NeedsPlace (LoadFrom kind) ∷ k) e w c) → DataIn source shared.tables c.active.slots k e w c → Holds shared.tables c.active.slots (floor source c.active.function k) (held k)
       → operand_word c.active.slots o < 2 ^ 32 → Points shared.tables object offset (add_of (operand_word c.active.slots o) more)
-      → LoadedBy (code_of source c.active.function) narrow o more d c.active.next q → LandsStack source c.active.function e.locals kind d q c.frames k
+      → LoadedBy (code_of source c.active.function) narrow o more d (top source c.active.function k) c.active.next q → LandsStack source c.active.function e.locals kind d q c.frames k
       → IsMatched source pages calls (Running (GivenPlace (Thin object offset)) (NeedsPlace (LoadFrom kind) ∷ k) e w) (plain.Running c)
   loads_cell true object offset more o d q kind k e w c narrow well shared facts holds small points (load, end) lands =
       let found = is_read kind (cell_at w object offset) k e w well in
@@ -209,7 +221,7 @@ module _ (source : Program) (pages calls : ℕ) where
       (subst (λ i. Is shared.tables i found.value after d) found.same (stands after d (put-same c.active.slots d (c.store.memory word))))
       (λ m out. put_elsewhere c.active.slots d (c.store.memory word) (words_of_kind kind) m (kind_positive kind) out) facts holds end lands))
   loads_cell false object offset more o d q kind k e w c wide well shared facts holds small points (r, address, first, second, third, end) lands =
-      loads_wide object offset d r q kind k e w c (wide_kind kind wide) well shared facts holds (brought source shared.tables object offset more o d r c small points address) first second third end lands
+      loads_wide object offset d r q kind k e w c (wide_kind kind wide) well shared facts holds (brought source shared.tables object offset more o (top source c.active.function k) r c small points address) first second third end lands
 
   -- a place is found
   pub given_place : (place : Value) (k : List Entry) (e : Environment) (w : World) (c : Configuration) → IsStep source pages calls (GivenPlace place) k e w c

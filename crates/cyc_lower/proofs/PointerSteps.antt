@@ -35,7 +35,7 @@ use Rattle.cyc_lower.proofs.Widths.{same_kind, Outside}
 use Rattle.cyc_lower.proofs.Moves.{copied_elsewhere}
 use Rattle.cyc_lower.proofs.Stands.{FirstTwoAt, IndexAt, PointerAt, ValueAt}
 use Rattle.cyc_lower.proofs.Relation.{types_on, starts_on, IsIn, types_at, silent, Holds, held, DataIn, SharedAt, LandsStack, in_temporary, in_local, EvaluatingAt, as_operand, Matches, code_of, bounds_at, base_of, top, floor}
-use Rattle.cyc_lower.proofs.Data.{height-least, in_words, behind-least}
+use Rattle.cyc_lower.proofs.Data.{height-least, in_words, floor-least}
 use Rattle.cyc_lower.proofs.Accesses.{IsWell}
 use Rattle.cyc_lower.proofs.Matched.{IsMatched, by_one, by_two}
 use Rattle.cyc_lower.proofs.Evaluations.{landed, landed_word}
@@ -312,7 +312,7 @@ module _ (source : Program) (pages calls : ℕ) where
   -- the first two words are not where the index comes
   lands_apart : (g : ℕ) (locals : ℕ → Option ℕ) (d q : ℕ) (frames : List Frame) (k : List Entry) → LandsStack source g locals kinds.Fat d q frames k → (i : ℕ) → i < 2 → top source g k + i ≡ d + 2 → ⊥
   lands_apart g locals d q frames k (in_temporary least stack) i below same = absurd (omega (arith, below, same, least))
-  lands_apart g locals d q frames k (in_local inside stack) i below same = absurd (omega (arith, below, same, inside, height-least (floor source g k) (held k), behind-least k (base_of source g)))
+  lands_apart g locals d q frames k (in_local inside stack) i below same = absurd (omega (arith, below, same, inside, height-least (floor source g k) (held k), floor-least source g k))
 
   -- an index comes where it is to be, and the first two words with it
   index_moves : (there : Bool) (u : PointerOperator) (peek : Option ℕ) (x : ℕ) (left v : Kinded) (value : Value) (o : Operand) (d q : ℕ) (k : List Entry) (e : Environment) (w : World) (c : Configuration)

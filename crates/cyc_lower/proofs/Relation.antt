@@ -11,11 +11,13 @@ use Rattle.cyc_types.specs.declared.typed.Callee.TheVariants as callees
 use Rattle.cyc_types.specs.Types.{Ty}
 use Rattle.cyc_types.specs.TypedTrees.{Lvalue, Local, Global, Expression, NoArguments, NoOperations, Statement, Function, Program, Convert, Dereference, Side, VariableSide, CellSide, Clauses}
 use Rattle.cyc_types.specs.Numbered.{Numbering, argument_count, numbering_of, signatures_of}
-use Rattle.cyc_store.specs.State.{StoreState, demand}
+use Rattle.cyc_store.specs.State.{StoreState, demand, lexical_count}
+use Rattle.cyc_store.specs.Soundness.{IsSound}
 use Rattle.cyc_store.specs.declared.range.TheConstants.{HEAP, UNIQUE, MOST_BLOCK_WORDS}
 use Rattle.cyc_objects.specs.Tables.{Variable, Placed, Tables}
 use Rattle.cyc_objects.specs.Words.{words_of_kinds, InRange, Is, Points, before}
 use Rattle.cyc_objects.specs.Related as objects
+use Rattle.cyc_objects.specs.Related.{scopes, closed_to}
 use Rattle.cyc_plain.specs.declared.instruction.BinaryOperator.TheVariants as plain_binary
 use Rattle.cyc_plain.specs.declared.instruction.Comparison.{Comparison}
 use Rattle.cyc_plain.specs.declared.instruction.Comparison.TheVariants as comparisons
@@ -31,18 +33,20 @@ use Rattle.cyc_plain.specs.State.{Words, Activation, Frame, Configuration}
 use Rattle.cyc_plain.specs.Step.{operand_word, throws}
 use Rattle.cyc_plain.specs.State as plain
 use Rattle.cyc_plain.specs.Straight.{At}
-use Rattle.cyc_meaning.specs.Values.{Fat, Value, Null, Thin, Operand as Kinded, Cell, kinds_of, words_of_kind, is_thin}
+use Rattle.cyc_meaning.specs.Values.{Fat, Value, Null, Thin, Handle, Operand as Kinded, Cell, kinds_of, words_of_kind, is_thin}
 use Rattle.cyc_meaning.specs.Allocation.{writes_from, blanks_of}
-use Rattle.cyc_meaning.specs.State.{Owner, InRegion, Unique, Object, World, heap_number, globals_number, Environment, ConvertTo, Operate, Chain, Apply, ApplyPointer, Follow, LoadFrom, Decide, Store, Pass, MakePlain, MakeFields, MakeArray, FillElement, Initialise, Choose, Test, Return, Entry, Needs, NeedsPlace, Discard, Rest, Join, Loop, CloseRegion, CloseLexical, EndLoan, Handler, Caller, Main, calls_in, Focus, Evaluating, Locating, Given, Executing, Proceeding, Calling, Entering, Binding, Writing, Beginning, Repeating, Breaking, Continuing, Returning, Throwing, State, Running, Ended, GivenPlace, FollowMember, TakeAddress, StoreTo, StoreCell, FreeObject, SwapLeft, SwapRight, Write, Swapping, ThrowWith, Naming, Catching, CountElements, Index, Advance}
+use Rattle.cyc_meaning.specs.State.{Owner, InRegion, Unique, Object, World, heap_number, globals_number, Environment, ConvertTo, Operate, Chain, Apply, ApplyPointer, Follow, LoadFrom, Decide, Store, Pass, PlaceBy, BesideHandle, MakePlain, MakeFields, MakeArray, FillElement, Initialise, Choose, Test, Return, Entry, Needs, NeedsPlace, Discard, Rest, Join, Loop, CloseRegion, CloseLexical, EndLoan, Handler, Caller, Main, calls_in, Focus, Evaluating, Locating, Given, Executing, Proceeding, Calling, Entering, Binding, Writing, Beginning, Repeating, Breaking, Continuing, Returning, Throwing, State, Running, Ended, GivenPlace, FollowMember, TakeAddress, StoreTo, StoreCell, FreeObject, CloseByKey, SwapLeft, SwapRight, Write, Swapping, ThrowWith, Naming, Catching, CountElements, Index, Advance}
+use Rattle.cyc_meaning.specs.Nesting.{lexicals_of}
 use Rattle.cyc_meaning.specs.Step.{object_of}
 use Rattle.cyc_meaning.specs.Operators.{null_exception, is_zero}
 use Rattle.cyc_meaning.specs.FrameCount.{words_of_all}
 use Rattle.cyc_lower.specs.declared.statements.Exits.{Exits}
+use Rattle.cyc_lower.specs.declared.statements.Opened.{Opened}
 use Rattle.cyc_meaning.specs.Pointers.{result_kind as operator_kind}
 use Rattle.cyc_lower.specs.Slots.{Types, Starts, starts_of, slot_of, global_of, global_types}
-use Rattle.cyc_lower.specs.Lowering.{most_elements, unary_operator, failing_comparison, operand_of, move_of, low_byte, converts_there, all_passed, compared_of, break_target, continue_target, results_of, lower_program, outside_loops, slot_types, raises_of, right_slot, tag_operand, followed_operand, reached_operand, globals_of}
-use Rattle.cyc_lower.proofs.Widths.{kind_of_result, given, called_kind, HasRoom, Outside, chain_kind, HasGlobal}
-use Rattle.cyc_lower.proofs.Stands.{BegunAt, ElementsAt, CheckAt, ConversionAt, PlaceAt, OperatorAt, TruthAt, CopyAt, ExpressionAt, ArgumentsAt, OperationsAt, ValueAt, ConditionAt, FailingAt, ComparesAt, DiscardedAt, StatementAt, ItemsAt, PointerAt, StoresAt, ObjectAt, AddressAt, ConvertedOperandAt, FreedAt, HasSide, SideAt, ReadAt, WriteAt, ExchangeAt, LeaveAt, ClausesAt, CountAt, SavedAt, LoadedAt, FollowedAt, ReachedAt, GlobalAt}
+use Rattle.cyc_lower.specs.Lowering.{most_elements, unary_operator, failing_comparison, operand_of, move_of, low_byte, converts_there, all_passed, compared_of, break_target, continue_target, results_of, lower_program, outside_loops, slot_types, raises_of, right_slot, tag_operand, followed_operand, reached_operand, globals_of, scopes_of, nothing_opened, with_handler, with_mark, inside_try, behind_record_in}
+use Rattle.cyc_lower.proofs.Widths.{kind_of_result, given, called_kind, HasRoom, Outside, chain_kind, HasGlobal, made_kind}
+use Rattle.cyc_lower.proofs.Stands.{BegunAt, ElementsAt, CheckAt, ConversionAt, PlaceAt, OperatorAt, TruthAt, CopyAt, ExpressionAt, ArgumentsAt, OperationsAt, ValueAt, ConditionAt, FailingAt, ComparesAt, DiscardedAt, StatementAt, ItemsAt, PointerAt, StoresAt, ObjectAt, AddressAt, ConvertedOperandAt, FreedAt, HasSide, SideAt, ReadAt, WriteAt, ExchangeAt, LeaveAt, ClausesAt, CountAt, SavedAt, LoadedAt, FollowedAt, ReachedAt, GlobalAt, RestoredAt, MadeAt}
 
 -- ---- values in slots
 
@@ -98,6 +102,9 @@ held (Needs (Store place) ∷ k) = held k
 -- the address of the cell waits for what is stored in it
 held (Needs (StoreCell peek place) ∷ k) = record { kind = kinds.NonNull; value = place } ∷ held k
 held (Needs (Pass callee before rest) ∷ k) = before ++ held k
+held (Needs (PlaceBy initial) ∷ k) = held k
+-- the handle stays while what is made is evaluated
+held (Needs (BesideHandle region) ∷ k) = record { kind = kinds.Handle; value = Handle region } ∷ held k
 held (Needs (MakePlain owner kind) ∷ k) = held k
 held (Needs (MakeFields owner before fields) ∷ k) = before ++ held k
 held (Needs (MakeArray owner level kind element) ∷ k) = held k
@@ -108,6 +115,7 @@ held (Needs (Test condition body) ∷ k) = []
 held (Needs Return ∷ k) = []
 held (Needs (Follow pointer target) ∷ k) = held k
 held (Needs FreeObject ∷ k) = held k
+held (Needs CloseByKey ∷ k) = held k
 held (Needs (Index peek target index) ∷ k) = held k
 held (Needs (Advance peek target base) ∷ k) = base ∷ held k
 held (Needs (FollowMember pointer fields field) ∷ k) = held k
@@ -116,6 +124,11 @@ held (NeedsPlace (SwapRight kind peek false left) ∷ k) = []
 held (NeedsPlace (SwapRight kind peek true left) ∷ k) = record { kind = kinds.NonNull; value = left } ∷ []
 held (NeedsPlace a ∷ k) = held k
 held (entry ∷ k) = []
+
+-- What stays where a value is handed on: a handle that only what was made needed does not.
+abbrev pub kept : List Entry → List Kinded
+kept (Needs (BesideHandle region) ∷ k) = kept k
+kept k = held k
 
 -- The slots of the counters of the running call, the outermost first: each is the index of the pointer that an array holds.
 abbrev pub counters_of : (base : ℕ) → List Entry → List ℕ
@@ -130,6 +143,8 @@ counters_of base (Needs CountElements ∷ k) = counters_of base k
 counters_of base (Needs (Store place) ∷ k) = counters_of base k
 counters_of base (Needs (StoreCell peek place) ∷ k) = counters_of base k
 counters_of base (Needs (Pass callee before rest) ∷ k) = counters_of base k
+counters_of base (Needs (PlaceBy initial) ∷ k) = counters_of base k
+counters_of base (Needs (BesideHandle region) ∷ k) = counters_of base k
 counters_of base (Needs (MakePlain owner kind) ∷ k) = counters_of base k
 counters_of base (Needs (MakeFields owner before fields) ∷ k) = counters_of base k
 counters_of base (Needs (MakeArray owner level kind element) ∷ k) = counters_of base k
@@ -137,6 +152,7 @@ counters_of base (Needs (FillElement object count index level kind element) ∷ 
 counters_of base (Needs (Follow pointer target) ∷ k) = counters_of base k
 counters_of base (Needs (FollowMember pointer fields field) ∷ k) = counters_of base k
 counters_of base (Needs FreeObject ∷ k) = counters_of base k
+counters_of base (Needs CloseByKey ∷ k) = counters_of base k
 counters_of base (Needs (Index peek target index) ∷ k) = counters_of base k
 counters_of base (Needs (Advance peek target pointer) ∷ k) = counters_of base k
 counters_of base (NeedsPlace (LoadFrom cell) ∷ k) = counters_of base k
@@ -161,11 +177,19 @@ AreCounted counters (entry ∷ k) = AreCounted counters k
 
 -- ---- new objects
 
--- the handle of the region where an object with this owner is made
-abbrev pub IsHandleOf : Owner → (handle : ℕ) → Type 0
-IsHandleOf (InRegion region) handle = (region ≡ heap_number) × (handle ≡ HEAP)
-IsHandleOf (Unique true) handle = handle ≡ UNIQUE
-IsHandleOf (Unique false) handle = ⊥
+-- The handle of the region where an object with this owner is made, above these entries and from this slot on: a word, or the slot before,
+-- where the newest entry keeps it.
+abbrev pub IsHandleOf : Owner → (handle : Operand) → (t : ℕ) → List Entry → Type 0
+IsHandleOf (InRegion region) (operands.Word n) t k = (region ≡ heap_number) × (n ≡ HEAP)
+IsHandleOf (InRegion region) (operands.Slot n) t (Needs (BesideHandle beside) ∷ k) = (region ≡ beside) × (suc n ≡ t)
+IsHandleOf (Unique true) (operands.Word n) t k = n ≡ UNIQUE
+IsHandleOf owner handle t k = ⊥
+
+-- and the word that it is
+abbrev pub HasHandle : Tables → Owner → (word : ℕ) → Type 0
+HasHandle t (InRegion region) word = slice_get t.handles region ≡ Some (Some word)
+HasHandle t (Unique true) word = word ≡ UNIQUE
+HasHandle t (Unique false) word = ⊥
 
 -- a new object has cells of these kinds, which stand from this address on
 pub record IsObject (t : Tables) (object address : ℕ) (kinds : List Kind) : Type 0 where
@@ -207,18 +231,29 @@ GlobalsHold t types objects words =
     → (slice_get t.rows number ≡ Some Variable)
     × ((v : Kinded) → contents objects number ≡ Some v → Is t v.kind v.value words (global_of (starts_of types) number) × HasGlobal types number v.kind)
 
--- The first temporary of the running call, whose locals end at a slot: the records of the handlers that it has open stand between.
-abbrev pub behind_records : List Entry → (slot : ℕ) → ℕ
-behind_records [] slot = slot
-behind_records (Handler clauses ∷ k) slot = behind_records k slot + RECORD_WORDS
-behind_records (Caller e ∷ k) slot = slot
-behind_records (Main ∷ k) slot = slot
-behind_records (entry ∷ k) slot = behind_records k slot
+-- The first temporary of the running call, whose locals end at a slot: what is kept of the handlers that it has open and of its lexical
+-- regions stands between.
+abbrev pub behind_records : List Entry → (scopes : Option ℕ) → (slot : ℕ) → ℕ
+behind_records [] scopes slot = slot
+behind_records (Handler clauses ∷ k) scopes slot = behind_record_in scopes (behind_records k scopes slot)
+behind_records (CloseLexical region ∷ k) scopes slot = behind_records k scopes slot + 1
+behind_records (Caller e ∷ k) scopes slot = slot
+behind_records (Main ∷ k) scopes slot = slot
+behind_records (entry ∷ k) scopes slot = behind_records k scopes slot
+
+-- how many lexical regions are open, of all calls
+abbrev pub scopes_in : List Entry → ℕ
+scopes_in k = length (lexicals_of k)
+
+-- so many are told by the word for it: where there is none, none is ever opened
+abbrev pub IsTold : (scopes : Option ℕ) → Words → (many : ℕ) → Type 0
+IsTold None words many = many ≡ 0
+IsTold (Some place) words many = words place ≡ many
 
 -- a call that waits: its locals, its first temporary by the end of its locals, and the values that it holds
 pub record Waiting : Type 0 where
   pub locals : ℕ → Option ℕ
-  pub temporaries : ℕ → ℕ
+  pub temporaries : Option ℕ → ℕ → ℕ
   pub values : List Kinded
 
 abbrev pub callers : List Entry → List Waiting
@@ -227,15 +262,20 @@ callers (Caller e ∷ k) = record { locals = e.locals; temporaries = behind_reco
 callers (entry ∷ k) = callers k
 
 -- the newest handler is open
-abbrev pub Opened : List plain.Handler → ((index first : ℕ) → Words → List plain.Handler → Type 0) → Type 0
-Opened [] P = ⊥
-Opened (plain.Caught ∷ handlers) P = ⊥
-Opened (plain.Open index first contents ∷ handlers) P = P index first contents handlers
+abbrev pub Newest : List plain.Handler → ((index first : ℕ) → Words → List plain.Handler → Type 0) → Type 0
+Newest [] P = ⊥
+Newest (plain.Caught ∷ handlers) P = ⊥
+Newest (plain.Open index first contents ∷ handlers) P = P index first contents handlers
 
 -- the record of a handler holds what it held when the handler was opened
 abbrev pub IsIntact : Words → (first : ℕ) → (contents : Words) → Type 0
 IsIntact slots first contents =
     (slots first ≡ contents 0) × (slots (first + 1) ≡ contents 1) × (slots (first + 2) ≡ contents 2) × (slots (first + 3) ≡ contents 3)
+
+-- a `try` keeps in a slot how many lexical regions are open
+abbrev pub IsKept : (scopes : Option ℕ) → Words → (slot many : ℕ) → Type 0
+IsKept None slots slot many = Unit {0}
+IsKept (Some place) slots slot many = slots slot ≡ many
 
 -- What is left of the entries where a loop is left, or the function: its handlers are the open ones then.
 abbrev pub left_by : (loop : Bool) → List Entry → List Entry
@@ -271,7 +311,7 @@ abbrev pub silent : World → World
 silent w = record w { output = []; input = [] }
 
 -- What all calls share, but for the globals: what is printed and read, the tables by which objects and regions stand in the store, and
--- the calls that wait. Demand and calls are within limits. What is said of the counters of arrays goes with it.
+-- the calls that wait. Demand and calls are within limits. What is said of the counters of arrays and of lexical regions goes with it.
 pub record Shared (pages calls : ℕ) (w : World) (regions : List ℕ) (counting : Type 0) (plain_output plain_input : List ℕ) (store : StoreState) (waiting : ℕ) : Type 0 where
   pub tables : Tables
   pub same_output : plain_output ≡ w.output
@@ -283,8 +323,22 @@ pub record Shared (pages calls : ℕ) (w : World) (regions : List ℕ) (counting
   pub variables : AreOfVariables tables regions
   pub few_pages : demand store ≤ pages
   pub fits : suc waiting ≤ calls
-  -- the counters of arrays
+  -- the counters of arrays, and the lexical regions that are open
   pub counters : counting
+
+-- While lexical regions are left the source closes one at a step, and the store all at the end: it is ahead of what is matched by so many
+-- regions as are still open.
+abbrev pub store_by : (closing : Option ℕ) → StoreState → (many : ℕ) → StoreState
+store_by None store many = store
+store_by (Some mark) store many = closed_to store many
+
+-- The store still has those regions that the source has closed. There is a word then that tells how many are open.
+abbrev pub HasScopes : Option ℕ → Type 0
+HasScopes None = ⊥
+HasScopes (Some place) = Unit {0}
+
+abbrev pub IsAhead : (scopes : Option ℕ) → StoreState → (many : ℕ) → Type 0
+IsAhead place store many = HasScopes place × IsSound store × (many ≤ lexical_count store.regions)
 
 module _ (source : Program) where
   -- ---- functions of the program
@@ -306,10 +360,10 @@ module _ (source : Program) where
 
   abbrev pub raises_in : Option Function → ℕ
   raises_in None = 0
-  raises_in (Some h) = raises_of source.structs (globals_of source) h
+  raises_in (Some h) = raises_of source.structs (globals_of source) (scopes_of source) h
 
   abbrev pub types_in : Option Function → Types
-  types_in h = record { locals = local_types h; structs = source.structs; raises = raises_in h; counters = []; globals = global_types source.globals }
+  types_in h = record { locals = local_types h; structs = source.structs; raises = raises_in h; counters = []; globals = global_types source.globals; scopes = scopes_of source }
 
   abbrev pub types_at : ℕ → Types
   types_at g = types_in (slice_get source.functions g)
@@ -319,7 +373,7 @@ module _ (source : Program) where
 
   -- the same where these entries wait, of which some are arrays that are being filled
   abbrev pub types_on : ℕ → List Entry → Types
-  types_on g k = record { locals = local_types (slice_get source.functions g); structs = source.structs; raises = raises_in (slice_get source.functions g); counters = counters_of (behind_records k (words_of_all (local_types (slice_get source.functions g)))) k; globals = global_types source.globals }
+  types_on g k = record { locals = local_types (slice_get source.functions g); structs = source.structs; raises = raises_in (slice_get source.functions g); counters = counters_of (behind_records k (scopes_of source) (words_of_all (local_types (slice_get source.functions g)))) k; globals = global_types source.globals; scopes = scopes_of source }
 
   abbrev pub starts_on : ℕ → List Entry → Starts
   starts_on g k = starts_of (types_on g k)
@@ -345,13 +399,27 @@ module _ (source : Program) where
   abbrev pub returned_at : ℕ → Kind
   returned_at g = kind_of_result (bounds_at g).result
 
-  -- the first slot behind the records of handlers too
+  -- the first slot behind the records of handlers and the marks of lexical regions too
   abbrev pub floor : ℕ → List Entry → ℕ
-  floor g k = behind_records k (base_of g)
+  floor g k = behind_records k (scopes_of source) (base_of g)
+
+  -- what was opened in the loop round what is executed, or in the function
+  abbrev pub opened_by : (loop : Bool) → ℕ → List Entry → Opened
+  opened_by loop g [] = nothing_opened
+  opened_by loop g (Loop condition body ∷ k) = if loop then nothing_opened else opened_by loop g k
+  opened_by loop g (Handler clauses ∷ k) = with_handler (opened_by loop g k) (floor g k)
+  opened_by loop g (CloseLexical region ∷ k) = with_mark (opened_by loop g k) (floor g k)
+  opened_by loop g (Caller e ∷ k) = nothing_opened
+  opened_by loop g (Main ∷ k) = nothing_opened
+  opened_by loop g (entry ∷ k) = opened_by loop g k
 
   -- the slot of the next value
   abbrev pub top : ℕ → List Entry → ℕ
   top g k = height (floor g k) (held k)
+
+  -- and of a value that is handed on
+  abbrev pub ground : ℕ → List Entry → ℕ
+  ground g k = height (floor g k) (kept k)
 
   -- ---- data
 
@@ -359,7 +427,7 @@ module _ (source : Program) where
   abbrev pub FramesHold : Tables → List Object → (high : ℕ) → List Frame → List Waiting → Type 0
   FramesHold t objects high [] [] = length (global_types source.globals) ≤ high
   FramesHold t objects high (f ∷ frames) (x ∷ outer) =
-      (low : ℕ) × (low ≤ high) × (LocalsHold t (types_at f.caller.function) objects x.locals low high f.caller.slots × Holds t f.caller.slots (x.temporaries (base_of f.caller.function)) x.values)
+      (low : ℕ) × (low ≤ high) × (LocalsHold t (types_at f.caller.function) objects x.locals low high f.caller.slots × Holds t f.caller.slots (x.temporaries (scopes_of source) (base_of f.caller.function)) x.values)
       × FramesHold t objects low frames outer
   FramesHold t objects high [] (x ∷ outer) = ⊥
   FramesHold t objects high (f ∷ frames) [] = ⊥
@@ -378,9 +446,9 @@ module _ (source : Program) where
     by_jump : At code p (instructions.Jump q) → Arrives code p q
     by_jumps : (m : ℕ) → m < p → At code p (instructions.Jump m) → At code m (instructions.Jump q) → Arrives code p q
 
-  -- no loop of the function is left, and its handlers have their records from this slot on
-  abbrev pub IsOutside : Exits → (slot : ℕ) → Type 0
-  IsOutside exits slot = (exits.loop_record ≡ slot) × (exits.first_record ≡ slot)
+  -- nothing of the function is open
+  abbrev pub IsOutside : Exits → Type 0
+  IsOutside exits = (exits.in_loop ≡ nothing_opened) × (exits.in_function ≡ nothing_opened)
 
   -- A value of so many words comes to slot d: that of a temporary, from `free` on, or that of a local which is about to be assigned.
   pub data Lands (base free d words : ℕ) (temporary ahead : Type 0) : Type 0 where
@@ -404,7 +472,7 @@ module _ (source : Program) where
     to_jump : tested → Yields value tested
 
   abbrev pub LoopAt : (g t : ℕ) → Expression → Statement → (exits outer : Exits) → (q : ℕ) → Type 0
-  LoopAt g t condition body exits outer q = (exits.loop_record ≡ t) × (exits.first_record ≡ outer.first_record) × (x : Operand) × (y : Operand) × (m : ℕ) × (r : ℕ) × At (code_of g) (break_target exits.head) (instructions.Jump q)
+  LoopAt g t condition body exits outer q = (exits.in_loop ≡ nothing_opened) × (exits.in_function ≡ outer.in_function) × (x : Operand) × (y : Operand) × (m : ℕ) × (r : ℕ) × At (code_of g) (break_target exits.head) (instructions.Jump q)
       × ConditionAt (code_of g) (bounds_at g) (types_at g) condition x y t (continue_target exits.head) m
       × FailingAt (code_of g) (bounds_at g) (types_at g) condition x y m (break_target exits.head)
       × StatementAt (code_of g) (bounds_at g) (types_at g) body exits t (m + 1) r
@@ -526,24 +594,28 @@ module _ (source : Program) where
         × ArgumentsAt (code_of g) (bounds_at g) (types_on g k) arguments (height (floor g k) (before ++ held k) + words_of_kind kind) p m
         × CallAt g callee all (top g k) d m q × (words_held before + (words_of_kind kind + all_passed arguments) ≡ all)
         × Lands (base_of g) (top g k) d (words_of_kind (called_at g callee)) (ValueStack g locals (called_at g callee) (operands.Slot d) q frames k) (AheadStack g locals (called_at g callee) d q frames k)
+    ValueStack g locals kind o p frames (Needs (PlaceBy initial) ∷ k) =
+        (d : ℕ) × (q : ℕ) × (o ≡ operands.Slot (top g k)) × MadeAt (code_of g) (bounds_at g) (types_on g k) initial o d (suc (top g k)) p q
+        × Lands (base_of g) (top g k) d (words_of_kind (made_kind initial)) (ValueStack g locals (made_kind initial) (operands.Slot d) q frames k) (AheadStack g locals (made_kind initial) d q frames k)
+    ValueStack g locals kind o p frames (Needs (BesideHandle region) ∷ k) = ValueStack g locals kind o p frames k
     ValueStack g locals kind o p frames (Needs (MakePlain owner wanted) ∷ k) =
-        (handle : ℕ) × (d : ℕ) × (q : ℕ) × IsHandleOf owner handle × (o ≡ operands.Slot (top g k)) × ObjectAt (code_of g) (bounds_at g) (types_on g k) handle 1 (words_of_kind kind) (top g k) d p q
-        × Lands (base_of g) (top g k) d 1 (ValueStack g locals kinds.NonNull (operands.Slot d) q frames k) (AheadStack g locals kinds.NonNull d q frames k)
+        (handle : Operand) × (d : ℕ) × (q : ℕ) × IsHandleOf owner handle (top g k) k × (o ≡ operands.Slot (top g k)) × ObjectAt (code_of g) (bounds_at g) (types_on g k) handle 1 (words_of_kind kind) (top g k) d p q
+        × Lands (base_of g) (ground g k) d 1 (ValueStack g locals kinds.NonNull (operands.Slot d) q frames k) (AheadStack g locals kinds.NonNull d q frames k)
     ValueStack g locals kind o p frames (Needs (MakeFields owner before fields) ∷ k) =
-        (handle : ℕ) × (d : ℕ) × (m : ℕ) × (q : ℕ) × (all : ℕ) × IsHandleOf owner handle × (o ≡ operands.Slot (height (floor g k) (before ++ held k)))
+        (handle : Operand) × (d : ℕ) × (m : ℕ) × (q : ℕ) × (all : ℕ) × IsHandleOf owner handle (top g k) k × (o ≡ operands.Slot (height (floor g k) (before ++ held k)))
         × ArgumentsAt (code_of g) (bounds_at g) (types_on g k) fields (height (floor g k) (before ++ held k) + words_of_kind kind) p m
         × ObjectAt (code_of g) (bounds_at g) (types_on g k) handle (length before + suc (argument_count fields)) all (top g k) d m q
         × (words_held before + (words_of_kind kind + all_passed fields) ≡ all)
-        × Lands (base_of g) (top g k) d 1 (ValueStack g locals kinds.NonNull (operands.Slot d) q frames k) (AheadStack g locals kinds.NonNull d q frames k)
+        × Lands (base_of g) (ground g k) d 1 (ValueStack g locals kinds.NonNull (operands.Slot d) q frames k) (AheadStack g locals kinds.NonNull d q frames k)
     ValueStack g locals kind o p frames (Needs (MakeArray owner level wanted element) ∷ k) =
-        (handle : ℕ) × (d : ℕ) × (h : ℕ) × (r : ℕ) × (s : ℕ) × (q : ℕ) × IsHandleOf owner handle × (o ≡ operands.Slot (top g k))
+        (handle : Operand) × (d : ℕ) × (h : ℕ) × (r : ℕ) × (s : ℕ) × (q : ℕ) × IsHandleOf owner handle (top g k) k × (o ≡ operands.Slot (top g k))
         × BegunAt (code_of g) (bounds_at g) (types_on g k) handle (words_of_kind wanted) (top g k) p h
         × (level ≡ length (counters_of (floor g k) k)) × ElementsAt (code_of g) (bounds_at g) (types_on g k) element (words_of_kind wanted) (top g k) d h r s q
-        × Lands (base_of g) (top g k) d 3 (ValueStack g locals kinds.Fat (operands.Slot d) q frames k) (AheadStack g locals kinds.Fat d q frames k)
+        × Lands (base_of g) (ground g k) d 3 (ValueStack g locals kinds.Fat (operands.Slot d) q frames k) (AheadStack g locals kinds.Fat d q frames k)
     ValueStack g locals kind o p frames (Needs (FillElement object count index level wanted element) ∷ k) =
         (d : ℕ) × (h : ℕ) × (s : ℕ) × (q : ℕ) × (o ≡ operands.Slot (top g k + 3)) × (index < count) × (count * words_of_kind wanted ≤ MOST_BLOCK_WORDS)
         × (level ≡ length (counters_of (floor g k) k)) × ElementsAt (code_of g) (bounds_at g) (types_on g k) element (words_of_kind wanted) (top g k) d h p s q
-        × Lands (base_of g) (top g k) d 3 (ValueStack g locals kinds.Fat (operands.Slot d) q frames k) (AheadStack g locals kinds.Fat d q frames k)
+        × Lands (base_of g) (ground g k) d 3 (ValueStack g locals kinds.Fat (operands.Slot d) q frames k) (AheadStack g locals kinds.Fat d q frames k)
     ValueStack g locals kind o p frames (Needs (Initialise number wanted items) ∷ k) =
         (exits : Exits) × (q : ℕ) × At (code_of g) p (move_of (words_of_kind kind) (slot_of (starts_at g) number) o) × HasRoom (types_at g) number kind
         × ItemsAt (code_of g) (bounds_at g) (types_at g) items exits (floor g k) (p + 1) q × StatementStack g exits q frames k
@@ -552,11 +624,14 @@ module _ (source : Program) where
     ValueStack g locals kind o p frames (Needs (Test condition body) ∷ k) =
         RepeatsAt g (floor g k) comparisons.Equal o (operands.Word 0) p condition body (λ exits q. StatementStack g exits q frames k)
     ValueStack g locals kind o p frames (Needs Return ∷ k) =
-        (exits : Exits) × (q : ℕ) × (s : ℕ) × (r : ℕ) × (o ≡ operands.Slot s) × LeaveAt (code_of g) (bounds_at g) (types_at g) exits.first_record (floor g k) p r
+        (exits : Exits) × (q : ℕ) × (s : ℕ) × (r : ℕ) × (o ≡ operands.Slot s) × LeaveAt (code_of g) (bounds_at g) (types_at g) exits.in_function p r
         × At (code_of g) r (instructions.Finish s) × IsReturned g kind
         × StatementStack g exits q frames k
     ValueStack g locals kind o p frames (Needs FreeObject ∷ k) =
         (d : ℕ) × (q : ℕ) × FreedAt (code_of g) (bounds_at g) (types_on g k) o p q
+        × Lands (base_of g) (top g k) d 1 (ValueStack g locals kinds.Int (operands.Slot d) q frames k) (AheadStack g locals kinds.Int d q frames k)
+    ValueStack g locals kind o p frames (Needs CloseByKey ∷ k) =
+        (d : ℕ) × (q : ℕ) × At (code_of g) p (instructions.Ask (requests.CloseDynamic o)) × (p + 1 ≡ q)
         × Lands (base_of g) (top g k) d 1 (ValueStack g locals kinds.Int (operands.Slot d) q frames k) (AheadStack g locals kinds.Int d q frames k)
     ValueStack g locals kind o p frames (Needs (ThrowWith tag) ∷ k) =
         (exits : Exits) × (q : ℕ) × IsNumber tag × At (code_of g) p (instructions.Throw (tag_operand tag) o) × StatementStack g exits q frames k
@@ -585,7 +660,7 @@ module _ (source : Program) where
     -- the same for a place, whose address is the word of an operand and so many bytes more
     pub PlaceStack : (g : ℕ) → (ℕ → Option ℕ) → Operand → (c p : ℕ) → List Frame → List Entry → Type 0
     PlaceStack g locals o c p frames (NeedsPlace (LoadFrom cell) ∷ k) =
-        (d : ℕ) × (q : ℕ) × LoadedAt (code_of g) (words_of_kind cell) o c d p q
+        (d : ℕ) × (q : ℕ) × LoadedAt (code_of g) (words_of_kind cell) o c d (top g k) p q
         × Lands (base_of g) (top g k) d (words_of_kind cell) (ValueStack g locals cell (operands.Slot d) q frames k) (AheadStack g locals cell d q frames k)
     PlaceStack g locals o c p frames (NeedsPlace TakeAddress ∷ k) =
         (d : ℕ) × (q : ℕ) × AddressAt (code_of g) o c d p q
@@ -622,6 +697,7 @@ module _ (source : Program) where
     pub AheadStack : (g : ℕ) → (ℕ → Option ℕ) → Kind → (n p : ℕ) → List Frame → List Entry → Type 0
     AheadStack g locals kind n p frames (Needs (ConvertTo from to target) ∷ k) = (converts_there from to ≡ true) × AheadStack g locals to n p frames k
     AheadStack g locals kind n p frames (Needs (Chain NoOperations) ∷ k) = AheadStack g locals kind n p frames k
+    AheadStack g locals kind n p frames (Needs (BesideHandle region) ∷ k) = AheadStack g locals kind n p frames k
     AheadStack g locals kind n p frames (Needs (Store place) ∷ k) =
         (number : ℕ) × (object : ℕ) × (place ≡ Thin object 0) × (locals number ≡ Some object) × (slot_of (starts_at g) number ≡ n)
         × HasRoom (types_at g) number kind
@@ -641,19 +717,25 @@ module _ (source : Program) where
         × StatementStack g outer q frames k
     StatementStack g exits p frames (CloseRegion region home ∷ k) = (q : ℕ) × Arrives (code_of g) p q × StatementStack g exits q frames k
     StatementStack g exits p frames (Handler handler ∷ k) =
-        (q : ℕ) × At (code_of g) p (instructions.Leave (floor g k)) × At (code_of g) (p + 1) (instructions.Jump q) × StatementStack g exits q frames k
+        (outer : Exits) × (q : ℕ) × (exits ≡ inside_try outer (floor g k)) × At (code_of g) p (instructions.Leave (floor g k)) × At (code_of g) (p + 1) (instructions.Jump q)
+        × StatementStack g outer q frames k
     StatementStack g exits p frames (Caller e ∷ k) =
-        (s : ℕ) × At (code_of g) p (instructions.Finish s) × IsOutside exits (base_of g)
+        (s : ℕ) × At (code_of g) p (instructions.Finish s) × IsOutside exits
         × Below frames (λ f rest. Lands (base_of f.caller.function) (top f.caller.function k) f.result (words_of_kind (returned_at g))
         (ValueStack f.caller.function e.locals (returned_at g) (operands.Slot f.result) f.caller.next rest k)
         (AheadStack f.caller.function e.locals (returned_at g) f.result f.caller.next rest k))
-    StatementStack g exits p frames (Main ∷ k) = (s : ℕ) × At (code_of g) p (instructions.Finish s) × IsOutside exits (base_of g) × IsLast frames k
+    StatementStack g exits p frames (Main ∷ k) = (s : ℕ) × At (code_of g) p (instructions.Finish s) × IsOutside exits × IsLast frames k
     StatementStack g exits p frames k = ⊥
 
   -- a value of a kind comes to slot d, and what is done with it stands from place p on
   abbrev pub LandsStack : (g : ℕ) → (ℕ → Option ℕ) → Kind → (d p : ℕ) → List Frame → List Entry → Type 0
   LandsStack g locals kind d p frames k =
       Lands (base_of g) (top g k) d (words_of_kind kind) (ValueStack g locals kind (operands.Slot d) p frames k) (AheadStack g locals kind d p frames k)
+
+  -- the same for the pointer to what is made, which may come to the slot of its region's handle
+  abbrev pub LandsMade : (g : ℕ) → (ℕ → Option ℕ) → Kind → (d p : ℕ) → List Frame → List Entry → Type 0
+  LandsMade g locals kind d p frames k =
+      Lands (base_of g) (ground g k) d (words_of_kind kind) (ValueStack g locals kind (operands.Slot d) p frames k) (AheadStack g locals kind d p frames k)
 
   abbrev pub HandsOnStack : (g : ℕ) → (ℕ → Option ℕ) → Kind → Operand → (p : ℕ) → List Frame → List Entry → Type 0
   HandsOnStack g locals kind o p frames k =
@@ -730,10 +812,10 @@ module _ (source : Program) where
       (d : ℕ) × (q : ℕ) × CallAt g callee (words_held before) (top g k) d p q × Holds t slots (floor g k) (before ++ held k)
       × LandsStack g locals (called_at g callee) d q frames k
   FocusAt t (Entering h arguments) k locals g p slots frames =
-      (m : ℕ) × ItemsAt (code_of g) (bounds_at g) (types_at g) h.body (outside_loops (base_of g)) (floor g k) p m × StatementStack g (outside_loops (base_of g)) m frames k
+      (m : ℕ) × ItemsAt (code_of g) (bounds_at g) (types_at g) h.body outside_loops (floor g k) p m × StatementStack g outside_loops m frames k
       × HoldsFrom t slots 0 arguments × (parameters_at g ≡ h.parameters)
   FocusAt t (Binding number types arguments body) k locals g p slots frames =
-      (m : ℕ) × (first : List Ty) × ItemsAt (code_of g) (bounds_at g) (types_at g) body (outside_loops (base_of g)) (floor g k) p m × StatementStack g (outside_loops (base_of g)) m frames k
+      (m : ℕ) × (first : List Ty) × ItemsAt (code_of g) (bounds_at g) (types_at g) body outside_loops (floor g k) p m × StatementStack g outside_loops m frames k
       × HoldsFrom t slots (words_of_all first) arguments × (parameters_at g ≡ first ++ types) × (length first ≡ number)
   FocusAt t (Writing writes (Some pointer)) k locals g p slots frames =
       (object : ℕ) × (done : List Kind) × (values : List Kinded) × (address : ℕ) × (slot : ℕ) × (d : ℕ) × (m : ℕ) × (q : ℕ)
@@ -741,17 +823,17 @@ module _ (source : Program) where
       × IsObject t object (slots address) (done ++ kinds_of (blanks_of values)) × (length values ≤ words_held values)
       × HoldsFrom t slots slot values × StoresAt (code_of g) (bounds_at g) (types_on g k) (words_held values) address (4 * words_of_kinds done) slot p m
       × At (code_of g) m (instructions.Move d (operands.Slot address)) × (m + 1 ≡ q)
-      × Holds t slots (floor g k) (held k) × LandsStack g locals kinds.NonNull d q frames k
+      × Holds t slots (floor g k) (held k) × LandsMade g locals kinds.NonNull d q frames k
   FocusAt t (Beginning owner count level wanted element) k locals g p slots frames =
-      (handle : ℕ) × (d : ℕ) × (h : ℕ) × (r : ℕ) × (s : ℕ) × (q : ℕ) × IsHandleOf owner handle
-      × At (code_of g) p (instructions.Ask (requests.Allocate (top g k) (operands.Word handle) (operands.Slot (top g k + 3)))) × (p + 1 ≡ h)
+      (handle : Operand) × (d : ℕ) × (h : ℕ) × (r : ℕ) × (s : ℕ) × (q : ℕ) × IsHandleOf owner handle (top g k) k
+      × At (code_of g) p (instructions.Ask (requests.Allocate (top g k) handle (operands.Slot (top g k + 3)))) × (p + 1 ≡ h)
       × (count * words_of_kind wanted ≤ MOST_BLOCK_WORDS) × (slots (top g k + 1) ≡ count) × (slots (top g k + 2) ≡ 0) × (slots (top g k + 3) ≡ max 1 (count * words_of_kind wanted))
       × (level ≡ length (counters_of (floor g k) k)) × ElementsAt (code_of g) (bounds_at g) (types_on g k) element (words_of_kind wanted) (top g k) d h r s q
-      × Holds t slots (floor g k) (held k) × LandsStack g locals kinds.Fat d q frames k
+      × Holds t slots (floor g k) (held k) × LandsMade g locals kinds.Fat d q frames k
   FocusAt t (Repeating object count index level wanted element) k locals g p slots frames =
       (d : ℕ) × (r : ℕ) × (s : ℕ) × (q : ℕ) × Is t kinds.Fat (Fat object 0 count index) slots (top g k) × (index ≤ count) × (count * words_of_kind wanted ≤ MOST_BLOCK_WORDS)
       × (level ≡ length (counters_of (floor g k) k)) × ElementsAt (code_of g) (bounds_at g) (types_on g k) element (words_of_kind wanted) (top g k) d p r s q
-      × Holds t slots (floor g k) (held k) × LandsStack g locals kinds.Fat d q frames k
+      × Holds t slots (floor g k) (held k) × LandsMade g locals kinds.Fat d q frames k
   FocusAt t (Writing writes None) k locals g p slots frames =
       (exits : Exits) × (q : ℕ) × WritesAt t locals g slots writes p q × StatementStack g exits q frames k
   FocusAt t (Swapping kind (Thin object offset) (Thin other beside) None) k locals g p slots frames =
@@ -785,20 +867,36 @@ module _ (source : Program) where
 
   -- ---- states
 
+  -- What is said of the counters of arrays, and of the lexical regions that are open: so many entries end them, and so many the source has
+  -- open.
+  abbrev pub ScopesBy : (closing : Option ℕ) → (globals : Words) → StoreState → (ended now : ℕ) → Type 0
+  ScopesBy None globals store ended now = IsTold (scopes_of source) globals ended
+  ScopesBy (Some mark) globals store ended now = IsAhead (scopes_of source) store now
+
+  abbrev pub CountsBy : (closing : Option ℕ) → Environment → List Entry → (globals : Words) → StoreState → (now : ℕ) → Type 0
+  CountsBy closing e k globals store now = AreCounted e.counters k × ScopesBy closing globals store (scopes_in k) now
+
+  -- what is shared while lexical regions are left, or not
+  abbrev pub SharedBy : (closing : Option ℕ) → (pages calls : ℕ) → List Entry → Environment → World → Configuration → Type 0
+  SharedBy closing pages calls k e w c =
+      Shared pages calls w (e.home ∷ homes k) (CountsBy closing e k c.globals c.store (scopes w.regions)) c.output c.input (store_by closing c.store (scopes w.regions)) (length c.frames)
+
   abbrev pub SharedAt : (pages calls : ℕ) → List Entry → Environment → World → Configuration → Type 0
-  SharedAt pages calls k e w c = Shared pages calls w (e.home ∷ homes k) (AreCounted e.counters k) c.output c.input c.store (length c.frames)
+  SharedAt pages calls k e w c = SharedBy None pages calls k e w c
 
   -- what stands where a handler catches an exception: it was opened by this instruction, and its clauses end where all goes on
   abbrev pub CatchesAt : (g : ℕ) → Clauses → (index : ℕ) → List Frame → List Entry → Type 0
   CatchesAt g handler index frames k =
-      (exits : Exits) × (p : ℕ) × (out : ℕ) × (q : ℕ) × At (code_of g) index (instructions.Try (floor g k) p)
+      (exits : Exits) × (m : ℕ) × (p : ℕ) × (out : ℕ) × (q : ℕ) × At (code_of g) index (instructions.Try (floor g k) m)
+      × RestoredAt (code_of g) (bounds_at g) (types_at g) (scopes_of source) (floor g k + RECORD_WORDS) m p
       × ClausesAt (code_of g) (bounds_at g) (types_at g) handler out exits (floor g k) p q × At (code_of g) out (instructions.Jump q) × StatementStack g exits q frames k
 
   -- The handlers that the running call has open, and those of the calls that wait: one for each entry, with its record.
   abbrev pub HandlersStand : (g : ℕ) → Words → List plain.Handler → List Frame → List Entry → Type 0
   HandlersStand g slots handlers frames [] = ⊥
   HandlersStand g slots handlers frames (Handler handler ∷ k) =
-      Opened handlers (λ index first contents later. (first ≡ floor g k) × IsIntact slots first contents × CatchesAt g handler index frames k × HandlersStand g slots later frames k)
+      Newest handlers (λ index first contents later. (first ≡ floor g k) × IsIntact slots first contents × IsKept (scopes_of source) slots (floor g k + RECORD_WORDS) (scopes_in k)
+      × CatchesAt g handler index frames k × HandlersStand g slots later frames k)
   HandlersStand g slots handlers frames (Caller e ∷ k) =
       (handlers ≡ []) × Below frames (λ f rest. HandlersStand f.caller.function f.caller.slots f.caller.handlers rest k)
   HandlersStand g slots handlers frames (Main ∷ k) = (handlers ≡ []) × IsLast frames k
@@ -826,10 +924,10 @@ module _ (source : Program) where
   -- where a value stands that is handed on; one that is only tested is the comparison of two operands
   pub data GivenAt (t : Tables) (v : Kinded) (k : List Entry) (e : Environment) (w : World) (c : Configuration) : Type 0 where
     in_operand : (o : Operand) → DataIn t c.active.slots k e w c → IsIn t v c.active.slots o
-        → Holds t c.active.slots (floor c.active.function k) (held k) → ValueStack c.active.function e.locals v.kind o c.active.next c.frames k → GivenAt t v k e w c
+        → Holds t c.active.slots (floor c.active.function k) (kept k) → ValueStack c.active.function e.locals v.kind o c.active.next c.frames k → GivenAt t v k e w c
     nowhere : DataIn t c.active.slots k e w c → DroppedStack c.active.function c.active.next c.frames k → GivenAt t v k e w c
     ahead : (n : ℕ) → DataBut t n (words_of_kind v.kind) k e w c → Is t v.kind v.value c.active.slots n
-        → Holds t c.active.slots (floor c.active.function k) (held k) → AheadStack c.active.function e.locals v.kind n c.active.next c.frames k → GivenAt t v k e w c
+        → Holds t c.active.slots (floor c.active.function k) (kept k) → AheadStack c.active.function e.locals v.kind n c.active.next c.frames k → GivenAt t v k e w c
     compared : (failing : Comparison) → (l r : Operand) → DataIn t c.active.slots k e w c
         → is_zero v.value ≡ Some (compares failing (operand_word c.active.slots l) (operand_word c.active.slots r))
         → ConditionStack c.active.function failing l r c.active.next c.frames k → GivenAt t v k e w c
@@ -850,7 +948,7 @@ module _ (source : Program) where
 
   abbrev pub Throws : (pages calls : ℕ) → (tag value : ℕ) → List Entry → Environment → World → Configuration → Type 0
   Throws pages calls tag value k e w c =
-      (shared : SharedAt pages calls k e w c) × (calls_in k ≤ calls) × IsNumber tag
+      (shared : SharedBy (scopes_of source) pages calls k e w c) × (calls_in k ≤ calls) × IsNumber tag
       × (x : Operand) × (o : Operand) × At (code_of c.active.function) c.active.next (instructions.Throw x o) × (operand_word c.active.slots x ≡ tag) × (operand_word c.active.slots o ≡ value)
       × (a : Activation) × (rest : List Frame) × (length rest ≤ length c.frames) × (throws c tag value c.active c.frames ≡ throws c tag value a rest)
       × DataAt shared.tables a.function w.objects e.locals (callers k) a.slots c.globals rest × CaughtBy a rest k

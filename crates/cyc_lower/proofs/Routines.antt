@@ -1,5 +1,5 @@
 -- Functions and globals that are lowered one after the other.
-use Rattle.std.proofs.Common.{◌≡◌, ℕ, zero, suc, ◌+◌, ◌<◌, ◌≤◌, List, [], ◌∷◌, ◌++◌, length, get_or, map, take, Some, refl, sym, ap, ◌∙◌, arith, slice_get, append_assoc}
+use Rattle.std.proofs.Common.{◌≡◌, ℕ, zero, suc, ◌+◌, ◌<◌, ◌≤◌, List, [], ◌∷◌, ◌++◌, length, get_or, map, take, Option, Some, refl, sym, ap, ◌∙◌, arith, slice_get, append_assoc}
 use Rattle.cyc_words.specs.declared.fault.Code.{Code}
 use Rattle.cyc_words.specs.declared.fault.Code.TheVariants.{TooManyFunctions}
 use Rattle.cyc_words.specs.declared.fault.Fault.{Fault}
@@ -33,18 +33,18 @@ pub few_locals : (f : FunctionCode) → frame_count (view_function f) ≤ most_f
 few_locals f small = (omega (arith, small), omega (arith, small, slots-few (view_function f)))
 
 -- the code of a function's body, made again for the length that it had, with a return and the blocks behind it
-pub function_made : (structs : List StructType) (globals : List ℕ) (h : Function) (locals : List ℕ) (free raises : ℕ) (first body ended code : List Instruction) → locals ≡ starts_from 0 (slot_types h) → free ≡ first_temporary h
-    → first ≡ items_code (record { locals = locals; structs = structs; raises = 0; counters = []; globals = globals }) h.body 0 (outside_loops free) free → raises ≡ length first
-    → body ≡ items_code (record { locals = locals; structs = structs; raises = raises; counters = []; globals = globals }) h.body 0 (outside_loops free) free
-    → ended ≡ body ++ Finish free ∷ [] → code ≡ ended ++ blocks → code ≡ function_code structs globals h
-function_made structs globals h locals free raises first body ended code locals_is free_is first_is raises_is body_is ended_is code_is =
-    let made : first ≡ body_code (starts_with 0 structs globals h) h =
-    first_is ∙ (λ i. items_code (record { locals = locals_is i; structs = structs; raises = 0; counters = []; globals = globals }) h.body 0 (outside_loops (free_is i)) (free_is i)) in
-    let known : raises ≡ raises_of structs globals h = raises_is ∙ ap (λ (l : List Instruction). length l) made in
+pub function_made : (structs : List StructType) (globals : List ℕ) (scopes : Option ℕ) (h : Function) (locals : List ℕ) (free raises : ℕ) (first body ended code : List Instruction) → locals ≡ starts_from 0 (slot_types h) → free ≡ first_temporary h
+    → first ≡ items_code (record { locals = locals; structs = structs; raises = 0; counters = []; globals = globals; scopes = scopes }) h.body 0 outside_loops free → raises ≡ length first
+    → body ≡ items_code (record { locals = locals; structs = structs; raises = raises; counters = []; globals = globals; scopes = scopes }) h.body 0 outside_loops free
+    → ended ≡ body ++ Finish free ∷ [] → code ≡ ended ++ blocks → code ≡ function_code structs globals scopes h
+function_made structs globals scopes h locals free raises first body ended code locals_is free_is first_is raises_is body_is ended_is code_is =
+    let made : first ≡ body_code (starts_with 0 structs globals scopes h) h =
+    first_is ∙ (λ i. items_code (record { locals = locals_is i; structs = structs; raises = 0; counters = []; globals = globals; scopes = scopes }) h.body 0 outside_loops (free_is i)) in
+    let known : raises ≡ raises_of structs globals scopes h = raises_is ∙ ap (λ (l : List Instruction). length l) made in
     code_is
     ∙ ap (λ (l : List Instruction). l ++ blocks) (ended_is ∙ ap (λ (l : List Instruction). l ++ Finish free ∷ []) body_is)
-    ∙ (λ i. (items_code (record { locals = locals_is i; structs = structs; raises = known i; counters = []; globals = globals }) h.body 0 (outside_loops (free_is i)) (free_is i) ++ Finish (free_is i) ∷ []) ++ blocks)
-    ∙ append_assoc (body_code (starts_with (raises_of structs globals h) structs globals h) h) (Finish (first_temporary h) ∷ []) blocks
+    ∙ (λ i. (items_code (record { locals = locals_is i; structs = structs; raises = known i; counters = []; globals = globals; scopes = scopes }) h.body 0 outside_loops (free_is i) ++ Finish (free_is i) ∷ []) ++ blocks)
+    ∙ append_assoc (body_code (starts_with (raises_of structs globals scopes h) structs globals scopes h) h) (Finish (first_temporary h) ∷ []) blocks
 
 -- ---- lists that are lowered element by element
 

@@ -14,7 +14,7 @@ use Rattle.cyc_types.specs.declared.typed.PointerOperator.{PointerOperator}
 use Rattle.cyc_types.specs.declared.typed.PointerOperator.TheVariants as pointers
 use Rattle.cyc_types.specs.declared.typed.LogicalOperator.{LogicalOperator}
 use Rattle.cyc_types.specs.declared.typed.LogicalOperator.TheVariants as logical
-use Rattle.cyc_types.specs.TypedTrees.{Load, New, OnHeap, AsUnique, ByHandle, Initial, Plain, Fields, Array, Dereference, Target, Member, Element, Lvalue, Local, Global, Expression, Number, Copy, Call, Unary, Binary, Assign, Converted, Convert, Arguments, NoArguments, MoreArguments, Operations, NoOperations, ThenCompute, ThenTest, ThenPointer, ThenPointerPeek, Statement, Block, Empty, Evaluate, If, While, Return, Break, Continue, Items, NoItems, MoreItems, Execute, Declare, StructType, Function, Move, Peek, AddressOfCell, Store, FreeUnique, Side, VariableSide, CellSide, Swap, Throw, Try, Clauses, NoClauses, Default, Case, NumberOfElements, type_of_place}
+use Rattle.cyc_types.specs.TypedTrees.{Load, New, OnHeap, AsUnique, ByHandle, Initial, Plain, Fields, Array, Dereference, Target, Member, Element, Lvalue, Local, Global, Expression, Number, Copy, Call, Unary, Binary, Assign, Converted, Convert, Arguments, NoArguments, MoreArguments, Operations, NoOperations, ThenCompute, ThenTest, ThenPointer, ThenPointerPeek, Statement, Block, Empty, Evaluate, If, While, Return, Break, Continue, Items, NoItems, MoreItems, Execute, Declare, StructType, Function, Move, Peek, AddressOfCell, Store, FreeUnique, Side, VariableSide, CellSide, Swap, Throw, Try, Clauses, NoClauses, Default, Case, NumberOfElements, type_of_place, DeclareRegion, OpenRegion, DeclareAlias, DeclareKey, FreeKey}
 use Rattle.cyc_types.specs.Types.{Ty, words_of}
 use Rattle.cyc_types.specs.Numbered.{argument_count}
 use Rattle.cyc_types.proofs.WeightLemmas.{some_token}
@@ -34,9 +34,10 @@ use Rattle.cyc_lower.specs.Slots.{with_counter, starts_of, slot_of, Starts, glob
 use Rattle.cyc_store.specs.declared.range.TheConstants.{HEAP, UNIQUE}
 use Rattle.cyc_meaning.specs.Values.{kind_of, words_of_kind, is_thin}
 use Rattle.cyc_lower.proofs.Widths.{kind_few, type_words}
-use Rattle.cyc_lower.specs.Lowering.{begun_code, filled_code, ended_code, elements_code, types_of, converts_there, passed_words, all_passed, source_of, source_slot, converted_by, moved_by, move_of, unary_operator, binary_operator, operand_of, operand_or, code_unless, slot_or, code_unless_slot, left_of, value_slot, next_slot, left_slot, value_operand, converted_operand, printed_operand, conversion_code, divisor_code, checked_code, operator_code, truth_code, load_code, low_byte, test_code, is_in, copy_code, expression_code, arguments_code, converted_code, converted_operand_code, printed_code, initial_code, assignment_code, operations_code, discarded_code, failing_comparison, compared_or, left_with, slot_with, first_code, second_code, pair_code, condition_code, condition_of, failing_jump, break_target, continue_target, return_code, declaration_code, statement_code, items_code, first_temporary, jump_if_zero, jump_if_nonzero, lower_function, behind_left, pointer_code, outside_loops, inside_loop, pointer_operator, index_of, first_two, pointer_instructions, stores_code, object_code, made_code, place_operand, place_offset, place_code, address_code, store_address_code, blocks, free_code, right_slot, side_code, read_side, write_side, exchange_code, swap_code, leave_code, tag_operand, other_jump, clause_code, caught_code, clauses_code, element_by, count_code, span_of, tested_code, widened_code, conversion_by, tested_by, check_code, are_as_wide, saved_code, loaded_code, bounds_code, stepped_code, bounded_code, past_bounded, thinned_code, reached_code, followed_code, followed_operand, followed_by, span_in, pointer_of, pointer_slot, reached_operand, word_by_word, load_word, store_word, global_code, starts_with, raises_of, load_at}
+use Rattle.cyc_lower.specs.Lowering.{begun_code, filled_code, ended_code, elements_code, types_of, converts_there, passed_words, all_passed, source_of, source_slot, converted_by, moved_by, move_of, unary_operator, binary_operator, operand_of, operand_or, code_unless, slot_or, code_unless_slot, left_of, value_slot, next_slot, left_slot, value_operand, converted_operand, printed_operand, conversion_code, divisor_code, checked_code, operator_code, truth_code, load_code, low_byte, test_code, is_in, copy_code, expression_code, arguments_code, converted_code, converted_operand_code, printed_code, initial_code, assignment_code, operations_code, discarded_code, failing_comparison, compared_or, left_with, slot_with, first_code, second_code, pair_code, condition_code, condition_of, failing_jump, break_target, continue_target, return_code, declaration_code, statement_code, items_code, first_temporary, jump_if_zero, jump_if_nonzero, lower_function, behind_left, pointer_code, outside_loops, inside_loop, pointer_operator, index_of, first_two, pointer_instructions, stores_code, object_code, made_code, place_operand, place_offset, place_code, address_code, store_address_code, blocks, free_code, right_slot, side_code, read_side, write_side, exchange_code, swap_code, leave_code, tag_operand, other_jump, clause_code, caught_code, clauses_code, element_by, count_code, span_of, tested_code, widened_code, conversion_by, tested_by, check_code, are_as_wide, saved_code, loaded_code, bounds_code, stepped_code, bounded_code, past_bounded, thinned_code, reached_code, followed_code, followed_operand, followed_by, span_in, pointer_of, pointer_slot, reached_operand, word_by_word, load_word, store_word, global_code, starts_with, raises_of, load_at, opened_code, closed_code, named_code, dynamic_code, closing_code, scopes_code, scopes_code_in, handlers_code, marks_code, kept_code, kept_code_in, restored_code, restored_code_in, behind_record, handled_code, inside_try, inside_region}
 use Rattle.cyc_meaning.specs.Operators.{null_exception}
 use Rattle.cyc_lower.specs.Lowered.{size_per_weight}
+use Rattle.cyc_lower.specs.declared.statements.Opened.{Opened}
 
 abbrev code_size : List Instruction → ℕ
 code_size code = sum_by instruction_size code
@@ -237,18 +238,18 @@ saved_size : (words address : ℕ) (o : Operand) → words ≤ 3 → code_size (
 saved_size words address (operands.Slot n) few = omega (arith, stores_size words address 0 n, few)
 saved_size words address (operands.Word n) few = omega arith
 
-loaded_size : (narrow : Bool) (o : Operand) (bytes d : ℕ)
-    → code_size (if narrow then instructions.Load d o bytes ∷ [] else address_code o bytes d ++ (instructions.Load (d + 2) (operands.Slot d) 8 ∷ instructions.Load (d + 1) (operands.Slot d) 4 ∷ instructions.Load d (operands.Slot d) 0 ∷ [])) ≤ 41
-loaded_size true o bytes d = omega arith
-loaded_size false o bytes d =
-    omega (arith, both (address_code o bytes d) (instructions.Load (d + 2) (operands.Slot d) 8 ∷ instructions.Load (d + 1) (operands.Slot d) 4 ∷ instructions.Load d (operands.Slot d) 0 ∷ []), address_size o bytes d)
+loaded_size : (narrow : Bool) (o : Operand) (bytes d t : ℕ)
+    → code_size (if narrow then instructions.Load d o bytes ∷ [] else address_code o bytes t ++ (instructions.Load (d + 2) (operands.Slot t) 8 ∷ instructions.Load (d + 1) (operands.Slot t) 4 ∷ instructions.Load d (operands.Slot t) 0 ∷ [])) ≤ 41
+loaded_size true o bytes d t = omega arith
+loaded_size false o bytes d t =
+    omega (arith, both (address_code o bytes t) (instructions.Load (d + 2) (operands.Slot t) 8 ∷ instructions.Load (d + 1) (operands.Slot t) 4 ∷ instructions.Load d (operands.Slot t) 0 ∷ []), address_size o bytes t)
 
-object_size : (handle words d t : ℕ) → code_size (object_code handle words d t) ≡ 17 + 10 * words
+object_size : (handle : Operand) (words d t : ℕ) → code_size (object_code handle words d t) ≡ 17 + 10 * words
 object_size handle words d t =
     let move = instructions.Move d (operands.Slot (t + words)) ∷ [] in
     omega (
       arith,
-      cons (instructions.Ask (requests.Allocate (t + words) (operands.Word handle) (operands.Word (max 1 words)))) (stores_code words (t + words) 0 t ++ move),
+      cons (instructions.Ask (requests.Allocate (t + words) handle (operands.Word (max 1 words)))) (stores_code words (t + words) 0 t ++ move),
       both (stores_code words (t + words) 0 t) move,
       stores_size words (t + words) 0 t,
     )
@@ -262,13 +263,49 @@ filled_size kinds.Fat head t = omega arith
 filled_size kinds.Handle head t = omega arith
 filled_size kinds.Key head t = omega arith
 
--- handlers are closed by one instruction, where there are some
-leave_size : (first t : ℕ) → code_size (leave_code first t) ≤ 5
-leave_size first t = by (first == t)
-  where
-    by : (none : Bool) → code_size (if none then [] else instructions.Leave first ∷ []) ≤ 5
-    by true = omega arith
-    by false = omega arith
+-- ---- regions and handlers
+
+scopes_size : (scopes : Option ℕ) (o : Operand) → code_size (scopes_code_in scopes o) ≤ 5
+scopes_size None o = omega arith
+scopes_size (Some global) o = omega arith
+
+closed_size : (starts : Starts) (m : ℕ) → code_size (closed_code starts m) ≤ 10
+closed_size starts m = omega (arith, cons (instructions.Ask (requests.CloseTo (operands.Slot m))) (scopes_code starts (operands.Slot m)), scopes_size starts.scopes (operands.Slot m))
+
+opened_size : (starts : Starts) (n t : ℕ) → code_size (opened_code starts n t) ≤ 36
+opened_size starts n t =
+    let count = scopes_code starts (operands.Slot (t + 2)) in
+    let name = named_code starts 1 n (operands.Slot (t + 1)) in
+    let add = instructions.Binary plain_binary.Add (t + 2) (operands.Slot t) (operands.Word 1) in
+    let keep = instructions.Move t (operands.Slot (t + 2)) in
+    omega (
+      arith,
+      cons (instructions.Ask (requests.OpenLexical (t + 1))) (keep ∷ add ∷ count ++ name),
+      cons keep (add ∷ count ++ name),
+      cons add (count ++ name),
+      both count name,
+      scopes_size starts.scopes (operands.Slot (t + 2)),
+    )
+
+handlers_size : (first : Option ℕ) → code_size (handlers_code first) ≤ 5
+handlers_size None = omega arith
+handlers_size (Some first) = omega arith
+
+marks_size : (starts : Starts) (mark : Option ℕ) → code_size (marks_code starts mark) ≤ 10
+marks_size starts None = omega arith
+marks_size starts (Some m) = closed_size starts m
+
+-- all handlers are closed by one instruction, where there are some, and so are all regions
+leave_size : (starts : Starts) (opened : Opened) → code_size (leave_code starts opened) ≤ 15
+leave_size starts opened = omega (arith, both (handlers_code opened.handler) (marks_code starts opened.mark), handlers_size opened.handler, marks_size starts opened.mark)
+
+kept_size : (scopes : Option ℕ) (t : ℕ) → code_size (kept_code_in scopes t) ≤ 5
+kept_size None t = omega arith
+kept_size (Some global) t = omega arith
+
+restored_size : (starts : Starts) (scopes : Option ℕ) (t : ℕ) → code_size (restored_code_in starts scopes t) ≤ 10
+restored_size starts None t = omega arith
+restored_size starts (Some global) t = closed_size starts (t + RECORD_WORDS)
 
 -- a list of arguments with a comma before each has at most one token more
 more_weight : (cs : Arguments) → more_arguments_weight cs ≤ arguments_weight cs + 1
@@ -342,7 +379,7 @@ mutual
   expression_size starts (Load x) p d t =
       let o = place_operand starts x t in
       let words = words_of (type_of_place x) in
-      omega (arith, both (place_code starts x p t) (loaded_code words o (place_offset starts x) d), place_size starts x p t, loaded_size (words == 1) o (place_offset starts x) d)
+      omega (arith, both (place_code starts x p t) (loaded_code words o (place_offset starts x) d t), place_size starts x p t, loaded_size (words == 1) o (place_offset starts x) d t)
   expression_size starts (AddressOfCell x ty) p d t =
       let address = address_code (place_operand starts x t) (place_offset starts x) d in
       omega (arith, both (place_code starts x p t) address, place_size starts x p t, address_size (place_operand starts x t) (place_offset starts x) d)
@@ -365,12 +402,18 @@ mutual
       let inner = expression_code starts a p (value_slot starts a t) t in
       let front = code_unless (operand_of starts a) inner in
       omega (arith, both front (free_code (value_operand starts a t) (p + length front)), unless_size (operand_of starts a) inner, expression_size starts a p (value_slot starts a t) t)
-  expression_size starts (New OnHeap i ty) p d t = made_size starts i HEAP p d t
-  expression_size starts (New AsUnique i ty) p d t = omega (arith, made_size starts i UNIQUE p d t)
-  expression_size starts (New (ByHandle h) i ty) p d t = omega arith
+  expression_size starts (New OnHeap i ty) p d t = made_size starts i (operands.Word HEAP) p d t
+  expression_size starts (New AsUnique i ty) p d t = omega (arith, made_size starts i (operands.Word UNIQUE) p d t)
+  expression_size starts (New (ByHandle h) i ty) p d t =
+      let front = expression_code starts h p t t in
+      omega (arith, both front (made_code starts i (operands.Slot t) (p + length front) d (t + 1)), expression_size starts h p t t, made_size starts i (operands.Slot t) (p + length front) d (t + 1))
+  expression_size starts (FreeKey a) p d t =
+      let inner = expression_code starts a p (value_slot starts a t) t in
+      let front = code_unless (operand_of starts a) inner in
+      omega (arith, both front (closing_code (value_operand starts a t)), unless_size (operand_of starts a) inner, expression_size starts a p (value_slot starts a t) t)
   expression_size starts a p d t = omega (arith, some_token a)
 
-  made_size : (starts : Starts) → (i : Initial) (handle p d t : ℕ) → code_size (made_code starts i handle p d t) ≤ size_per_weight * (1 + initial_weight i)
+  made_size : (starts : Starts) → (i : Initial) (handle : Operand) (p d t : ℕ) → code_size (made_code starts i handle p d t) ≤ size_per_weight * (1 + initial_weight i)
   made_size starts (Plain kind a) handle p d t =
       omega (arith, both (expression_code starts a p t t) (object_code handle (words_of_kind kind) d t), expression_size starts a p t t, object_size handle (words_of_kind kind) d t, kind_few kind)
   made_size starts (Fields cs) handle p d t =
@@ -580,7 +623,7 @@ module _ (starts : Starts) where
   condition_size a p t = alone_size a p t
 
   return_size : (v : Option Converted) (p : ℕ) (exits : Exits) (t : ℕ) → code_size (return_code starts v p exits t) ≤ size_per_weight * statement_weight (Return v)
-  return_size None p exits t = omega (arith, both (leave_code exits.first_record t) (instructions.Finish t ∷ []), leave_size exits.first_record t)
+  return_size None p exits t = omega (arith, both (leave_code starts exits.in_function) (instructions.Finish t ∷ []), leave_size starts exits.in_function)
   return_size (Some (Convert from to a)) p exits t =
       let known = source_of starts (Convert from to a) in
       let inner = expression_code starts a p t t in
@@ -589,13 +632,13 @@ module _ (starts : Starts) where
       let conversion = conversion_code starts from to (span_of a) (operands.Slot s) (p + length front) in
       omega (
         arith,
-        both ((front ++ conversion) ++ leave_code exits.first_record t) (instructions.Finish s ∷ []),
-        both (front ++ conversion) (leave_code exits.first_record t),
+        both ((front ++ conversion) ++ leave_code starts exits.in_function) (instructions.Finish s ∷ []),
+        both (front ++ conversion) (leave_code starts exits.in_function),
         both front conversion,
         unless_slot_size known inner,
         expression_size starts a p t t,
         conversion_size starts from to (span_of a) (operands.Slot s) (p + length front),
-        leave_size exits.first_record t,
+        leave_size starts exits.in_function,
       )
 
   throw_size : (n : ℕ) (v : Option Expression) (p : ℕ) (exits : Exits) (t : ℕ) → code_size (statement_code starts (Throw n v) p exits t) ≤ size_per_weight * statement_weight (Throw n v)
@@ -616,6 +659,9 @@ module _ (starts : Starts) where
   else_size : (t : Statement) (p : ℕ) (exits : Exits) (d : ℕ) → code_size (statement_code starts t p exits d) ≤ size_per_weight * statement_weight t → code_size (statement_code starts t p exits d) ≤ size_per_weight * else_weight t (statement_weight t)
   else_size Empty p exits d bound = omega arith
   else_size t p exits d bound = omega (arith, bound)
+
+  named_size : (ty : Ty) (n : ℕ) (o : Operand) → code_size (named_code starts (words_of ty) n o) ≤ 20
+  named_size ty n o = move_size (words_of ty) (slot_of starts n) o (omega (arith, type_words ty, kind_few (kind_of ty)))
 
   -- a side, and the two instructions that read and write it
   side_size : (a : Side) (p t : ℕ) → code_size (side_code starts a p t) ≤ size_per_weight * side_weight a
@@ -690,7 +736,7 @@ module _ (starts : Starts) where
     statement_size (While w a s) p exits t =
         let condition = condition_code starts a (p + 2) t in
         let m = p + 2 + length condition in
-        let body = statement_code starts s (m + 1) (inside_loop p t exits) t in
+        let body = statement_code starts s (m + 1) (inside_loop p exits) t in
         let test = failing_jump (condition_of starts a t) (break_target p) ∷ body in
         let again = instructions.Jump (continue_target p) ∷ [] in
         let rest = (condition ++ test) ++ again in
@@ -703,26 +749,34 @@ module _ (starts : Starts) where
           both condition test,
           cons (failing_jump (condition_of starts a t) (break_target p)) body,
           condition_size a (p + 2) t,
-          statement_size s (m + 1) (inside_loop p t exits) t,
+          statement_size s (m + 1) (inside_loop p exits) t,
         )
     statement_size (Return v) p exits d = return_size v p exits d
-    statement_size Break p exits d = omega (arith, both (leave_code exits.loop_record d) (instructions.Jump (break_target exits.head) ∷ []), leave_size exits.loop_record d)
-    statement_size Continue p exits d = omega (arith, both (leave_code exits.loop_record d) (instructions.Jump (continue_target exits.head) ∷ []), leave_size exits.loop_record d)
+    statement_size Break p exits d = omega (arith, both (leave_code starts exits.in_loop) (instructions.Jump (break_target exits.head) ∷ []), leave_size starts exits.in_loop)
+    statement_size Continue p exits d = omega (arith, both (leave_code starts exits.in_loop) (instructions.Jump (continue_target exits.head) ∷ []), leave_size starts exits.in_loop)
     statement_size (Throw n v) p exits d = throw_size n v p exits d
     statement_size (Try s cs) p exits t =
-        let body = statement_code starts s (p + 1) exits (t + RECORD_WORDS) in
+        let kept = kept_code starts t in
+        let m = p + length kept in
+        let body = statement_code starts s (m + 1) (inside_try exits t) (behind_record starts t) in
         let close = instructions.Leave t ∷ [] in
-        let out = p + 1 + length (body ++ close) in
-        let clauses = clauses_code starts cs (out + 1) out exits t in
-        let over = instructions.Jump (out + 1 + length clauses) in
+        let out = m + 1 + length (body ++ close) in
+        let restored = restored_code starts t in
+        let clauses = clauses_code starts cs (out + 1 + length restored) out exits t in
+        let over = instructions.Jump (out + 1 + length (restored ++ clauses)) in
+        let begin = instructions.Try t (out + 1) in
         omega (
           arith,
-          cons (instructions.Try t (out + 1)) ((body ++ close) ++ over ∷ clauses),
-          both (body ++ close) (over ∷ clauses),
+          both kept (begin ∷ ((body ++ close) ++ over ∷ (restored ++ clauses))),
+          cons begin ((body ++ close) ++ over ∷ (restored ++ clauses)),
+          both (body ++ close) (over ∷ (restored ++ clauses)),
           both body close,
-          cons over clauses,
-          statement_size s (p + 1) exits (t + RECORD_WORDS),
-          clauses_size cs (out + 1) out exits t,
+          cons over (restored ++ clauses),
+          both restored clauses,
+          kept_size starts.scopes t,
+          restored_size starts starts.scopes t,
+          statement_size s (m + 1) (inside_try exits t) (behind_record starts t),
+          clauses_size cs (out + 1 + length restored) out exits t,
         )
 
     items_size : (js : Items) (p : ℕ) (exits : Exits) (d : ℕ) → code_size (items_code starts js p exits d) ≤ size_per_weight * items_weight js
@@ -735,7 +789,18 @@ module _ (starts : Starts) where
         let front = declaration_code starts n (Some c) p d in
         let q = p + length front in
         omega (arith, both front (items_code starts js q exits d), initial_size starts c p (slot_of starts n) d, items_size js q exits d)
-    items_size (MoreItems j js) p exits d = omega (arith, items_size js p exits d)
+    items_size (MoreItems (DeclareRegion r n) js) p exits t =
+        let front = opened_code starts n t in
+        let inner = items_code starts js (p + length front) (inside_region exits t) (t + 1) in
+        omega (arith, both front (inner ++ closed_code starts t), both inner (closed_code starts t), opened_size starts n t, closed_size starts t, items_size js (p + length front) (inside_region exits t) (t + 1))
+    items_size (MoreItems (OpenRegion r n w k) js) p exits t =
+        omega (arith, cons (move_of 1 (slot_of starts n) (operands.Slot (slot_of starts k))) (items_code starts js (p + 1) exits t), items_size js (p + 1) exits t)
+    items_size (MoreItems (DeclareAlias r n ty w m) js) p exits t =
+        let name = named_code starts (words_of ty) n (operands.Slot (slot_of starts m)) in
+        omega (arith, both name (items_code starts js (p + 1) exits t), named_size ty n (operands.Slot (slot_of starts m)), items_size js (p + 1) exits t)
+    items_size (MoreItems (DeclareKey r n) js) p exits t =
+        let front = dynamic_code starts n t in
+        omega (arith, both front (items_code starts js (p + length front) exits t), items_size js (p + length front) exits t)
 
     -- where no clause catches it, the exception goes on
     clauses_size : (cs : Clauses) (p out : ℕ) (exits : Exits) (t : ℕ) → code_size (clauses_code starts cs p out exits t) ≤ 24 + size_per_weight * clauses_weight cs
@@ -758,8 +823,8 @@ module _ (starts : Starts) where
           clauses_size cs next out exits t,
         )
 
-pub function_size : (structs : List StructType) (globals : List ℕ) (h : Function) → size (lower_function structs globals h) ≤ size_per_weight * function_weight h
-function_size structs globals h =
+pub function_size : (structs : List StructType) (globals : List ℕ) (scopes : Option ℕ) (h : Function) → size (lower_function structs globals scopes h) ≤ size_per_weight * function_weight h
+function_size structs globals scopes h =
     let d = first_temporary h in
-    let starts = starts_with (raises_of structs globals h) structs globals h in
-    omega (arith, both (items_code starts h.body 0 (outside_loops d) d) (instructions.Finish d ∷ blocks), items_size starts h.body 0 (outside_loops d) d)
+    let starts = starts_with (raises_of structs globals scopes h) structs globals scopes h in
+    omega (arith, both (items_code starts h.body 0 outside_loops d) (instructions.Finish d ∷ blocks), items_size starts h.body 0 outside_loops d)

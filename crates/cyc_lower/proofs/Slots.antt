@@ -1,7 +1,8 @@
 -- The slots of locals are apart, in their order, and none is left out.
-use Rattle.std.specs.Prelude.{unwrap_or}
-use Rattle.std.proofs.Common.{◌≡◌, ◌≢◌, ◌⊎◌, ℕ, zero, suc, ◌+◌, ◌≤◌, ◌<◌, List, [], ◌∷◌, ◌++◌, length, Some, slice_get, refl, sym, ap, ◌∙◌, arith, inl, inr, length-append, append_assoc}
-use Rattle.std.specs.List.{AllByRecursion}
+use Rattle.std.specs.Prelude.{unwrap_or, ◌-◌}
+use Rattle.std.proofs.Common.{◌≡◌, ◌≢◌, ◌⊎◌, ℕ, zero, suc, ◌+◌, ◌≤◌, ◌<◌, List, [], ◌∷◌, ◌++◌, length, Bool, true, false, Option, Some, slice_get, refl, sym, ap, ◌∙◌, arith, inl, inr, length-append, append_assoc, None}
+use Rattle.std.specs.List.{AllByRecursion, list_any}
+use Rattle.std.proofs.lemmas.List.{length-replicate}
 use Rattle.std.proofs.lemmas.Option.{same_Some, none-some}
 use Rattle.std.proofs.lemmas.Bool.{cases_lt}
 use Rattle.cyc_syntax.specs.declared.tree.PointerKind.{PointerKind}
@@ -9,10 +10,10 @@ use Rattle.cyc_syntax.specs.declared.tree.PointerKind.TheVariants.{Nullable, Non
 use Rattle.cyc_types.specs.declared.typed.Kind.{Kind}
 use Rattle.cyc_types.specs.Types.{Ty, words_of, words_of_mark}
 use Rattle.cyc_types.specs.Types as types
-use Rattle.cyc_types.specs.TypedTrees.{StructType, Function}
+use Rattle.cyc_types.specs.TypedTrees.{StructType, Function, GlobalVariable, Program}
 use Rattle.cyc_meaning.specs.FrameCount.{words_of_all}
-use Rattle.cyc_lower.specs.Slots.{slot_in, starts_from, Types, starts_of, slot_of, global_of}
-use Rattle.cyc_lower.specs.Lowering.{slot_types, first_temporary}
+use Rattle.cyc_lower.specs.Slots.{global_types, slot_in, starts_from, Types, starts_of, slot_of, global_of}
+use Rattle.cyc_lower.specs.Lowering.{slot_types, first_temporary, lower_global, lower_globals, may_open, scopes_if, scopes_of}
 use Rattle.cyc_lower.proofs.Widths.{kind_positive, words_in, HasRoom, HasGlobal}
 
 -- ---- words
@@ -148,7 +149,7 @@ room-inside ts n kind room = has-words ts.locals n (omega (arith, room, kind_pos
 
 -- their words follow one another as the slots of locals do
 abbrev as_locals : Types → Types
-as_locals ts = record { locals = ts.globals; structs = ts.structs; raises = ts.raises; counters = []; globals = [] }
+as_locals ts = record { locals = ts.globals; structs = ts.structs; raises = ts.raises; counters = []; globals = []; scopes = None }
 
 pub global-room : (ts : Types) (n : ℕ) → n < length ts.globals → global_of (starts_of ts) n + words_in ts.globals n ≤ words_of_all ts.globals
 global-room ts n inside = slot-room (as_locals ts) n inside
@@ -163,19 +164,32 @@ global-apart ts n m inside there other = slot-apart (as_locals ts) n m inside th
 pub global-inside : (ts : Types) (n : ℕ) (kind : Kind) → HasGlobal ts n kind → n < length ts.globals
 global-inside ts n kind room = room-inside (as_locals ts) n kind room
 
+-- so many words are all globals
+pub globals_counted : (gs : List GlobalVariable) → words_of_all (global_types gs) ≡ length (lower_globals gs)
+globals_counted [] = refl
+globals_counted (g ∷ gs) = omega (arith, length-append (lower_global g) (lower_globals gs), length-replicate {A = ℕ} (words_of g.of_type - 1) 0, words_positive g.of_type, globals_counted gs)
+
+-- the word that tells how many lexical regions are open is behind them
+pub scopes_behind : (source : Program) (place : ℕ) → scopes_of source ≡ Some place → words_of_all (global_types source.globals) ≡ place
+scopes_behind source place is = by (list_any may_open source.functions) is
+  where
+    by : (b : Bool) → scopes_if b (length (lower_globals source.globals)) ≡ Some place → words_of_all (global_types source.globals) ≡ place
+    by true some = globals_counted source.globals ∙ same_Some (length (lower_globals source.globals)) place some
+    by false none = absurd (none-some place none)
+
 -- ---- parameters
 
 -- the slot of a parameter is behind the words of those before it
-pub slot-parameter : (structs : List StructType) (raises : ℕ) (globals : List Ty) (first rest : List Ty) (t : Ty) (more : List Ty)
-    → slot_of (starts_of (record { locals = (first ++ t ∷ rest) ++ more; structs = structs; raises = raises; counters = []; globals = globals })) (length first) ≡ words_of_all first
-slot-parameter structs raises globals first rest t more =
+pub slot-parameter : (structs : List StructType) (raises : ℕ) (globals : List Ty) (scopes : Option ℕ) (first rest : List Ty) (t : Ty) (more : List Ty)
+    → slot_of (starts_of (record { locals = (first ++ t ∷ rest) ++ more; structs = structs; raises = raises; counters = []; globals = globals; scopes = scopes })) (length first) ≡ words_of_all first
+slot-parameter structs raises globals scopes first rest t more =
     let ts = (first ++ t ∷ rest) ++ more in
     let long : length ts ≡ length (first ++ t ∷ rest) + length more = length-append (first ++ t ∷ rest) more in
     let shorter : length (first ++ t ∷ rest) ≡ length first + length (t ∷ rest) = length-append first (t ∷ rest) in
     let next : length first + 0 ≡ length first = omega arith in
     let at : slot_in ts (length first) ≡ words_of_all first + 0
     = ap (λ (us : List Ty). slot_in us (length first)) (append_assoc first (t ∷ rest) more) ∙ ap (slot_in (first ++ (t ∷ rest ++ more))) (sym next) ∙ slot-append first (t ∷ rest ++ more) 0 in
-    omega (arith, starts-are (record { locals = ts; structs = structs; raises = raises; counters = []; globals = globals }) (length first) (omega (arith, long, shorter)), at)
+    omega (arith, starts-are (record { locals = ts; structs = structs; raises = raises; counters = []; globals = globals; scopes = scopes }) (length first) (omega (arith, long, shorter)), at)
 
 pub words-parameter : (first rest : List Ty) (t : Ty) (more : List Ty) → words_in ((first ++ t ∷ rest) ++ more) (length first) ≡ words_of t
 words-parameter [] rest t more = refl

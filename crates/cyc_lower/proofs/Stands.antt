@@ -9,7 +9,7 @@ use Rattle.cyc_types.specs.declared.typed.Operator.{Operator}
 use Rattle.cyc_types.specs.declared.typed.Operator.TheVariants as operators
 use Rattle.cyc_types.specs.declared.typed.PointerOperator.{PointerOperator}
 use Rattle.cyc_types.specs.declared.typed.PointerOperator.TheVariants as pointers
-use Rattle.cyc_types.specs.TypedTrees.{Array, Counter, type_of_place, Load, Dereference, Target, Lvalue, Local, Global, Expression, Number, NullPointer, Copy, Call, Unary, Binary, Assign, Converted, Convert, Arguments, NoArguments, MoreArguments, Operations, NoOperations, ThenCompute, ThenTest, ThenPointer, Statement, Block, Empty, Evaluate, If, While, Return, Break, Continue, Items, NoItems, MoreItems, Execute, Declare, Move, Peek, ThenPointerPeek, New, OnHeap, Initial, Plain, Fields, AddressOfCell, Store, Member, AsUnique, FreeUnique, Side, VariableSide, CellSide, Swap, Throw, Try, Clauses, NoClauses, Default, Case, NumberOfElements, Element}
+use Rattle.cyc_types.specs.TypedTrees.{Array, Counter, type_of_place, Load, Dereference, Target, Lvalue, Local, Global, Expression, Number, NullPointer, Copy, Call, Unary, Binary, Assign, Converted, Convert, Arguments, NoArguments, MoreArguments, Operations, NoOperations, ThenCompute, ThenTest, ThenPointer, Statement, Block, Empty, Evaluate, If, While, Return, Break, Continue, Items, NoItems, MoreItems, Execute, Declare, Move, Peek, ThenPointerPeek, New, OnHeap, Initial, Plain, Fields, AddressOfCell, Store, Member, AsUnique, ByHandle, FreeUnique, FreeKey, HeapRegion, Side, VariableSide, CellSide, Swap, Throw, Try, Clauses, NoClauses, Default, Case, NumberOfElements, Element}
 use Rattle.cyc_types.specs.Types.{words_of}
 use Rattle.cyc_types.specs.typing.Expressions.{type_of_side}
 use Rattle.cyc_types.specs.Numbered.{Numbering, argument_count}
@@ -29,8 +29,9 @@ use Rattle.cyc_store.specs.declared.range.TheConstants.{MOST_BLOCK_WORDS, HEAP, 
 use Rattle.cyc_meaning.specs.Operators.{array_size, null_exception, division_by_zero, array_bounds}
 use Rattle.cyc_meaning.specs.Values.{is_thin, words_of_kind, kind_of}
 use Rattle.cyc_lower.specs.declared.statements.Exits.{Exits}
+use Rattle.cyc_lower.specs.declared.statements.Opened.{Opened}
 use Rattle.cyc_lower.specs.Slots.{counted, Types, starts_of, slot_of, field_of, global_of}
-use Rattle.cyc_lower.specs.Lowering.{most_elements, unary_operator, binary_operator, operand_of, source_of, source_slot, failing_comparison, left_with, left_of, value_slot, next_slot, slot_with, left_slot, is_in, jump_if_nonzero, move_of, test_jump, are_as_wide, converts_there, passed_words, all_passed, compared_of, low_byte, break_target, continue_target, results_of, behind_left, inside_loop, pointer_operator, raising, jump_if_zero, right_slot, tag_operand, other_jump, goes_on, span_of, span_in, followed_operand, scale_of, pointer_of, reached_operand, load_word, store_word, load_at}
+use Rattle.cyc_lower.specs.Lowering.{most_elements, unary_operator, binary_operator, operand_of, source_of, source_slot, failing_comparison, left_with, left_of, value_slot, next_slot, slot_with, left_slot, is_in, jump_if_nonzero, move_of, test_jump, are_as_wide, converts_there, passed_words, all_passed, compared_of, low_byte, break_target, continue_target, results_of, behind_left, inside_loop, inside_try, behind_record_in, pointer_operator, raising, jump_if_zero, right_slot, tag_operand, other_jump, goes_on, span_of, span_in, followed_operand, scale_of, pointer_of, reached_operand, load_word, store_word, load_at}
 use Rattle.cyc_lower.proofs.Widths.{kind_of_result, given, passed_kind, HasRoom, HasField, HasGlobal}
 
 -- ---- expressions
@@ -59,16 +60,17 @@ module _ (code : List Instruction) where
   AddressAt o zero d p q = CopyAt 1 o d p q
   AddressAt o (suc bytes) d p q = At code p (instructions.Binary plain_binary.Add d o (operands.Word (suc bytes))) × (p + 1 ≡ q)
 
--- a cell comes to a slot and those behind it, whose address stands in an operand but for so many bytes
+-- A cell comes to a slot and those behind it, whose address stands in an operand but for so many bytes. Where it has more words than one,
+-- the address comes to slot t.
 module _ (code : List Instruction) where
-  abbrev pub LoadedBy : (narrow : Bool) → Operand → (bytes d p q : ℕ) → Type 0
-  LoadedBy true o bytes d p q = At code p (instructions.Load d o bytes) × (p + 1 ≡ q)
-  LoadedBy false o bytes d p q =
-      (r : ℕ) × AddressAt code o bytes d p r × At code r (instructions.Load (d + 2) (operands.Slot d) 8) × At code (r + 1) (instructions.Load (d + 1) (operands.Slot d) 4)
-      × At code (r + 1 + 1) (instructions.Load d (operands.Slot d) 0) × (r + 1 + 1 + 1 ≡ q)
+  abbrev pub LoadedBy : (narrow : Bool) → Operand → (bytes d t p q : ℕ) → Type 0
+  LoadedBy true o bytes d t p q = At code p (instructions.Load d o bytes) × (p + 1 ≡ q)
+  LoadedBy false o bytes d t p q =
+      (r : ℕ) × AddressAt code o bytes t p r × At code r (instructions.Load (d + 2) (operands.Slot t) 8) × At code (r + 1) (instructions.Load (d + 1) (operands.Slot t) 4)
+      × At code (r + 1 + 1) (instructions.Load d (operands.Slot t) 0) × (r + 1 + 1 + 1 ≡ q)
 
-  abbrev pub LoadedAt : (words : ℕ) → Operand → (bytes d p q : ℕ) → Type 0
-  LoadedAt words o bytes d p q = LoadedBy (words == 1) o bytes d p q
+  abbrev pub LoadedAt : (words : ℕ) → Operand → (bytes d t p q : ℕ) → Type 0
+  LoadedAt words o bytes d t p q = LoadedBy (words == 1) o bytes d t p q
 
 -- In a code of a function with these bounds, whose locals have these types, from p to q stands the code of this, with temporaries from
 -- slot t on.
@@ -197,14 +199,14 @@ module _ (code : List Instruction) (bounds : Numbering) (types : Types) where
       At code p (instructions.Store (operands.Slot address) offset (operands.Slot slot)) × StoresAt many address (offset + 4) (suc slot) (p + 1) q
 
   -- a new array, whose length is in slot t, begins
-  abbrev pub BegunAt : (handle words t p q : ℕ) → Type 0
+  abbrev pub BegunAt : (handle : Operand) → (words t p q : ℕ) → Type 0
   BegunAt handle words t p q =
       (m : ℕ) × GuardAt array_size comparisons.GreaterOrEqualUnsigned (operands.Slot t) (operands.Word (most_elements words + 1)) p m
       × At code m (instructions.Move (t + 1) (operands.Slot t)) × At code (m + 1) (instructions.Move (t + 2) (operands.Word 0))
       × At code (m + 1 + 1) (instructions.Binary plain_binary.Multiply t (operands.Slot t) (operands.Word words))
       × At code (m + 1 + 1 + 1) (instructions.Unary plain_unary.Not (t + 3) (operands.Slot t))
       × At code (m + 1 + 1 + 1 + 1) (instructions.Binary plain_binary.Add (t + 3) (operands.Slot (t + 3)) (operands.Slot t))
-      × At code (m + 1 + 1 + 1 + 1 + 1) (instructions.Ask (requests.Allocate t (operands.Word handle) (operands.Slot (t + 3)))) × (m + 6 ≡ q)
+      × At code (m + 1 + 1 + 1 + 1 + 1) (instructions.Ask (requests.Allocate t handle (operands.Slot (t + 3)))) × (m + 6 ≡ q)
 
   -- an element is written, and the next one is evaluated
   abbrev pub FilledAt : (words t head p q : ℕ) → Type 0
@@ -227,10 +229,10 @@ module _ (code : List Instruction) (bounds : Numbering) (types : Types) where
   SavedAt words address (operands.Word n) p q = At code p (instructions.Store (operands.Slot address) 0 (operands.Word n)) × (p + 1 ≡ q)
 
   -- An object of so many cells is made, of the words that stand in the slots from t on. Its address comes to slot d.
-  abbrev pub ObjectAt : (handle cells words t d p q : ℕ) → Type 0
+  abbrev pub ObjectAt : (handle : Operand) → (cells words t d p q : ℕ) → Type 0
   ObjectAt handle cells words t d p q =
       (m : ℕ) × (cells ≤ words) × (1 ≤ words) × (words ≤ MOST_BLOCK_WORDS)
-      × At code p (instructions.Ask (requests.Allocate (t + words) (operands.Word handle) (operands.Word (max 1 words))))
+      × At code p (instructions.Ask (requests.Allocate (t + words) handle (operands.Word (max 1 words))))
       × StoresAt words (t + words) 0 t (p + 1) m × At code m (instructions.Move d (operands.Slot (t + words))) × (m + 1 ≡ q)
 
   -- the block at the address in an operand is freed, where that is not 0
@@ -243,6 +245,7 @@ module _ (code : List Instruction) (bounds : Numbering) where
     pub ExpressionAt : (types : Types) → Expression → (d t p q : ℕ) → Type 0
     ExpressionAt types (Number n) d t p q = At code p (instructions.Move d (operands.Word n)) × (p + 1 ≡ q)
     ExpressionAt types NullPointer d t p q = At code p (instructions.Move d (operands.Word 0)) × (p + 1 ≡ q)
+    ExpressionAt types HeapRegion d t p q = At code p (instructions.Move d (operands.Word HEAP)) × (p + 1 ≡ q)
     ExpressionAt types (Counter l) d t p q =
         (slot : ℕ) × (slice_get types.counters l ≡ Some slot) × At code p (instructions.Move d (operands.Slot slot)) × (p + 1 ≡ q)
     ExpressionAt types (Copy l ty) d t p q = LoadAt code bounds types (words_of ty) l d p q
@@ -270,11 +273,16 @@ module _ (code : List Instruction) (bounds : Numbering) where
         × ((r : ℕ) × ConvertedOperandAt types c t o p r × HasGlobal types n (passed_kind c) × GlobalAt code (passed_words c) (global_of (starts_of types) n) o r m)
         × CopyAt code (passed_words c) o d m q
     ExpressionAt types (Load x) d t p q =
-        (o : Operand) × (c : ℕ) × (r : ℕ) × PlaceAt types x o c t p r × LoadedAt code (words_of (type_of_place x)) o c d r q
+        (o : Operand) × (c : ℕ) × (r : ℕ) × PlaceAt types x o c t p r × LoadedAt code (words_of (type_of_place x)) o c d t r q
     ExpressionAt types (FreeUnique a) d t p q =
         (o : Operand) × (m : ℕ) × OperandBy code bounds types (operand_of (starts_of types) a) (ExpressionAt types a (value_slot (starts_of types) a t) t p m) (value_slot (starts_of types) a t) o p m × FreedAt code bounds types o m q
-    ExpressionAt types (New OnHeap i ty) d t p q = MadeAt types i HEAP d t p q
-    ExpressionAt types (New AsUnique i ty) d t p q = MadeAt types i UNIQUE d t p q
+    ExpressionAt types (FreeKey a) d t p q =
+        (o : Operand) × (m : ℕ) × OperandBy code bounds types (operand_of (starts_of types) a) (ExpressionAt types a (value_slot (starts_of types) a t) t p m) (value_slot (starts_of types) a t) o p m
+        × At code m (instructions.Ask (requests.CloseDynamic o)) × (m + 1 ≡ q)
+    ExpressionAt types (New OnHeap i ty) d t p q = MadeAt types i (operands.Word HEAP) d t p q
+    ExpressionAt types (New AsUnique i ty) d t p q = MadeAt types i (operands.Word UNIQUE) d t p q
+    -- the handle stays in slot t
+    ExpressionAt types (New (ByHandle a) i ty) d t p q = (m : ℕ) × ExpressionAt types a t t p m × MadeAt types i (operands.Slot t) d (suc t) m q
     ExpressionAt types (AddressOfCell x ty) d t p q = (o : Operand) × (c : ℕ) × (r : ℕ) × PlaceAt types x o c t p r × AddressAt code o c d r q
     ExpressionAt types (Store x v ty) d t p q =
         (o : Operand) × (m : ℕ)
@@ -284,7 +292,7 @@ module _ (code : List Instruction) (bounds : Numbering) where
     ExpressionAt types a d t p q = ⊥
 
     -- a new object in the region of this handle
-    pub MadeAt : (types : Types) → Initial → (handle d t p q : ℕ) → Type 0
+    pub MadeAt : (types : Types) → Initial → (handle : Operand) → (d t p q : ℕ) → Type 0
     MadeAt types (Plain kind a) handle d t p q =
         (m : ℕ) × ExpressionAt types a t t p m × (words_of_kind (given bounds.functions a) ≡ words_of_kind kind) × ObjectAt code bounds types handle 1 (words_of_kind kind) t d m q
     MadeAt types (Fields cs) handle d t p q = (m : ℕ) × ArgumentsAt types cs t p m × ObjectAt code bounds types handle (argument_count cs) (all_passed cs) t d m q
@@ -447,19 +455,42 @@ module _ (code : List Instruction) (bounds : Numbering) (types : Types) where
 
   -- ---- statements
 
-  -- handlers are closed whose records stand from a slot on, where there are some
-  abbrev pub LeaveBy : (none : Bool) → (first p q : ℕ) → Type 0
-  LeaveBy true first p q = p ≡ q
-  LeaveBy false first p q = At code p (instructions.Leave first) × (p + 1 ≡ q)
+  -- handlers are closed from the outermost on, where there are some
+  abbrev pub HandlersAt : Option ℕ → (p q : ℕ) → Type 0
+  HandlersAt None p q = p ≡ q
+  HandlersAt (Some first) p q = At code p (instructions.Leave first) × (p + 1 ≡ q)
 
-  abbrev pub LeaveAt : (first t p q : ℕ) → Type 0
-  LeaveAt first t p q = LeaveBy (first == t) first p q
+  -- it is told how many lexical regions are open, where there is a word for it
+  abbrev pub ToldAt : (scopes : Option ℕ) → Operand → (p q : ℕ) → Type 0
+  ToldAt None o p q = p ≡ q
+  ToldAt (Some global) o p q = At code p (instructions.StoreGlobal global o) × (p + 1 ≡ q)
+
+  -- lexical regions are closed down to the mark in a slot
+  abbrev pub ClosedAt : (mark p q : ℕ) → Type 0
+  ClosedAt mark p q = At code p (instructions.Ask (requests.CloseTo (operands.Slot mark))) × ToldAt types.scopes (operands.Slot mark) (p + 1) q
+
+  abbrev pub MarksAt : Option ℕ → (p q : ℕ) → Type 0
+  MarksAt None p q = p ≡ q
+  MarksAt (Some mark) p q = ClosedAt mark p q
+
+  -- what was opened is closed
+  abbrev pub LeaveAt : Opened → (p q : ℕ) → Type 0
+  LeaveAt opened p q = (r : ℕ) × HandlersAt opened.handler p r × MarksAt opened.mark r q
+
+  -- a `try` keeps in a slot how many lexical regions are open, and closes the others where an exception comes to it
+  abbrev pub KeptAt : (scopes : Option ℕ) → (slot p q : ℕ) → Type 0
+  KeptAt None slot p q = p ≡ q
+  KeptAt (Some global) slot p q = At code p (instructions.LoadGlobal slot global) × (p + 1 ≡ q)
+
+  abbrev pub RestoredAt : (scopes : Option ℕ) → (slot p q : ℕ) → Type 0
+  RestoredAt None slot p q = p ≡ q
+  RestoredAt (Some global) slot p q = ClosedAt slot p q
 
   abbrev pub ReturnAt : Option Converted → Exits → (t p : ℕ) → Type 0
-  ReturnAt None exits t p = (s : ℕ) × (m : ℕ) × LeaveAt exits.first_record t p m × At code m (instructions.Finish s)
+  ReturnAt None exits t p = (s : ℕ) × (m : ℕ) × LeaveAt exits.in_function p m × At code m (instructions.Finish s)
   ReturnAt (Some (Convert from to a)) exits t p =
       (s : ℕ) × (m : ℕ) × (r : ℕ) × (u : ℕ) × ReturnedAt code bounds types (source_of (starts_of types) (Convert from to a)) (ExpressionAt code bounds types a t t p m) t s p m × ConversionAt code bounds types from to (span_of a) (operands.Slot s) t m r
-      × LeaveAt exits.first_record t r u × At code u (instructions.Finish s) × (results_of bounds.result ≡ words_of_kind to) × (to ≡ kind_of_result bounds.result)
+      × LeaveAt exits.in_function r u × At code u (instructions.Finish s) × (results_of bounds.result ≡ words_of_kind to) × (to ≡ kind_of_result bounds.result)
 
   abbrev pub DeclarationAt : ℕ → Option Converted → (t p q : ℕ) → Type 0
   DeclarationAt n None t p q = (n < bounds.locals) × (p ≡ q)
@@ -488,15 +519,16 @@ module _ (code : List Instruction) (bounds : Numbering) (types : Types) where
         × At code r (instructions.Jump q) × StatementAt u exits t (r + 1) q
     StatementAt (While w a s) exits t p q =
         (x : Operand) × (y : Operand) × (m : ℕ) × (r : ℕ) × At code p (instructions.Jump (continue_target p)) × At code (break_target p) (instructions.Jump q)
-        × ConditionAt a x y t (continue_target p) m × FailingAt a x y m (break_target p) × StatementAt s (inside_loop p t exits) t (m + 1) r
+        × ConditionAt a x y t (continue_target p) m × FailingAt a x y m (break_target p) × StatementAt s (inside_loop p exits) t (m + 1) r
         × At code r (instructions.Jump (continue_target p)) × (r + 1 ≡ q) × (break_target p < q)
     StatementAt (Return v) exits t p q = ReturnAt v exits t p
-    StatementAt Break exits t p q = (m : ℕ) × LeaveAt exits.loop_record t p m × At code m (instructions.Jump (break_target exits.head))
-    StatementAt Continue exits t p q = (m : ℕ) × LeaveAt exits.loop_record t p m × At code m (instructions.Jump (continue_target exits.head))
+    StatementAt Break exits t p q = (m : ℕ) × LeaveAt exits.in_loop p m × At code m (instructions.Jump (break_target exits.head))
+    StatementAt Continue exits t p q = (m : ℕ) × LeaveAt exits.in_loop p m × At code m (instructions.Jump (continue_target exits.head))
     StatementAt (Throw tag v) exits t p q = IsWord tag × (o : Operand) × (m : ℕ) × ThrownAt v o t p m × At code m (instructions.Throw (tag_operand tag) o)
     StatementAt (Try s cs) exits t p q =
-        (m : ℕ) × At code p (instructions.Try t (m + 1 + 1)) × StatementAt s exits (t + RECORD_WORDS) (p + 1) m × At code m (instructions.Leave t)
-        × At code (m + 1) (instructions.Jump q) × ClausesAt cs (m + 1) exits t (m + 1 + 1) q
+        (r : ℕ) × (m : ℕ) × (u : ℕ) × KeptAt types.scopes (t + RECORD_WORDS) p r × At code r (instructions.Try t (m + 1 + 1))
+        × StatementAt s (inside_try exits t) (behind_record_in types.scopes t) (r + 1) m × At code m (instructions.Leave t)
+        × At code (m + 1) (instructions.Jump q) × RestoredAt types.scopes (t + RECORD_WORDS) (m + 1 + 1) u × ClausesAt cs (m + 1) exits t u q
 
     pub ItemsAt : Items → Exits → (t p q : ℕ) → Type 0
     ItemsAt NoItems exits t p q = p ≡ q

@@ -35,7 +35,7 @@ use Rattle.cyc_objects.specs.Words.{Is}
 use Rattle.cyc_objects.proofs.Values.{Grows-row, Grows-handle}
 use Rattle.cyc_lower.proofs.Sharing.{shared_less, shared_declared, row_declared, shared_opened, shared_closed, shared_left}
 use Rattle.cyc_lower.proofs.Relation.{counters_of, AreCounted, types_on, starts_on, types_in, types_at, starts_at, given_at, returned_at, Holds, held, callers, homes, Shared, DataAt, SharedAt, in_temporary, in_local, ValueStack, AheadStack, StatementStack, LandsStack, Related, EvaluatingAt, as_operand, into_slot, for_effect, as_condition, in_operand, ahead, behind_statement, behind_call, behind_wrong, Below, IsLast, Arrives, in_place, by_jump, code_of, bounds_in, bounds_at, base_of, top, behind_records, by_jumps, HandlersStand, DataIn, Matches, floor}
-use Rattle.cyc_lower.proofs.Data.{height-least, Holds-same, Holds-above, data_declared, data_returned, data_grows, held_by_caller, behind-least, handlers_same, calls_counted}
+use Rattle.cyc_lower.proofs.Data.{height-least, Holds-same, Holds-above, data_declared, data_returned, data_grows, held_by_caller, floor-least, handlers_same, calls_counted}
 use Rattle.cyc_lower.proofs.Values.{int_at}
 use Rattle.cyc_lower.proofs.Accesses.{IsWell, is_declared, is_closed, home_there}
 use Rattle.cyc_lower.proofs.SwapSteps.{begins_swap}
@@ -153,7 +153,7 @@ module _ (source : Program) (pages calls : ℕ) where
       let holds = held_by_caller t source g w.objects locals (record { locals = outer.locals; temporaries = behind_records k; values = held k }) (callers k) slots globals f frames facts in (
         (
           data_returned t source g w.objects locals (record { locals = outer.locals; temporaries = behind_records k; values = held k }) (callers k) slots now globals f frames
-              (λ n less. copied-below slots f.caller.slots value results f.result n (omega (arith, less, least, height-least base (held k), behind-least k (base_of source f.caller.function)))) facts,
+              (λ n less. copied-below slots f.caller.slots value results f.result n (omega (arith, less, least, height-least base (held k), floor-least source f.caller.function k))) facts,
           handlers_same source f.caller.function f.caller.slots now f.caller.handlers frames k
               (λ n from less. copied-below slots f.caller.slots value results f.result n (omega (arith, less, least, height-least base (held k)))) stand,
         ),
@@ -228,7 +228,7 @@ module _ (source : Program) (pages calls : ℕ) where
           ),
         )
             (copied_is shared.tables v active.slots f.caller.slots s results d (omega (arith, wide)) is)
-            (Holds-above shared.tables f.caller.slots now base (held k) (λ n from. elsewhere n (inr (omega (arith, from, below, behind-least k (base_of source f.caller.function))))) holds)
+            (Holds-above shared.tables f.caller.slots now base (held k) (λ n from. elsewhere n (inr (omega (arith, from, below, floor-least source f.caller.function k)))) holds)
             stack,
       ))
 

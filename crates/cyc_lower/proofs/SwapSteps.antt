@@ -32,9 +32,9 @@ use Rattle.cyc_lower.proofs.Slots.{slot-room, global-inside}
 use Rattle.cyc_lower.proofs.Moves.{put_elsewhere, moved_slots, moves, moved_elsewhere, moved_is}
 use Rattle.cyc_lower.proofs.Weights.{focus_weight, stack_weight}
 use Rattle.cyc_lower.proofs.Stands.{EachAt, StoresAt, HasSide, SideAt, ReadAt, WriteAt, ExchangeAt, SwapAt, PlaceAt}
-use Rattle.cyc_lower.proofs.Relation.{base_of, floor, IsWord, Holds, held, contents, content_of, content_of_cell, with_kind, callers, behind_statement, IsSideAt, IsLeft, WritesAt, StatementStack, DataIn, SharedAt, Related, Matches, code_of, bounds_at, types_at, starts_at, base_of}
-use Rattle.cyc_lower.proofs.Data.{Is-same, one_word, IsWord-is, data_written, data_assigned, data_assigned_global, handlers_beside, behind-least}
-use Rattle.cyc_lower.proofs.Sharing.{shared_written}
+use Rattle.cyc_lower.proofs.Relation.{base_of, floor, IsWord, Holds, held, contents, content_of, content_of_cell, with_kind, callers, behind_statement, IsSideAt, IsLeft, WritesAt, StatementStack, DataIn, SharedAt, Related, Matches, code_of, bounds_at, types_at, starts_at, base_of, scopes_in}
+use Rattle.cyc_lower.proofs.Data.{Is-same, one_word, IsWord-is, data_written, data_assigned, data_assigned_global, handlers_beside, floor-least, told_beside}
+use Rattle.cyc_lower.proofs.Sharing.{shared_written, shared_beside}
 use Rattle.cyc_lower.proofs.Accesses.{IsWell, is_fitting, is_stored, written_here, written_elsewhere, written_length}
 use Rattle.cyc_lower.proofs.CellWrites.{cell_is_there, saves_there, shared_saved, data_saved}
 use Rattle.cyc_lower.proofs.PlaceWords.{stays, cell_kind, word_is, word_there}
@@ -231,7 +231,7 @@ module _ (source : Program) (pages calls : ℕ) where
       let base = floor source g k in
       let words = words_of_kind kind in
       let d = base + 2 + words in
-      let above = behind-least k (base_of source g) in
+      let above = floor-least source g k in
       let found = is_swapped kind (cell_at w other beside) (Thin object offset) (Thin other beside) (Some before) k e w well in
       let reads = reads_side b (right_slot a base) d m other beside kind found.value k e w c shared facts found.at found.there found.same found.has (omega (arith, right_below base a)) is_b has_b read in
       let writes : List Write = record { place = Thin object offset; operand = record { kind = kind; value = found.value } } ∷ record { place = Thin other beside; operand = before } ∷ [] in
@@ -381,7 +381,9 @@ module _ (source : Program) (pages calls : ℕ) where
       let next = written w object 0 stored.at x.operand.value in
       by_links source pages calls (Writing (x ∷ writes) None) k e w c (Running (Writing writes None) k e next) (global_links c own place_of (operands.Slot v)) by.some (does ∙ stored.gives) shared by.path
       (subst (λ (y : Configuration). Matches source pages calls (Running (Writing writes None) k e next) (plain.Running y)) (sym by.leads) (
-        shared_written source pages calls k e w after shared object stored.at x.operand.value stored.object_there stored.cell_there (ap (slice_get shared.tables.rows) (sym same) ∙ (facts.0.4 n few).0),
+        shared_written source pages calls k e w after
+            (shared_beside source pages calls k e w c shared globals (told_beside source g n x.operand.kind c.globals globals (scopes_in k) room (λ m out. stored_elsewhere c.active.slots c.globals own place_of (operands.Slot v) m (kind_positive x.operand.kind) out) shared.counters.1))
+            object stored.at x.operand.value stored.object_there stored.cell_there (ap (slice_get shared.tables.rows) (sym same) ∙ (facts.0.4 n few).0),
         (
           data_assigned_global shared.tables source g w.objects next.objects e.locals (callers k) c.active.slots c.globals globals c.frames n x.operand room
               (ap (contents next.objects) same ∙ written_here w object stored.at x.operand.value stored.object_there stored.cell_there x.operand.kind stored.same)

@@ -23,6 +23,7 @@ use Rattle.cyc_objects.specs.Tables.{Tables}
 use Rattle.cyc_objects.specs.Words.{IsPartOf, Points, Is}
 use Rattle.cyc_objects.proofs.Pointers.{part-not-null}
 use Rattle.cyc_lower.proofs.Stands.{ReachedBy, ThinnedAt}
+use Rattle.cyc_lower.proofs.Handles.{kept_holds}
 use Rattle.cyc_lower.proofs.Relation.{IsIn, types_at, floor, Holds, held, in_operand, DataIn, SharedAt, ValueStack, Matches, code_of, bounds_at, top}
 use Rattle.cyc_lower.proofs.Data.{height-least, Holds-same, data_written}
 use Rattle.cyc_lower.proofs.Matched.{IsMatched}
@@ -52,7 +53,7 @@ module _ (source : Program) (pages calls : ℕ) where
         → step source (Running (Given v) waiting e w) ≡ Running (Given (record { kind = to; value = Thin object (start + index) })) k e w → IsMatched source pages calls (Running (Given v) waiting e w) (plain.Running c)
     leads_on object start count index None here part index_is below less leads thin does =
         reaches_first source pages calls (Given v) waiting k e w c null None n (n + 2) n q shared here refl (Running (Given (record { kind = to; value = Thin object (start + index) })) k e w) (part-not-null part) less does
-        (shared, in_operand (operands.Slot n) facts (thin slots (first_is index part (eqb-true (start + index) 0 leads) below)) holds stack)
+        (shared, in_operand (operands.Slot n) facts (thin slots (first_is index part (eqb-true (start + index) 0 leads) below)) (kept_holds _ _ _ k holds) stack)
     leads_on object start count index (Some kind) here part index_is below less leads thin does =
         let g = c.active.function in
         let words = words_of_kind kind in
@@ -65,7 +66,7 @@ module _ (source : Program) (pages calls : ℕ) where
           in_operand (operands.Slot n)
               (data_written source shared.tables g w.objects e.locals k slots after c.active.handlers c.globals c.frames n 3 (omega (arith, there, height-least (floor source g k) (held k))) (λ x out. elsewhere slots n bytes address x out) facts)
               (thin after (subst (Points shared.tables object (start + index)) (sym (put-same (put slots (n + 2) bytes) n address)) points))
-              (Holds-same shared.tables slots after (floor source g k) (held k) (λ x short. elsewhere slots n bytes address x (inl (omega (arith, short, there)))) holds) stack,
+              (kept_holds _ _ _ k (Holds-same shared.tables slots after (floor source g k) (held k) (λ x short. elsewhere slots n bytes address x (inl (omega (arith, short, there)))) holds)) stack,
         )
 
     -- what is not null
@@ -111,7 +112,7 @@ module _ (source : Program) (pages calls : ℕ) where
           let next = Running (Given (record { kind = kinds.Nullable; value = Null })) k e w in
           leaves_null source pages calls (Given v) (Needs (ConvertTo from kinds.Nullable target) ∷ k) k e w c (λ x. x ≡ q) (option_map words_of_kind target) n (n + 2) n q shared here next is
           (does ∙ ap (λ (y : Value). computed kinds.Nullable (conversion kinds.Nullable y) k e w) value)
-          (λ block same. subst (λ i. Matches source pages calls next (plain.Running (at c i))) (sym same) (shared, in_operand (operands.Slot n) facts is holds stack))
+          (λ block same. subst (λ i. Matches source pages calls next (plain.Running (at c i))) (sym same) (shared, in_operand (operands.Slot n) facts is (kept_holds _ _ _ k holds) stack))
       by (Fat object start count index) value is =
           narrows_fat from kinds.Nullable target v n q k e w c (λ x. x ≡ q) shared facts holds there stack object start count index value is refl (λ words points. points) does leads here
       by x value is = absurd is

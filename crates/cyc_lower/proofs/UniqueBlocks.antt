@@ -117,7 +117,7 @@ module _ (source : Program) (pages calls : ℕ) where
       )))
 
   -- what goes on without a value, where one had a place
-  proceeds : (t : Tables) (d : ℕ) (k : List Entry) (e : Environment) (w : World) (c : Configuration) → DataIn source t c.active.slots k e w c
+  pub proceeds : (t : Tables) (d : ℕ) (k : List Entry) (e : Environment) (w : World) (c : Configuration) → DataIn source t c.active.slots k e w c
       → LandsStack source c.active.function e.locals kinds.Int d c.active.next c.frames k → ProceedingAt source t k e w c
   proceeds t d k e w c facts (in_temporary least stack) = behind_call kinds.Int (operands.Slot d) facts stack
   proceeds t d k e w c facts (in_local below stack) = behind_wrong kinds.Int d (calls_counted source c.active.function c.active.slots c.active.handlers c.frames k facts.1) stack

@@ -17,7 +17,7 @@ use Rattle.cyc_types.specs.declared.typed.Operator.TheVariants as operators
 use Rattle.cyc_types.specs.declared.typed.LogicalOperator.{LogicalOperator}
 use Rattle.cyc_types.specs.declared.typed.LogicalOperator.TheVariants as logical
 use Rattle.cyc_types.specs.declared.typed.Callee.TheVariants as callees
-use Rattle.cyc_types.specs.TypedTrees.{Lvalue, Local, Global, Expression, Arguments, NoArguments, MoreArguments, Operations, NoOperations, ThenCompute, ThenTest, ThenPointer, ThenPointerPeek, Statement, Items, Program}
+use Rattle.cyc_types.specs.TypedTrees.{Lvalue, Local, Global, Expression, Initial, Arguments, NoArguments, MoreArguments, Operations, NoOperations, ThenCompute, ThenTest, ThenPointer, ThenPointerPeek, Statement, Items, Program}
 use Rattle.cyc_plain.specs.declared.instruction.Comparison.{Comparison}
 use Rattle.cyc_plain.specs.declared.instruction.Comparison.TheVariants as comparisons
 use Rattle.cyc_plain.specs.declared.instruction.Operand.{Operand}
@@ -42,25 +42,28 @@ use Rattle.cyc_meaning.specs.Operators.{Result, Gives, Raises, Misfits, has_no_r
 use Rattle.cyc_meaning.specs.Pointers.{takes_kind, followed, result_kind as operator_kind}
 use Rattle.cyc_meaning.specs.Places.{arrives, member_of}
 use Rattle.cyc_meaning.specs.Conversion.{conversion}
-use Rattle.cyc_meaning.specs.State.{Region, World, Environment, with_local, made, variable, written, region_at, Awaiting, ConvertTo, Operate, Chain, Apply, ApplyPointer, Follow, Decide, Store, Pass, MakePlain, MakeFields, MakeArray, FillElement, Initialise, Choose, Test, Return, Entry, Needs, Discard, Rest, Join, Loop, Focus, Evaluating, Given, GivenPlace, Executing, Proceeding, Calling, Returning, Throwing, State, Running, cell_at, FollowMember, StoreCell, calls_in, FreeObject, ThrowWith, CountElements, Index, Advance}
+use Rattle.cyc_meaning.specs.Allocation.{makes_by}
+use Rattle.cyc_meaning.specs.State.{Region, World, Environment, with_local, made, variable, written, region_at, Awaiting, ConvertTo, Operate, Chain, Apply, ApplyPointer, Follow, Decide, Store, Pass, MakePlain, MakeFields, MakeArray, FillElement, Initialise, Choose, Test, Return, Entry, Needs, Discard, Rest, Join, Loop, Focus, Evaluating, Given, GivenPlace, Executing, Proceeding, Calling, Returning, Throwing, State, Running, cell_at, FollowMember, StoreCell, calls_in, FreeObject, ThrowWith, CountElements, Index, Advance, InRegion, PlaceBy, BesideHandle, CloseByKey}
 use Rattle.cyc_meaning.specs.Step.{leads_to, wrong, object_of, computed, stored_at, declared, passes, tested, awaits_right, chosen, looped, step}
+use Rattle.cyc_meaning.specs.Allocation.{makes_by}
 use Rattle.cyc_meaning.specs.State.{status_of}
 use Rattle.cyc_meaning.specs.SourceMachine.{status_in}
 use Rattle.cyc_lower.specs.declared.statements.Exits.{Exits}
 use Rattle.cyc_lower.specs.Slots.{slot_of, Types, global_of}
 use Rattle.cyc_lower.proofs.Slots.{slot-room, room-inside, global-inside}
-use Rattle.cyc_lower.proofs.Widths.{kind_positive, same_kind, HasRoom, Outside, chain_kind, wide_kind}
+use Rattle.cyc_lower.proofs.Widths.{kind_positive, same_kind, HasRoom, Outside, chain_kind, wide_kind, made_kind}
 use Rattle.cyc_lower.proofs.Moves.{moved_slots, moves, put_elsewhere, moved_elsewhere, moved_is}
 use Rattle.cyc_lower.specs.Lowering.{unary_operator, binary_operator, failing_comparison, operand_of, value_slot, next_slot, is_in, jump_if_zero, jump_if_nonzero, move_of, converts_there, break_target, lower_program, tag_operand, are_as_wide, followed_operand}
-use Rattle.cyc_lower.proofs.Stands.{OperandBy, CopyBy, CopyAt, CheckAt, CheckedAt, OperatorAt, TruthAt, ExpressionAt, OperationsAt, GuardAt, TestedAt, ConversionBy, StoresAt, FollowedAt}
+use Rattle.cyc_lower.proofs.Stands.{OperandBy, CopyBy, CopyAt, CheckAt, CheckedAt, OperatorAt, TruthAt, ExpressionAt, OperationsAt, GuardAt, TestedAt, ConversionBy, StoresAt, FollowedAt, MadeAt}
 use Rattle.cyc_objects.specs.Tables.{Tables}
 use Rattle.cyc_objects.specs.Words.{Points, Is}
 use Rattle.cyc_objects.proofs.Pointers.{not-null, part-not-null, pointer-word}
 use Rattle.cyc_objects.specs.Tables.{Variable, with_row}
 use Rattle.cyc_objects.proofs.Values.{Grows-row, Is-grows}
-use Rattle.cyc_lower.proofs.Sharing.{shared_declared, row_declared, shared_written}
-use Rattle.cyc_lower.proofs.Relation.{types_on, starts_on, IsWord, IsIn, with_kind, types_at, starts_at, Holds, held, contents, callers, in_place, by_jump, in_temporary, in_local, drops, leaves, copies, DataIn, SharedAt, StoreAt, to_slot, to_jump, ValueStack, ConditionStack, DroppedStack, AheadStack, LandsStack, HandsOnStack, AppliedStack, ReadyAt, as_operand, into_slot, as_right, in_operand, nowhere, ahead, compared, with_left, behind_statement, Related, Matches, code_of, bounds_at, base_of, top, floor, PlaceStack}
-use Rattle.cyc_lower.proofs.Data.{in_words, IsWord-is, one_word, height-least, Holds-same, Holds-above, data_above, data_assigned, data_assigned_global, data_declared, data_grows, null_is, points_in, null_at, points_at, behind-least, handlers_beside, data_written}
+use Rattle.cyc_lower.proofs.Sharing.{shared_declared, row_declared, shared_written, shared_beside}
+use Rattle.cyc_lower.proofs.Relation.{types_on, starts_on, IsWord, IsIn, with_kind, types_at, starts_at, Holds, held, kept, contents, callers, in_place, by_jump, in_temporary, in_local, drops, leaves, copies, DataIn, SharedAt, StoreAt, to_slot, to_jump, ValueStack, ConditionStack, DroppedStack, AheadStack, LandsStack, HandsOnStack, AppliedStack, ReadyAt, as_operand, into_slot, as_right, in_operand, nowhere, ahead, compared, with_left, behind_statement, Related, Matches, code_of, bounds_at, base_of, top, floor, PlaceStack, scopes_in}
+use Rattle.cyc_lower.proofs.Handles.{kept_holds}
+use Rattle.cyc_lower.proofs.Data.{in_words, IsWord-is, one_word, height-least, Holds-same, Holds-above, data_above, data_assigned, data_assigned_global, data_declared, data_grows, null_is, points_in, null_at, points_at, floor-least, handlers_beside, data_written, told_beside}
 use Rattle.cyc_lower.proofs.Accesses.{IsWell, is_fitting, is_stored, written_here, written_elsewhere, written_length, is_declared, home_there, is_member}
 use Rattle.cyc_lower.proofs.PlaceWords.{stays, member_there, cell_kind, word_is}
 use Rattle.cyc_lower.proofs.CellWrites.{cell_is_there, saves_there, shared_saved, data_saved}
@@ -70,6 +73,7 @@ use Rattle.cyc_lower.proofs.Matched.{IsMatched, silently, by_one, by_two, by_thr
 use Rattle.cyc_lower.proofs.Handling.{leaving, record_left, raised}
 use Rattle.cyc_lower.proofs.PointerSteps.{applies_pointers, right_follows}
 use Rattle.cyc_lower.proofs.UniqueBlocks.{frees_value}
+use Rattle.cyc_lower.proofs.Keys.{closes_by_key}
 use Rattle.cyc_lower.proofs.FatSteps.{counts, widens}
 use Rattle.cyc_lower.proofs.ThinSteps.{narrows}
 use Rattle.cyc_lower.proofs.Elements.{follows_parts, follows_fat, indexes_pointer, advances_pointer}
@@ -77,7 +81,7 @@ use Rattle.cyc_lower.proofs.Paths.{Link, IsPath, end_of, by_path}
 use Rattle.cyc_lower.proofs.WideCells.{stage_quiet, two_put, store_links, stored, store_path, store_last, shared_stored, data_stored}
 use Rattle.cyc_lower.proofs.Allocations.{plain_made, fields_made}
 use Rattle.cyc_lower.proofs.Arrays.{array_sized, array_filled}
-use Rattle.cyc_lower.proofs.Evaluations.{IsStep, landed_word, landed_moved, lands_at, passes_related, passes_weight, object_of_same}
+use Rattle.cyc_lower.proofs.Evaluations.{IsStep, landed_word, landed_moved, lands_at, passes_related, passes_weight, object_of_same, made_of, lands_made}
 use Rattle.cyc_lower.proofs.Paths.{Link, IsPath, end_of, by_path}
 use Rattle.cyc_lower.proofs.GlobalSteps.{stored_globals, stored_elsewhere, stored_is, global_links, is_stored_by, by_links}
 
@@ -308,7 +312,7 @@ module _ (source : Program) (pages calls : ℕ) where
       → c.active.next ≡ q → ValueStack source c.active.function e.locals to o q c.frames k → GoesBehind (of_kind i v) (Needs (ConvertTo from to target) ∷ k) e w c
   kept_value from to target i v o k e w c q gives does (shared, facts, is, holds) end stack =
       silently source pages calls (Running (Given (of_kind i v)) (Needs (ConvertTo from to target) ∷ k) e w) (Running (Given (of_kind to v)) k e w) (plain.Running c) does
-      (shared, in_operand o facts (kept_in shared.tables i to v c.active.slots o gives is) holds (subst (λ r. ValueStack source c.active.function e.locals to o r c.frames k) (sym end) stack))
+      (shared, in_operand o facts (kept_in shared.tables i to v c.active.slots o gives is) (kept_holds _ _ _ k holds) (subst (λ r. ValueStack source c.active.function e.locals to o r c.frames k) (sym end) stack))
       (omega arith)
 
   -- a value is converted from its own kind
@@ -337,7 +341,7 @@ module _ (source : Program) (pages calls : ℕ) where
   converted from kinds.NonNull target i (Thin object offset) o k e w c well does wide (shared, facts, is, holds) (q, check, stack) =
       guard_passes (Running (Given (of_kind kinds.NonNull (Thin object offset))) k e w) null_exception comparisons.Equal o (operands.Word 0) e w c q does shared check
       (not_zero shared.tables i object offset c.active.slots o is)
-      (shared, in_operand o facts (kept_in shared.tables i kinds.NonNull (Thin object offset) c.active.slots o refl is) holds stack)
+      (shared, in_operand o facts (kept_in shared.tables i kinds.NonNull (Thin object offset) c.active.slots o refl is) (kept_holds _ _ _ k holds) stack)
   converted from kinds.Fat target i (Thin object offset) o k e w c well does wide (shared, facts, is, holds) stack =
       let (words, p, same, is_it) = in_words shared.tables (of_kind i (Thin object offset)) c.active.slots o is in
       absurd (not_widened shared.tables i object offset words p is_it wide)
@@ -709,7 +713,7 @@ module _ (source : Program) (pages calls : ℕ) where
       → ValueStack source c.active.function e.locals v.kind o c.active.next c.frames (Needs (Chain os) ∷ k) → GoesBehind v (Needs (Chain os) ∷ k) e w c
   chains NoOperations v o k e w c well (shared, facts, is, holds) stack =
       silently source pages calls (Running (Given v) (Needs (Chain NoOperations) ∷ k) e w) (Running (Given v) k e w) (plain.Running c) refl
-      (shared, in_operand o facts is holds stack)
+      (shared, in_operand o facts is (kept_holds _ _ _ k holds) stack)
       (omega arith)
   chains (ThenCompute u b os) v o k e w c well stands (to_slot (d, q, (r, m, s, at_b, at, ops), lands)) =
       chain_goes_on (operand_of (starts_on source c.active.function k) b) u b os v o k e w c r m well refl stands at_b
@@ -753,10 +757,10 @@ module _ (source : Program) (pages calls : ℕ) where
   pub landed_there : (v : Kinded) (d : ℕ) (k : List Entry) (e : Environment) (w : World) (c : Configuration) (q : ℕ) → Stands v (operands.Slot d) k e w c → c.active.next ≡ q
       → LandsStack source c.active.function e.locals v.kind d q c.frames k → Related source pages calls (Given v) k e w c
   landed_there v d k e w c q (shared, facts, is, holds) end (in_temporary least stack) =
-      (shared, in_operand (operands.Slot d) facts is holds (subst (λ r. ValueStack source c.active.function e.locals v.kind (operands.Slot d) r c.frames k) (sym end) stack))
+      (shared, in_operand (operands.Slot d) facts is (kept_holds _ _ _ k holds) (subst (λ r. ValueStack source c.active.function e.locals v.kind (operands.Slot d) r c.frames k) (sym end) stack))
   landed_there v d k e w c q (shared, facts, is, holds) end (in_local below stack) = (
     shared,
-    ahead d (c.active.slots, λ m out. refl, facts) is holds (subst (λ r. AheadStack source c.active.function e.locals v.kind d r c.frames k) (sym end) stack),
+    ahead d (c.active.slots, λ m out. refl, facts) is (kept_holds _ _ _ k holds) (subst (λ r. AheadStack source c.active.function e.locals v.kind d r c.frames k) (sym end) stack),
   )
 
   copied : (b : Bool) (v : Kinded) (o : Operand) (d : ℕ) (k : List Entry) (e : Environment) (w : World) (c : Configuration) (q : ℕ) → is_in o d ≡ b → Stands v o k e w c
@@ -772,7 +776,7 @@ module _ (source : Program) (pages calls : ℕ) where
   handed v o k e w c q here (shared, facts, is, holds) (drops stack) =
       at_once (shared, nowhere facts (subst (λ r. DroppedStack source c.active.function r c.frames k) (sym here) stack))
   handed v o k e w c q here (shared, facts, is, holds) (leaves stack) =
-      at_once (shared, in_operand o facts is holds (subst (λ r. ValueStack source c.active.function e.locals v.kind o r c.frames k) (sym here) stack))
+      at_once (shared, in_operand o facts is (kept_holds _ _ _ k holds) (subst (λ r. ValueStack source c.active.function e.locals v.kind o r c.frames k) (sym here) stack))
   handed v o k e w c q here stands (copies d r copy lands) =
       copied (is_in o d) v o d k e w c r refl stands (subst (λ x. CopyAt (code_of source c.active.function) (words_of_kind v.kind) o d x r) (sym here) copy) lands
 
@@ -854,7 +858,7 @@ module _ (source : Program) (pages calls : ℕ) where
           handlers_beside source g c.active.slots slots c.active.handlers c.frames k slot words (omega (arith, inside, room)) elsewhere facts.1,
         ),
         subst (IsIn shared.tables v slots) (sym there) moved,
-        Holds-above shared.tables c.active.slots slots (floor source g k) (held k) (λ m above. elsewhere m (inr (omega (arith, inside, room, above, behind-least k (base_of source g))))) holds,
+        Holds-above shared.tables c.active.slots slots (floor source g k) (held k) (λ m above. elsewhere m (inr (omega (arith, inside, room, above, floor-least source g k)))) holds,
       ) hands)
   stores object v (Global n) o to k e w c q found well (shared, facts, is, holds) (at_c, there, room) hands =
       let g = c.active.function in
@@ -869,7 +873,9 @@ module _ (source : Program) (pages calls : ℕ) where
       let next = written w object 0 stored.at v.value in
       hands_through v k e next c after (global_links c words first o) by.some stored.gives shared by.path by.leads
       (handed v to k e next after q by.end (
-        shared_written source pages calls k e w after shared object stored.at v.value stored.object_there stored.cell_there (ap (slice_get shared.tables.rows) (sym same) ∙ (facts.0.4 n few).0),
+        shared_written source pages calls k e w after
+            (shared_beside source pages calls k e w c shared globals (told_beside source g n v.kind c.globals globals (scopes_in k) room (λ m out. stored_elsewhere c.active.slots c.globals words first o m (kind_positive v.kind) out) shared.counters.1))
+            object stored.at v.value stored.object_there stored.cell_there (ap (slice_get shared.tables.rows) (sym same) ∙ (facts.0.4 n few).0),
         (
           data_assigned_global shared.tables source g w.objects next.objects e.locals (callers k) c.active.slots c.globals globals c.frames n v room
               (ap (contents next.objects) same ∙ written_here w object stored.at v.value stored.object_there stored.cell_there v.kind stored.same)
@@ -1225,8 +1231,31 @@ module _ (source : Program) (pages calls : ℕ) where
   follows_member pointer fields field i (Handle region) o k e w c well stands stack = absurd (goes_wrong (is_kind i pointer) w well)
   follows_member pointer fields field i (Key region) o k e w c well stands stack = absurd (goes_wrong (is_kind i pointer) w well)
 
+  -- the handle of the region where an object is made
+  places : (initial : Initial) (v : Kinded) (o : Operand) (k : List Entry) (e : Environment) (w : World) (c : Configuration) → IsWell (step source (Running (Given v) (Needs (PlaceBy initial) ∷ k) e w)) → Stands v o k e w c
+      → ValueStack source c.active.function e.locals v.kind o c.active.next c.frames (Needs (PlaceBy initial) ∷ k) → GoesBehind v (Needs (PlaceBy initial) ∷ k) e w c
+  places initial v o k e w c well (shared, facts, is, holds) (d, q, there, at, lands) = by v.kind v.value well (subst (IsIn shared.tables v c.active.slots) there is)
+    where
+      g : ℕ
+      g = c.active.function
+
+      by : (i : Kind) (u : Value) → IsWell (makes_by initial u k e w) → Is shared.tables i u c.active.slots (top source g k) → GoesBehind (of_kind i u) (Needs (PlaceBy initial) ∷ k) e w c
+      by kinds.Handle (Handle region) well is =
+          made_of source pages calls (Given (of_kind kinds.Handle (Handle region))) (Needs (PlaceBy initial) ∷ k) (InRegion region) (operands.Slot (top source g k)) initial (Needs (BesideHandle region) ∷ k) e w c d q refl (omega arith)
+          (refl, omega arith) shared facts (is, holds)
+          (subst (λ n. MadeAt (code_of source g) (bounds_at source g) (types_on source g k) initial (operands.Slot (top source g k)) d n c.active.next q) (let e : suc (top source g k) ≡ top source g k + 1 = omega arith in e)
+          (subst (λ x. MadeAt (code_of source g) (bounds_at source g) (types_on source g k) initial x d (suc (top source g k)) c.active.next q) there at))
+          (lands_made source pages calls g e.locals (made_kind initial) d q c.frames k lands)
+      by i (Handle region) well is = absurd is
+      by i u well is = absurd (well refl)
+
+  -- what is known of one that is handed on
+  abbrev IsGiven : Kinded → Operand → List Entry → Environment → World → Configuration → Type 0
+  IsGiven v o k e w c = (shared : SharedAt source pages calls k e w c) × DataIn source shared.tables c.active.slots k e w c × IsIn shared.tables v c.active.slots o
+      × Holds shared.tables c.active.slots (floor source c.active.function k) (kept k)
+
   -- where the value stands in an operand
-  stands_given : (v : Kinded) (o : Operand) (k : List Entry) (e : Environment) (w : World) (c : Configuration) → HasWords (lower_program source) → plain.HoldsWords (plain.Running c) → IsWell (step source (Running (Given v) k e w)) → Stands v o k e w c
+  stands_given : (v : Kinded) (o : Operand) (k : List Entry) (e : Environment) (w : World) (c : Configuration) → HasWords (lower_program source) → plain.HoldsWords (plain.Running c) → IsWell (step source (Running (Given v) k e w)) → IsGiven v o k e w c
       → ValueStack source c.active.function e.locals v.kind o c.active.next c.frames k → GoesBehind v k e w c
   stands_given v o [] e w c of_words words well stands stack = absurd stack
   stands_given v o (Needs (ConvertTo from to target) ∷ k) e w c of_words words well stands stack = converts from to target v o k e w c well stands stack
@@ -1241,6 +1270,11 @@ module _ (source : Program) (pages calls : ℕ) where
   stands_given v o (Needs (Store place) ∷ k) e w c of_words words well stands stack = stores_at place v o k e w c well stands stack
   stands_given v o (Needs (StoreCell peek place) ∷ k) e w c of_words words well stands stack = stores_cell peek place v o k e w c of_words words well stands stack
   stands_given v o (Needs (Pass f before cs) ∷ k) e w c of_words words well stands stack = hands_on f before cs v o k e w c stands stack
+  stands_given v o (Needs (PlaceBy initial) ∷ k) e w c of_words words well stands stack = places initial v o k e w c well stands stack
+  stands_given v o (Needs (BesideHandle region) ∷ k) e w c of_words words well (shared, facts, is, holds) stack =
+      silently source pages calls (Running (Given v) (Needs (BesideHandle region) ∷ k) e w) (Running (Given v) k e w) (plain.Running c) refl
+      (shared, in_operand o facts is holds stack)
+      (omega arith)
   stands_given v o (Needs (MakePlain owner kind) ∷ k) e w c of_words words well (shared, facts, is, holds) stack = plain_made source pages calls owner kind v o k e w c well shared facts is holds stack
   stands_given v o (Needs (MakeArray owner level wanted element) ∷ k) e w c of_words words well (shared, facts, is, holds) stack = array_sized source pages calls owner level wanted element v o k e w c well shared facts is holds stack
   stands_given v o (Needs (FillElement object count index level wanted element) ∷ k) e w c of_words words well (shared, facts, is, holds) stack = array_filled source pages calls object count index level wanted element v o k e w c words well shared facts is holds stack
@@ -1255,6 +1289,7 @@ module _ (source : Program) (pages calls : ℕ) where
       (λ handlers stand. (shared, (facts.0, stand), (exits, q, s, here, subst (IsIn shared.tables v c.active.slots) there is, single, stack)))
   stands_given v o (Needs (ThrowWith tag) ∷ k) e w c of_words words well stands stack = throws_with tag v.kind v.value o k e w c well stands stack
   stands_given v o (Needs FreeObject ∷ k) e w c of_words words well (shared, facts, is, holds) stack = frees_value source pages calls v.kind v.value o k e w c well shared facts is stack
+  stands_given v o (Needs CloseByKey ∷ k) e w c of_words words well (shared, facts, is, holds) stack = closes_by_key source pages calls v.kind v.value o k e w c well shared facts is stack
   stands_given v o (Needs (Follow pointer target) ∷ k) e w c of_words words well stands stack = follows pointer target v o k e w c well stands stack
   stands_given v o (Needs (Index peek target i) ∷ k) e w c of_words words well (shared, facts, is, holds) stack = indexes_pointer source pages calls peek target i v o k e w c well shared facts is holds stack
   stands_given v o (Needs (Advance peek target base) ∷ k) e w c of_words words well (shared, facts, is, (is_base, holds)) (q, sum, reached, place) =
@@ -1277,15 +1312,19 @@ module _ (source : Program) (pages calls : ℕ) where
 
   ahead_given : (v : Kinded) (n : ℕ) (old : Words) (k : List Entry) (e : Environment) (w : World) (c : Configuration) → IsWell (step source (Running (Given v) k e w)) → (shared : SharedAt source pages calls k e w c)
       → ((m : ℕ) → Outside n (words_of_kind v.kind) m → old m ≡ c.active.slots m) → DataIn source shared.tables old k e w c
-      → Is shared.tables v.kind v.value c.active.slots n → Holds shared.tables c.active.slots (floor source c.active.function k) (held k)
+      → Is shared.tables v.kind v.value c.active.slots n → Holds shared.tables c.active.slots (floor source c.active.function k) (kept k)
       → AheadStack source c.active.function e.locals v.kind n c.active.next c.frames k → GoesBehind v k e w c
   ahead_given v n old (Needs (ConvertTo from to target) ∷ k) e w c well shared same facts is holds (quiet, stack) =
       let (does, now, wide) = converts_ahead shared.tables from to target v n k e w c well quiet is in
       silently source pages calls (Running (Given v) (Needs (ConvertTo from to target) ∷ k) e w) (Running (Given (of_kind to v.value)) k e w) (plain.Running c) does
-      (shared, ahead n (old, subst (λ many. (m : ℕ) → Outside n many m → old m ≡ c.active.slots m) wide same, facts) now holds stack)
+      (shared, ahead n (old, subst (λ many. (m : ℕ) → Outside n many m → old m ≡ c.active.slots m) wide same, facts) now (kept_holds _ _ _ k holds) stack)
       (omega arith)
   ahead_given v n old (Needs (Chain NoOperations) ∷ k) e w c well shared same facts is holds stack =
       silently source pages calls (Running (Given v) (Needs (Chain NoOperations) ∷ k) e w) (Running (Given v) k e w) (plain.Running c) refl
+      (shared, ahead n (old, same, facts) is (kept_holds _ _ _ k holds) stack)
+      (omega arith)
+  ahead_given v n old (Needs (BesideHandle region) ∷ k) e w c well shared same facts is holds stack =
+      silently source pages calls (Running (Given v) (Needs (BesideHandle region) ∷ k) e w) (Running (Given v) k e w) (plain.Running c) refl
       (shared, ahead n (old, same, facts) is holds stack)
       (omega arith)
   ahead_given v n old (Needs (Store place) ∷ k) e w c well shared same facts is holds (number, object, place_is, found, there, room, hands) =

@@ -1,14 +1,15 @@
 -- The weight of a source state, which falls with each step that the plain program makes no step for.
 use Rattle.std.proofs.Common.{ℕ, suc, ◌+◌, List, [], ◌∷◌, Option, None, Some, length}
-use Rattle.cyc_types.specs.TypedTrees.{Array, Load, New, Initial, Plain, Fields, Dereference, Target, Expression, Number, NullPointer, Copy, Call, Unary, Binary, Assign, Converted, Convert, Arguments, NoArguments, MoreArguments, Operations, NoOperations, ThenCompute, ThenTest, ThenPointer, Statement, Block, Empty, Evaluate, If, While, Break, Continue, Items, NoItems, MoreItems, Execute, Declare, Move, Peek, ThenPointerPeek, AddressOfCell, Member, FreeUnique, Side, VariableSide, CellSide, Swap, Clauses, NoClauses, Default, Case, NumberOfElements, Element}
+use Rattle.cyc_types.specs.TypedTrees.{Array, Load, New, ByHandle, Initial, HeapRegion, FreeKey, Plain, Fields, Dereference, Target, Expression, Number, NullPointer, Copy, Call, Unary, Binary, Assign, Converted, Convert, Arguments, NoArguments, MoreArguments, Operations, NoOperations, ThenCompute, ThenTest, ThenPointer, Statement, Block, Empty, Evaluate, If, While, Break, Continue, Items, NoItems, MoreItems, Execute, Declare, Move, Peek, ThenPointerPeek, AddressOfCell, Member, FreeUnique, Side, VariableSide, CellSide, Swap, Clauses, NoClauses, Default, Case, NumberOfElements, Element}
 use Rattle.cyc_types.specs.TypedTrees as typed
-use Rattle.cyc_meaning.specs.State.{Awaiting, Chain, Pass, MakeFields, Initialise, Entry, Needs, Rest, Focus, Evaluating, Locating, Executing, Entering, Binding, State, Running, AwaitingPlace, StoreTo, NeedsPlace, SwapLeft, Writing, Catching, Index}
+use Rattle.cyc_meaning.specs.State.{Awaiting, Chain, Pass, PlaceBy, MakeFields, Initialise, Entry, Needs, Rest, Focus, Evaluating, Locating, Executing, Entering, Binding, State, Running, AwaitingPlace, StoreTo, NeedsPlace, SwapLeft, Writing, Catching, Index}
 
 -- An expression that is an operand may have no code. One that begins with another weighs more than that and what waits for it.
 abbrev mutual
   pub expression_weight : Expression → ℕ
   expression_weight (Number n) = 1
   expression_weight NullPointer = 1
+  expression_weight HeapRegion = 1
   expression_weight (typed.Counter l) = 1
   expression_weight (Copy l t) = 1
   expression_weight (Move p n t) = 1
@@ -20,6 +21,8 @@ abbrev mutual
   expression_weight (Assign l c t) = suc (suc (converted_weight c))
   expression_weight (Load x) = suc (suc (dereference_weight x))
   expression_weight (FreeUnique a) = suc (suc (expression_weight a))
+  expression_weight (FreeKey a) = suc (suc (expression_weight a))
+  expression_weight (New (ByHandle a) i t) = suc (suc (suc (suc (expression_weight a + object_weight i))))
   expression_weight (New w i t) = suc (suc (object_weight i))
   expression_weight (AddressOfCell x t) = suc (suc (dereference_weight x))
   expression_weight (typed.Store x c t) = suc (suc (suc (dereference_weight x + converted_weight c)))
@@ -95,6 +98,7 @@ abbrev pub awaiting_weight : Awaiting → ℕ
 awaiting_weight (Chain os) = operations_weight os
 awaiting_weight (Index peek target i) = suc (expression_weight i)
 awaiting_weight (Pass f before cs) = arguments_weight cs
+awaiting_weight (PlaceBy initial) = suc (suc (object_weight initial))
 awaiting_weight (MakeFields owner before cs) = arguments_weight cs
 awaiting_weight (Initialise number kind js) = suc (items_weight js)
 awaiting_weight a = 0

@@ -1,6 +1,6 @@
 -- The lowered program is well formed: all that its instructions name is there, and its frames have room.
 use Rattle.std.proofs.Common.{◌≡◌, ℕ, zero, suc, ◌+◌, ◌-◌, ◌≤◌, ◌<◌, Bool, true, false, List, [], ◌∷◌, ◌++◌, length, map, Option, None, Some, slice_get, slice_index_or, All, IsSomeAnd, refl, sym, ap, subst, ◌∙◌, arith, length-append, inl, inr}
-use Rattle.std.specs.List.{AllByRecursion}
+use Rattle.std.specs.List.{AllByRecursion, list_any}
 use Rattle.std.proofs.lemmas.Option.{same_Some, none-some}
 use Rattle.cyc_types.specs.declared.typed.Kind.{Kind}
 use Rattle.cyc_types.specs.declared.typed.Kind.TheVariants as kinds
@@ -13,7 +13,7 @@ use Rattle.cyc_types.specs.declared.typed.PointerOperator.TheVariants as pointer
 use Rattle.cyc_types.specs.declared.typed.LogicalOperator.{LogicalOperator}
 use Rattle.cyc_types.specs.declared.typed.LogicalOperator.TheVariants as logical
 use Rattle.cyc_types.specs.Types.{Ty, words_of, ValueType, Void, Null, Value}
-use Rattle.cyc_types.specs.TypedTrees.{Counter, Load, New, OnHeap, AsUnique, ByHandle, Initial, Plain, Fields, Array, Dereference, Target, type_of_place, Lvalue, Local, Global, Expression, Number, NullPointer, Copy, Call, Unary, Binary, Assign, Converted, Convert, Arguments, NoArguments, MoreArguments, Operations, NoOperations, ThenCompute, ThenTest, ThenPointer, type_of, Statement, Block, Empty, Evaluate, If, While, Return, Break, Continue, Items, NoItems, MoreItems, Execute, Declare, GlobalVariable, Signature, StructType, Function, Program, Move, Peek, ThenPointerPeek, AddressOfCell, Store, Member, FreeUnique, Side, VariableSide, CellSide, Swap, Throw, Try, Clauses, NoClauses, Default, Case, NumberOfElements, Element}
+use Rattle.cyc_types.specs.TypedTrees.{Counter, Load, New, OnHeap, AsUnique, ByHandle, Initial, Plain, Fields, Array, Dereference, Target, type_of_place, Lvalue, Local, Global, Expression, Number, NullPointer, Copy, Call, Unary, Binary, Assign, Converted, Convert, Arguments, NoArguments, MoreArguments, Operations, NoOperations, ThenCompute, ThenTest, ThenPointer, type_of, Statement, Block, Empty, Evaluate, If, While, Return, Break, Continue, Items, NoItems, MoreItems, Execute, Declare, GlobalVariable, Signature, StructType, Function, Program, Move, Peek, ThenPointerPeek, AddressOfCell, Store, Member, FreeUnique, Side, VariableSide, CellSide, Swap, Throw, Try, Clauses, NoClauses, Default, Case, NumberOfElements, Element, HeapRegion, FreeKey}
 use Rattle.cyc_types.specs.typing.WellTyped.{signature_of}
 use Rattle.cyc_types.specs.Numbered.{Numbering, argument_count, signatures_of, numbering_of}
 use Rattle.cyc_plain.specs.declared.instruction.Comparison.{Comparison}
@@ -38,8 +38,8 @@ use Rattle.cyc_meaning.specs.Pointers.{result_kind as operator_kind}
 use Rattle.cyc_objects.proofs.NumberLemmas.{slice_get-there}
 use Rattle.cyc_lower.proofs.Counters.{found_last}
 use Rattle.cyc_lower.specs.Slots.{counted, starts_of, slot_of, Types, global_of, global_types}
-use Rattle.cyc_lower.specs.Lowering.{begun_code, filled_code, ended_code, elements_code, counter_operand, types_of, spare_slots, are_as_wide, converts_there, passed_words, all_passed, source_of, source_slot, moved_by, move_of, unary_operator, binary_operator, operand_of, operand_or, code_unless, slot_or, code_unless_slot, left_with, left_of, value_slot, next_slot, slot_with, left_slot, value_operand, converted_operand, printed_operand, check_code, conversion_code, divisor_code, checked_code, operator_code, truth_code, load_code, low_byte, test_code, is_in, copy_code, expression_code, arguments_code, converted_code, converted_operand_code, printed_code, initial_code, assignment_code, operations_code, discarded_code, failing_comparison, compared_or, first_operand, first_code, second_code, pair_code, condition_code, condition_of, failing_jump, break_target, continue_target, return_code, declaration_code, statement_code, items_code, first_temporary, results_of, lower_function, lower_global, lower_program, pointer_operator, left_kind, behind_left, pointer_code, outside_loops, inside_loop, index_code, pointer_instructions, stores_code, object_code, made_code, place_operand, place_offset, place_code, address_code, addressed_by, store_address_code, store_code, guard_code, blocks, free_code, right_slot, side_code, read_side, write_side, exchange_code, swap_code, leave_code, tag_operand, other_jump, goes_on, clause_code, thrown_code, thrown_operand, caught_code, clauses_code, count_code, span_of, null_of, tested_code, widened_code, conversion_by, tested_by, saved_code, loaded_code, bounds_code, stepped_code, bounded_code, past_bounded, thinned_code, reached_code, followed_code, followed_operand, span_in, pointer_of, pointer_slot, reached_operand, word_by_word, load_word, store_word, global_code, globals_of, lower_globals, load_at}
-use Rattle.cyc_lower.proofs.Widths.{kind_positive, kind_few, type_words, kind_of_result, result_kind, given, passed_kind, words_in, chain_kind, made_kind, wide_kind, same_kind, more_words, HasGlobal}
+use Rattle.cyc_lower.specs.Lowering.{begun_code, filled_code, ended_code, elements_code, counter_operand, types_of, spare_slots, are_as_wide, converts_there, passed_words, all_passed, source_of, source_slot, moved_by, move_of, unary_operator, binary_operator, operand_of, operand_or, code_unless, slot_or, code_unless_slot, left_with, left_of, value_slot, next_slot, slot_with, left_slot, value_operand, converted_operand, printed_operand, check_code, conversion_code, divisor_code, checked_code, operator_code, truth_code, load_code, low_byte, test_code, is_in, copy_code, expression_code, arguments_code, converted_code, converted_operand_code, printed_code, initial_code, assignment_code, operations_code, discarded_code, failing_comparison, compared_or, first_operand, first_code, second_code, pair_code, condition_code, condition_of, failing_jump, break_target, continue_target, return_code, declaration_code, statement_code, items_code, first_temporary, results_of, lower_function, lower_global, lower_program, pointer_operator, left_kind, behind_left, pointer_code, outside_loops, inside_loop, index_code, pointer_instructions, stores_code, object_code, made_code, place_operand, place_offset, place_code, address_code, addressed_by, store_address_code, store_code, guard_code, blocks, free_code, right_slot, side_code, read_side, write_side, exchange_code, swap_code, leave_code, tag_operand, other_jump, goes_on, clause_code, thrown_code, thrown_operand, caught_code, clauses_code, count_code, span_of, null_of, tested_code, widened_code, conversion_by, tested_by, saved_code, loaded_code, bounds_code, stepped_code, bounded_code, past_bounded, thinned_code, reached_code, followed_code, followed_operand, span_in, pointer_of, pointer_slot, reached_operand, word_by_word, load_word, store_word, global_code, globals_of, lower_globals, load_at, opened_code, closed_code, named_code, dynamic_code, scopes_code, scopes_code_in, handlers_code, marks_code, kept_code, kept_code_in, restored_code, restored_code_in, behind_record, behind_record_in, handled_code, inside_try, inside_region, outermost, scopes_of, scopes_if, scopes_words, may_open, closing_code}
+use Rattle.cyc_lower.proofs.Widths.{kind_positive, kind_few, type_words, kind_of_result, result_kind, given, passed_kind, words_in, chain_kind, made_kind, wide_kind, same_kind, more_words, HasGlobal, HasRoom}
 use Rattle.cyc_lower.proofs.Fitting.{FitsPlace, FitsCell, Fits, FitsConverted, FitArguments, FitOperations, FitsReturn, FitsInitial, FitsStatement, FitItems, AreFitting, IsFitting, FitsObject, FitsSide, FitsThrown, FitsCaught, FitClauses}
 use Rattle.cyc_lower.specs.Words.{AreOfWordsItems, AreOfWordsFunctions, IsOfWordsProgram}
 use Rattle.cyc_lower.proofs.WordLemmas.{all_append, all_of, no_return}
@@ -47,8 +47,9 @@ use Rattle.cyc_lower.specs.Lowerable.{is_converted, is_pointer}
 use Rattle.cyc_lower.proofs.Lengths.{body_long, past_long}
 use Rattle.cyc_types.specs.typing.Expressions.{type_of_side}
 use Rattle.cyc_lower.proofs.Values.{as_wide}
-use Rattle.cyc_lower.proofs.Slots.{words_positive, slot-room, slot_types-many, slots-few, global-room, global-inside}
+use Rattle.cyc_lower.proofs.Slots.{words_positive, slot-room, slot_types-many, slots-few, global-room, global-inside, globals_counted}
 use Rattle.std.proofs.lemmas.List.{length-replicate}
+use Rattle.cyc_lower.specs.declared.statements.Opened.{Opened}
 
 -- ---- lists
 
@@ -87,6 +88,12 @@ results_few : (t : Option Ty) → results_of t ≤ spare_slots
 results_few None = omega arith
 results_few (Some t) = omega (arith, type_words t, kind_few (kind_of t))
 
+-- what stands before an object has room with it
+made_needs : (i : Initial) (before own : ℕ) → before ≤ initial_value_need i before own
+made_needs (Plain kind a) before own = omega arith
+made_needs (Fields cs) before own = omega arith
+made_needs (Array p level n kind a) before own = omega arith
+
 -- what is given has at most the words of what is returned, or one
 result_least : (t : Option Ty) → (results_of t ≤ words_of_kind (kind_of_result t)) × (words_of_kind (kind_of_result t) ≤ max 1 (results_of t))
 result_least None = (omega arith, omega arith)
@@ -108,7 +115,12 @@ record IsKnown (program : PlainProgram) (n : ℕ) (s : Signature) : Type 0 where
   pub parameters : (routine_at program n).parameters ≡ words_of_all s.parameters
   pub results : (routine_at program n).results ≡ results_of s.result
 
-module _ (program : PlainProgram) (r : Routine) (b : Numbering) (types : Types) (locals : (n : ℕ) → n < b.locals → slot_of (starts_of types) n + words_in types.locals n ≤ r.slots) (levels : (l slot : ℕ) → slice_get types.counters l ≡ Some slot → slot < r.slots) (globals : words_of_all types.globals ≡ length program.globals) (called : (n : ℕ) (s : Signature) → slice_get b.functions n ≡ Some s → IsKnown program n s) (results : r.results ≡ results_of b.result) (behind : types.raises + 4 < length r.code) where
+-- All globals are words of the program, and so is the one that tells how many lexical regions are open.
+record AreGlobals (program : PlainProgram) (globals : List Ty) (scopes : Option ℕ) : Type 0 where
+  pub room : words_of_all globals ≤ length program.globals
+  pub inside : (global : ℕ) → scopes ≡ Some global → global < length program.globals
+
+module _ (program : PlainProgram) (r : Routine) (b : Numbering) (types : Types) (locals : (n : ℕ) → n < b.locals → slot_of (starts_of types) n + words_in types.locals n ≤ r.slots) (levels : (l slot : ℕ) → slice_get types.counters l ≡ Some slot → slot < r.slots) (globals : AreGlobals program types.globals types.scopes) (called : (n : ℕ) (s : Signature) → slice_get b.functions n ≡ Some s → IsKnown program n s) (results : r.results ≡ results_of b.result) (behind : types.raises + 4 < length r.code) where
   abbrev AreIn : List Instruction → Type 0
   AreIn code = AllByRecursion (IsInRange program r) code
 
@@ -190,7 +202,11 @@ module _ (program : PlainProgram) (r : Routine) (b : Numbering) (types : Types) 
   given_needs (New AsUnique (Plain kind a) t) numbered = omega arith
   given_needs (New AsUnique (Fields cs) t) numbered = omega arith
   given_needs (New AsUnique (Array p level n kind a) t) numbered = omega arith
-  given_needs (New (ByHandle h) i t) numbered = absurd numbered
+  given_needs (New (ByHandle h) (Plain kind a) t) numbered = omega arith
+  given_needs (New (ByHandle h) (Fields cs) t) numbered = omega arith
+  given_needs (New (ByHandle h) (Array p level n kind a) t) numbered = omega arith
+  given_needs HeapRegion numbered = omega arith
+  given_needs (FreeKey a) numbered = omega arith
   given_needs (AddressOfCell x t) numbered = omega arith
   given_needs (Store x (Convert from to a) t) numbered = omega arith
   given_needs a numbered = absurd numbered
@@ -202,6 +218,7 @@ module _ (program : PlainProgram) (r : Routine) (b : Numbering) (types : Types) 
   value_room : (a : Expression) (t : ℕ) → Fits b types a → t + words_of_kind (kind_at a) ≤ r.slots → HasOperand (value_operand (starts_of types) a t) (words_of_kind (kind_at a))
   value_room (Number n) t numbered few = tt
   value_room NullPointer t numbered few = tt
+  value_room HeapRegion t numbered few = tt
   value_room (Copy (Local w n) ty) t (within, room) few = omega (arith, locals n within, room)
   value_room (Move w n ty) t (within, room) few = omega (arith, locals n within, room)
   value_room (Peek w n ty) t (within, room) few = omega (arith, locals n within, room)
@@ -295,11 +312,11 @@ module _ (program : PlainProgram) (r : Routine) (b : Numbering) (types : Types) 
   first_left_in a (ThenPointerPeek n o c os) ty d t left (wide, numbered, rest) few = omega (arith, few, wide)
 
   -- where operators follow, there is room for a value
-  abbrev HasRoom : Operations → ℕ → Type 0
-  HasRoom NoOperations t = Unit {0}
-  HasRoom os t = t < r.slots
+  abbrev RoomFor : Operations → ℕ → Type 0
+  RoomFor NoOperations t = Unit {0}
+  RoomFor os t = t < r.slots
 
-  has_room : (os : Operations) (ty : Ty) (t left : ℕ) → FitOperations b types left ty os → 1 ≤ left → t + operations_need os ty left ≤ r.slots → HasRoom os t
+  has_room : (os : Operations) (ty : Ty) (t left : ℕ) → FitOperations b types left ty os → 1 ≤ left → t + operations_need os ty left ≤ r.slots → RoomFor os t
   has_room NoOperations ty t left numbered some few = tt
   has_room (ThenCompute o a os) ty t left numbered some few = omega (arith, few, some)
   has_room (ThenTest o a os) ty t left numbered some few = omega (arith, few, some)
@@ -319,7 +336,7 @@ module _ (program : PlainProgram) (r : Routine) (b : Numbering) (types : Types) 
   LeftRoom NoOperations a t = Unit {0}
   LeftRoom os a t = t + words_of_kind (kind_at a) ≤ r.slots
 
-  left_room : (os : Operations) (a : Expression) (t : ℕ) → Fits b types a → t + expression_need a ≤ r.slots → HasRoom os t → LeftRoom os a t
+  left_room : (os : Operations) (a : Expression) (t : ℕ) → Fits b types a → t + expression_need a ≤ r.slots → RoomFor os t → LeftRoom os a t
   left_room NoOperations a t numbered few room = tt
   left_room os a t numbered few room = omega (arith, few, room, given_needs a numbered)
 
@@ -431,12 +448,12 @@ module _ (program : PlainProgram) (r : Routine) (b : Numbering) (types : Types) 
   assigned_in : (n : ℕ) (c : Converted) (o : Operand) → HasGlobal types n (passed_kind c) → HasOperand o (words_of_kind (passed_kind c)) → AreIn (global_code (passed_words c) (global_of (starts_of types) n) o)
   assigned_in n c o room few =
       subst (λ words. AreIn (global_code words (global_of (starts_of types) n) o)) (sym (passed_is c))
-      (global_in (words_of_kind (passed_kind c)) (global_of (starts_of types) n) o (kind_positive (passed_kind c)) (omega (arith, room, global-room types n (global-inside types n (passed_kind c) room), globals)) few)
+      (global_in (words_of_kind (passed_kind c)) (global_of (starts_of types) n) o (kind_positive (passed_kind c)) (omega (arith, room, global-room types n (global-inside types n (passed_kind c) room), globals.room)) few)
 
   load_in : (l : Lvalue) (t : Ty) (d : ℕ) → FitsPlace b types l (kind_of t) → d + words_of_kind (kind_of t) ≤ r.slots → AreIn (load_code (starts_of types) (words_of t) l d)
   load_in (Local w n) t d (within, room) few =
       (subst (λ words. IsInRange program r (move_of words d (operands.Slot (slot_of (starts_of types) n)))) (type_words t) (move_in (kind_of t) d (operands.Slot (slot_of (starts_of types) n)) few (omega (arith, locals n within, room))), tt)
-  load_in (Global n) t d room few = loads_in (words_of t) (global_of (starts_of types) n) d (omega (arith, room, type_words t, global-room types n (global-inside types n (kind_of t) room), globals)) (omega (arith, few, type_words t))
+  load_in (Global n) t d room few = loads_in (words_of t) (global_of (starts_of types) n) d (omega (arith, room, type_words t, global-room types n (global-inside types n (kind_of t) room), globals.room)) (omega (arith, few, type_words t))
 
   copy_in : (is : Bool) (c : Converted) (o : Operand) (d : ℕ) → HasOperand o (words_of_kind (passed_kind c)) → d + words_of_kind (passed_kind c) ≤ r.slots → AreIn (if is then [] else move_of (passed_words c) d o ∷ [])
   copy_in true c o d inside few = tt
@@ -511,9 +528,9 @@ module _ (program : PlainProgram) (r : Routine) (b : Numbering) (types : Types) 
   saved_in words address (operands.Slot n) room inside = stores_in words address 0 n room inside
   saved_in words address (operands.Word n) room inside = ((room, tt), tt)
 
-  object_in : (handle words d t : ℕ) → d < r.slots → t + words + 1 ≤ r.slots → AreIn (object_code handle words d t)
-  object_in handle words d t room few = (
-    record { answer_in_range = few; first_in_range = tt; second_in_range = tt },
+  object_in : (handle : Operand) (words d t : ℕ) → IsOperand r handle → d < r.slots → t + words + 1 ≤ r.slots → AreIn (object_code handle words d t)
+  object_in handle words d t inside room few = (
+    record { answer_in_range = few; first_in_range = inside; second_in_range = tt },
     append (stores_code words (t + words) 0 t) (instructions.Move d (operands.Slot (t + words)) ∷ []) (stores_in words (t + words) 0 t (omega (arith, few)) (omega (arith, few))) ((room, omega (arith, few)), tt),
   )
 
@@ -526,13 +543,18 @@ module _ (program : PlainProgram) (r : Routine) (b : Numbering) (types : Types) 
       by true = tt
       by false = ((few, inside), tt)
 
-  loaded_in : (t : Ty) (narrow : Bool) (o : Operand) (bytes d : ℕ) → (words_of t == 1) ≡ narrow → IsOperand r o → d + words_of_kind (kind_of t) ≤ r.slots
-      → AreIn (if narrow then instructions.Load d o bytes ∷ [] else address_code o bytes d ++ (instructions.Load (d + 2) (operands.Slot d) 8 ∷ instructions.Load (d + 1) (operands.Slot d) 4 ∷ instructions.Load d (operands.Slot d) 0 ∷ []))
-  loaded_in t true o bytes d narrow inside room = ((omega (arith, room, kind_positive (kind_of t)), inside), tt)
-  loaded_in t false o bytes d wide inside room =
-      let three : words_of_kind (kind_of t) ≡ 3 = ap words_of_kind (wide_kind (kind_of t) (ap (λ (n : ℕ). n == 1) (type_words t) ∙ wide)) in
-      let first : d < r.slots = omega (arith, room, three) in
-      append (address_code o bytes d) _ (address_in o bytes d inside first) ((omega (arith, room, three), first), ((omega (arith, room, three), first), ((first, first), tt)))
+  loaded_in : (ty : Ty) (narrow : Bool) (o : Operand) (bytes d t : ℕ) → (words_of ty == 1) ≡ narrow → IsOperand r o → d + words_of_kind (kind_of ty) ≤ r.slots → t < r.slots
+      → AreIn (if narrow then instructions.Load d o bytes ∷ [] else address_code o bytes t ++ (instructions.Load (d + 2) (operands.Slot t) 8 ∷ instructions.Load (d + 1) (operands.Slot t) 4 ∷ instructions.Load d (operands.Slot t) 0 ∷ []))
+  loaded_in ty true o bytes d t narrow inside room free = ((omega (arith, room, kind_positive (kind_of ty)), inside), tt)
+  loaded_in ty false o bytes d t wide inside room free =
+      let three : words_of_kind (kind_of ty) ≡ 3 = ap words_of_kind (wide_kind (kind_of ty) (ap (λ (n : ℕ). n == 1) (type_words ty) ∙ wide)) in
+      append (address_code o bytes t) _ (address_in o bytes t inside free) ((omega (arith, room, three), free), ((omega (arith, room, three), free), ((omega (arith, room, three), free), tt)))
+
+  -- a place needs its own words
+  own_needed : (x : Dereference) (own : ℕ) → own ≤ dereference_need x own
+  own_needed (Target k a ty) own = omega arith
+  own_needed (Member k a s f ty) own = omega arith
+  own_needed (Element a i ty) own = omega arith
 
   -- a fat pointer whose index is computed has room where it stands
   pointer_room : (a i : Expression) (t : ℕ) → kind_at a ≡ kinds.Fat → Fits b types a → t + 3 ≤ r.slots → pointer_slot (starts_of types) a i t + 3 ≤ r.slots
@@ -626,7 +648,7 @@ module _ (program : PlainProgram) (r : Routine) (b : Numbering) (types : Types) 
 
 module _ (program : PlainProgram) (r : Routine) (b : Numbering) (called : (n : ℕ) (s : Signature) → slice_get b.functions n ≡ Some s → IsKnown program n s) (results : r.results ≡ results_of b.result) where
   mutual
-    expression_in : (types : Types) (locals : (n : ℕ) → n < b.locals → slot_of (starts_of types) n + words_in types.locals n ≤ r.slots) (levels : (l slot : ℕ) → slice_get types.counters l ≡ Some slot → slot < r.slots) (globals : words_of_all types.globals ≡ length program.globals) (behind : types.raises + 4 < length r.code) → (a : Expression) (p d t : ℕ) → Fits b types a → d + words_of_kind (kind_at program r b types locals levels globals called results behind a) ≤ r.slots → t + expression_need a ≤ r.slots → p + length (expression_code (starts_of types) a p d t) < length r.code → AreIn program r b types locals levels globals called results behind (expression_code (starts_of types) a p d t)
+    expression_in : (types : Types) (locals : (n : ℕ) → n < b.locals → slot_of (starts_of types) n + words_in types.locals n ≤ r.slots) (levels : (l slot : ℕ) → slice_get types.counters l ≡ Some slot → slot < r.slots) (globals : AreGlobals program types.globals types.scopes) (behind : types.raises + 4 < length r.code) → (a : Expression) (p d t : ℕ) → Fits b types a → d + words_of_kind (kind_at program r b types locals levels globals called results behind a) ≤ r.slots → t + expression_need a ≤ r.slots → p + length (expression_code (starts_of types) a p d t) < length r.code → AreIn program r b types locals levels globals called results behind (expression_code (starts_of types) a p d t)
     expression_in types locals levels globals behind (Number n) p d t numbered room few short = ((omega (arith, room), tt), tt)
     expression_in types locals levels globals behind NullPointer p d t numbered room few short = ((omega (arith, room), tt), tt)
     expression_in types locals levels globals behind (Counter l) p d t numbered room few short =
@@ -706,10 +728,11 @@ module _ (program : PlainProgram) (r : Routine) (b : Numbering) (called : (n : �
     expression_in types locals levels globals behind (Load x) p d t numbered room few short =
         let own = words_of (type_of_place x) in
         let some = words_positive (type_of_place x) in
-        let load = loaded_code own (place_operand (starts_of types) x t) (place_offset (starts_of types) x) d in
+        let load = loaded_code own (place_operand (starts_of types) x t) (place_offset (starts_of types) x) d t in
+        let needed = own_needed program r b types locals levels globals called results behind x own in
         append program r b types locals levels globals called results behind (place_code (starts_of types) x p t) load
         (place_in types locals levels globals behind x own p t numbered some few (omega (arith, short, length-append (place_code (starts_of types) x p t) load)))
-        (loaded_in program r b types locals levels globals called results behind (type_of_place x) (own == 1) (place_operand (starts_of types) x t) (place_offset (starts_of types) x) d refl (place_operand_in program r b types locals levels globals called results behind x own t numbered some few) room)
+        (loaded_in program r b types locals levels globals called results behind (type_of_place x) (own == 1) (place_operand (starts_of types) x t) (place_offset (starts_of types) x) d t refl (place_operand_in program r b types locals levels globals called results behind x own t numbered some few) room (omega (arith, few, some, needed)))
     expression_in types locals levels globals behind (AddressOfCell x ty) p d t numbered room few short =
         addressed_in program r b types locals levels globals called results behind x p d t numbered (omega (arith, room)) (omega (arith, few)) short (λ less. place_in types locals levels globals behind x place_words p t numbered (omega arith) (omega (arith, few)) less)
     expression_in types locals levels globals behind (Store x c ty) p d t (place, numbered) room few short =
@@ -732,26 +755,45 @@ module _ (program : PlainProgram) (r : Routine) (b : Numbering) (called : (n : �
         append program r b types locals levels globals called results behind front back
         (unless_in program r b types locals levels globals called results behind (operand_of (starts_of types) a) inner p (omega (arith, short, long)) (λ less. expression_in types locals levels globals behind a p slot t numbered (slot_fits program r b types locals levels globals called results behind a t numbered free) (omega (arith, few)) less))
         (free_in program r b types locals levels globals called results behind o (p + length front) (value_in program r b types locals levels globals called results behind a t numbered free) (omega (arith, short, long)))
-    expression_in types locals levels globals behind (New OnHeap i ty) p d t numbered room few short = made_in types locals levels globals behind i HEAP 0 ty p d t numbered room (omega (arith, few)) short
-    expression_in types locals levels globals behind (New AsUnique i ty) p d t numbered room few short = made_in types locals levels globals behind i UNIQUE 1 ty p d t numbered room (omega (arith, few)) short
-    expression_in types locals levels globals behind (New (ByHandle h) i ty) p d t numbered room few short = absurd numbered
+    expression_in types locals levels globals behind (New OnHeap i ty) p d t numbered room few short = made_in types locals levels globals behind i (operands.Word HEAP) 0 t ty p d t numbered tt room (omega arith) (omega (arith, few)) short
+    expression_in types locals levels globals behind (New AsUnique i ty) p d t numbered room few short = made_in types locals levels globals behind i (operands.Word UNIQUE) 1 t ty p d t numbered tt room (omega arith) (omega (arith, few)) short
+    expression_in types locals levels globals behind (New (ByHandle h) i ty) p d t (handle, numbered, made) room few short =
+        let front = expression_code (starts_of types) h p t t in
+        let back = made_code (starts_of types) i (operands.Slot t) (p + length front) d (t + 1) in
+        let some = operand_positive (type_of h) in
+        let own = made_needs i (operand_words (type_of h)) (words_of ty) in
+        let long = length-append front back in
+        append program r b types locals levels globals called results behind front back (expression_in types locals levels globals behind h p t t numbered (omega (arith, few, own, some, ap words_of_kind handle)) (omega (arith, few)) (omega (arith, short, long)))
+        (made_in types locals levels globals behind i (operands.Slot t) (operand_words (type_of h)) t ty (p + length front) d (t + 1) made (omega (arith, few, own, some)) room (omega (arith, some)) (omega (arith, few)) (omega (arith, short, long)))
+    expression_in types locals levels globals behind HeapRegion p d t numbered room few short = ((omega (arith, room), tt), tt)
+    expression_in types locals levels globals behind (FreeKey a) p d t numbered room few short =
+        let slot = value_slot (starts_of types) a t in
+        let o = value_operand (starts_of types) a t in
+        let inner = expression_code (starts_of types) a p slot t in
+        let front = code_unless (operand_of (starts_of types) a) inner in
+        let back = closing_code o in
+        let long = length-append front back in
+        let free : t + words_of_kind (kind_at program r b types locals levels globals called results behind a) ≤ r.slots = omega (arith, few, given_needs program r b types locals levels globals called results behind a numbered, operand_positive (type_of a)) in
+        append program r b types locals levels globals called results behind front back
+        (unless_in program r b types locals levels globals called results behind (operand_of (starts_of types) a) inner p (omega (arith, short, long)) (λ less. expression_in types locals levels globals behind a p slot t numbered (slot_fits program r b types locals levels globals called results behind a t numbered free) (omega (arith, few)) less))
+        (record { answer_in_range = omega arith; first_in_range = value_in program r b types locals levels globals called results behind a t numbered free; second_in_range = tt }, tt)
     expression_in types locals levels globals behind a p d t numbered room few short = absurd numbered
 
-    -- behind a handle of so many words
-    made_in : (types : Types) (locals : (n : ℕ) → n < b.locals → slot_of (starts_of types) n + words_in types.locals n ≤ r.slots) (levels : (l slot : ℕ) → slice_get types.counters l ≡ Some slot → slot < r.slots) (globals : words_of_all types.globals ≡ length program.globals) (behind : types.raises + 4 < length r.code) → (i : Initial) (handle words : ℕ) (ty : Ty) (p d t : ℕ) → FitsObject b types i → d + words_of_kind (made_kind i) ≤ r.slots → t + initial_value_need i words (words_of ty) ≤ r.slots → p + length (made_code (starts_of types) i handle p d t) < length r.code → AreIn program r b types locals levels globals called results behind (made_code (starts_of types) i handle p d t)
-    made_in types locals levels globals behind (Plain kind a) handle words ty p d t (kind_is, numbered) room few short =
+    -- behind a handle of so many words, which is in the first of these slots where it is in one
+    made_in : (types : Types) (locals : (n : ℕ) → n < b.locals → slot_of (starts_of types) n + words_in types.locals n ≤ r.slots) (levels : (l slot : ℕ) → slice_get types.counters l ≡ Some slot → slot < r.slots) (globals : AreGlobals program types.globals types.scopes) (behind : types.raises + 4 < length r.code) → (i : Initial) (handle : Operand) (words first : ℕ) (ty : Ty) (p d t : ℕ) → FitsObject b types i → IsOperand r handle → d + words_of_kind (made_kind i) ≤ r.slots → t ≤ first + words → first + initial_value_need i words (words_of ty) ≤ r.slots → p + length (made_code (starts_of types) i handle p d t) < length r.code → AreIn program r b types locals levels globals called results behind (made_code (starts_of types) i handle p d t)
+    made_in types locals levels globals behind (Plain kind a) handle words first ty p d t (kind_is, numbered) there room place few short =
         let front = expression_code (starts_of types) a p t t in
         let back = object_code handle (words_of_kind kind) d t in
         append program r b types locals levels globals called results behind front back
-        (expression_in types locals levels globals behind a p t t numbered (omega (arith, few, ap words_of_kind kind_is, words_positive ty)) (omega (arith, few)) (omega (arith, short, length-append front back)))
-        (object_in program r b types locals levels globals called results behind handle (words_of_kind kind) d t (omega (arith, room)) (omega (arith, few, words_positive ty)))
-    made_in types locals levels globals behind (Fields cs) handle words ty p d t (some, many, numbered) room few short =
+        (expression_in types locals levels globals behind a p t t numbered (omega (arith, few, place, ap words_of_kind kind_is, words_positive ty)) (omega (arith, few, place)) (omega (arith, short, length-append front back)))
+        (object_in program r b types locals levels globals called results behind handle (words_of_kind kind) d t there (omega (arith, room)) (omega (arith, few, place, words_positive ty)))
+    made_in types locals levels globals behind (Fields cs) handle words first ty p d t (some, many, numbered) there room place few short =
         let front = arguments_code (starts_of types) cs p t in
         let back = object_code handle (all_passed cs) d t in
         append program r b types locals levels globals called results behind front back
-        (arguments_in types locals levels globals behind cs p t t words numbered (omega arith) (omega (arith, few)) (omega (arith, few)) (omega (arith, short, length-append front back)))
-        (object_in program r b types locals levels globals called results behind handle (all_passed cs) d t (omega (arith, room)) (omega (arith, few, arguments_words cs, words_positive ty)))
-    made_in types locals levels globals behind (Array w level n kind a) handle words ty p d t (level_is, kind_is, fits_n, fits_a) room few short =
+        (arguments_in types locals levels globals behind cs p t first words numbered place (omega (arith, few)) (omega (arith, few)) (omega (arith, short, length-append front back)))
+        (object_in program r b types locals levels globals called results behind handle (all_passed cs) d t there (omega (arith, room)) (omega (arith, few, place, arguments_words cs, words_positive ty)))
+    made_in types locals levels globals behind (Array w level n kind a) handle words low ty p d t (level_is, kind_is, fits_n, fits_a) there room place few short =
         let own = words_of_kind kind in
         let first = expression_code (starts_of types) n p t t in
         let m = p + length first in
@@ -765,31 +807,31 @@ module _ (program : PlainProgram) (r : Routine) (b : Numbering) (called : (n : �
         let long_elements = length-append (inner ++ filled) ended in
         let long_both = length-append inner filled in
         append program r b types locals levels globals called results behind first (begun ++ elements)
-        (expression_in types locals levels globals behind n p t t fits_n (omega (arith, few, kind_few (kind_at program r b types locals levels globals called results behind n))) (omega (arith, few)) (omega (arith, short, long)))
+        (expression_in types locals levels globals behind n p t t fits_n (omega (arith, few, place, kind_few (kind_at program r b types locals levels globals called results behind n))) (omega (arith, few, place)) (omega (arith, short, long)))
         (append program r b types locals levels globals called results behind begun elements (
-          (omega (arith, few), tt, omega (arith, behind)),
+          (omega (arith, few, place), tt, omega (arith, behind)),
           (
-            (omega (arith, few), omega (arith, few)),
+            (omega (arith, few, place), omega (arith, few, place)),
             (
-              (omega (arith, few), tt),
+              (omega (arith, few, place), tt),
               (
-                (omega (arith, few), omega (arith, few), tt),
-                ((omega (arith, few), omega (arith, few)), ((omega (arith, few), omega (arith, few), omega (arith, few)), (record { answer_in_range = omega (arith, few); first_in_range = tt; second_in_range = omega (arith, few) }, tt))),
+                (omega (arith, few, place), omega (arith, few, place), tt),
+                ((omega (arith, few, place), omega (arith, few, place)), ((omega (arith, few, place), omega (arith, few, place), omega (arith, few, place)), (record { answer_in_range = omega (arith, few, place); first_in_range = there; second_in_range = omega (arith, few, place) }, tt))),
               ),
             ),
           ),
         ) (
-          (omega (arith, few), omega (arith, few), omega (arith, short, long, long_elements, long_both)),
+          (omega (arith, few, place), omega (arith, few, place), omega (arith, short, long, long_elements, long_both)),
           append program r b types locals levels globals called results behind (inner ++ filled) ended
               (append program r b types locals levels globals called results behind inner filled
-              (expression_in (counted types (t + 2)) locals (levels_inside r types levels (t + 2) (omega (arith, few))) globals behind a (h + 1) (t + 3) (t + 3) (fits_a (t + 2)) (omega (arith, few, ap words_of_kind kind_is)) (omega (arith, few))
+              (expression_in (counted types (t + 2)) locals (levels_inside r types levels (t + 2) (omega (arith, few, place))) globals behind a (h + 1) (t + 3) (t + 3) (fits_a (t + 2)) (omega (arith, few, place, ap words_of_kind kind_is)) (omega (arith, few, place))
               (omega (arith, short, long, long_elements, long_both)))
-              (filled_in program r b types locals levels globals called results behind (own == 1) own h t (omega (arith, few)) (omega (arith, short, long, long_elements, long_both))))
-              ((omega (arith, few), tt), pointer_copied program r b types locals levels globals called results behind d t room (omega (arith, few))),
+              (filled_in program r b types locals levels globals called results behind (own == 1) own h t (omega (arith, few, place)) (omega (arith, short, long, long_elements, long_both))))
+              ((omega (arith, few, place), tt), pointer_copied program r b types locals levels globals called results behind d t room (omega (arith, few, place))),
         ))
 
     -- a place of what has so many words
-    place_in : (types : Types) (locals : (n : ℕ) → n < b.locals → slot_of (starts_of types) n + words_in types.locals n ≤ r.slots) (levels : (l slot : ℕ) → slice_get types.counters l ≡ Some slot → slot < r.slots) (globals : words_of_all types.globals ≡ length program.globals) (behind : types.raises + 4 < length r.code) → (x : Dereference) (own p t : ℕ) → FitsCell b types x → 1 ≤ own → t + dereference_need x own ≤ r.slots → p + length (place_code (starts_of types) x p t) < length r.code → AreIn program r b types locals levels globals called results behind (place_code (starts_of types) x p t)
+    place_in : (types : Types) (locals : (n : ℕ) → n < b.locals → slot_of (starts_of types) n + words_in types.locals n ≤ r.slots) (levels : (l slot : ℕ) → slice_get types.counters l ≡ Some slot → slot < r.slots) (globals : AreGlobals program types.globals types.scopes) (behind : types.raises + 4 < length r.code) → (x : Dereference) (own p t : ℕ) → FitsCell b types x → 1 ≤ own → t + dereference_need x own ≤ r.slots → p + length (place_code (starts_of types) x p t) < length r.code → AreIn program r b types locals levels globals called results behind (place_code (starts_of types) x p t)
     place_in types locals levels globals behind (Target k a ty) own p t (pointer, kind_is, numbered) some few short =
         let slot = value_slot (starts_of types) a t in
         let o = value_operand (starts_of types) a t in
@@ -833,18 +875,18 @@ module _ (program : PlainProgram) (r : Routine) (b : Numbering) (called : (n : �
         (append program r b types locals levels globals called results behind operand back (unless_in program r b types locals levels globals called results behind (operand_of (starts_of types) i) inner m (omega (arith, short, long, long_operand)) (λ less. expression_in types locals levels globals behind i m slot (t + 3) second (slot_fits program r b types locals levels globals called results behind i (t + 3) second free) (omega (arith, few, three)) less))
         ((third, omega (arith, inside), value_in program r b types locals levels globals called results behind i (t + 3) second free), reached_in program r b types locals levels globals called results behind (span_in ty) n (t + 2) t (omega (arith, inside)) third (omega (arith, room, wide))))
 
-    initial_in : (types : Types) (locals : (n : ℕ) → n < b.locals → slot_of (starts_of types) n + words_in types.locals n ≤ r.slots) (levels : (l slot : ℕ) → slice_get types.counters l ≡ Some slot → slot < r.slots) (globals : words_of_all types.globals ≡ length program.globals) (behind : types.raises + 4 < length r.code) → (c : Converted) (p d t : ℕ) → FitsConverted b types c → d + words_of_kind (passed_kind c) ≤ r.slots → t + converted_words c ≤ r.slots → t + converted_need c ≤ r.slots → p + length (initial_code (starts_of types) c p d t) < length r.code → AreIn program r b types locals levels globals called results behind (initial_code (starts_of types) c p d t)
+    initial_in : (types : Types) (locals : (n : ℕ) → n < b.locals → slot_of (starts_of types) n + words_in types.locals n ≤ r.slots) (levels : (l slot : ℕ) → slice_get types.counters l ≡ Some slot → slot < r.slots) (globals : AreGlobals program types.globals types.scopes) (behind : types.raises + 4 < length r.code) → (c : Converted) (p d t : ℕ) → FitsConverted b types c → d + words_of_kind (passed_kind c) ≤ r.slots → t + converted_words c ≤ r.slots → t + converted_need c ≤ r.slots → p + length (initial_code (starts_of types) c p d t) < length r.code → AreIn program r b types locals levels globals called results behind (initial_code (starts_of types) c p d t)
     initial_in types locals levels globals behind (Convert from to a) p d t (kind, wide, numbered) room free few short =
         initial_by program r b types locals levels globals called results behind (converts_there from to) from to a p d t kind wide numbered room free refl (λ slot fits less. expression_in types locals levels globals behind a p slot t numbered fits few less) short
 
-    converted_in : (types : Types) (locals : (n : ℕ) → n < b.locals → slot_of (starts_of types) n + words_in types.locals n ≤ r.slots) (levels : (l slot : ℕ) → slice_get types.counters l ≡ Some slot → slot < r.slots) (globals : words_of_all types.globals ≡ length program.globals) (behind : types.raises + 4 < length r.code) → (c : Converted) (p t : ℕ) → FitsConverted b types c → t + converted_words c ≤ r.slots → t + converted_need c ≤ r.slots → p + length (converted_code (starts_of types) c p t) < length r.code → AreIn program r b types locals levels globals called results behind (converted_code (starts_of types) c p t)
+    converted_in : (types : Types) (locals : (n : ℕ) → n < b.locals → slot_of (starts_of types) n + words_in types.locals n ≤ r.slots) (levels : (l slot : ℕ) → slice_get types.counters l ≡ Some slot → slot < r.slots) (globals : AreGlobals program types.globals types.scopes) (behind : types.raises + 4 < length r.code) → (c : Converted) (p t : ℕ) → FitsConverted b types c → t + converted_words c ≤ r.slots → t + converted_need c ≤ r.slots → p + length (converted_code (starts_of types) c p t) < length r.code → AreIn program r b types locals levels globals called results behind (converted_code (starts_of types) c p t)
     converted_in types locals levels globals behind (Convert from to a) p t (kind, wide, numbered) room few short =
         let front = expression_code (starts_of types) a p t t in
         let back = conversion_code (starts_of types) from to (span_of a) (operands.Slot t) (p + length front) in
         append program r b types locals levels globals called results behind front back (expression_in types locals levels globals behind a p t t numbered (omega (arith, room, ap words_of_kind kind)) few (omega (arith, short, length-append front back)))
         (conversion_in program r b types locals levels globals called results behind from to (span_of a) (operands.Slot t) (p + length front) (omega (arith, room)) (omega (arith, short, length-append front back)))
 
-    converted_operand_in : (types : Types) (locals : (n : ℕ) → n < b.locals → slot_of (starts_of types) n + words_in types.locals n ≤ r.slots) (levels : (l slot : ℕ) → slice_get types.counters l ≡ Some slot → slot < r.slots) (globals : words_of_all types.globals ≡ length program.globals) (behind : types.raises + 4 < length r.code) → (c : Converted) (p t : ℕ) → FitsConverted b types c → t + converted_words c ≤ r.slots → t + converted_need c ≤ r.slots → p + length (converted_operand_code (starts_of types) c p t) < length r.code → AreIn program r b types locals levels globals called results behind (converted_operand_code (starts_of types) c p t)
+    converted_operand_in : (types : Types) (locals : (n : ℕ) → n < b.locals → slot_of (starts_of types) n + words_in types.locals n ≤ r.slots) (levels : (l slot : ℕ) → slice_get types.counters l ≡ Some slot → slot < r.slots) (globals : AreGlobals program types.globals types.scopes) (behind : types.raises + 4 < length r.code) → (c : Converted) (p t : ℕ) → FitsConverted b types c → t + converted_words c ≤ r.slots → t + converted_need c ≤ r.slots → p + length (converted_operand_code (starts_of types) c p t) < length r.code → AreIn program r b types locals levels globals called results behind (converted_operand_code (starts_of types) c p t)
     converted_operand_in types locals levels globals behind (Convert from to a) p t (kind, wide, numbered) room few short =
         let known = source_of (starts_of types) (Convert from to a) in
         let slot = source_slot (starts_of types) (Convert from to a) t in
@@ -857,7 +899,7 @@ module _ (program : PlainProgram) (r : Routine) (b : Numbering) (called : (n : �
         (conversion_in program r b types locals levels globals called results behind from to (span_of a) o (p + length front) (brought_room program r b types locals levels globals called results behind (Convert from to a) t (kind, wide, numbered) room) (omega (arith, short, length-append front back)))
 
     -- the arguments of `putchar`, which all are evaluated with the same temporaries
-    printed_in : (types : Types) (locals : (n : ℕ) → n < b.locals → slot_of (starts_of types) n + words_in types.locals n ≤ r.slots) (levels : (l slot : ℕ) → slice_get types.counters l ≡ Some slot → slot < r.slots) (globals : words_of_all types.globals ≡ length program.globals) (behind : types.raises + 4 < length r.code) → (cs : Arguments) (p t first before : ℕ) → FitArguments b types cs → t + argument_words cs ≤ r.slots → t ≤ first + before → first + arguments_need cs before ≤ r.slots → p + length (printed_code (starts_of types) cs p t) < length r.code → AreIn program r b types locals levels globals called results behind (printed_code (starts_of types) cs p t)
+    printed_in : (types : Types) (locals : (n : ℕ) → n < b.locals → slot_of (starts_of types) n + words_in types.locals n ≤ r.slots) (levels : (l slot : ℕ) → slice_get types.counters l ≡ Some slot → slot < r.slots) (globals : AreGlobals program types.globals types.scopes) (behind : types.raises + 4 < length r.code) → (cs : Arguments) (p t first before : ℕ) → FitArguments b types cs → t + argument_words cs ≤ r.slots → t ≤ first + before → first + arguments_need cs before ≤ r.slots → p + length (printed_code (starts_of types) cs p t) < length r.code → AreIn program r b types locals levels globals called results behind (printed_code (starts_of types) cs p t)
     printed_in types locals levels globals behind NoArguments p t first before numbered room place few short = tt
     printed_in types locals levels globals behind (MoreArguments c cs) p t first before (numbered, rest) room place few short =
         let front = converted_operand_code (starts_of types) c p t in
@@ -866,7 +908,7 @@ module _ (program : PlainProgram) (r : Routine) (b : Numbering) (called : (n : �
         (printed_in types locals levels globals behind cs (p + length front) t first (before + converted_words c) rest (omega (arith, room)) (omega (arith, place)) (omega (arith, few)) (omega (arith, short, length-append front back)))
 
     -- the arguments begin at `first`, and those before have so many words
-    arguments_in : (types : Types) (locals : (n : ℕ) → n < b.locals → slot_of (starts_of types) n + words_in types.locals n ≤ r.slots) (levels : (l slot : ℕ) → slice_get types.counters l ≡ Some slot → slot < r.slots) (globals : words_of_all types.globals ≡ length program.globals) (behind : types.raises + 4 < length r.code) → (cs : Arguments) (p t first before : ℕ) → FitArguments b types cs → t ≤ first + before → first + (before + argument_words cs) ≤ r.slots → first + arguments_need cs before ≤ r.slots → p + length (arguments_code (starts_of types) cs p t) < length r.code → AreIn program r b types locals levels globals called results behind (arguments_code (starts_of types) cs p t)
+    arguments_in : (types : Types) (locals : (n : ℕ) → n < b.locals → slot_of (starts_of types) n + words_in types.locals n ≤ r.slots) (levels : (l slot : ℕ) → slice_get types.counters l ≡ Some slot → slot < r.slots) (globals : AreGlobals program types.globals types.scopes) (behind : types.raises + 4 < length r.code) → (cs : Arguments) (p t first before : ℕ) → FitArguments b types cs → t ≤ first + before → first + (before + argument_words cs) ≤ r.slots → first + arguments_need cs before ≤ r.slots → p + length (arguments_code (starts_of types) cs p t) < length r.code → AreIn program r b types locals levels globals called results behind (arguments_code (starts_of types) cs p t)
     arguments_in types locals levels globals behind NoArguments p t first before numbered place few needs short = tt
     arguments_in types locals levels globals behind (MoreArguments c cs) p t first before (numbered, rest) place few needs short =
         let front = converted_code (starts_of types) c p t in
@@ -875,7 +917,7 @@ module _ (program : PlainProgram) (r : Routine) (b : Numbering) (called : (n : �
         (converted_in types locals levels globals behind c p t numbered (omega (arith, few, place)) (omega (arith, needs, place)) (omega (arith, short, length-append front back)))
         (arguments_in types locals levels globals behind cs (p + length front) (t + passed_words c) first (before + converted_words c) rest (omega (arith, place, passed_is c, converted_least c)) (omega (arith, few)) (omega (arith, needs)) (omega (arith, short, length-append front back)))
 
-    operations_in : (types : Types) (locals : (n : ℕ) → n < b.locals → slot_of (starts_of types) n + words_in types.locals n ≤ r.slots) (levels : (l slot : ℕ) → slice_get types.counters l ≡ Some slot → slot < r.slots) (globals : words_of_all types.globals ≡ length program.globals) (behind : types.raises + 4 < length r.code) → (os : Operations) (ty : Ty) (kind : Kind) (p : ℕ) (l : Operand) (d t left : ℕ) → FitOperations b types left ty os → d + words_of_kind (chain_kind kind os) ≤ r.slots → LeftIn program r b types locals levels globals called results behind os l → IsOperand r l → 1 ≤ left → t + operations_need os ty left ≤ r.slots → p + length (operations_code (starts_of types) os p l d t) < length r.code → AreIn program r b types locals levels globals called results behind (operations_code (starts_of types) os p l d t)
+    operations_in : (types : Types) (locals : (n : ℕ) → n < b.locals → slot_of (starts_of types) n + words_in types.locals n ≤ r.slots) (levels : (l slot : ℕ) → slice_get types.counters l ≡ Some slot → slot < r.slots) (globals : AreGlobals program types.globals types.scopes) (behind : types.raises + 4 < length r.code) → (os : Operations) (ty : Ty) (kind : Kind) (p : ℕ) (l : Operand) (d t left : ℕ) → FitOperations b types left ty os → d + words_of_kind (chain_kind kind os) ≤ r.slots → LeftIn program r b types locals levels globals called results behind os l → IsOperand r l → 1 ≤ left → t + operations_need os ty left ≤ r.slots → p + length (operations_code (starts_of types) os p l d t) < length r.code → AreIn program r b types locals levels globals called results behind (operations_code (starts_of types) os p l d t)
     operations_in types locals levels globals behind NoOperations ty kind p l d t left numbered room all inside some few short = tt
     operations_in types locals levels globals behind (ThenCompute o a os) ty kind p l d t left (numbered, rest) room all inside some few short =
         let inner = expression_code (starts_of types) a p (value_slot (starts_of types) a (suc t)) (suc t) in
@@ -933,7 +975,7 @@ module _ (program : PlainProgram) (r : Routine) (b : Numbering) (called : (n : �
         (right_in program r b types locals levels globals called results behind o a ty p l next t left numbered wide next_room all inside (omega (arith, few)) (omega (arith, short, long)) (λ slot fits less. expression_in types locals levels globals behind a p slot (behind_left o t) numbered fits (omega (arith, few, wide)) less))
         (operations_in types locals levels globals behind os ty (operator_kind o) (p + length front) (operands.Slot next) d t (words_of ty) rest room (next_left_in program r b types locals levels globals called results behind os ty d t (words_of ty) rest (omega (arith, few))) next_few (words_positive ty) (omega (arith, few)) (omega (arith, short, long)))
 
-module _ (program : PlainProgram) (r : Routine) (b : Numbering) (types : Types) (locals : (n : ℕ) → n < b.locals → slot_of (starts_of types) n + words_in types.locals n ≤ r.slots) (levels : (l slot : ℕ) → slice_get types.counters l ≡ Some slot → slot < r.slots) (globals : words_of_all types.globals ≡ length program.globals) (called : (n : ℕ) (s : Signature) → slice_get b.functions n ≡ Some s → IsKnown program n s) (results : r.results ≡ results_of b.result) (behind : types.raises + 4 < length r.code) (no_return : All (λ i. is_return i ≡ false) r.code) where
+module _ (program : PlainProgram) (r : Routine) (b : Numbering) (types : Types) (locals : (n : ℕ) → n < b.locals → slot_of (starts_of types) n + words_in types.locals n ≤ r.slots) (levels : (l slot : ℕ) → slice_get types.counters l ≡ Some slot → slot < r.slots) (globals : AreGlobals program types.globals types.scopes) (called : (n : ℕ) (s : Signature) → slice_get b.functions n ≡ Some s → IsKnown program n s) (results : r.results ≡ results_of b.result) (behind : types.raises + 4 < length r.code) (no_return : All (λ i. is_return i ≡ false) r.code) where
   assignment_in : (l : Lvalue) (c : Converted) (p t : ℕ) → FitsPlace b types l (passed_kind c) → FitsConverted b types c → t + converted_words c ≤ r.slots → t + converted_need c ≤ r.slots → p + length (assignment_code (starts_of types) l c p t) < length r.code → AreIn program r b types locals levels globals called results behind (assignment_code (starts_of types) l c p t)
   assignment_in (Local w n) c p t (within, own) numbered free few short = initial_in program r b called results types locals levels globals behind c p (slot_of (starts_of types) n) t numbered (omega (arith, locals n within, own)) free few short
   assignment_in (Global n) c p t within numbered free few short =
@@ -998,26 +1040,79 @@ module _ (program : PlainProgram) (r : Routine) (b : Numbering) (types : Types) 
       by None = (value_in program r b types locals levels globals called results behind (Binary a (ThenCompute o c NoOperations) ty) t (first, (second, none)) (omega (arith, few)), tt)
   compared_in a t numbered few = (value_in program r b types locals levels globals called results behind a t numbered (omega (arith, few, kind_few (kind_at program r b types locals levels globals called results behind a))), tt)
 
-  -- Handlers that are closed from a slot on: none, or records that are slots of the function.
-  abbrev Closes : (first t : ℕ) → Type 0
-  Closes first t = (first ≤ t) × ((first == t) ≡ false → first + RECORD_WORDS ≤ r.slots)
+  -- ---- regions
 
-  abbrev HasExits : Exits → (t : ℕ) → Type 0
-  HasExits exits t = Closes exits.loop_record t × Closes exits.first_record t
+  scopes_in : (known : Option ℕ) (o : Operand) → types.scopes ≡ known → IsOperand r o → AreIn program r b types locals levels globals called results behind (scopes_code_in known o)
+  scopes_in None o is inside = tt
+  scopes_in (Some global) o is inside = ((globals.inside global is, inside), tt)
 
-  closes_none : (t : ℕ) → Closes t t
-  closes_none t = (omega arith, λ other. absurd (let f : true ≡ false = sym (eq-eqb t t refl) ∙ other in cc))
+  -- a local of this kind gets a value
+  named_in : (kind : Kind) (n : ℕ) (o : Operand) → n < b.locals → HasRoom types n kind → HasOperand program r b types locals levels globals called results behind o (words_of_kind kind) → AreIn program r b types locals levels globals called results behind (named_code (starts_of types) (words_of_kind kind) n o)
+  named_in kind n o within room inside = (move_in program r b types locals levels globals called results behind kind (slot_of (starts_of types) n) o (omega (arith, locals n within, room)) inside, tt)
 
-  leave_in : (first t : ℕ) → Closes first t → AreIn program r b types locals levels globals called results behind (leave_code first t)
-  leave_in first t (below, room) = by (first == t) refl
-    where
-      by : (none : Bool) → (first == t) ≡ none → AreIn program r b types locals levels globals called results behind (if none then [] else instructions.Leave first ∷ [])
-      by true is = tt
-      by false is = (room is, tt)
+  opened_in : (n t : ℕ) → n < b.locals → HasRoom types n kinds.Handle → t + 3 ≤ r.slots → AreIn program r b types locals levels globals called results behind (opened_code (starts_of types) n t)
+  opened_in n t within room few = (
+    record { answer_in_range = omega (arith, few); first_in_range = tt; second_in_range = tt },
+    (
+      (omega (arith, few), omega (arith, few)),
+      (
+        (omega (arith, few), omega (arith, few), tt),
+        append program r b types locals levels globals called results behind (scopes_code (starts_of types) (operands.Slot (t + 2))) _ (scopes_in types.scopes (operands.Slot (t + 2)) refl (omega (arith, few))) (named_in kinds.Handle n (operands.Slot (t + 1)) within room (omega (arith, few))),
+      ),
+    ),
+  )
 
-  return_in : (v : Option Converted) (p : ℕ) (exits : Exits) (t : ℕ) → FitsReturn b types b.result v → HasExits exits t → t + initial_need v + spare_slots ≤ r.slots → p + length (return_code (starts_of types) v p exits t) < length r.code
+  closed_in : (m : ℕ) → m < r.slots → AreIn program r b types locals levels globals called results behind (closed_code (starts_of types) m)
+  closed_in m inside = (record { answer_in_range = omega arith; first_in_range = inside; second_in_range = tt }, scopes_in types.scopes (operands.Slot m) refl inside)
+
+  dynamic_in : (n t : ℕ) → n < b.locals → HasRoom types n kinds.Key → t < r.slots → AreIn program r b types locals levels globals called results behind (dynamic_code (starts_of types) n t)
+  dynamic_in n t within room few =
+      (record { answer_in_range = omega (arith, few); first_in_range = tt; second_in_range = tt }, named_in kinds.Key n (operands.Slot t) within room (omega (arith, few)))
+
+  -- ---- ways out
+
+  -- the outermost handler's record, and the mark of the outermost lexical region, where there is one, are slots of the function
+  abbrev IsRecord : Option ℕ → Type 0
+  IsRecord None = Unit {0}
+  IsRecord (Some first) = first + RECORD_WORDS ≤ r.slots
+
+  abbrev IsMark : Option ℕ → Type 0
+  IsMark None = Unit {0}
+  IsMark (Some m) = m < r.slots
+
+  abbrev CanLeave : Opened → Type 0
+  CanLeave opened = IsRecord opened.handler × IsMark opened.mark
+
+  abbrev HasExits : Exits → Type 0
+  HasExits exits = CanLeave exits.in_loop × CanLeave exits.in_function
+
+  handlers_in : (first : Option ℕ) → IsRecord first → AreIn program r b types locals levels globals called results behind (handlers_code first)
+  handlers_in None inside = tt
+  handlers_in (Some first) inside = (inside, tt)
+
+  marks_in : (mark : Option ℕ) → IsMark mark → AreIn program r b types locals levels globals called results behind (marks_code (starts_of types) mark)
+  marks_in None inside = tt
+  marks_in (Some m) inside = closed_in m inside
+
+  leave_in : (opened : Opened) → CanLeave opened → AreIn program r b types locals levels globals called results behind (leave_code (starts_of types) opened)
+  leave_in opened (record_inside, mark_inside) = append program r b types locals levels globals called results behind (handlers_code opened.handler) (marks_code (starts_of types) opened.mark) (handlers_in opened.handler record_inside) (marks_in opened.mark mark_inside)
+
+  -- what a `try` keeps
+  kept_in : (known : Option ℕ) (t : ℕ) → types.scopes ≡ known → t + RECORD_WORDS < r.slots → AreIn program r b types locals levels globals called results behind (kept_code_in known t)
+  kept_in None t is free = tt
+  kept_in (Some global) t is free = ((free, globals.inside global is), tt)
+
+  restored_in : (known : Option ℕ) (t : ℕ) → t + RECORD_WORDS < r.slots → AreIn program r b types locals levels globals called results behind (restored_code_in (starts_of types) known t)
+  restored_in None t free = tt
+  restored_in (Some global) t free = closed_in (t + RECORD_WORDS) free
+
+  record_near : (known : Option ℕ) (t : ℕ) → behind_record_in known t ≤ t + RECORD_WORDS + 1
+  record_near None t = omega arith
+  record_near (Some global) t = omega arith
+
+  return_in : (v : Option Converted) (p : ℕ) (exits : Exits) (t : ℕ) → FitsReturn b types b.result v → HasExits exits → t + initial_need v + spare_slots ≤ r.slots → p + length (return_code (starts_of types) v p exits t) < length r.code
       → AreIn program r b types locals levels globals called results behind (return_code (starts_of types) v p exits t)
-  return_in None p exits t numbered outside few short = append program r b types locals levels globals called results behind (leave_code exits.first_record t) _ (leave_in exits.first_record t outside.1) (omega (arith, few, results, results_few b.result), tt)
+  return_in None p exits t numbered outside few short = append program r b types locals levels globals called results behind (leave_code (starts_of types) exits.in_function) _ (leave_in exits.in_function outside.1) (omega (arith, few, results, results_few b.result), tt)
   return_in (Some (Convert from to a)) p exits t numbered outside few short =
       let c = Convert from to a in
       let known = source_of (starts_of types) c in
@@ -1025,7 +1120,7 @@ module _ (program : PlainProgram) (r : Routine) (b : Numbering) (types : Types) 
       let inner = expression_code (starts_of types) a p t t in
       let front = code_unless_slot known inner in
       let conversion = conversion_code (starts_of types) from to (span_of a) (operands.Slot s) (p + length front) in
-      let leave = leave_code exits.first_record t in
+      let leave = leave_code (starts_of types) exits.in_function in
       let back = instructions.Finish s ∷ [] in
       let long : length (((front ++ conversion) ++ leave) ++ back) ≡ length (front ++ conversion) + length leave + 1
       = length-append ((front ++ conversion) ++ leave) back ∙ ap (λ (n : ℕ). n + 1) (length-append (front ++ conversion) leave) in
@@ -1036,7 +1131,7 @@ module _ (program : PlainProgram) (r : Routine) (b : Numbering) (types : Types) 
       (append program r b types locals levels globals called results behind (front ++ conversion) leave
       (append program r b types locals levels globals called results behind front conversion (unless_slot_in program r b types locals levels globals called results behind known inner p (omega (arith, short, long, long_front)) (λ less. expression_in program r b called results types locals levels globals behind a p t t is (omega (arith, few, kind_few (kind_at program r b types locals levels globals called results behind a))) (omega (arith, few)) less))
       (conversion_in program r b types locals levels globals called results behind from to (span_of a) (operands.Slot s) (p + length front) there (omega (arith, short, long, long_front))))
-      (leave_in exits.first_record t outside.1)) (omega (arith, there, results, words), tt)
+      (leave_in exits.in_function outside.1)) (omega (arith, there, results, words), tt)
     where
       value_of : (result : Option Ty) → FitsReturn b types result (Some (Convert from to a)) → (results_of result ≡ words_of_kind to) × (from ≡ kind_at program r b types locals levels globals called results behind a) × Fits b types a
       value_of None numbered = absurd numbered
@@ -1081,14 +1176,14 @@ module _ (program : PlainProgram) (r : Routine) (b : Numbering) (types : Types) 
   read_in (VariableSide (Local w n) ty) kind s d (within, own) low room =
       (move_in program r b types locals levels globals called results behind kind d (operands.Slot (slot_of (starts_of types) n)) room (omega (arith, locals n within, own)), tt)
   read_in (VariableSide (Global n) ty) kind s d within low room =
-      loads_in program r b types locals levels globals called results behind (words_of_kind kind) (global_of (starts_of types) n) d (omega (arith, within, global-room types n (global-inside types n kind within), globals)) room
+      loads_in program r b types locals levels globals called results behind (words_of_kind kind) (global_of (starts_of types) n) d (omega (arith, within, global-room types n (global-inside types n kind within), globals.room)) room
   read_in (CellSide x) kind s d numbered low room = reads_in (words_of_kind kind) s 0 d low room
 
   write_in : (a : Side) (kind : Kind) (s v : ℕ) → FitsSide b types a kind → s < r.slots → v + words_of_kind kind ≤ r.slots → AreIn program r b types locals levels globals called results behind (write_side (starts_of types) a (words_of_kind kind) s v)
   write_in (VariableSide (Local w n) ty) kind s v (within, own) low room =
       (move_in program r b types locals levels globals called results behind kind (slot_of (starts_of types) n) (operands.Slot v) (omega (arith, locals n within, own)) room, tt)
   write_in (VariableSide (Global n) ty) kind s v within low room =
-      global_in program r b types locals levels globals called results behind (words_of_kind kind) (global_of (starts_of types) n) (operands.Slot v) (kind_positive kind) (omega (arith, within, global-room types n (global-inside types n kind within), globals)) room
+      global_in program r b types locals levels globals called results behind (words_of_kind kind) (global_of (starts_of types) n) (operands.Slot v) (kind_positive kind) (omega (arith, within, global-room types n (global-inside types n kind within), globals.room)) room
   write_in (CellSide x) kind s v numbered low room = stores_in program r b types locals levels globals called results behind (words_of_kind kind) s 0 v low room
 
   right_near : (a : Side) (t : ℕ) → right_slot a t ≤ t + 1
@@ -1139,13 +1234,25 @@ module _ (program : PlainProgram) (r : Routine) (b : Numbering) (types : Types) 
   caught_in None t numbered few = tt
   caught_in (Some n) t (within, room) few = ((omega (arith, locals n within, room), few), tt)
 
-  -- one handler more is open inside a `try`
-  exits_inside : (exits : Exits) (t : ℕ) → HasExits exits t → t + RECORD_WORDS ≤ r.slots → HasExits exits (t + RECORD_WORDS)
-  exits_inside exits t (in_loop, in_function) room =
-      ((omega (arith, in_loop.0), λ other. omega (arith, in_loop.0, room)), (omega (arith, in_function.0), λ other. omega (arith, in_function.0, room)))
+  -- one handler more is open inside a `try`, and one region more behind its item
+  record_behind : (first : Option ℕ) (slot : ℕ) → IsRecord first → slot + RECORD_WORDS ≤ r.slots → IsRecord (outermost first slot)
+  record_behind None slot inside room = room
+  record_behind (Some first) slot inside room = inside
+
+  mark_behind : (mark : Option ℕ) (slot : ℕ) → IsMark mark → slot < r.slots → IsMark (outermost mark slot)
+  mark_behind None slot inside room = room
+  mark_behind (Some m) slot inside room = inside
+
+  exits_inside : (exits : Exits) (slot : ℕ) → HasExits exits → slot + RECORD_WORDS ≤ r.slots → HasExits (inside_try exits slot)
+  exits_inside exits slot ((loop_record, loop_mark), (first_record, first_mark)) room =
+      ((record_behind exits.in_loop.handler slot loop_record room, loop_mark), (record_behind exits.in_function.handler slot first_record room, first_mark))
+
+  exits_behind : (exits : Exits) (slot : ℕ) → HasExits exits → slot < r.slots → HasExits (inside_region exits slot)
+  exits_behind exits slot ((loop_record, loop_mark), (first_record, first_mark)) room =
+      ((loop_record, mark_behind exits.in_loop.mark slot loop_mark room), (first_record, mark_behind exits.in_function.mark slot first_mark room))
 
   mutual
-    statement_in : (s : Statement) (in_loop : Bool) (p : ℕ) (exits : Exits) (t : ℕ) → FitsStatement b types in_loop s → (in_loop ≡ true → exits.head + 2 < length r.code) → HasExits exits t → t + kept_by s + statement_need s + spare_slots ≤ r.slots → p + length (statement_code (starts_of types) s p exits t) < length r.code → AreIn program r b types locals levels globals called results behind (statement_code (starts_of types) s p exits t)
+    statement_in : (s : Statement) (in_loop : Bool) (p : ℕ) (exits : Exits) (t : ℕ) → FitsStatement b types in_loop s → (in_loop ≡ true → exits.head + 2 < length r.code) → HasExits exits → t + kept_by s + statement_need s + spare_slots ≤ r.slots → p + length (statement_code (starts_of types) s p exits t) < length r.code → AreIn program r b types locals levels globals called results behind (statement_code (starts_of types) s p exits t)
     statement_in (Block n js) in_loop p exits t numbered around outside few short = items_in js in_loop p exits t numbered around outside few short
     statement_in Empty in_loop p exits t numbered around outside few short = tt
     statement_in (Evaluate a) in_loop p exits t numbered around outside few short = discarded_in a p t numbered (omega (arith, few)) short
@@ -1168,7 +1275,7 @@ module _ (program : PlainProgram) (r : Routine) (b : Numbering) (types : Types) 
     statement_in (While w a s) in_loop p exits t (numbered_a, numbered_s) around outside few short =
         let condition = condition_code (starts_of types) a (p + 2) t in
         let m = p + 2 + length condition in
-        let body = statement_code (starts_of types) s (m + 1) (inside_loop p t exits) t in
+        let body = statement_code (starts_of types) s (m + 1) (inside_loop p exits) t in
         let test = failing_jump (condition_of (starts_of types) a t) (break_target p) ∷ body in
         let again = instructions.Jump (continue_target p) ∷ [] in
         let long = length-append (condition ++ test) again in
@@ -1179,34 +1286,48 @@ module _ (program : PlainProgram) (r : Routine) (b : Numbering) (types : Types) 
             omega (arith, short, long, long_front),
             append program r b types locals levels globals called results behind (condition ++ test) again
                 (append program r b types locals levels globals called results behind condition test (condition_in a (p + 2) t numbered_a (omega (arith, few)) (omega (arith, short, long, long_front)))
-                ((left, right, omega (arith, short, long, long_front)), statement_in s true (m + 1) (inside_loop p t exits) t numbered_s (λ inside. omega (arith, short, long, long_front)) (closes_none t, outside.1) (omega (arith, few)) (omega (arith, short, long, long_front))))
+                ((left, right, omega (arith, short, long, long_front)), statement_in s true (m + 1) (inside_loop p exits) t numbered_s (λ inside. omega (arith, short, long, long_front)) ((tt, tt), outside.1) (omega (arith, few)) (omega (arith, short, long, long_front))))
                 (omega (arith, short, long, long_front), tt),
           ),
         )
     statement_in (Return v) in_loop p exits t numbered around outside few short = return_in v p exits t numbered outside (omega (arith, few)) short
-    statement_in Break in_loop p exits t numbered around outside few short = append program r b types locals levels globals called results behind (leave_code exits.loop_record t) _ (leave_in exits.loop_record t outside.0) (omega (arith, around numbered), tt)
-    statement_in Continue in_loop p exits t numbered around outside few short = append program r b types locals levels globals called results behind (leave_code exits.loop_record t) _ (leave_in exits.loop_record t outside.0) (omega (arith, around numbered), tt)
+    statement_in Break in_loop p exits t numbered around outside few short = append program r b types locals levels globals called results behind (leave_code (starts_of types) exits.in_loop) _ (leave_in exits.in_loop outside.0) (omega (arith, around numbered), tt)
+    statement_in Continue in_loop p exits t numbered around outside few short = append program r b types locals levels globals called results behind (leave_code (starts_of types) exits.in_loop) _ (leave_in exits.in_loop outside.0) (omega (arith, around numbered), tt)
     statement_in (Throw tag v) in_loop p exits t (word, numbered) around outside few short =
         let front = thrown_code (starts_of types) v p t in
         let back = instructions.Throw (tag_operand tag) (thrown_operand (starts_of types) v t) ∷ [] in
         let long = length-append front back in
         append program r b types locals levels globals called results behind front back (thrown_in v p t numbered (omega (arith, few)) (omega (arith, short, long))) ((tt, thrown_there v t numbered (omega (arith, few))), tt)
     statement_in (Try s cs) in_loop p exits t (numbered_s, numbered) around outside few short =
-        let body = statement_code (starts_of types) s (p + 1) exits (t + RECORD_WORDS) in
+        let starts = starts_of types in
+        let kept = kept_code starts t in
+        let d = behind_record starts t in
+        let near : d ≤ t + RECORD_WORDS + 1 = record_near types.scopes t in
+        let m = p + length kept in
+        let body = statement_code starts s (m + 1) (inside_try exits t) d in
         let close = instructions.Leave t ∷ [] in
-        let out = p + 1 + length (body ++ close) in
-        let clauses = clauses_code (starts_of types) cs (out + 1) out exits t in
-        let over = instructions.Jump (out + 1 + length clauses) ∷ clauses in
+        let out = m + 1 + length (body ++ close) in
+        let restored = restored_code starts t in
+        let clauses = clauses_code starts cs (out + 1 + length restored) out exits t in
+        let over = instructions.Jump (out + 1 + length (restored ++ clauses)) ∷ (restored ++ clauses) in
+        let begin = instructions.Try t (out + 1) ∷ ((body ++ close) ++ over) in
+        let long_kept = length-append kept begin in
         let long = length-append (body ++ close) over in
         let long_body = length-append body close in
-        let room : t + RECORD_WORDS ≤ r.slots = omega (arith, few) in (
-          record { record_in_range = room; handler_in_range = omega (arith, short, long); no_return = no_return },
+        let long_clauses = length-append restored clauses in
+        let free : t + RECORD_WORDS < r.slots = omega (arith, few) in
+        let room : t + RECORD_WORDS ≤ r.slots = omega (arith, few) in
+        append program r b types locals levels globals called results behind kept begin (kept_in types.scopes t refl free) (
+          record { record_in_range = room; handler_in_range = omega (arith, short, long_kept, long); no_return = no_return },
           append program r b types locals levels globals called results behind (body ++ close) over
-              (append program r b types locals levels globals called results behind body close (statement_in s in_loop (p + 1) exits (t + RECORD_WORDS) numbered_s around (exits_inside exits t outside room) (omega (arith, few)) (omega (arith, short, long, long_body))) (room, tt))
-              (omega (arith, short, long), clauses_in cs in_loop (out + 1) out exits t numbered around outside (omega (arith, few)) (omega (arith, short, long)) (omega (arith, short, long))),
+              (append program r b types locals levels globals called results behind body close (statement_in s in_loop (m + 1) (inside_try exits t) d numbered_s around (exits_inside exits t outside room) (omega (arith, few, near)) (omega (arith, short, long_kept, long, long_body))) (room, tt)) (
+                omega (arith, short, long_kept, long),
+                append program r b types locals levels globals called results behind restored clauses (restored_in types.scopes t free)
+                    (clauses_in cs in_loop (out + 1 + length restored) out exits t numbered around outside (omega (arith, few)) (omega (arith, short, long_kept, long)) (omega (arith, short, long_kept, long, long_clauses))),
+              ),
         )
 
-    items_in : (js : Items) (in_loop : Bool) (p : ℕ) (exits : Exits) (t : ℕ) → FitItems b types in_loop js → (in_loop ≡ true → exits.head + 2 < length r.code) → HasExits exits t → t + kept_by_items js + items_need js + spare_slots ≤ r.slots → p + length (items_code (starts_of types) js p exits t) < length r.code → AreIn program r b types locals levels globals called results behind (items_code (starts_of types) js p exits t)
+    items_in : (js : Items) (in_loop : Bool) (p : ℕ) (exits : Exits) (t : ℕ) → FitItems b types in_loop js → (in_loop ≡ true → exits.head + 2 < length r.code) → HasExits exits → t + kept_by_items js + items_need js + spare_slots ≤ r.slots → p + length (items_code (starts_of types) js p exits t) < length r.code → AreIn program r b types locals levels globals called results behind (items_code (starts_of types) js p exits t)
     items_in NoItems in_loop p exits t numbered around outside few short = tt
     items_in (MoreItems (Execute s) js) in_loop p exits t (numbered, rest) around outside few short =
         let front = statement_code (starts_of types) s p exits t in
@@ -1222,7 +1343,7 @@ module _ (program : PlainProgram) (r : Routine) (b : Numbering) (types : Types) 
         (items_in js in_loop (p + length front) exits t rest around outside (omega (arith, few)) (omega (arith, short, long)))
     items_in js in_loop p exits t numbered around outside few short = absurd numbered
 
-    clauses_in : (cs : Clauses) (in_loop : Bool) (p out : ℕ) (exits : Exits) (t : ℕ) → FitClauses b types in_loop cs → (in_loop ≡ true → exits.head + 2 < length r.code) → HasExits exits t
+    clauses_in : (cs : Clauses) (in_loop : Bool) (p out : ℕ) (exits : Exits) (t : ℕ) → FitClauses b types in_loop cs → (in_loop ≡ true → exits.head + 2 < length r.code) → HasExits exits
         → t + kept_by_clauses cs + clauses_need cs + spare_slots ≤ r.slots → out < length r.code → p + length (clauses_code (starts_of types) cs p out exits t) < length r.code → AreIn program r b types locals levels globals called results behind (clauses_code (starts_of types) cs p out exits t)
     clauses_in NoClauses in_loop p out exits t numbered around outside few there short = ((omega (arith, few), omega (arith, few)), tt)
     clauses_in (Default n js) in_loop p out exits t numbered around outside few there short = items_in js in_loop p exits t numbered around outside few short
@@ -1245,63 +1366,76 @@ module _ (program : PlainProgram) (r : Routine) (b : Numbering) (types : Types) 
 
 -- ---- functions
 
-signatures_known : (structs : List StructType) (globals : List ℕ) (hs : List Function) (n : ℕ) (s : Signature) → slice_get (signatures_of hs) n ≡ Some s
-    → (n < length (map (lower_function structs globals) hs))
-    × ((slice_index_or (map (lower_function structs globals) hs) n no_routine).parameters ≡ words_of_all s.parameters)
-    × ((slice_index_or (map (lower_function structs globals) hs) n no_routine).results ≡ results_of s.result)
-signatures_known structs globals [] n s there = absurd (none-some s there)
-signatures_known structs globals (h ∷ hs) zero s there =
+signatures_known : (structs : List StructType) (globals : List ℕ) (scopes : Option ℕ) (hs : List Function) (n : ℕ) (s : Signature) → slice_get (signatures_of hs) n ≡ Some s
+    → (n < length (map (lower_function structs globals scopes) hs))
+    × ((slice_index_or (map (lower_function structs globals scopes) hs) n no_routine).parameters ≡ words_of_all s.parameters)
+    × ((slice_index_or (map (lower_function structs globals scopes) hs) n no_routine).results ≡ results_of s.result)
+signatures_known structs globals scopes [] n s there = absurd (none-some s there)
+signatures_known structs globals scopes (h ∷ hs) zero s there =
     let same : signature_of h ≡ s = same_Some (signature_of h) s there in
     (omega arith, ap (λ (x : Signature). words_of_all x.parameters) same, ap (λ (x : Signature). results_of x.result) same)
-signatures_known structs globals (h ∷ hs) (suc n) s there =
-    let (few, parameters, results) = signatures_known structs globals hs n s there in (omega (arith, few), parameters, results)
+signatures_known structs globals scopes (h ∷ hs) (suc n) s there =
+    let (few, parameters, results) = signatures_known structs globals scopes hs n s there in (omega (arith, few), parameters, results)
 
-pub globals_counted : (gs : List GlobalVariable) → words_of_all (global_types gs) ≡ length (lower_globals gs)
-globals_counted [] = refl
-globals_counted (g ∷ gs) = omega (arith, length-append (lower_global g) (lower_globals gs), length-replicate {A = ℕ} (words_of g.of_type - 1) 0, words_positive g.of_type, globals_counted gs)
+-- so many are all words of the program's globals
+pub all_counted : (source : Program) → length (lower_program source).globals ≡ words_of_all (global_types source.globals) + length (scopes_words (scopes_of source))
+all_counted source = omega (arith, length-append (lower_globals source.globals) (scopes_words (scopes_of source)), globals_counted source.globals)
+
+-- the one behind them is there, where there is one
+scopes_there : (may : Bool) (many global : ℕ) → scopes_if may many ≡ Some global → global < many + length (scopes_words (scopes_if may many))
+scopes_there true many global is = omega (arith, same_Some many global is)
+scopes_there false many global is = absurd (none-some global is)
+
+scopes_few : (scopes : Option ℕ) → length (scopes_words scopes) ≤ 1
+scopes_few None = omega arith
+scopes_few (Some global) = omega arith
 
 module _ (source : Program) (is_fitting : IsFitting source) where
   known_functions : (n : ℕ) (s : Signature) → slice_get (signatures_of source.functions) n ≡ Some s → IsKnown (lower_program source) n s
   known_functions n s there =
-      let (few, parameters, results) = signatures_known source.structs (globals_of source) source.functions n s there in
+      let (few, parameters, results) = signatures_known source.structs (globals_of source) (scopes_of source) source.functions n s there in
       record { there = few; parameters = parameters; results = results }
 
-  function_well : (h : Function) → AreOfWordsItems h.body → FitItems (numbering_of (length source.globals) (signatures_of source.functions) h) (types_of source.structs (global_types source.globals) h) false h.body → IsRoutine (lower_program source) (lower_function source.structs (globals_of source) h)
+  known_globals : AreGlobals (lower_program source) (global_types source.globals) (scopes_of source)
+  known_globals = record {
+    room = omega (arith, all_counted source);
+    inside = λ global is. omega (arith, scopes_there (list_any may_open source.functions) (length (lower_globals source.globals)) global is, length-append (lower_globals source.globals) (scopes_words (scopes_of source)));
+  }
+
+  function_well : (h : Function) → AreOfWordsItems h.body → FitItems (numbering_of (length source.globals) (signatures_of source.functions) h) (types_of source.structs (global_types source.globals) (scopes_of source) h) false h.body → IsRoutine (lower_program source) (lower_function source.structs (globals_of source) (scopes_of source) h)
   function_well h words numbered_body =
       let d = first_temporary h in
-      let r = lower_function source.structs (globals_of source) h in
+      let r = lower_function source.structs (globals_of source) (scopes_of source) h in
       let b = numbering_of (length source.globals) (signatures_of source.functions) h in
-      let types = types_of source.structs (global_types source.globals) h in
+      let types = types_of source.structs (global_types source.globals) (scopes_of source) h in
       let starts = starts_of types in
-      let body = items_code starts h.body 0 (outside_loops d) d in
+      let body = items_code starts h.body 0 outside_loops d in
       let end = instructions.Finish d ∷ blocks in
       let long = length-append body end in
-      let placed = body_long source.structs (globals_of source) h in
-      let none : (first : ℕ) → first ≡ d → (first ≤ d) × ((first == d) ≡ false → first + RECORD_WORDS ≤ r.slots)
-      = λ first is. (omega (arith, is), λ other. absurd (let f : true ≡ false = sym (eq-eqb first d is) ∙ other in cc)) in
+      let placed = body_long source.structs (globals_of source) (scopes_of source) h in
       record {
         parameters = omega (arith, slots-few h);
         results = omega (arith, results_few h.result);
         frame = omega (arith, slots-few h);
         instructions = all_of (IsInRange (lower_program source) r) (body ++ end)
             (all_append (IsInRange (lower_program source) r) body end
-            (items_in (lower_program source) r b types (λ n within. omega (arith, slot-room types n (omega (arith, within, slot_types-many h)))) (λ l slot there. absurd (none-some slot there)) (globals_counted source.globals) known_functions refl (omega (arith, long, placed)) (no_return source.structs (globals_of source) h words)
-            h.body false 0 (outside_loops d) d numbered_body (λ inside. absurd (let f : false ≡ true = inside in cc)) (none d refl, none d refl) (omega arith) (omega (arith, long)))
+            (items_in (lower_program source) r b types (λ n within. omega (arith, slot-room types n (omega (arith, within, slot_types-many h)))) (λ l slot there. absurd (none-some slot there)) known_globals known_functions refl (omega (arith, long, placed)) (no_return source.structs (globals_of source) (scopes_of source) h words)
+            h.body false 0 outside_loops d numbered_body (λ inside. absurd (let f : false ≡ true = inside in cc)) ((tt, tt), (tt, tt)) (omega arith) (omega (arith, long)))
             (omega (arith, results_few h.result), ((tt, tt), ((tt, tt), ((tt, tt), ((tt, tt), tt))))));
         last = subst (λ (o : Option Instruction). IsSomeAnd o (λ i. leaves i ≡ true)) (sym (last_behind body end (omega arith))) refl;
       }
 
-  functions_well : (hs : List Function) → AreOfWordsFunctions hs → AreFitting source.structs source.globals (signatures_of source.functions) hs → AllByRecursion (IsRoutine (lower_program source)) (map (lower_function source.structs (globals_of source)) hs)
+  functions_well : (hs : List Function) → AreOfWordsFunctions hs → AreFitting source.structs source.globals (scopes_of source) (signatures_of source.functions) hs → AllByRecursion (IsRoutine (lower_program source)) (map (lower_function source.structs (globals_of source) (scopes_of source)) hs)
   functions_well [] words numbered_all = tt
   functions_well (h ∷ hs) (own, others) (first, rest) = (function_well h own first, functions_well hs others rest)
 
-  pub well_formed : IsOfWordsProgram source → words_of_all (global_types source.globals) ≤ MOST_GLOBALS → IsWellFormed (lower_program source)
+  pub well_formed : IsOfWordsProgram source → words_of_all (global_types source.globals) < MOST_GLOBALS → IsWellFormed (lower_program source)
   well_formed words few =
       let main = known_functions source.main _ is_fitting.main in
       record {
-        functions = all_of (IsRoutine (lower_program source)) (map (lower_function source.structs (globals_of source)) source.functions) (functions_well source.functions words.functions is_fitting.functions);
+        functions = all_of (IsRoutine (lower_program source)) (map (lower_function source.structs (globals_of source) (scopes_of source)) source.functions) (functions_well source.functions words.functions is_fitting.functions);
         main = main.there;
         main_parameters = main.parameters;
         main_results = main.results;
-        globals = omega (arith, few, globals_counted source.globals);
+        globals = omega (arith, few, all_counted source, scopes_few (scopes_of source));
       }

@@ -1,6 +1,6 @@
 -- Cells of three words, those of fat pointers: they are written by three stores, and read by three loads, of which that into the slot of
 -- the address is the last.
-use Rattle.std.proofs.Common.{◌≡◌, ◌≢◌, ℕ, zero, suc, ◌+◌, ◌*◌, ◌<◌, ◌≤◌, true, false, List, [], ◌∷◌, length, set, Option, Some, slice_get, refl, sym, ap, subst, ◌∙◌, arith, inl, inr, length-set}
+use Rattle.std.proofs.Common.{◌≡◌, ◌≢◌, ◌⊎◌, ℕ, zero, suc, ◌+◌, ◌*◌, ◌<◌, ◌≤◌, true, false, List, [], ◌∷◌, length, set, Option, Some, slice_get, refl, sym, ap, subst, ◌∙◌, arith, inl, inr, length-set}
 use Rattle.std.specs.Prelude.{◌==◌, if◌then◌else◌}
 use Rattle.cyc_words.specs.Word.{add_of}
 use Rattle.cyc_types.specs.declared.typed.Kind.{Kind}
@@ -167,12 +167,12 @@ module _ (source : Program) (pages calls : ℕ) (k : List Entry) (e : Environmen
 
 -- ---- three loads
 
--- into the slots from d on, by the address in slot d
+-- into the slots from d on, by the address in slot s, which may be the first of them
 module _ (source : Program) (t : Tables) (w : World) (c : Configuration) (related : objects.Related t (silent w) c.store)
-    (object offset d : ℕ) (cell : Located) (v : Value) (found : cell_at (silent w) object offset ≡ Found cell) (points : Points t object offset (c.active.slots d))
-    (fat : cell.cell.kind ≡ kinds.Fat) (is : Is t kinds.Fat v (words_from c.store.memory (c.active.slots d)) 0) where
+    (object offset d s : ℕ) (apart : (s ≤ d) ⊎ (d + 3 ≤ s)) (cell : Located) (v : Value) (found : cell_at (silent w) object offset ≡ Found cell) (points : Points t object offset (c.active.slots s))
+    (fat : cell.cell.kind ≡ kinds.Fat) (is : Is t kinds.Fat v (words_from c.store.memory (c.active.slots s)) 0) where
   abbrev address : ℕ
-  address = c.active.slots d
+  address = c.active.slots s
 
   abbrev word : ℕ → ℕ
   word j = c.store.memory (address + 4 * j)
@@ -189,8 +189,8 @@ module _ (source : Program) (t : Tables) (w : World) (c : Configuration) (relate
   abbrev with_words : Words → (next : ℕ) → Configuration
   with_words slots next = at (with_slots c slots) next
 
-  loads_word : (slots : Words) (i x more j : ℕ) (choice : Choice) → j < 3 → slots d ≡ address → more ≡ 4 * j
-      → performed (lower_program source) choice (with_words slots i) (instructions.Load x (operands.Slot d) more) ≡ plain.Running (with_words (put slots x (word j)) (i + 1))
+  loads_word : (slots : Words) (i x more j : ℕ) (choice : Choice) → j < 3 → slots s ≡ address → more ≡ 4 * j
+      → performed (lower_program source) choice (with_words slots i) (instructions.Load x (operands.Slot s) more) ≡ plain.Running (with_words (put slots x (word j)) (i + 1))
   loads_word slots i x more j choice below same offset_is =
       ap (λ (y : ℕ). loads (with_words slots i) x (word_at c.store (add_of y more))) same
       ∙ (ap (λ (y : ℕ). loads (with_words slots i) x (word_at c.store (add_of address y))) offset_is
@@ -198,18 +198,25 @@ module _ (source : Program) (t : Tables) (w : World) (c : Configuration) (relate
 
   abbrev pub load_links : List Link
   load_links =
-      record { instruction = instructions.Load (d + 2) (operands.Slot d) 8; behind = with_words third_in (c.active.next + 1) }
-      ∷ record { instruction = instructions.Load (d + 1) (operands.Slot d) 4; behind = with_words two_in (c.active.next + 1 + 1) }
+      record { instruction = instructions.Load (d + 2) (operands.Slot s) 8; behind = with_words third_in (c.active.next + 1) }
+      ∷ record { instruction = instructions.Load (d + 1) (operands.Slot s) 4; behind = with_words two_in (c.active.next + 1 + 1) }
       ∷ []
 
-  third_stays : third_in d ≡ address
-  third_stays = put-other c.active.slots (d + 2) d (word 2) (λ same. absurd (omega (arith, same)))
+  -- the slot of the address is none of the last two
+  other : (i : ℕ) → 0 < i → i < 3 → s ≢ d + i
+  other i some few same = elim apart [
+    | inl before ↦ omega (arith, before, same, some)
+    | inr behind ↦ omega (arith, behind, same, few)
+  ]
 
-  two_stay : two_in d ≡ address
-  two_stay = put-other third_in (d + 1) d (word 1) (λ same. absurd (omega (arith, same))) ∙ third_stays
+  third_stays : third_in s ≡ address
+  third_stays = put-other c.active.slots (d + 2) s (word 2) (other 2 (omega arith) (omega arith))
 
-  pub load_path : At (code_of source c.active.function) c.active.next (instructions.Load (d + 2) (operands.Slot d) 8)
-      → At (code_of source c.active.function) (c.active.next + 1) (instructions.Load (d + 1) (operands.Slot d) 4) → IsPath source c load_links
+  two_stay : two_in s ≡ address
+  two_stay = put-other third_in (d + 1) s (word 1) (other 1 (omega arith) (omega arith)) ∙ third_stays
+
+  pub load_path : At (code_of source c.active.function) c.active.next (instructions.Load (d + 2) (operands.Slot s) 8)
+      → At (code_of source c.active.function) (c.active.next + 1) (instructions.Load (d + 1) (operands.Slot s) 4) → IsPath source c load_links
   load_path at_first at_second = (
     at_first,
     (λ choice. loads_word c.active.slots c.active.next (d + 2) 8 2 choice (omega arith) refl refl),
@@ -218,7 +225,7 @@ module _ (source : Program) (t : Tables) (w : World) (c : Configuration) (relate
     (at_second, (λ choice. loads_word third_in (c.active.next + 1) (d + 1) 4 1 choice (omega arith) third_stays refl), omega arith, is_quiet (with_words third_in (c.active.next + 1)) (with_words two_in (c.active.next + 1 + 1)).active, tt),
   )
 
-  pub load_last : (choice : Choice) → performed (lower_program source) choice (with_words two_in (c.active.next + 1 + 1)) (instructions.Load d (operands.Slot d) 0) ≡ plain.Running (at (with_slots c all_in) (c.active.next + 1 + 1 + 1))
+  pub load_last : (choice : Choice) → performed (lower_program source) choice (with_words two_in (c.active.next + 1 + 1)) (instructions.Load d (operands.Slot s) 0) ≡ plain.Running (at (with_slots c all_in) (c.active.next + 1 + 1 + 1))
   load_last choice = loads_word two_in (c.active.next + 1 + 1) d 0 0 choice (omega arith) two_stay refl
 
   pub loaded_is : Is t kinds.Fat v all_in d

@@ -15,7 +15,7 @@ use Rattle.cyc_types.specs.declared.typed.PointerOperator.{PointerOperator}
 use Rattle.cyc_types.specs.declared.typed.PointerOperator.TheVariants as pointers
 use Rattle.cyc_types.specs.declared.typed.LogicalOperator.{LogicalOperator}
 use Rattle.cyc_types.specs.declared.typed.LogicalOperator.TheVariants as logical
-use Rattle.cyc_types.specs.TypedTrees.{Array, Counter, Load, New, OnHeap, AsUnique, ByHandle, Initial, Plain, Fields, Dereference, Target, Lvalue, Local, Global, Expression, Number, NullPointer, Copy, Call, Unary, Binary, Assign, Converted, Convert, Arguments, NoArguments, MoreArguments, Operations, NoOperations, ThenCompute, ThenTest, ThenPointer, Statement, Block, Empty, Evaluate, If, While, Return, Break, Continue, Items, NoItems, MoreItems, Execute, Declare, Constant, Word, Null, GlobalVariable, StructType, Function, Program, Move, Peek, ThenPointerPeek, AddressOfCell, Store, Member, Element, FreeUnique, Side, VariableSide, CellSide, Swap, Throw, Try, Clauses, NoClauses, Default, Case, NumberOfElements, type_of_place}
+use Rattle.cyc_types.specs.TypedTrees.{Array, Counter, Load, New, OnHeap, AsUnique, ByHandle, HeapRegion, AddressOf, FreeKey, Initial, Plain, Fields, Dereference, Target, Lvalue, Local, Global, Expression, Number, NullPointer, Copy, Call, Unary, Binary, Assign, Converted, Convert, Arguments, NoArguments, MoreArguments, Operations, NoOperations, ThenCompute, ThenTest, ThenPointer, Statement, Block, Empty, Evaluate, If, While, Return, Break, Continue, Items, NoItems, MoreItems, Execute, Declare, Constant, Word, Null, GlobalVariable, StructType, Function, Program, Move, Peek, ThenPointerPeek, AddressOfCell, Store, Member, Element, FreeUnique, Side, VariableSide, CellSide, Swap, Throw, Try, Clauses, NoClauses, Default, Case, NumberOfElements, type_of_place, DeclareRegion, OpenRegion, DeclareAlias, DeclareKey}
 use Rattle.cyc_plain.specs.declared.instruction.Comparison.{Comparison}
 use Rattle.cyc_plain.specs.declared.instruction.BinaryOperator.TheVariants as plain_binary
 use Rattle.cyc_plain.specs.declared.instruction.Comparison.TheVariants as comparisons
@@ -33,8 +33,9 @@ use Rattle.cyc_types.specs.Types.{words_of, Ty}
 use Rattle.cyc_types.specs.Numbered.{argument_count}
 use Rattle.cyc_store.specs.declared.range.TheConstants.{HEAP, UNIQUE}
 use Rattle.cyc_meaning.specs.Values.{words_of_kind, is_thin, kind_of}
-use Rattle.cyc_lower.specs.Lowering.{begun_code, filled_code, ended_code, elements_code, counter_operand, types_of, are_as_wide, converts_there, passed_words, source_of, source_slot, converted_by, moved_by, move_of, operand_of, operand_or, code_unless, slot_or, code_unless_slot, left_with, left_of, value_slot, next_slot, left_slot, value_operand, converted_operand, printed_operand, check_code, conversion_code, divisor_code, checked_code, operator_code, truth_code, load_code, test_code, is_in, copy_code, expression_code, arguments_code, converted_code, converted_operand_code, printed_code, initial_code, assignment_code, operations_code, discarded_code, failing_comparison, compared_or, compared_of, slot_with, first_code, second_code, pair_code, condition_code, condition_of, return_code, declaration_code, statement_code, items_code, first_temporary, initial_word, lower_function, lower_global, lower_program, behind_left, pointer_code, outside_loops, inside_loop, index_of, first_two, pointer_instructions, stores_code, object_code, made_code, place_operand, place_offset, place_code, address_code, addressed_by, store_address_code, store_code, guard_code, blocks, leave_code, clause_code, caught_code, clauses_code, function_code, break_target, continue_target, right_slot, side_code, read_side, write_side, exchange_code, swap_code, element_by, count_code, span_of, null_of, tested_code, widened_code, conversion_by, tested_by, saved_code, loaded_code, all_passed, bounds_code, stepped_code, bounded_code, thinned_code, reached_code, followed_code, followed_operand, followed_by, span_in, pointer_of, pointer_slot, reached_operand, word_by_word, load_word, store_word, global_code, globals_of, lower_globals, starts_with, raises_of, asked_code, load_at}
+use Rattle.cyc_lower.specs.Lowering.{begun_code, filled_code, ended_code, elements_code, counter_operand, types_of, are_as_wide, converts_there, passed_words, source_of, source_slot, converted_by, moved_by, move_of, operand_of, operand_or, code_unless, slot_or, code_unless_slot, left_with, left_of, value_slot, next_slot, left_slot, value_operand, converted_operand, printed_operand, check_code, conversion_code, divisor_code, checked_code, operator_code, truth_code, load_code, test_code, is_in, copy_code, expression_code, arguments_code, converted_code, converted_operand_code, printed_code, initial_code, assignment_code, operations_code, discarded_code, failing_comparison, compared_or, compared_of, slot_with, first_code, second_code, pair_code, condition_code, condition_of, return_code, declaration_code, statement_code, items_code, first_temporary, initial_word, lower_function, lower_global, lower_program, behind_left, pointer_code, outside_loops, inside_loop, index_of, first_two, pointer_instructions, stores_code, object_code, made_code, place_operand, place_offset, place_code, address_code, addressed_by, store_address_code, store_code, guard_code, blocks, leave_code, clause_code, caught_code, clauses_code, function_code, break_target, continue_target, right_slot, side_code, read_side, write_side, exchange_code, swap_code, element_by, count_code, span_of, null_of, tested_code, widened_code, conversion_by, tested_by, saved_code, loaded_code, all_passed, bounds_code, stepped_code, bounded_code, thinned_code, reached_code, followed_code, followed_operand, followed_by, span_in, pointer_of, pointer_slot, reached_operand, word_by_word, load_word, store_word, global_code, globals_of, lower_globals, starts_with, raises_of, asked_code, load_at, opened_code, closed_code, named_code, dynamic_code, scopes_code, scopes_code_in, handlers_code, marks_code, kept_code, kept_code_in, restored_code, restored_code_in, behind_record, handled_code, inside_try, inside_region, scopes_of, scopes_words}
 use Rattle.cyc_lower.proofs.Widths.{kind_few, type_words}
+use Rattle.cyc_lower.specs.declared.statements.Opened.{Opened}
 
 -- ---- lists
 
@@ -252,13 +253,13 @@ saved_words : (words address : ℕ) (o : Operand) → words ≤ 3 → IsOfWord o
 saved_words words address (operands.Slot n) few word = stores_words words address 0 n (omega (arith, few))
 saved_words words address (operands.Word n) few word = ((tt, omega arith, word), tt)
 
-loaded_words : (narrow : Bool) (o : Operand) (bytes d : ℕ) → IsOfWord o → IsWord bytes
-    → HaveWords (if narrow then instructions.Load d o bytes ∷ [] else address_code o bytes d ++ (instructions.Load (d + 2) (operands.Slot d) 8 ∷ instructions.Load (d + 1) (operands.Slot d) 4 ∷ instructions.Load d (operands.Slot d) 0 ∷ []))
-loaded_words true o bytes d word small = ((word, small), tt)
-loaded_words false o bytes d word small = append (address_code o bytes d) _ (address_words o bytes d word small) ((tt, omega arith), ((tt, omega arith), ((tt, omega arith), tt)))
+loaded_words : (narrow : Bool) (o : Operand) (bytes d t : ℕ) → IsOfWord o → IsWord bytes
+    → HaveWords (if narrow then instructions.Load d o bytes ∷ [] else address_code o bytes t ++ (instructions.Load (d + 2) (operands.Slot t) 8 ∷ instructions.Load (d + 1) (operands.Slot t) 4 ∷ instructions.Load d (operands.Slot t) 0 ∷ []))
+loaded_words true o bytes d t word small = ((word, small), tt)
+loaded_words false o bytes d t word small = append (address_code o bytes t) _ (address_words o bytes t word small) ((tt, omega arith), ((tt, omega arith), ((tt, omega arith), tt)))
 
 -- a block has at most a word's count of words
-object_words : (handle words d t : ℕ) → IsWord handle → words ≤ 3000 → HaveWords (object_code handle words d t)
+object_words : (handle : Operand) (words d t : ℕ) → IsOfWord handle → words ≤ 3000 → HaveWords (object_code handle words d t)
 object_words handle words d t word few =
     ((word, at_least words few), append (stores_code words (t + words) 0 t) _ (stores_words words (t + words) 0 t (omega (arith, few))) (tt, tt))
   where
@@ -267,12 +268,12 @@ object_words handle words d t word few =
     at_least (suc n) fits = omega (arith, fits)
 
 -- an array begins
-begun_by : (starts : Starts) (handle words limit t : ℕ) → IsWord handle → IsWord words → IsWord limit
+begun_by : (starts : Starts) (handle : Operand) (words limit t : ℕ) → IsOfWord handle → IsWord words → IsWord limit
     → HaveWords (instructions.Branch comparisons.GreaterOrEqualUnsigned (operands.Slot t) (operands.Word limit) (starts.raises + array_size)
     ∷ instructions.Move (t + 1) (operands.Slot t) ∷ instructions.Move (t + 2) (operands.Word 0) ∷ asked_code handle words (t + 3) t)
 begun_by starts handle words limit t word some few = ((tt, few), (tt, (omega arith, ((tt, some), (tt, ((tt, tt), ((word, tt), tt)))))))
 
-begun_words : (starts : Starts) (kind : Kind) (handle t : ℕ) → IsWord handle → HaveWords (begun_code starts handle (words_of_kind kind) t)
+begun_words : (starts : Starts) (kind : Kind) (handle : Operand) (t : ℕ) → IsOfWord handle → HaveWords (begun_code starts handle (words_of_kind kind) t)
 begun_words starts kinds.Int handle t word = begun_by starts handle 1 1001 t word (omega arith) (omega arith)
 begun_words starts kinds.Nullable handle t word = begun_by starts handle 1 1001 t word (omega arith) (omega arith)
 begun_words starts kinds.NonNull handle t word = begun_by starts handle 1 1001 t word (omega arith) (omega arith)
@@ -297,6 +298,7 @@ module _ (starts : Starts) where
   known_word : (a : Expression) (slot : ℕ) → IsOfWords a → IsOfWord (operand_or (operand_of starts a) slot)
   known_word (Number n) slot word = word
   known_word NullPointer slot words = omega arith
+  known_word HeapRegion slot words = omega arith
   known_word (Copy (Local w n) ty) slot words = tt
   known_word (Move w n ty) slot words = tt
   known_word (Peek w n ty) slot words = tt
@@ -392,7 +394,7 @@ mutual
       let word = converted_word starts c t words in
       append (front ++ global_code (passed_words c) (global_of starts n) o) (copy_code (passed_words c) o d) (append front _ (converted_operand_words starts c p t words) (global_words starts (passed_words c) (global_of starts n) o word)) (copy_words (is_in o d) (passed_words c) o d word)
   expression_words starts (Load x) p d t words =
-      append (place_code starts x p t) _ (place_words starts x p t words) (loaded_words (words_of (type_of_place x) == 1) (place_operand starts x t) (place_offset starts x) d (place_word starts x t words) (offset_word starts x))
+      append (place_code starts x p t) _ (place_words starts x p t words) (loaded_words (words_of (type_of_place x) == 1) (place_operand starts x t) (place_offset starts x) d t (place_word starts x t words) (offset_word starts x))
   expression_words starts (AddressOfCell x ty) p d t words = address_of_words starts x p d t words
   expression_words starts (Store x c ty) p d t (first, second) =
       let address = store_address_code starts x p t in
@@ -407,12 +409,19 @@ mutual
       let inner = expression_code starts a p slot t in
       let word = known_word starts a slot words in
       append (code_unless (operand_of starts a) inner) _ (unless_words (operand_of starts a) inner (expression_words starts a p slot t words)) ((word, omega arith), ((word, tt), tt))
-  expression_words starts (New OnHeap i ty) p d t words = made_words starts i HEAP p d t (omega arith) words
-  expression_words starts (New AsUnique i ty) p d t words = made_words starts i UNIQUE p d t (omega arith) words
-  expression_words starts (New (ByHandle h) i ty) p d t words = absurd words
-  expression_words starts a p d t words = absurd words
+  expression_words starts (New OnHeap i ty) p d t words = made_words starts i (operands.Word HEAP) p d t (omega arith) words
+  expression_words starts (New AsUnique i ty) p d t words = made_words starts i (operands.Word UNIQUE) p d t (omega arith) words
+  expression_words starts (New (ByHandle h) i ty) p d t (handle, words) =
+      let front = expression_code starts h p t t in
+      append front _ (expression_words starts h p t t handle) (made_words starts i (operands.Slot t) (p + length front) d (t + 1) tt words)
+  expression_words starts HeapRegion p d t words = (omega arith, tt)
+  expression_words starts (AddressOf l ty) p d t words = (omega arith, tt)
+  expression_words starts (FreeKey a) p d t words =
+      let slot = value_slot starts a t in
+      let inner = expression_code starts a p slot t in
+      append (code_unless (operand_of starts a) inner) _ (unless_words (operand_of starts a) inner (expression_words starts a p slot t words)) ((known_word starts a slot words, tt), tt)
 
-  made_words : (starts : Starts) → (i : Initial) (handle p d t : ℕ) → IsWord handle → IsOfWordsObject i → HaveWords (made_code starts i handle p d t)
+  made_words : (starts : Starts) → (i : Initial) (handle : Operand) (p d t : ℕ) → IsOfWord handle → IsOfWordsObject i → HaveWords (made_code starts i handle p d t)
   made_words starts (Plain kind a) handle p d t word words =
       append (expression_code starts a p t t) (object_code handle (words_of_kind kind) d t) (expression_words starts a p t t words) (object_words handle (words_of_kind kind) d t word (omega (arith, kind_few kind)))
   made_words starts (Fields cs) handle p d t word (few, words) =
@@ -579,24 +588,57 @@ module _ (starts : Starts) where
       let right = (compared_of a).right in
       (left_with_word starts (operand_of starts right) left (slot_with starts (operand_of starts right) left t) first, known_word starts right (value_slot starts right (suc t)) second)
 
-  leave_words : (first t : ℕ) → HaveWords (leave_code first t)
-  leave_words first t = by (first == t)
-    where
-      by : (none : Bool) → HaveWords (if none then [] else instructions.Leave first ∷ [])
-      by true = tt
-      by false = (tt, tt)
+  -- ---- regions
+
+  kept_scopes_words : (scopes : Option ℕ) (o : Operand) → IsOfWord o → HaveWords (scopes_code_in scopes o)
+  kept_scopes_words None o word = tt
+  kept_scopes_words (Some global) o word = (word, tt)
+
+  named_words : (words n : ℕ) (o : Operand) → IsOfWord o → HaveWords (named_code starts words n o)
+  named_words words n o word = move_words words (slot_of starts n) o word
+
+  opened_words : (n t : ℕ) → HaveWords (opened_code starts n t)
+  opened_words n t =
+      ((tt, tt), (tt, ((tt, omega arith), append (scopes_code starts (operands.Slot (t + 2))) _ (kept_scopes_words starts.scopes (operands.Slot (t + 2)) tt) (named_words 1 n (operands.Slot (t + 1)) tt))))
+
+  closed_words : (m : ℕ) → HaveWords (closed_code starts m)
+  closed_words m = ((tt, tt), kept_scopes_words starts.scopes (operands.Slot m) tt)
+
+  dynamic_words : (n t : ℕ) → HaveWords (dynamic_code starts n t)
+  dynamic_words n t = ((tt, tt), named_words 1 n (operands.Slot t) tt)
+
+  -- ---- ways out
+
+  handlers_words : (record_at : Option ℕ) → HaveWords (handlers_code record_at)
+  handlers_words None = tt
+  handlers_words (Some first) = (tt, tt)
+
+  marks_words : (mark : Option ℕ) → HaveWords (marks_code starts mark)
+  marks_words None = tt
+  marks_words (Some m) = closed_words m
+
+  leave_words : (opened : Opened) → HaveWords (leave_code starts opened)
+  leave_words opened = append (handlers_code opened.handler) (marks_code starts opened.mark) (handlers_words opened.handler) (marks_words opened.mark)
+
+  kept_words : (scopes : Option ℕ) (t : ℕ) → HaveWords (kept_code_in scopes t)
+  kept_words None t = tt
+  kept_words (Some global) t = (tt, tt)
+
+  restored_words : (scopes : Option ℕ) (t : ℕ) → HaveWords (restored_code_in starts scopes t)
+  restored_words None t = tt
+  restored_words (Some global) t = closed_words (t + RECORD_WORDS)
 
   return_words : (v : Option Converted) (p : ℕ) (exits : Exits) (t : ℕ) → IsOfWordsInitial v → HaveWords (return_code starts v p exits t)
-  return_words None p exits t words = append (leave_code exits.first_record t) _ (leave_words exits.first_record t) (tt, tt)
+  return_words None p exits t words = append (leave_code starts exits.in_function) _ (leave_words exits.in_function) (tt, tt)
   return_words (Some (Convert from to a)) p exits t words =
       let known = source_of starts (Convert from to a) in
       let inner = expression_code starts a p t t in
       let front = code_unless_slot known inner in
       let s = slot_or known t in
       let conversion = conversion_code starts from to (span_of a) (operands.Slot s) (p + length front) in
-      append ((front ++ conversion) ++ leave_code exits.first_record t) _
-      (append (front ++ conversion) (leave_code exits.first_record t)
-      (append front conversion (unless_slot_words known inner (expression_words starts a p t t words)) (conversion_words starts from to (span_of a) (operands.Slot s) (p + length front) tt)) (leave_words exits.first_record t))
+      append ((front ++ conversion) ++ leave_code starts exits.in_function) _
+      (append (front ++ conversion) (leave_code starts exits.in_function)
+      (append front conversion (unless_slot_words known inner (expression_words starts a p t t words)) (conversion_words starts from to (span_of a) (operands.Slot s) (p + length front) tt)) (leave_words exits.in_function))
       (tt, tt)
 
   declaration_words : (n : ℕ) (v : Option Converted) (p t : ℕ) → IsOfWordsInitial v → HaveWords (declaration_code starts n v p t)
@@ -666,17 +708,25 @@ module _ (starts : Starts) where
     statement_words (While w a s) p exits t (first, second) =
         let condition = condition_code starts a (p + 2) t in
         let m = p + 2 + length condition in
-        let body = statement_code starts s (m + 1) (inside_loop p t exits) t in
-        (tt, (tt, append (condition ++ _ ∷ body) _ (append condition (_ ∷ body) (condition_words a (p + 2) t first) (condition_word a t first, statement_words s (m + 1) (inside_loop p t exits) t second)) (tt, tt)))
+        let body = statement_code starts s (m + 1) (inside_loop p exits) t in
+        (tt, (tt, append (condition ++ _ ∷ body) _ (append condition (_ ∷ body) (condition_words a (p + 2) t first) (condition_word a t first, statement_words s (m + 1) (inside_loop p exits) t second)) (tt, tt)))
     statement_words (Return v) p exits t words = return_words v p exits t words
-    statement_words Break p exits t words = append (leave_code exits.loop_record t) _ (leave_words exits.loop_record t) (tt, tt)
-    statement_words Continue p exits t words = append (leave_code exits.loop_record t) _ (leave_words exits.loop_record t) (tt, tt)
+    statement_words Break p exits t words = append (leave_code starts exits.in_loop) _ (leave_words exits.in_loop) (tt, tt)
+    statement_words Continue p exits t words = append (leave_code starts exits.in_loop) _ (leave_words exits.in_loop) (tt, tt)
     statement_words (Throw tag v) p exits t words = throw_words tag v p exits t words
     statement_words (Try s cs) p exits t (first, rest) =
-        let body = statement_code starts s (p + 1) exits (t + RECORD_WORDS) in
+        let kept = kept_code starts t in
+        let m = p + length kept in
+        let body = statement_code starts s (m + 1) (inside_try exits t) (behind_record starts t) in
         let close = instructions.Leave t ∷ [] in
-        let out = p + 1 + length (body ++ close) in
-        (tt, append (body ++ close) (_ ∷ clauses_code starts cs (out + 1) out exits t) (append body close (statement_words s (p + 1) exits (t + RECORD_WORDS) first) (tt, tt)) (tt, clauses_words cs (out + 1) out exits t rest))
+        let out = m + 1 + length (body ++ close) in
+        let restored = restored_code starts t in
+        let clauses = clauses_code starts cs (out + 1 + length restored) out exits t in
+        append kept _ (kept_words starts.scopes t) (
+          tt,
+          append (body ++ close) (_ ∷ restored ++ clauses) (append body close (statement_words s (m + 1) (inside_try exits t) (behind_record starts t) first) (tt, tt))
+              (tt, append restored clauses (restored_words starts.scopes t) (clauses_words cs (out + 1 + length restored) out exits t rest)),
+        )
 
     items_words : (js : Items) (p : ℕ) (exits : Exits) (t : ℕ) → AreOfWordsItems js → HaveWords (items_code starts js p exits t)
     items_words NoItems p exits t words = tt
@@ -686,7 +736,19 @@ module _ (starts : Starts) where
     items_words (MoreItems (Declare n ty v) js) p exits t (first, rest) =
         let q = p + length (declaration_code starts n v p t) in
         append (declaration_code starts n v p t) (items_code starts js q exits t) (declaration_words n v p t first) (items_words js q exits t rest)
-    items_words js p exits t words = absurd words
+    items_words (MoreItems (DeclareRegion r n) js) p exits t words =
+        let front = opened_code starts n t in
+        let inner = items_code starts js (p + length front) (inside_region exits t) (t + 1) in
+        append front (inner ++ closed_code starts t) (opened_words n t) (append inner (closed_code starts t) (items_words js (p + length front) (inside_region exits t) (t + 1) words) (closed_words t))
+    items_words (MoreItems (OpenRegion r n w k) js) p exits t words =
+        let key = operands.Slot (slot_of starts k) in
+        append (named_code starts 1 n key) (items_code starts js (p + 1) exits t) (named_words 1 n key tt) (items_words js (p + 1) exits t words)
+    items_words (MoreItems (DeclareAlias r n ty w m) js) p exits t words =
+        let unique = operands.Slot (slot_of starts m) in
+        append (named_code starts (words_of ty) n unique) (items_code starts js (p + 1) exits t) (named_words (words_of ty) n unique tt) (items_words js (p + 1) exits t words)
+    items_words (MoreItems (DeclareKey r n) js) p exits t words =
+        let front = dynamic_code starts n t in
+        append front (items_code starts js (p + length front) exits t) (dynamic_words n t) (items_words js (p + length front) exits t words)
 
     clauses_words : (cs : Clauses) (p out : ℕ) (exits : Exits) (t : ℕ) → AreOfWordsClauses cs → HaveWords (clauses_code starts cs p out exits t)
     clauses_words NoClauses p out exits t words = ((tt, tt), tt)
@@ -699,21 +761,21 @@ module _ (starts : Starts) where
         ((tt, omega arith), append (caught ++ items) (instructions.Jump out ∷ []) (append caught items (caught_words x t) (items_words js (p + 1 + length caught) exits t first)) (tt, tt))
         (clauses_words cs (p + length clause) out exits t rest)
 
-function_words : (structs : List StructType) (globals : List ℕ) (h : Function) → AreOfWordsItems h.body → HaveWords (function_code structs globals h)
-function_words structs globals h words =
+function_words : (structs : List StructType) (globals : List ℕ) (scopes : Option ℕ) (h : Function) → AreOfWordsItems h.body → HaveWords (function_code structs globals scopes h)
+function_words structs globals scopes h words =
     let d = first_temporary h in
-    let starts = starts_with (raises_of structs globals h) structs globals h in
-    append (items_code starts h.body 0 (outside_loops d) d) (instructions.Finish d ∷ blocks) (items_words starts h.body 0 (outside_loops d) d words) (tt, blocks_words)
+    let starts = starts_with (raises_of structs globals scopes h) structs globals scopes h in
+    append (items_code starts h.body 0 outside_loops d) (instructions.Finish d ∷ blocks) (items_words starts h.body 0 outside_loops d words) (tt, blocks_words)
 
 -- no function returns while handlers are open
-pub no_return : (structs : List StructType) (globals : List ℕ) (h : Function) → AreOfWordsItems h.body → All (λ i. is_return i ≡ false) (function_code structs globals h)
-no_return structs globals h words =
-    all_of (λ i. is_return i ≡ false) (function_code structs globals h) (all_told IsMade (λ i. is_return i ≡ false) made_no_return (function_code structs globals h) (function_words structs globals h words))
+pub no_return : (structs : List StructType) (globals : List ℕ) (scopes : Option ℕ) (h : Function) → AreOfWordsItems h.body → All (λ i. is_return i ≡ false) (function_code structs globals scopes h)
+no_return structs globals scopes h words =
+    all_of (λ i. is_return i ≡ false) (function_code structs globals scopes h) (all_told IsMade (λ i. is_return i ≡ false) made_no_return (function_code structs globals scopes h) (function_words structs globals scopes h words))
 
-functions_words : (structs : List StructType) (globals : List ℕ) (hs : List Function) → AreOfWordsFunctions hs → AllByRecursion (λ r. All HasWord r.code) (map (lower_function structs globals) hs)
-functions_words structs globals [] words = tt
-functions_words structs globals (h ∷ hs) (first, rest) =
-    (all_of HasWord (function_code structs globals h) (all_told IsMade HasWord made_word (function_code structs globals h) (function_words structs globals h first)), functions_words structs globals hs rest)
+functions_words : (structs : List StructType) (globals : List ℕ) (scopes : Option ℕ) (hs : List Function) → AreOfWordsFunctions hs → AllByRecursion (λ r. All HasWord r.code) (map (lower_function structs globals scopes) hs)
+functions_words structs globals scopes [] words = tt
+functions_words structs globals scopes (h ∷ hs) (first, rest) =
+    (all_of HasWord (function_code structs globals scopes h) (all_told IsMade HasWord made_word (function_code structs globals scopes h) (function_words structs globals scopes h first)), functions_words structs globals scopes hs rest)
 
 constant_word : (c : Constant) → IsOfWordsConstant c → IsWord (initial_word c)
 constant_word (Word n) word = word
@@ -727,8 +789,15 @@ globals_words : (gs : List GlobalVariable) → AreOfWordsGlobals gs → AllByRec
 globals_words [] words = tt
 globals_words (g ∷ gs) (first, rest) = (constant_word g.value first, zeros_words (words_of g.of_type - 1) (lower_globals gs) (globals_words gs rest))
 
+-- how many lexical regions are open at the start
+scopes_word : (scopes : Option ℕ) → AllByRecursion IsWord (scopes_words scopes)
+scopes_word None = tt
+scopes_word (Some global) = (omega arith, tt)
+
 pub has_words : (source : Program) → IsOfWordsProgram source → HasWords (lower_program source)
-has_words source words = record {
-  functions = all_of (λ r. All HasWord r.code) (map (lower_function source.structs (globals_of source)) source.functions) (functions_words source.structs (globals_of source) source.functions words.functions);
-  globals = all_of IsWord (lower_globals source.globals) (globals_words source.globals words.globals);
-}
+has_words source words =
+    let scopes = scopes_of source in
+    record {
+      functions = all_of (λ r. All HasWord r.code) (map (lower_function source.structs (globals_of source) scopes) source.functions) (functions_words source.structs (globals_of source) scopes source.functions words.functions);
+      globals = all_of IsWord (lower_globals source.globals ++ scopes_words scopes) (all_append IsWord (lower_globals source.globals) (scopes_words scopes) (globals_words source.globals words.globals) (scopes_word scopes));
+    }

@@ -8,14 +8,15 @@ use Rattle.cyc_types.specs.declared.typed.Item.{Item}
 use Rattle.cyc_types.specs.declared.typed.Clause.{Clause}
 use Rattle.cyc_types.specs.declared.typed.Item.TheVariants as item
 use Rattle.cyc_types.specs.Types.{Ty, words_of}
+use Rattle.cyc_types.specs.TypeView.{view_ty}
 use Rattle.cyc_types.specs.TypedTrees.{Expression, Converted, Convert, Arguments, Operations, ThenCompute, Statement, Clauses, Items, Function, type_of, Binary}
 use Rattle.cyc_types.specs.TypedTreeView.{view_struct, view_expression, view_converted, view_statement, clauses_of}
 use Rattle.cyc_plain.specs.declared.instruction.Operand.{Operand}
 use Rattle.cyc_plain.specs.declared.instruction.Operand.TheVariants.{Slot, Word}
 use Rattle.cyc_plain.specs.declared.instruction.Instruction.{Instruction}
 use Rattle.cyc_plain.specs.declared.instruction.Instruction.TheVariants.{WriteByte, Throw}
-use Rattle.cyc_lower.specs.Slots.{Starts}
-use Rattle.cyc_lower.specs.Lowering.{operand_of, source_of, source_slot, code_unless, slot_or, code_unless_slot, printed_operand, conversion_code, printed_code, left_of, value_slot, left_slot, value_operand, expression_code, compute_code, test_code, condition_code, failing_jump, while_code, statement_code, declaration_code, condition_of, behind_left, pointer_code, inside_loop, tag_operand, clause_code, thrown_operand, thrown_code, caught_code, items_code, clauses_code, span_of}
+use Rattle.cyc_lower.specs.Slots.{Starts, slot_of}
+use Rattle.cyc_lower.specs.Lowering.{operand_of, source_of, source_slot, code_unless, slot_or, code_unless_slot, printed_operand, conversion_code, printed_code, left_of, value_slot, left_slot, value_operand, expression_code, compute_code, test_code, condition_code, failing_jump, while_code, statement_code, declaration_code, condition_of, behind_left, pointer_code, inside_loop, tag_operand, clause_code, thrown_operand, thrown_code, caught_code, items_code, clauses_code, span_of, opened_code, named_code, dynamic_code, inside_region}
 use Rattle.cyc_meaning.specs.FrameCount.{operand_words, argument_words, arguments_need, expression_need, initial_need, statement_need, kept_by, frame_count}
 use Rattle.cyc_plain.specs.declared.instruction.Comparison.{Comparison}
 use Rattle.cyc_lower.specs.declared.emitter.Emitter.{Emitter}
@@ -33,7 +34,7 @@ Gives answer result old new code = IfOk result (λ given. (given ≡ answer) × 
 
 -- where things begin, as the code has it
 abbrev pub view_starts : StartsCode → Starts
-view_starts starts = record { locals = starts.locals.now; structs = map view_struct starts.structs.now; raises = starts.raises; counters = starts.counters.now; globals = starts.globals.now }
+view_starts starts = record { locals = starts.locals.now; structs = map view_struct starts.structs.now; raises = starts.raises; counters = starts.counters.now; globals = starts.globals.now; scopes = starts.scopes }
 
 -- Slots are numbers that a word holds: a function has fewer locals than this, and of its temporaries no more are in use than
 -- there are instructions before.
@@ -118,7 +119,10 @@ module _ (starts : Starts) where
   abbrev pub item_code : Item → (p : ℕ) → Exits → (t : ℕ) → List Instruction
   item_code (item.Execute s) p exits t = statement_code starts (view_statement s) p exits t
   item_code (item.Local n ty v) p exits t = declaration_code starts n (option_map view_converted v) p t
-  item_code i p exits t = []
+  item_code (item.Region r n) p exits t = opened_code starts n t
+  item_code (item.Open r n w k) p exits t = named_code starts 1 n (Slot (slot_of starts k))
+  item_code (item.Alias r n ty w s) p exits t = named_code starts (words_of (view_ty ty)) n (Slot (slot_of starts s))
+  item_code (item.DynamicRegion r n) p exits t = dynamic_code starts n t
 
   -- a clause of a `try`
   abbrev pub case_code : (tag : ℕ) → (number : Option ℕ) → Items → (p out : ℕ) → Exits → (t : ℕ) → List Instruction
@@ -133,7 +137,16 @@ module _ (starts : Starts) where
   -- a loop
   abbrev pub loop_code : Expression → Statement → (p : ℕ) → Exits → (t : ℕ) → List Instruction
   loop_code a s p exits t =
-      while_code (condition_code starts a (p + 2) t) (failing_jump (condition_of starts a t)) (statement_code starts s (p + 2 + length (condition_code starts a (p + 2) t) + 1) (inside_loop p t exits) t) p
+      while_code (condition_code starts a (p + 2) t) (failing_jump (condition_of starts a t)) (statement_code starts s (p + 2 + length (condition_code starts a (p + 2) t) + 1) (inside_loop p exits) t) p
+
+-- behind an item of a block: the ways out, and the first slot for temporaries
+abbrev pub exits_behind : Item → Exits → (t : ℕ) → Exits
+exits_behind (item.Region r n) exits t = inside_region exits t
+exits_behind i exits t = exits
+
+abbrev pub free_behind : Item → (t : ℕ) → ℕ
+free_behind (item.Region r n) t = t + 1
+free_behind i t = t
 
 -- So many words a frame has at most, where its function is one of a program that is short enough to be read.
 abbrev pub most_frame_count : ℕ

@@ -4,7 +4,7 @@ use Rattle.std.specs.Prelude.{◌≡◌, ℕ, ◌<◌, Bool, true, false, not, �
 use Rattle.cyc_types.specs.declared.typed.PointerOperator.{PointerOperator}
 use Rattle.cyc_types.specs.declared.typed.PointerOperator.TheVariants as pointers
 use Rattle.cyc_types.specs.Types.{Ty, words_of}
-use Rattle.cyc_types.specs.TypedTrees.{type_of_place, Array, Counter, Load, New, OnHeap, Initial, Plain, Fields, Dereference, Target, Lvalue, Local, Global, Expression, Number, NullPointer, Copy, Call, Unary, Binary, Assign, Converted, Convert, Arguments, NoArguments, MoreArguments, Operations, NoOperations, ThenCompute, ThenTest, ThenPointer, Statement, Block, Empty, Evaluate, If, While, Return, Break, Continue, Items, NoItems, MoreItems, Execute, Declare, Signature, Function, Program, Move, Peek, ThenPointerPeek, AddressOfCell, Store, Member, AsUnique, FreeUnique, Side, VariableSide, CellSide, Swap, Throw, Try, Clauses, NoClauses, Default, Case, NumberOfElements, Element}
+use Rattle.cyc_types.specs.TypedTrees.{type_of_place, Array, Counter, Load, New, OnHeap, ByHandle, Initial, Plain, Fields, Dereference, Target, Lvalue, Local, Global, Expression, Number, NullPointer, HeapRegion, FreeKey, Copy, Call, Unary, Binary, Assign, Converted, Convert, Arguments, NoArguments, MoreArguments, Operations, NoOperations, ThenCompute, ThenTest, ThenPointer, Statement, Block, Empty, Evaluate, If, While, Return, Break, Continue, Items, NoItems, MoreItems, Execute, Declare, Signature, Function, Program, Move, Peek, ThenPointerPeek, AddressOfCell, Store, Member, AsUnique, FreeUnique, Side, VariableSide, CellSide, Swap, Throw, Try, Clauses, NoClauses, Default, Case, NumberOfElements, Element}
 use Rattle.cyc_words.specs.Word.{IsWord}
 use Rattle.cyc_types.specs.declared.typed.Kind.{Kind}
 use Rattle.cyc_types.specs.declared.typed.Kind.TheVariants as kinds
@@ -44,6 +44,7 @@ abbrev mutual
   pub IsLowerable : Numbering → Expression → Type 0
   IsLowerable b (Number n) = Unit {0}
   IsLowerable b NullPointer = Unit {0}
+  IsLowerable b HeapRegion = Unit {0}
   IsLowerable b (Copy l t) = IsWithin b l
   IsLowerable b (Move p n t) = IsWithin b (Local p n)
   IsLowerable b (Peek p n t) = IsWithin b (Local p n)
@@ -55,8 +56,10 @@ abbrev mutual
   IsLowerable b (Assign l c t) = IsWithin b l × IsLowerableConverted b c
   IsLowerable b (Load x) = IsLowerableCell b x
   IsLowerable b (FreeUnique a) = IsLowerable b a
+  IsLowerable b (FreeKey a) = IsLowerable b a
   IsLowerable b (New OnHeap i t) = IsLowerableObject b i
   IsLowerable b (New AsUnique i t) = IsLowerableObject b i
+  IsLowerable b (New (ByHandle a) i t) = IsLowerable b a × IsLowerableObject b i
   IsLowerable b (AddressOfCell x t) = IsLowerableCell b x
   IsLowerable b (Store x c t) = IsLowerableCell b x × IsLowerableConverted b c
   IsLowerable b a = ⊥

@@ -4,7 +4,8 @@
 --
 -- A value has as many slots as its kind has words, one behind the other, and a global as many words. There is code for the int language
 -- and more; a form that is not built has a constant in its place, which nothing runs.
-use Rattle.std.specs.Prelude.{ℕ, zero, suc, ◌+◌, max, ◌==◌, Bool, false, if◌then◌else◌, List, [], ◌∷◌, ◌++◌, length, map, replicate, ◌-◌, Option, None, Some, slice_get, ◌%◌, ◌^◌, true, option_map, ◌*◌}
+use Rattle.std.specs.Prelude.{ℕ, zero, suc, ◌+◌, max, ◌==◌, Bool, false, if◌then◌else◌, List, [], ◌∷◌, ◌++◌, length, map, replicate, ◌-◌, Option, None, Some, slice_get, ◌%◌, ◌^◌, true, option_map, ◌*◌, ◌||◌}
+use Rattle.std.specs.List.{list_any}
 use Rattle.cyc_words.specs.declared.span.Span.{Span}
 use Rattle.cyc_syntax.specs.Symbols.{Place}
 use Rattle.cyc_types.specs.declared.typed.Kind.{Kind}
@@ -18,9 +19,9 @@ use Rattle.cyc_types.specs.declared.typed.PointerOperator.{PointerOperator}
 use Rattle.cyc_types.specs.declared.typed.PointerOperator.TheVariants as pointers
 use Rattle.cyc_types.specs.declared.typed.LogicalOperator.{LogicalOperator}
 use Rattle.cyc_types.specs.declared.typed.LogicalOperator.TheVariants as logical
-use Rattle.cyc_types.specs.Types.{Ty, words_of}
+use Rattle.cyc_types.specs.Types.{Ty, Handle, words_of}
 use Rattle.cyc_types.specs.typing.Expressions.{type_of_side}
-use Rattle.cyc_types.specs.TypedTrees.{Array, Counter, Load, New, OnHeap, Initial, Plain, Fields, Dereference, Target, Lvalue, Local, Global, Expression, Number, NullPointer, Copy, Call, Unary, Binary, Assign, Converted, Convert, Arguments, NoArguments, MoreArguments, Operations, NoOperations, ThenCompute, ThenTest, ThenPointer, ThenPointerPeek, Statement, Block, Empty, Evaluate, If, While, Return, Break, Continue, Items, NoItems, MoreItems, Execute, Declare, Constant, Word, Null, GlobalVariable, StructType, Function, Program, Move, Peek, AddressOfCell, Store, Member, Element, AsUnique, FreeUnique, Side, VariableSide, CellSide, Swap, Throw, Try, Clauses, NoClauses, Default, Case, NumberOfElements, type_of_place}
+use Rattle.cyc_types.specs.TypedTrees.{Array, Counter, Load, New, OnHeap, Initial, Plain, Fields, Dereference, Target, Lvalue, Local, Global, Expression, Number, NullPointer, Copy, Call, Unary, Binary, Assign, Converted, Convert, Arguments, NoArguments, MoreArguments, Operations, NoOperations, ThenCompute, ThenTest, ThenPointer, ThenPointerPeek, Statement, Block, Empty, Evaluate, If, While, Return, Break, Continue, Items, NoItems, MoreItems, Execute, Declare, DeclareRegion, OpenRegion, DeclareAlias, DeclareKey, Constant, Word, Null, GlobalVariable, StructType, Function, Program, Move, Peek, AddressOfCell, Store, Member, Element, AsUnique, FreeUnique, Side, VariableSide, CellSide, Swap, Throw, Try, Clauses, NoClauses, Default, Case, NumberOfElements, type_of_place, HeapRegion, AddressOf, FreeKey, ByHandle}
 use Rattle.cyc_plain.specs.declared.instruction.UnaryOperator.{UnaryOperator as PlainUnary}
 use Rattle.cyc_plain.specs.declared.instruction.UnaryOperator.TheVariants as plain_unary
 use Rattle.cyc_plain.specs.declared.instruction.BinaryOperator.{BinaryOperator as PlainBinary}
@@ -42,6 +43,7 @@ use Rattle.cyc_lower.specs.Slots.{Types, Starts, starts_from, slot_of, with_coun
 use Rattle.cyc_meaning.specs.Parts.{target_of, target_by}
 use Rattle.cyc_lower.specs.declared.operands.Condition.{Condition}
 use Rattle.cyc_lower.specs.declared.statements.Exits.{Exits}
+use Rattle.cyc_lower.specs.declared.statements.Opened.{Opened}
 
 -- ---- slots and operators
 
@@ -363,15 +365,16 @@ global_code words first (operands.Slot n) = word_by_word store_word words first 
 global_code words first (operands.Word n) = instructions.StoreGlobal first (operands.Word n) ∷ []
 
 -- A cell of so many words comes to a slot and those behind it, whose address stands in an operand but for so many bytes. Where there are
--- more words the address comes to the slot of the first, which is loaded last.
-abbrev pub loaded_code : (words : ℕ) → Operand → (bytes d : ℕ) → List Instruction
-loaded_code words o bytes d =
+-- more words the address comes to slot t, and not to a local, which may be the cell itself. The first word is loaded last, since it may
+-- come to slot t.
+abbrev pub loaded_code : (words : ℕ) → Operand → (bytes d t : ℕ) → List Instruction
+loaded_code words o bytes d t =
     if words == 1
     then instructions.Load d o bytes ∷ []
-    else address_code o bytes d
-    ++ instructions.Load (d + 2) (operands.Slot d) 8
-    ∷ instructions.Load (d + 1) (operands.Slot d) 4
-    ∷ instructions.Load d (operands.Slot d) 0
+    else address_code o bytes t
+    ++ instructions.Load (d + 2) (operands.Slot t) 8
+    ∷ instructions.Load (d + 1) (operands.Slot t) 4
+    ∷ instructions.Load d (operands.Slot t) 0
     ∷ []
 
 -- ---- conversions
@@ -433,9 +436,9 @@ stored_by address value words slot o = address ++ (value ++ saved_code words slo
 
 -- A block is asked for in the region of this handle, and gets so many words, which stand in the slots from t on. Its address comes to the
 -- slot behind them, and then to slot d.
-abbrev pub object_code : (handle words d t : ℕ) → List Instruction
+abbrev pub object_code : (handle : Operand) → (words d t : ℕ) → List Instruction
 object_code handle words d t =
-    instructions.Ask (requests.Allocate (t + words) (operands.Word handle) (operands.Word (max 1 words)))
+    instructions.Ask (requests.Allocate (t + words) handle (operands.Word (max 1 words)))
     ∷ stores_code words (t + words) 0 t
     ++ instructions.Move d (operands.Slot (t + words))
     ∷ []
@@ -456,16 +459,16 @@ measured_code starts words x y t =
 
 -- A block is asked for of so many words for each element that slot t counts, or of one where that is 0: their number comes to slot s, and
 -- the address to t.
-abbrev pub asked_code : (handle words s t : ℕ) → List Instruction
+abbrev pub asked_code : (handle : Operand) → (words s t : ℕ) → List Instruction
 asked_code handle words s t =
     instructions.Binary plain_binary.Multiply t (operands.Slot t) (operands.Word words)
     ∷ instructions.Unary plain_unary.Not s (operands.Slot t)
     ∷ instructions.Binary plain_binary.Add s (operands.Slot s) (operands.Slot t)
-    ∷ instructions.Ask (requests.Allocate t (operands.Word handle) (operands.Slot s))
+    ∷ instructions.Ask (requests.Allocate t handle (operands.Slot s))
     ∷ []
 
 -- a new array, whose length is in slot t: its address comes there, and its length and the index behind it
-abbrev pub begun_code : Starts → (handle words t : ℕ) → List Instruction
+abbrev pub begun_code : Starts → (handle : Operand) → (words t : ℕ) → List Instruction
 begun_code starts handle words t = measured_code starts words (t + 1) (t + 2) t ++ asked_code handle words (t + 3) t
 
 -- The element in slot s and those behind it comes to its cell of the array at the address in slot t, by the index in slot y, which goes to
@@ -500,7 +503,7 @@ elements_code words element head d t =
     ∷ ((element ++ filled_code words head t) ++ ended_code d t)
 
 -- the code of the length stands at place p, and that of an element is made for its place
-abbrev pub array_code : Starts → (words : ℕ) → (count : List Instruction) → (element : ℕ → List Instruction) → (handle p d t : ℕ) → List Instruction
+abbrev pub array_code : Starts → (words : ℕ) → (count : List Instruction) → (element : ℕ → List Instruction) → (handle : Operand) → (p d t : ℕ) → List Instruction
 array_code starts words count element handle p d t =
     count ++ (begun_code starts handle words t ++ elements_code words (element (p + length count + 7 + 1)) (p + length count + 7) d t)
 
@@ -572,12 +575,96 @@ while_code condition jump body p =
     ++ instructions.Jump (continue_target p)
     ∷ []
 
+-- ---- regions
+
+-- how many lexical regions are open now is kept in the global for it
+abbrev pub scopes_code_in : Option ℕ → (count : Operand) → List Instruction
+scopes_code_in None count = []
+scopes_code_in (Some global) count = instructions.StoreGlobal global count ∷ []
+
+abbrev pub scopes_code : Starts → (count : Operand) → List Instruction
+scopes_code starts count = scopes_code_in starts.scopes count
+
+-- a local that is declared gets a value of so many words, which stands in an operand
+abbrev pub named_code : Starts → (words number : ℕ) → Operand → List Instruction
+named_code starts words n o = move_of words (slot_of starts n) o ∷ []
+
+-- A lexical region is opened, and a local becomes its handle. Its mark comes to slot t, where it stays until the region is closed.
+abbrev pub opened_code : Starts → (number t : ℕ) → List Instruction
+opened_code starts n t =
+    instructions.Ask (requests.OpenLexical (t + 1))
+    ∷ instructions.Move t (operands.Slot (t + 2))
+    ∷ instructions.Binary plain_binary.Add (t + 2) (operands.Slot t) (operands.Word 1)
+    ∷ scopes_code starts (operands.Slot (t + 2))
+    ++ named_code starts 1 n (operands.Slot (t + 1))
+
+-- the newest lexical regions are closed, down to the mark in slot m
+abbrev pub closed_code : Starts → (m : ℕ) → List Instruction
+closed_code starts m = instructions.Ask (requests.CloseTo (operands.Slot m)) ∷ scopes_code starts (operands.Slot m)
+
+-- a dynamic region is opened, and a local becomes its key
+abbrev pub dynamic_code : Starts → (number t : ℕ) → List Instruction
+dynamic_code starts n t = instructions.Ask (requests.OpenDynamic t) ∷ named_code starts 1 n (operands.Slot t)
+
+-- the dynamic region of a key is closed
+abbrev pub closing_code : (handle : Operand) → List Instruction
+closing_code o = instructions.Ask (requests.CloseDynamic o) ∷ []
+
+-- ---- ways out
+
+-- What was opened round a statement since a loop began, or its function: the first slot of the outermost handler's record, and that of the
+-- mark of the outermost lexical region.
+abbrev pub nothing_opened : Opened
+nothing_opened = record { handler = None; mark = None }
+
+abbrev pub outermost : Option ℕ → (slot : ℕ) → Option ℕ
+outermost (Some first) slot = Some first
+outermost None slot = Some slot
+
+abbrev pub with_handler : Opened → (slot : ℕ) → Opened
+with_handler opened slot = record { handler = outermost opened.handler slot; mark = opened.mark }
+
+abbrev pub with_mark : Opened → (slot : ℕ) → Opened
+with_mark opened slot = record { handler = opened.handler; mark = outermost opened.mark slot }
+
+-- all handlers are closed, from the outermost on
+abbrev pub handlers_code : Option ℕ → List Instruction
+handlers_code None = []
+handlers_code (Some first) = instructions.Leave first ∷ []
+
+-- all lexical regions are closed, down to the outermost one's mark
+abbrev pub marks_code : Starts → Option ℕ → List Instruction
+marks_code starts None = []
+marks_code starts (Some m) = closed_code starts m
+
+abbrev pub leave_code : Starts → Opened → List Instruction
+leave_code starts opened = handlers_code opened.handler ++ marks_code starts opened.mark
+
 -- ---- handlers
 
--- The slot of a handler's record is the first behind the locals and the records of those that are open round it, and temporaries begin
--- behind the last record. So where the first of some records is not t, there are such, and one instruction closes all of them.
-abbrev pub leave_code : (first t : ℕ) → List Instruction
-leave_code first t = if first == t then [] else instructions.Leave first ∷ []
+-- A `try` has the record of its handler in the slots from t on. Behind it it keeps how many lexical regions are open, where a program has
+-- any.
+abbrev pub behind_record_in : Option ℕ → (t : ℕ) → ℕ
+behind_record_in None t = t + RECORD_WORDS
+behind_record_in (Some global) t = t + RECORD_WORDS + 1
+
+abbrev pub behind_record : Starts → (t : ℕ) → ℕ
+behind_record starts t = behind_record_in starts.scopes t
+
+abbrev pub kept_code_in : Option ℕ → (t : ℕ) → List Instruction
+kept_code_in None t = []
+kept_code_in (Some global) t = instructions.LoadGlobal (t + RECORD_WORDS) global ∷ []
+
+abbrev pub kept_code : Starts → (t : ℕ) → List Instruction
+kept_code starts t = kept_code_in starts.scopes t
+
+-- where an exception comes to it, the lexical regions are closed that were opened in it
+abbrev pub restored_code_in : Starts → Option ℕ → (t : ℕ) → List Instruction
+restored_code_in starts None t = []
+restored_code_in starts (Some global) t = closed_code starts (t + RECORD_WORDS)
+
+abbrev pub restored_code : Starts → (t : ℕ) → List Instruction
+restored_code starts t = restored_code_in starts starts.scopes t
 
 -- the word of an exception's number, which is less than 2 ^ 32 in every text
 abbrev pub tag_operand : (tag : ℕ) → Operand
@@ -591,6 +678,15 @@ try_code t body clauses p =
     ++ instructions.Jump (p + 1 + length body + 1 + length clauses)
     ∷ clauses
 
+-- The rest of a `try` at place p, with its record in slot t. The code of its body is made for its place, and that of its clauses for theirs
+-- and for the place of the jump over them.
+abbrev pub handled_code : Starts → (body : ℕ → List Instruction) → (clauses : (p out : ℕ) → List Instruction) → (p t : ℕ) → List Instruction
+handled_code starts body clauses p t =
+    try_code t (body (p + 1) ++ instructions.Leave t ∷ [])
+    (restored_code starts t
+    ++ clauses (p + 1 + length (body (p + 1) ++ instructions.Leave t ∷ []) + 1 + length (restored_code starts t)) (p + 1 + length (body (p + 1) ++ instructions.Leave t ∷ [])))
+    p
+
 -- the jump over a clause, where the number of the exception in slot t is another
 abbrev pub other_jump : (tag t target : ℕ) → Instruction
 other_jump tag t target = instructions.Branch comparisons.NotEqual (operands.Slot t) (tag_operand tag) target
@@ -603,14 +699,20 @@ clause_code tag t items p out = other_jump tag t (p + 1 + length items + 1) ∷ 
 abbrev pub goes_on : (t : ℕ) → Instruction
 goes_on t = instructions.Throw (operands.Slot t) (operands.Slot (t + 1))
 
--- The ways out of a statement: what is known of the loop and the function round it. Here they are outside any loop, and records of
--- handlers begin at slot t.
-abbrev pub outside_loops : (t : ℕ) → Exits
-outside_loops t = record { head = 0; loop_record = t; first_record = t }
+-- The ways out of a statement: what is known of the loop and the function round it. Here they are outside any loop.
+abbrev pub outside_loops : Exits
+outside_loops = record { head = 0; in_loop = nothing_opened; in_function = nothing_opened }
 
--- in a loop that begins at this place, where records begin at slot t
-abbrev pub inside_loop : (head t : ℕ) → Exits → Exits
-inside_loop head t exits = record { head = head; loop_record = t; first_record = exits.first_record }
+-- in a loop that begins at this place
+abbrev pub inside_loop : (head : ℕ) → Exits → Exits
+inside_loop head exits = record { head = head; in_loop = nothing_opened; in_function = exits.in_function }
+
+-- in the body of a `try`, whose handler's record begins with this slot, and behind a region, whose mark is in this slot
+abbrev pub inside_try : Exits → (slot : ℕ) → Exits
+inside_try exits slot = record { head = exits.head; in_loop = with_handler exits.in_loop slot; in_function = with_handler exits.in_function slot }
+
+abbrev pub inside_region : Exits → (slot : ℕ) → Exits
+inside_region exits slot = record { head = exits.head; in_loop = with_mark exits.in_loop slot; in_function = with_mark exits.in_function slot }
 
 -- a counter that has a slot is in it
 abbrev pub counter_operand : Option ℕ → Option Operand
@@ -621,10 +723,11 @@ counter_operand None = None
 module _ (starts : Starts) where
   -- ---- where values stand
 
-  -- what an expression is without code: a number, null, a local, or a counter
+  -- what an expression is without code: a number, null, the heap's handle, a local, or a counter
   abbrev pub operand_of : Expression → Option Operand
   operand_of (Number n) = Some (operands.Word n)
   operand_of NullPointer = Some (operands.Word 0)
+  operand_of HeapRegion = Some (operands.Word HEAP)
   operand_of (Copy (Local p n) t) = Some (operands.Slot (slot_of starts n))
   operand_of (Move p n t) = Some (operands.Slot (slot_of starts n))
   operand_of (Peek p n t) = Some (operands.Slot (slot_of starts n))
@@ -698,6 +801,7 @@ abbrev mutual
   pub expression_code : (starts : Starts) → Expression → (p d t : ℕ) → List Instruction
   expression_code starts (Number n) p d t = instructions.Move d (operands.Word n) ∷ []
   expression_code starts NullPointer p d t = instructions.Move d (operands.Word 0) ∷ []
+  expression_code starts HeapRegion p d t = instructions.Move d (operands.Word HEAP) ∷ []
   expression_code starts (Counter l) p d t = instructions.Move d (operands.Slot (counter_of starts l)) ∷ []
   expression_code starts (Copy l ty) p d t = load_code starts (words_of ty) l d
   expression_code starts (Move w n ty) p d t = load_code starts (words_of ty) (Local w n) d
@@ -725,7 +829,8 @@ abbrev mutual
       initial_code starts c p (slot_of starts n) t ++ copy_code (passed_words c) (operands.Slot (slot_of starts n)) d
   expression_code starts (Assign (Global n) c ty) p d t =
       (converted_operand_code starts c p t ++ global_code (passed_words c) (global_of starts n) (converted_operand starts c t)) ++ copy_code (passed_words c) (converted_operand starts c t) d
-  expression_code starts (Load x) p d t = place_code starts x p t ++ loaded_code (words_of (type_of_place x)) (place_operand starts x t) (place_offset starts x) d
+  expression_code starts (Load x) p d t = place_code starts x p t ++ loaded_code (words_of (type_of_place x)) (place_operand starts x t) (place_offset starts x) d t
+  expression_code starts (AddressOf l ty) p d t = instructions.Move d (operands.Word 0) ∷ []
   expression_code starts (AddressOfCell x ty) p d t = addressed_by (place_code starts x p t) (place_operand starts x t) (place_offset starts x) d
   expression_code starts (Store x c ty) p d t =
       stored_by (addressed_by (place_code starts x p t) (place_operand starts x t) (place_offset starts x) t)
@@ -734,9 +839,13 @@ abbrev mutual
   expression_code starts (FreeUnique a) p d t =
       code_unless (operand_of starts a) (expression_code starts a p (value_slot starts a t) t)
       ++ free_code (value_operand starts a t) (p + length (code_unless (operand_of starts a) (expression_code starts a p (value_slot starts a t) t)))
-  expression_code starts (New OnHeap i ty) p d t = made_code starts i HEAP p d t
-  expression_code starts (New AsUnique i ty) p d t = made_code starts i UNIQUE p d t
-  expression_code starts a p d t = instructions.Move d (operands.Word 0) ∷ []
+  expression_code starts (FreeKey a) p d t =
+      code_unless (operand_of starts a) (expression_code starts a p (value_slot starts a t) t) ++ closing_code (value_operand starts a t)
+  expression_code starts (New OnHeap i ty) p d t = made_code starts i (operands.Word HEAP) p d t
+  expression_code starts (New AsUnique i ty) p d t = made_code starts i (operands.Word UNIQUE) p d t
+  -- The handle waits in slot t while the values are evaluated.
+  expression_code starts (New (ByHandle a) i ty) p d t =
+      expression_code starts a p t t ++ made_code starts i (operands.Slot t) (p + length (expression_code starts a p t t)) d (t + 1)
 
   -- a place that a pointer leads to, which is tested
   pub place_code : (starts : Starts) → Dereference → (p t : ℕ) → List Instruction
@@ -748,7 +857,7 @@ abbrev mutual
       (span_in ty) (pointer_slot starts a i t) (value_operand starts i (t + 3)) t
 
   -- A new object in the region of this handle. The elements of an array have a counter.
-  pub made_code : (starts : Starts) → Initial → (handle p d t : ℕ) → List Instruction
+  pub made_code : (starts : Starts) → Initial → (handle : Operand) → (p d t : ℕ) → List Instruction
   made_code starts (Plain kind a) handle p d t = expression_code starts a p t t ++ object_code handle (words_of_kind kind) d t
   made_code starts (Fields cs) handle p d t = arguments_code starts cs p t ++ object_code handle (all_passed cs) d t
   made_code starts (Array w level n kind a) handle p d t =
@@ -860,11 +969,11 @@ module _ (starts : Starts) where
 
   -- A value is returned from a slot: that of a local, or t. It is converted before handlers are closed.
   abbrev pub return_code : Option Converted → (p : ℕ) → Exits → (t : ℕ) → List Instruction
-  return_code None p exits t = leave_code exits.first_record t ++ instructions.Finish t ∷ []
+  return_code None p exits t = leave_code starts exits.in_function ++ instructions.Finish t ∷ []
   return_code (Some (Convert from to a)) p exits t =
       code_unless_slot (source_of starts (Convert from to a)) (expression_code starts a p t t)
       ++ conversion_code starts from to (span_of a) (operands.Slot (slot_or (source_of starts (Convert from to a)) t)) (p + length (code_unless_slot (source_of starts (Convert from to a)) (expression_code starts a p t t)))
-      ++ leave_code exits.first_record t
+      ++ leave_code starts exits.in_function
       ++ instructions.Finish (slot_or (source_of starts (Convert from to a)) t)
       ∷ []
 
@@ -926,16 +1035,14 @@ module _ (starts : Starts) where
         (statement_code u (p + length (condition_code a p t) + 1 + length (statement_code s (p + length (condition_code a p t) + 1) exits t) + 1) exits t)
         p
     statement_code (While w a s) p exits t =
-        while_code (condition_code a (p + 2) t) (failing_jump (condition_of a t)) (statement_code s (p + 2 + length (condition_code a (p + 2) t) + 1) (inside_loop p t exits) t) p
+        while_code (condition_code a (p + 2) t) (failing_jump (condition_of a t)) (statement_code s (p + 2 + length (condition_code a (p + 2) t) + 1) (inside_loop p exits) t) p
     statement_code (Return v) p exits t = return_code v p exits t
-    statement_code Break p exits t = leave_code exits.loop_record t ++ instructions.Jump (break_target exits.head) ∷ []
-    statement_code Continue p exits t = leave_code exits.loop_record t ++ instructions.Jump (continue_target exits.head) ∷ []
+    statement_code Break p exits t = leave_code starts exits.in_loop ++ instructions.Jump (break_target exits.head) ∷ []
+    statement_code Continue p exits t = leave_code starts exits.in_loop ++ instructions.Jump (continue_target exits.head) ∷ []
     statement_code (Throw n v) p exits t = thrown_code v p t ++ instructions.Throw (tag_operand n) (thrown_operand v t) ∷ []
     statement_code (Try s cs) p exits t =
-        try_code t (statement_code s (p + 1) exits (t + RECORD_WORDS) ++ instructions.Leave t ∷ [])
-        (clauses_code cs (p + 1 + length (statement_code s (p + 1) exits (t + RECORD_WORDS) ++ instructions.Leave t ∷ []) + 1)
-        (p + 1 + length (statement_code s (p + 1) exits (t + RECORD_WORDS) ++ instructions.Leave t ∷ [])) exits t)
-        p
+        kept_code starts t
+        ++ handled_code starts (λ q. statement_code s q (inside_try exits t) (behind_record starts t)) (λ q out. clauses_code cs q out exits t) (p + length (kept_code starts t)) t
 
     pub items_code : Items → (p : ℕ) → Exits → (t : ℕ) → List Instruction
     items_code NoItems p exits t = []
@@ -943,7 +1050,13 @@ module _ (starts : Starts) where
         statement_code s p exits t ++ items_code js (p + length (statement_code s p exits t)) exits t
     items_code (MoreItems (Declare n ty v) js) p exits t =
         declaration_code n v p t ++ items_code js (p + length (declaration_code n v p t)) exits t
-    items_code (MoreItems j js) p exits t = items_code js p exits t
+    -- behind a region the temporaries begin behind its mark, and at the end of the block it is closed
+    items_code (MoreItems (DeclareRegion r n) js) p exits t =
+        opened_code starts n t ++ (items_code js (p + length (opened_code starts n t)) (inside_region exits t) (t + 1) ++ closed_code starts t)
+    -- the word of a key is the handle of its region
+    items_code (MoreItems (OpenRegion r n w k) js) p exits t = named_code starts 1 n (operands.Slot (slot_of starts k)) ++ items_code js (p + 1) exits t
+    items_code (MoreItems (DeclareAlias r n ty w s) js) p exits t = named_code starts (words_of ty) n (operands.Slot (slot_of starts s)) ++ items_code js (p + 1) exits t
+    items_code (MoreItems (DeclareKey r n) js) p exits t = dynamic_code starts n t ++ items_code js (p + length (dynamic_code starts n t)) exits t
 
     -- the clauses of a `try`, where an exception has its number and its word in the slots from t on
     pub clauses_code : Clauses → (p out : ℕ) → Exits → (t : ℕ) → List Instruction
@@ -958,25 +1071,25 @@ module _ (starts : Starts) where
 -- ---- programs
 
 -- By which the code of a function is made, in a program with these structs, whose globals have these first words, where blocks stand
--- behind this place.
-abbrev pub starts_with : (raises : ℕ) → List StructType → (globals : List ℕ) → Function → Starts
-starts_with raises structs globals h = record { locals = starts_from 0 (slot_types h); structs = structs; raises = raises; counters = []; globals = globals }
+-- behind this place, and where this global tells how many lexical regions are open.
+abbrev pub starts_with : (raises : ℕ) → List StructType → (globals : List ℕ) → (scopes : Option ℕ) → Function → Starts
+starts_with raises structs globals scopes h = record { locals = starts_from 0 (slot_types h); structs = structs; raises = raises; counters = []; globals = globals; scopes = scopes }
 
 -- the code of its body
 abbrev pub body_code : Starts → Function → List Instruction
-body_code starts h = items_code starts h.body 0 (outside_loops (first_temporary h)) (first_temporary h)
+body_code starts h = items_code starts h.body 0 outside_loops (first_temporary h)
 
 -- Blocks stand behind the code. How long that is does not depend on where they stand: so it is made twice, and at first for any place.
-abbrev pub raises_of : List StructType → (globals : List ℕ) → Function → ℕ
-raises_of structs globals h = length (body_code (starts_with 0 structs globals h) h)
+abbrev pub raises_of : List StructType → (globals : List ℕ) → (scopes : Option ℕ) → Function → ℕ
+raises_of structs globals scopes h = length (body_code (starts_with 0 structs globals scopes h) h)
 
-abbrev pub types_of : List StructType → (globals : List Ty) → Function → Types
-types_of structs globals h = record { locals = slot_types h; structs = structs; raises = raises_of structs (starts_from 0 globals) h; counters = []; globals = globals }
+abbrev pub types_of : List StructType → (globals : List Ty) → (scopes : Option ℕ) → Function → Types
+types_of structs globals scopes h = record { locals = slot_types h; structs = structs; raises = raises_of structs (starts_from 0 globals) scopes h; counters = []; globals = globals; scopes = scopes }
 
 -- A body's code ends in a return, which is the end of a void function. In any other it is never reached, and stands there so that no
 -- code runs off its end. The blocks stand behind it.
-abbrev pub function_code : List StructType → (globals : List ℕ) → Function → List Instruction
-function_code structs globals h = body_code (starts_with (raises_of structs globals h) structs globals h) h ++ instructions.Finish (first_temporary h) ∷ blocks
+abbrev pub function_code : List StructType → (globals : List ℕ) → (scopes : Option ℕ) → Function → List Instruction
+function_code structs globals scopes h = body_code (starts_with (raises_of structs globals scopes h) structs globals scopes h) h ++ instructions.Finish (first_temporary h) ∷ blocks
 
 -- the words that a function returns
 abbrev pub results_of : Option Ty → ℕ
@@ -992,14 +1105,14 @@ spare_slots = 3
 
 -- its slots are the locals, the records of its handlers, as many temporaries as its expressions need, and those of one value more,
 -- such as what it returns
-abbrev pub lower_function : List StructType → (globals : List ℕ) → Function → Routine
-lower_function structs globals h = record {
+abbrev pub lower_function : List StructType → (globals : List ℕ) → (scopes : Option ℕ) → Function → Routine
+lower_function structs globals scopes h = record {
   name = span_of_place h.place;
   parameters = words_of_all h.parameters;
   results = results_of h.result;
   slots = first_temporary h + kept_by_items h.body + items_need h.body + spare_slots;
   frame_count = frame_count h;
-  code = function_code structs globals h;
+  code = function_code structs globals scopes h;
 }
 
 -- the first word that a global holds at the start
@@ -1019,6 +1132,30 @@ lower_globals (g ∷ gs) = lower_global g ++ lower_globals gs
 abbrev pub globals_of : Program → List ℕ
 globals_of p = starts_from 0 (global_types p.globals)
 
+-- A function has a local that is a handle, as the one of each region that it opens.
+abbrev pub is_handle : Ty → Bool
+is_handle (Handle r) = true
+is_handle t = false
+
+abbrev pub may_open : Function → Bool
+may_open h = list_any is_handle h.parameters || list_any is_handle h.locals
+
+-- Behind all globals stands the word that tells how many lexical regions are open, where a program may open some.
+abbrev pub scopes_if : Bool → (globals : ℕ) → Option ℕ
+scopes_if true globals = Some globals
+scopes_if false globals = None
+
+abbrev pub scopes_of : Program → Option ℕ
+scopes_of p = scopes_if (list_any may_open p.functions) (length (lower_globals p.globals))
+
+abbrev pub scopes_words : Option ℕ → List ℕ
+scopes_words None = []
+scopes_words (Some global) = 0 ∷ []
+
 -- each function keeps its number
 abbrev pub lower_program : Program → PlainProgram
-lower_program p = record { functions = map (lower_function p.structs (globals_of p)) p.functions; globals = lower_globals p.globals; main = p.main }
+lower_program p = record {
+  functions = map (lower_function p.structs (globals_of p) (scopes_of p)) p.functions;
+  globals = lower_globals p.globals ++ scopes_words (scopes_of p);
+  main = p.main;
+}

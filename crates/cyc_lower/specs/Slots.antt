@@ -21,32 +21,36 @@ abbrev pub global_types : List GlobalVariable → List Ty
 global_types globals = map (λ (g : GlobalVariable). g.of_type) globals
 
 -- The types of a function's locals, and the structs of its program. Behind the place `raises` of its code stand the blocks that raise
--- exceptions. Of the arrays around, the outermost first, the counters have these slots. The globals of the program have these types.
+-- exceptions. Of the arrays around, the outermost first, the counters have these slots. The globals of the program have these types, and
+-- where the program may open lexical regions, this word behind them tells how many are open.
 pub record Types : Type 0 where
   pub locals : List Ty
   pub structs : List StructType
   pub raises : ℕ
   pub counters : List ℕ
   pub globals : List Ty
+  pub scopes : Option ℕ
 
 -- What tells where things begin: the first slots of a function's locals, the structs of its program, for their fields, the place
--- behind which the blocks stand that raise exceptions, the slots of counters, and the first words of globals.
+-- behind which the blocks stand that raise exceptions, the slots of counters, the first words of globals, and the word that tells how many
+-- lexical regions are open.
 pub record Starts : Type 0 where
   pub locals : List ℕ
   pub structs : List StructType
   pub raises : ℕ
   pub counters : List ℕ
   pub globals : List ℕ
+  pub scopes : Option ℕ
 
 abbrev pub starts_of : Types → Starts
-starts_of types = record { locals = starts_from 0 types.locals; structs = types.structs; raises = types.raises; counters = types.counters; globals = starts_from 0 types.globals }
+starts_of types = record { locals = starts_from 0 types.locals; structs = types.structs; raises = types.raises; counters = types.counters; globals = starts_from 0 types.globals; scopes = types.scopes }
 
 -- for the elements of an array, whose counter has this slot
 abbrev pub counted : Types → (slot : ℕ) → Types
-counted types slot = record { locals = types.locals; structs = types.structs; raises = types.raises; counters = types.counters ++ slot ∷ []; globals = types.globals }
+counted types slot = record { locals = types.locals; structs = types.structs; raises = types.raises; counters = types.counters ++ slot ∷ []; globals = types.globals; scopes = types.scopes }
 
 abbrev pub with_counter : Starts → (slot : ℕ) → Starts
-with_counter starts slot = record { locals = starts.locals; structs = starts.structs; raises = starts.raises; counters = starts.counters ++ slot ∷ []; globals = starts.globals }
+with_counter starts slot = record { locals = starts.locals; structs = starts.structs; raises = starts.raises; counters = starts.counters ++ slot ∷ []; globals = starts.globals; scopes = starts.scopes }
 
 -- Where the field of this number begins, in bytes behind what is before its struct's fields: a word, since it is wrapped. No text has as
 -- many fields as that takes.

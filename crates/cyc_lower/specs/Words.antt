@@ -1,15 +1,15 @@
--- All numbers of a typed tree of the int language are words: its constants, and what its globals hold at the start. So it is in every
--- tree of a text.
+-- All numbers of a typed tree are words: its constants, and what its globals hold at the start. So it is in every tree of a text.
 use Rattle.std.specs.Prelude.{◌≤◌, List, [], ◌∷◌, Option, None, Some}
 use Rattle.cyc_words.specs.Word.{IsWord}
 use Rattle.cyc_types.specs.Numbered.{argument_count}
 use Rattle.cyc_store.specs.declared.range.TheConstants.{MOST_BLOCK_WORDS}
-use Rattle.cyc_types.specs.TypedTrees.{Array, Counter, Load, New, OnHeap, Initial, Plain, Fields, Dereference, Target, Expression, Number, NullPointer, Copy, Call, Unary, Binary, Assign, Converted, Convert, Arguments, NoArguments, MoreArguments, Operations, NoOperations, ThenCompute, ThenTest, ThenPointer, Statement, Block, Empty, Evaluate, If, While, Return, Break, Continue, Items, NoItems, MoreItems, Execute, Declare, Constant, Word, Null, GlobalVariable, Function, Program, Move, Peek, ThenPointerPeek, AddressOfCell, Store, Member, AsUnique, FreeUnique, Side, VariableSide, CellSide, Swap, Throw, Try, Clauses, NoClauses, Default, Case, NumberOfElements, Element}
+use Rattle.cyc_types.specs.TypedTrees.{Array, Counter, Load, New, OnHeap, ByHandle, Initial, Plain, Fields, Dereference, Target, Expression, Number, NullPointer, HeapRegion, AddressOf, FreeKey, Copy, Call, Unary, Binary, Assign, Converted, Convert, Arguments, NoArguments, MoreArguments, Operations, NoOperations, ThenCompute, ThenTest, ThenPointer, Statement, Block, Empty, Evaluate, If, While, Return, Break, Continue, Items, NoItems, MoreItems, Execute, Declare, DeclareRegion, OpenRegion, DeclareAlias, DeclareKey, Constant, Word, Null, GlobalVariable, Function, Program, Move, Peek, ThenPointerPeek, AddressOfCell, Store, Member, AsUnique, FreeUnique, Side, VariableSide, CellSide, Swap, Throw, Try, Clauses, NoClauses, Default, Case, NumberOfElements, Element}
 
 abbrev mutual
   pub IsOfWords : Expression → Type 0
   IsOfWords (Number n) = IsWord n
   IsOfWords NullPointer = Unit {0}
+  IsOfWords HeapRegion = Unit {0}
   IsOfWords (Copy l t) = Unit {0}
   IsOfWords (Move p n t) = Unit {0}
   IsOfWords (Peek p n t) = Unit {0}
@@ -21,11 +21,13 @@ abbrev mutual
   IsOfWords (Assign l c t) = IsOfWordsConverted c
   IsOfWords (Load x) = IsOfWordsCell x
   IsOfWords (FreeUnique a) = IsOfWords a
+  IsOfWords (FreeKey a) = IsOfWords a
   IsOfWords (New OnHeap i t) = IsOfWordsObject i
   IsOfWords (New AsUnique i t) = IsOfWordsObject i
+  IsOfWords (New (ByHandle a) i t) = IsOfWords a × IsOfWordsObject i
+  IsOfWords (AddressOf l t) = Unit {0}
   IsOfWords (AddressOfCell x t) = IsOfWordsCell x
   IsOfWords (Store x c t) = IsOfWordsCell x × IsOfWordsConverted c
-  IsOfWords a = ⊥
 
   pub IsOfWordsCell : Dereference → Type 0
   IsOfWordsCell (Target k a t) = IsOfWords a
@@ -82,7 +84,10 @@ abbrev mutual
   AreOfWordsItems NoItems = Unit {0}
   AreOfWordsItems (MoreItems (Execute s) js) = IsOfWordsStatement s × AreOfWordsItems js
   AreOfWordsItems (MoreItems (Declare n t v) js) = IsOfWordsInitial v × AreOfWordsItems js
-  AreOfWordsItems js = ⊥
+  AreOfWordsItems (MoreItems (DeclareRegion r n) js) = AreOfWordsItems js
+  AreOfWordsItems (MoreItems (OpenRegion r n w k) js) = AreOfWordsItems js
+  AreOfWordsItems (MoreItems (DeclareAlias r n t w m) js) = AreOfWordsItems js
+  AreOfWordsItems (MoreItems (DeclareKey r n) js) = AreOfWordsItems js
 
   pub AreOfWordsClauses : Clauses → Type 0
   AreOfWordsClauses NoClauses = Unit {0}

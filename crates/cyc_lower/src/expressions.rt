@@ -155,13 +155,13 @@ impl Emitter {
         }
     }
 
-    /// What stands for a form that is not built yet, and is never run.
-    fn emit_missing(&mut self, slot: usize) -> Result<(), AllocError>
-        ensures { Appends result self.old self.new (instructions.Move slot (operands.Word 0) ∷ []) }
+    /// A number comes to a slot.
+    fn bring_word(&mut self, word: u32, slot: usize) -> Result<(), AllocError>
+        ensures { Appends result self.old self.new (instructions.Move slot (operands.Word word) ∷ []) }
     {
         self.emit(Instruction::Move {
             destination: slot,
-            source: Operand::Word { word: 0 },
+            source: Operand::Word { word },
         })
     }
 
@@ -178,10 +178,9 @@ impl Emitter {
         ensures { Appends result self.old self.new (expression_code (view_starts starts.now) (view_expression value.now) (length self.old.code.items) slot free) }
     {
         match value {
-            Expr::Number { value } => self.emit(Instruction::Move {
-                destination: slot,
-                source: Operand::Word { word: *value },
-            }),
+            Expr::Number { value } => self.bring_word(*value, slot),
+            Expr::NullPointer => self.bring_word(0, slot),
+            Expr::HeapRegion => self.bring_word(HEAP, slot),
             Expr::Copy { source, of_type } => {
                 self.load(starts, words_of(of_type), *source, slot)
             }
@@ -217,8 +216,11 @@ impl Emitter {
                     address,
                     place_offset(starts, source),
                     slot,
+                    free,
                 )
             }
+            // not built yet
+            Expr::AddressOf { .. } => self.bring_word(0, slot),
             Expr::AddressOfCell { place, .. } => self.take_address(starts, place, slot, free),
             Expr::Store { target, value, .. } => {
                 self.take_address(starts, target, free, free)?;
@@ -229,14 +231,27 @@ impl Emitter {
                 let address = self.lower_operand(starts, pointer, free)?;
                 self.free_block(address)
             }
+            Expr::FreeKey { key } => {
+                let handle = self.lower_operand(starts, key, free)?;
+                self.close_dynamic(handle)
+            }
             Expr::New {
                 placement,
                 initial,
                 ..
             } => match placement {
-                Placement::OnHeap => self.lower_object(starts, initial, HEAP, slot, free),
-                Placement::AsUnique => self.lower_object(starts, initial, UNIQUE, slot, free),
-                Placement::ByHandle { .. } => self.emit_missing(slot),
+                Placement::OnHeap => {
+                    self.lower_object(starts, initial, Operand::Word { word: HEAP }, slot, free)
+                }
+                Placement::AsUnique => {
+                    self.lower_object(starts, initial, Operand::Word { word: UNIQUE }, slot, free)
+                }
+                // The handle waits in the first free slot while the object's values are evaluated.
+                Placement::ByHandle { handle } => {
+                    self.lower_expression(starts, handle, free, free)?;
+                    let behind = slot_behind(free, Kind::Handle)?;
+                    self.lower_object(starts, initial, Operand::Slot { number: free }, slot, behind)
+                }
             },
             Expr::Move {
                 span,
@@ -260,9 +275,6 @@ impl Emitter {
                     number: counter_of(starts, *level),
                 },
             }),
-            // `NULL` is 0, and the others are not built yet.
-            Expr::NullPointer | Expr::HeapRegion | Expr::AddressOf { .. } | Expr::FreeKey { .. } =>
-                self.emit_missing(slot),
         }
     }
 
@@ -362,7 +374,7 @@ impl Emitter {
         &mut self,
         starts: &Starts,
         initial: &Initial,
-        handle: u32,
+        handle: Operand,
         slot: usize,
         free: usize,
     ) -> Result<(), AllocError>
@@ -412,6 +424,7 @@ impl Emitter {
             raises: starts.raises,
             counters: &counters,
             globals: starts.globals,
+            scopes: starts.scopes,
             alloc: starts.alloc,
         };
         let head = self.reserve()?;

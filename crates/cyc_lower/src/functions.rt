@@ -1,5 +1,6 @@
 //! The plain functions of a typed tree, and the program that it becomes.
-ghost use Rattle.std.specs.Prelude.{◌≡◌, ◌+◌, ◌≤◌, map, option_map, IfOk};
+ghost use Rattle.std.specs.Prelude.{◌≡◌, ◌+◌, ◌≤◌, ◌++◌, length, map, option_map, IfOk};
+ghost use Rattle.std.specs.List.{list_any};
 ghost use Rattle.cyc_syntax.specs.TokenRule.{max_tokens};
 ghost use Rattle.cyc_types.specs.TypeView.{view_ty};
 ghost use Rattle.cyc_types.specs.TypedTreeView.{items_of, view_struct, view_function, view_program};
@@ -7,7 +8,7 @@ ghost use Rattle.cyc_types.specs.typing.WellTyped.{IsWellTypedProgram};
 ghost use Rattle.cyc_types.specs.Weight.{program_weight};
 ghost use Rattle.cyc_plain.specs.Program.{routine_of};
 ghost use Rattle.cyc_meaning.specs.FrameCount.{frame_count, kept_by_items};
-ghost use Rattle.cyc_lower.specs.Lowering.{items_code, outside_loops, results_of, lower_function, lower_program};
+ghost use Rattle.cyc_lower.specs.Lowering.{items_code, outside_loops, results_of, lower_function, lower_program, is_handle, may_open, scopes_if, scopes_words};
 ghost use Rattle.cyc_lower.specs.Emission.{most_frame_count, most_locals, view_starts, HaveFewWords};
 ghost use Rattle.cyc_lower.specs.Lowered.{CanBeLowered};
 
@@ -16,7 +17,7 @@ use crate::frame_count::{frame_count, items_need, kept_by_items, words_of, words
 use crate::globals::{starts_of_globals, words_of_globals};
 use crate::locals::slots_of_locals;
 use crate::starts::Starts;
-use crate::statements::Exits;
+use crate::statements::{Exits, nothing_opened};
 use cyc_plain::{Function, Instruction, Plain};
 use cyc_types::typed::{self, StructType};
 use cyc_types::{Ty, TypedTree};
@@ -43,13 +44,13 @@ fn lower_body(
     free: usize,
 ) -> Result<Emitter, AllocError>
     requires { free + kept_by_items (items_of function.now.body.items) ≤ most_locals }
-    ensures { IfOk result (λ made. made.code.items ≡ items_code (view_starts starts.now) (view_function function.now).body 0 (outside_loops free) free) }
+    ensures { IfOk result (λ made. made.code.items ≡ items_code (view_starts starts.now) (view_function function.now).body 0 outside_loops free) }
 {
     let mut emitter = Emitter::new(alloc);
     let exits = Exits {
         head: 0,
-        loop_record: free,
-        first_record: free,
+        in_loop: nothing_opened(),
+        in_function: nothing_opened(),
     };
     emitter.lower_items(starts, &function.body, exits, free)?;
     Ok(emitter)
@@ -61,10 +62,11 @@ fn lower_function(
     alloc: Global,
     structs: &[StructType],
     globals: &[usize],
+    scopes: Option<usize>,
     function: &typed::Function,
 ) -> Result<Function, AllocError>
     requires { frame_count (view_function function.now) ≤ most_frame_count }
-    ensures { IfOk result (λ f. routine_of f ≡ lower_function (map view_struct structs.now) globals.now (view_function function.now)) }
+    ensures { IfOk result (λ f. routine_of f ≡ lower_function (map view_struct structs.now) globals.now scopes (view_function function.now)) }
 {
     let (locals, free) = slots_of_locals(alloc, function)?;
     let anywhere = Starts {
@@ -73,6 +75,7 @@ fn lower_function(
         raises: 0,
         counters: &[],
         globals,
+        scopes,
         alloc,
     };
     let raises = lower_body(alloc, &anywhere, function, free)?.place();
@@ -82,6 +85,7 @@ fn lower_function(
         raises,
         counters: &[],
         globals,
+        scopes,
         alloc,
     };
     let mut emitter = lower_body(alloc, &starts, function, free)?;
@@ -101,16 +105,57 @@ fn lower_functions(
     alloc: Global,
     structs: &[StructType],
     globals: &[usize],
+    scopes: Option<usize>,
     functions: &[typed::Function],
 ) -> Result<Vec<Function>, AllocError>
     requires { HaveFewWords (map view_function functions.now) }
-    ensures { IfOk result (λ fs. map routine_of fs.items ≡ map (lower_function (map view_struct structs.now) globals.now) (map view_function functions.now)) }
+    ensures { IfOk result (λ fs. map routine_of fs.items ≡ map (lower_function (map view_struct structs.now) globals.now scopes) (map view_function functions.now)) }
 {
     let mut lowered = Vec::new(alloc);
     for function in functions {
-        lowered.push(lower_function(alloc, structs, globals, function)?)?;
+        lowered.push(lower_function(alloc, structs, globals, scopes, function)?)?;
     }
     Ok(lowered)
+}
+
+/// Whether a function has a local that is a handle, as the one of each region that it opens.
+fn has_handles(types: &[Ty]) -> bool
+    ensures { result ≡ list_any is_handle (map view_ty types.now) }
+{
+    for of_type in types {
+        if matches!(of_type, Ty::Handle { .. }) {
+            return true;
+        }
+    }
+    false
+}
+
+/// Whether any of these functions may open a lexical region.
+fn may_open(functions: &[typed::Function]) -> bool
+    ensures { result ≡ list_any may_open (map view_function functions.now) }
+{
+    for function in functions {
+        if has_handles(&function.parameters) || has_handles(&function.locals) {
+            return true;
+        }
+    }
+    false
+}
+
+/// Behind all globals stands the word that tells how many lexical regions are open, where a program may open some. Its number is
+/// answered.
+fn add_scopes(
+    globals: &mut Vec<u32>,
+    functions: &[typed::Function],
+) -> Result<Option<usize>, AllocError>
+    ensures { IfOk result (λ scopes. (scopes ≡ scopes_if (list_any may_open (map view_function functions.now)) (length globals.old.items)) × (globals.new.items ≡ globals.old.items ++ scopes_words scopes)) }
+{
+    if !may_open(functions) {
+        return Ok(None);
+    }
+    let scopes = globals.len();
+    globals.push(0)?;
+    Ok(Some(scopes))
 }
 
 /// The program, in which each function keeps its number.
@@ -122,7 +167,8 @@ pub(crate) fn lower_tree(alloc: Global, tree: &TypedTree) -> Result<Plain, Alloc
     ensures { IfOk result (λ plain. plain ≡ lower_program (view_program tree.now)) }
 {
     let starts = starts_of_globals(alloc, &tree.globals)?;
-    let functions = lower_functions(alloc, &tree.structs, &starts, &tree.functions)?;
-    let globals = words_of_globals(alloc, &tree.globals)?;
+    let mut globals = words_of_globals(alloc, &tree.globals)?;
+    let scopes = add_scopes(&mut globals, &tree.functions)?;
+    let functions = lower_functions(alloc, &tree.structs, &starts, scopes, &tree.functions)?;
     Ok(Plain::new(functions, globals, tree.main))
 }

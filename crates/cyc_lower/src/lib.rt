@@ -18,6 +18,7 @@ mod operands;
 mod operators;
 mod pointers;
 mod program;
+mod regions;
 mod starts;
 mod statements;
 mod swaps;

@@ -43,7 +43,7 @@ impl Emitter {
     /// comes to a slot. No object has more words than a block.
     pub(crate) fn make_object(
         &mut self,
-        handle: u32,
+        handle: Operand,
         words: usize,
         slot: usize,
         free: usize,
@@ -59,7 +59,7 @@ impl Emitter {
         self.emit(Instruction::Ask {
             request: Request::Allocate {
                 destination: address,
-                handle: Operand::Word { word: handle },
+                handle,
                 words: Operand::Word { word: size.max(1) },
             },
         })?;
@@ -131,7 +131,7 @@ impl Emitter {
     /// comes there.
     fn ask_for_array(
         &mut self,
-        handle: u32,
+        handle: Operand,
         kind: Kind,
         size: usize,
         free: usize,
@@ -162,7 +162,7 @@ impl Emitter {
         self.emit(Instruction::Ask {
             request: Request::Allocate {
                 destination: free,
-                handle: Operand::Word { word: handle },
+                handle,
                 words,
             },
         })
@@ -173,7 +173,7 @@ impl Emitter {
     pub(crate) fn begin_array(
         &mut self,
         starts: &Starts,
-        handle: u32,
+        handle: Operand,
         kind: Kind,
         free: usize,
     ) -> Result<(), AllocError>

@@ -13,6 +13,7 @@ use crate::frame_count::words_of_kind;
 use crate::locals::slot_of;
 use crate::starts::Starts;
 use cyc_plain::{Comparison, Operand};
+use cyc_store::HEAP;
 use cyc_syntax::PointerKind;
 use cyc_types::Ty;
 use cyc_types::typed::{Dereference, Expr, Kind, Lvalue, Operation, ValueType};
@@ -29,13 +30,14 @@ pub(crate) struct Condition {
     pub(crate) right: Operand,
 }
 
-/// What an expression is without code: a number, null, a local, or a counter.
+/// What an expression is without code: a number, null, the heap's handle, a local, or a counter.
 pub(crate) fn operand_of(starts: &Starts, value: &Expr) -> Option<Operand>
     ensures { result ≡ operand_of (view_starts starts.now) (view_expression value.now) }
 {
     match value {
         Expr::Number { value } => Some(Operand::Word { word: *value }),
         Expr::NullPointer => Some(Operand::Word { word: 0 }),
+        Expr::HeapRegion => Some(Operand::Word { word: HEAP }),
         Expr::Copy { source, .. } => match *source {
             Lvalue::Local { number, .. } => Some(Operand::Slot {
                 number: slot_of(starts, number),

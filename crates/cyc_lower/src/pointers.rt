@@ -199,15 +199,17 @@ impl Emitter {
     }
 
     /// A cell of so many words comes to a slot and those behind it, whose address stands in an operand but for so many bytes. Where
-    /// there are more words the address comes to the slot of the first, which is loaded last.
+    /// there are more words the address comes to the first free slot, and not to a local, which may be the cell itself. The first word
+    /// is loaded last, since it may come there.
     pub(crate) fn load_cell(
         &mut self,
         words: usize,
         address: Operand,
         offset: u32,
         slot: usize,
+        free: usize,
     ) -> Result<(), AllocError>
-        ensures { Appends result self.old self.new (loaded_code words address offset slot) }
+        ensures { Appends result self.old self.new (loaded_code words address offset slot free) }
     {
         if words == 1 {
             return self.emit(Instruction::Load {
@@ -217,8 +219,8 @@ impl Emitter {
             });
         }
         let behind = slot_behind(slot, Kind::Fat)?;
-        let first = Operand::Slot { number: slot };
-        self.bring_address(address, offset, slot)?;
+        let first = Operand::Slot { number: free };
+        self.bring_address(address, offset, free)?;
         self.emit(Instruction::Load {
             destination: behind - 1,
             address: first,

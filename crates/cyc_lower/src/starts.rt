@@ -6,7 +6,7 @@ use std::alloc::Global;
 
 /// What tells where things begin: the first slots of a function's locals, the structs of its program, for their fields, the
 /// place behind which the blocks stand that raise exceptions, the slots of the counters of the arrays around, the outermost
-/// first, and the first words of the globals.
+/// first, the first words of the globals, and the global that tells how many lexical regions are open, where there is one.
 #[derive(Clone, Copy)]
 pub(crate) struct Starts<'a> {
     pub(crate) locals: &'a [usize],
@@ -14,6 +14,7 @@ pub(crate) struct Starts<'a> {
     pub(crate) raises: usize,
     pub(crate) counters: &'a [usize],
     pub(crate) globals: &'a [usize],
+    pub(crate) scopes: Option<usize>,
     pub(crate) alloc: Global,
     pub(crate) ghost low: { raises < 2 ^ 63 },
 }

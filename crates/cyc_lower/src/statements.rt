@@ -3,37 +3,140 @@ ghost use Rattle.std.specs.Prelude.{◌≡◌, ◌+◌, ◌≤◌, ◌<◌, [], 
 ghost use Rattle.cyc_types.specs.TypedTrees.{NoClauses};
 ghost use Rattle.cyc_types.specs.TypedTreeView.{view_converted, view_expression, view_statement, items_of, clauses_of, default_of};
 ghost use Rattle.cyc_meaning.specs.FrameCount.{kept_by, kept_by_items, kept_by_clauses};
-ghost use Rattle.cyc_lower.specs.Lowering.{leave_code, other_jump, goes_on, clauses_code, caught_code, break_target, continue_target, inside_loop, return_code, declaration_code, statement_code, items_code};
-ghost use Rattle.cyc_lower.specs.Emission.{Appends, most_locals, throw_code, case_code, BeginClauses, item_code, kept_by_item, loop_code, view_starts};
+ghost use Rattle.cyc_lower.specs.Lowering.{nothing_opened, outermost, with_handler, with_mark, inside_try, inside_region, leave_code, other_jump, goes_on, clauses_code, caught_code, break_target, continue_target, inside_loop, return_code, declaration_code, statement_code, items_code};
+ghost use Rattle.cyc_lower.specs.Emission.{Appends, most_locals, throw_code, case_code, BeginClauses, item_code, exits_behind, free_behind, kept_by_item, loop_code, view_starts};
 
 use crate::emitter::Emitter;
+use crate::frame_count::words_of;
 use crate::locals::slot_of;
 use crate::operators::{failing_jump, goes_on, other_jump, tag_operand};
 use crate::starts::Starts;
-use cyc_plain::{Instruction, Operand, RECORD_WORDS};
+use cyc_plain::{Instruction, Operand};
 use cyc_types::typed::{Body, Clause, Converted, Expr, Item, Stmt};
 use std::alloc::AllocError;
+
+/// What was opened round a statement since a loop began, or its function: the first slot of the outermost handler's record, and that
+/// of the mark of the outermost lexical region.
+#[derive(Clone, Copy)]
+pub(crate) struct Opened {
+    pub(crate) handler: Option<usize>,
+    pub(crate) mark: Option<usize>,
+}
+
+/// Where nothing was.
+pub(crate) fn nothing_opened() -> Opened
+    ensures { result ≡ nothing_opened }
+{
+    Opened {
+        handler: None,
+        mark: None,
+    }
+}
+
+/// The outermost of what was opened: this slot where there was nothing.
+fn outermost(opened: Option<usize>, slot: usize) -> Option<usize>
+    ensures { result ≡ outermost opened slot }
+{
+    match opened {
+        Some(first) => Some(first),
+        None => Some(slot),
+    }
+}
+
+/// A handler was opened too, whose record begins with this slot.
+fn with_handler(opened: Opened, slot: usize) -> Opened
+    ensures { result ≡ with_handler opened slot }
+{
+    Opened {
+        handler: outermost(opened.handler, slot),
+        mark: opened.mark,
+    }
+}
+
+/// A lexical region was opened too, whose mark is in this slot.
+fn with_mark(opened: Opened, slot: usize) -> Opened
+    ensures { result ≡ with_mark opened slot }
+{
+    Opened {
+        handler: opened.handler,
+        mark: outermost(opened.mark, slot),
+    }
+}
 
 /// The ways out of a statement: what those that leave a loop or a function must know of it.
 #[derive(Clone, Copy)]
 pub(crate) struct Exits {
     /// Where the loop round the statement begins, if one is around it.
     pub(crate) head: usize,
-    /// The slot from which the records of handlers stand that are opened in that loop.
-    pub(crate) loop_record: usize,
+    /// What was opened in that loop.
+    pub(crate) in_loop: Opened,
     /// The same for the function.
-    pub(crate) first_record: usize,
+    pub(crate) in_function: Opened,
+}
+
+/// In the body of a `try`, whose handler's record begins with this slot.
+fn inside_try(exits: Exits, slot: usize) -> Exits
+    ensures { result ≡ inside_try exits slot }
+{
+    Exits {
+        head: exits.head,
+        in_loop: with_handler(exits.in_loop, slot),
+        in_function: with_handler(exits.in_function, slot),
+    }
+}
+
+/// Behind a region, whose mark is in this slot.
+fn inside_region(exits: Exits, slot: usize) -> Exits
+    ensures { result ≡ inside_region exits slot }
+{
+    Exits {
+        head: exits.head,
+        in_loop: with_mark(exits.in_loop, slot),
+        in_function: with_mark(exits.in_function, slot),
+    }
+}
+
+/// The ways out behind an item of a block, whose temporaries began at this slot.
+fn exits_behind(item: &Item, exits: Exits, free: usize) -> Exits
+    ensures { result ≡ exits_behind item.now exits free }
+{
+    match item {
+        Item::Region { .. } => inside_region(exits, free),
+        Item::Execute { .. }
+        | Item::Local { .. }
+        | Item::Open { .. }
+        | Item::Alias { .. }
+        | Item::DynamicRegion { .. } => exits,
+    }
+}
+
+/// The first slot for temporaries behind such an item: behind a region they begin behind its mark.
+fn free_behind(item: &Item, free: usize) -> usize
+    requires { free + kept_by_item item.now ≤ most_locals }
+    ensures { result ≡ free_behind item.now free }
+{
+    match item {
+        Item::Region { .. } => free + 1,
+        Item::Execute { .. }
+        | Item::Local { .. }
+        | Item::Open { .. }
+        | Item::Alias { .. }
+        | Item::DynamicRegion { .. } => free,
+    }
 }
 
 impl Emitter {
-    /// The handlers are closed whose records stand from a slot on, if there are some.
-    fn lower_leave(&mut self, first: usize, free: usize) -> Result<(), AllocError>
-        ensures { Appends result self.old self.new (leave_code first free) }
+    /// What was opened is closed: all handlers from the outermost on, and then all lexical regions.
+    fn lower_leave(&mut self, starts: &Starts, opened: Opened) -> Result<(), AllocError>
+        ensures { Appends result self.old self.new (leave_code (view_starts starts.now) opened) }
     {
-        if first == free {
-            return Ok(());
+        if let Some(first) = opened.handler {
+            self.emit(Instruction::Leave { first })?;
         }
-        self.emit(Instruction::Leave { first })
+        match opened.mark {
+            Some(mark) => self.close_lexical(starts, mark),
+            None => Ok(()),
+        }
     }
 
     /// A return of a value in a slot.
@@ -51,7 +154,7 @@ impl Emitter {
             Some(value) => self.convert_to_slot(starts, value, free)?,
             None => free,
         };
-        self.lower_leave(exits.first_record, free)?;
+        self.lower_leave(starts, exits.in_function)?;
         self.emit(Instruction::Finish { value: from })
     }
 
@@ -225,8 +328,8 @@ impl Emitter {
         let head = self.place();
         let inside = Exits {
             head,
-            loop_record: free,
-            first_record: exits.first_record,
+            in_loop: nothing_opened(),
+            in_function: exits.in_function,
         };
         self.lower_continue(head)?;
         let leaving = self.reserve()?;
@@ -277,11 +380,11 @@ impl Emitter {
             } => self.lower_loop(starts, body, condition, exits, free),
             Stmt::Return { value } => self.lower_return(starts, value, exits, free),
             Stmt::Break => {
-                self.lower_leave(exits.loop_record, free)?;
+                self.lower_leave(starts, exits.in_loop)?;
                 self.lower_break(exits.head)
             }
             Stmt::Continue => {
-                self.lower_leave(exits.loop_record, free)?;
+                self.lower_leave(starts, exits.in_loop)?;
                 self.lower_continue(exits.head)
             }
             Stmt::Throw { tag, value } => self.lower_throw(starts, *tag, value, free),
@@ -290,9 +393,11 @@ impl Emitter {
                 clauses,
                 default,
             } => {
+                let behind = self.begin_try(starts, free)?;
                 let opening = self.reserve()?;
-                self.lower_statement(starts, body, exits, free + RECORD_WORDS)?;
+                self.lower_statement(starts, body, inside_try(exits, free), behind)?;
                 let out = self.end_body(opening, free)?;
+                self.restore_scopes(starts, free)?;
                 self.lower_clauses(starts, clauses, out, exits, free)?;
                 self.lower_default(starts, default, exits, free)?;
                 self.jump_here(out);
@@ -318,11 +423,30 @@ impl Emitter {
             Item::Local { number, value, .. } => self.lower_declaration(
                 starts, *number, value, free,
             ),
-            _ => Ok(()),
+            Item::Region { number, .. } => self.open_lexical(starts, *number, free),
+            // The word of a key is the handle of its region.
+            Item::Open { number, key, .. } => {
+                let source = Operand::Slot {
+                    number: slot_of(starts, *key),
+                };
+                self.name_local(starts, 1, *number, source)
+            }
+            Item::Alias {
+                number,
+                of_type,
+                source,
+                ..
+            } => {
+                let source = Operand::Slot {
+                    number: slot_of(starts, *source),
+                };
+                self.name_local(starts, words_of(of_type), *number, source)
+            }
+            Item::DynamicRegion { number, .. } => self.open_dynamic(starts, *number, free),
         }
     }
 
-    /// The items of a block.
+    /// The items of a block. At its end each lexical region is closed that it opened, the newest first.
     #[cycle(statement)]
     pub(crate) fn lower_items(
         &mut self,
@@ -335,8 +459,16 @@ impl Emitter {
         requires begun { exits.head ≤ length self.old.code.items }
         ensures { Appends result self.old self.new (items_code (view_starts starts.now) (items_of items.now) (length self.old.code.items) exits free) }
     {
+        let mut inside = exits;
+        let mut behind = free;
         for item in items {
-            self.lower_item(starts, item, exits, free)?;
+            self.lower_item(starts, item, inside, behind)?;
+            inside = exits_behind(item, inside, behind);
+            behind = free_behind(item, behind);
+        }
+        while behind > free {
+            behind -= 1;
+            self.close_lexical(starts, behind)?;
         }
         Ok(())
     }

@@ -1,12 +1,14 @@
 -- Regions of blocks and lexical regions nest: what opening, closing, calling and returning make of that, and making objects.
-use Rattle.std.proofs.Common.{◌≡◌, ℕ, zero, suc, ◌≤◌, Bool, true, false, List, [], ◌∷◌, ◌++◌, set, length, Option, Some, None, refl, sym, ap, subst, ◌∙◌, arith, length-append}
-use Rattle.std.specs.Prelude.{◌≢◌, if◌then◌else◌, slice_get}
+use Rattle.std.proofs.Common.{◌≡◌, ℕ, zero, suc, ◌≤◌, Bool, true, false, List, [], ◌∷◌, ◌++◌, set, length, Option, Some, None, refl, sym, ap, subst, ◌∙◌, inl, inr, arith, length-append}
+use Rattle.std.specs.Prelude.{◌≢◌, ◌==◌, ◌||◌, if◌then◌else◌, slice_get}
+use Rattle.std.specs.List.{list_any}
+use Rattle.std.proofs.lemmas.Bool.{eq-eqb, eqb-true, false_from_ne_true, cases_eq}
 use Rattle.std.proofs.lemmas.List.{length-set}
 use Rattle.cyc_meaning.specs.Values.{Cell, block_size}
 use Rattle.cyc_meaning.specs.State.{Sort, Stack, Lexical, Dynamic, Region, World, Found, Closed, Missing, found_region, region_at, globals_number, new_region, stack_region, opened, opened_as, closed, Environment, no_locals, Entry, CloseRegion, CloseLexical, Caller}
 use Rattle.cyc_meaning.specs.Parts.{inside, region_end}
 use Rattle.cyc_meaning.specs.Objects.{made_in}
-use Rattle.cyc_meaning.specs.Nesting.{ends_of, IsScoped, IsFound, AreOpen, AreBelow, IsHome, IsNested}
+use Rattle.cyc_meaning.specs.Nesting.{ends_of, IsScoped, IsFound, AreOpen, AreBelow, IsHome, lexicals_of, is_scope, is_open_scope, AreScopes, IsNested}
 use Rattle.cyc_meaning.proofs.ListLemmas.{slice_get-end, slice_get-set_other}
 
 -- ---- what is found
@@ -75,6 +77,91 @@ home_found regions home (CloseLexical region ∷ stack) is h = home_found region
 home_found regions home (Caller outer ∷ stack) is h = subst (λ (n : ℕ). IsFound (found_region (slice_get regions n))) (sym is.0) (globals_found regions stack h)
 home_found regions home (entry ∷ stack) is h = home_found regions home stack is h
 
+-- ---- lexical regions
+
+-- whether a region is one of some
+abbrev pub is_one : ℕ → List ℕ → Bool
+is_one number ns = list_any (λ (n : ℕ). n == number) ns
+
+pub one_here : (number n : ℕ) (ns : List ℕ) → n ≡ number → is_one number (n ∷ ns) ≡ true
+one_here number n ns same = ap (λ (b : Bool). b || is_one number ns) (eq-eqb n number same)
+
+pub one_there : (number n : ℕ) (ns : List ℕ) → n ≢ number → is_one number (n ∷ ns) ≡ is_one number ns
+one_there number n ns other = ap (λ (b : Bool). b || is_one number ns) (false_from_ne_true (n == number) (λ e. other (eqb-true n number e)))
+
+-- those that end are below a region that was opened later
+pub none_above : (stack : List Entry) (bound number : ℕ) → AreBelow bound (ends_of stack) → bound ≤ number → is_one number (lexicals_of stack) ≡ false
+none_above [] bound number below less = refl
+none_above (CloseLexical region ∷ stack) bound number (lower, below) less =
+    one_there number region (lexicals_of stack) (λ e. (let same : region ≡ number = e in absurd (omega (arith, lower, less, same))))
+    ∙ none_above stack region number below (omega (arith, lower, less))
+none_above (CloseRegion region home ∷ stack) bound number (lower, below) less = none_above stack region number below (omega (arith, lower, less))
+none_above (entry ∷ stack) bound number below less = none_above stack bound number below less
+
+-- a region more
+behind_others : (regions : List Region) (r : Region) (number : ℕ) → number ≢ length regions → is_open_scope (slice_get (regions ++ r ∷ []) number) ≡ is_open_scope (slice_get regions number)
+behind_others [] r zero other = absurd (other refl)
+behind_others [] r (suc number) other = refl
+behind_others (q ∷ regions) r zero other = refl
+behind_others (q ∷ regions) r (suc number) other = behind_others regions r number (λ e. other (ap suc e))
+
+-- what is no lexical region
+scopes_more : (regions : List Region) (r : Region) (ns : List ℕ) → is_scope r.sort r.is_open ≡ false → AreScopes regions ns → AreScopes (regions ++ r ∷ []) ns
+scopes_more regions r ns none are number = go regions number ∙ are number
+  where
+    go : (rs : List Region) (i : ℕ) → is_open_scope (slice_get (rs ++ r ∷ []) i) ≡ is_open_scope (slice_get rs i)
+    go [] zero = none
+    go [] (suc i) = refl
+    go (q ∷ rs) zero = refl
+    go (q ∷ rs) (suc i) = go rs i
+
+-- a lexical one
+scopes_new : (regions : List Region) (r : Region) (ns : List ℕ) → is_scope r.sort r.is_open ≡ true → AreScopes regions ns → AreScopes (regions ++ r ∷ []) (length regions ∷ ns)
+scopes_new regions r ns scope are number = elim (cases_eq (length regions) number) [
+  | inl same ↦
+      ap (λ (i : ℕ). is_open_scope (slice_get (regions ++ r ∷ []) i)) (sym same)
+      ∙ (ap is_open_scope (slice_get-end regions r) ∙ (scope ∙ sym (one_here number (length regions) ns same)))
+  | inr other ↦ behind_others regions r number (λ e. other (sym e)) ∙ (are number ∙ sym (one_there number (length regions) ns other))
+]
+
+-- a region that is replaced by one that is no open lexical region
+set_none : (regions : List Region) (number : ℕ) (r : Region) → is_scope r.sort r.is_open ≡ false → is_open_scope (slice_get (set regions number r) number) ≡ false
+set_none [] number r none = refl
+set_none (q ∷ regions) zero r none = none
+set_none (q ∷ regions) (suc number) r none = set_none regions number r none
+
+-- one of these, or another
+scopes_less : (regions : List Region) (closes : ℕ) (r : Region) (ns : List ℕ) → is_scope r.sort r.is_open ≡ false → is_one closes ns ≡ false
+    → ((number : ℕ) → closes ≢ number → is_open_scope (slice_get regions number) ≡ is_one number ns) → AreScopes (set regions closes r) ns
+scopes_less regions closes r ns none gone are number = elim (cases_eq closes number) [
+  | inl same ↦
+      ap (λ (i : ℕ). is_open_scope (slice_get (set regions closes r) i)) (sym same)
+      ∙ (set_none regions closes r none ∙ (sym gone ∙ ap (λ (i : ℕ). is_one i ns) same))
+  | inr other ↦ ap is_open_scope (slice_get-set_other regions closes number r (λ e. other (sym e))) ∙ are number other
+]
+
+-- a region that is replaced by one of its kind
+scopes_set : (regions : List Region) (number : ℕ) (r s : Region) (ns : List ℕ) → slice_get regions number ≡ Some r → is_scope s.sort s.is_open ≡ is_scope r.sort r.is_open → AreScopes regions ns → AreScopes (set regions number s) ns
+scopes_set regions number r s ns there same are i = go regions number i there ∙ are i
+  where
+    go : (rs : List Region) (n i : ℕ) → slice_get rs n ≡ Some r → is_open_scope (slice_get (set rs n s) i) ≡ is_open_scope (slice_get rs i)
+    go [] n i at = refl
+    go (q ∷ rs) zero zero at = same ∙ sym (ap is_open_scope at)
+    go (q ∷ rs) zero (suc i) at = refl
+    go (q ∷ rs) (suc n) zero at = refl
+    go (q ∷ rs) (suc n) (suc i) at = go rs n i at
+
+shut_free : (sort : Sort) (flag : Bool) → (IsScoped sort → ⊥) → is_scope sort false ≡ is_scope sort flag
+shut_free Lexical flag free = absurd (free tt)
+shut_free sort flag free = refl
+
+shut_none : (r : Region) → is_scope r.sort false ≡ false
+shut_none r = go r.sort
+  where
+    go : (sort : Sort) → is_scope sort false ≡ false
+    go Lexical = refl
+    go sort = refl
+
 -- ---- opening, closing, calling and returning
 
 opened_open : (sort : Sort) (stack : List Entry) (w : World) → AreOpen w.regions (ends_of stack) → AreOpen (opened_as sort w).regions (ends_of stack)
@@ -84,24 +171,27 @@ newest_found : (sort : Sort) (w : World) → IsScoped sort → IsFound (found_re
 newest_found sort w scoped = subst (λ (o : Option Region). IsFound (found_region o)) (sym (slice_get-end w.regions (new_region sort))) scoped
 
 pub nested_opened : (stack : List Entry) (e : Environment) (w : World) → IsNested stack e w → IsNested (region_end e w ∷ stack) (inside e w) (opened w)
-nested_opened stack e w (open_all, below, is) = (
+nested_opened stack e w (open_all, below, is, are) = (
   (newest_found Stack w tt, opened_open Stack stack w open_all),
   (omega (arith, length-append w.regions (stack_region ∷ [])), below),
   (refl, is),
+  scopes_more w.regions stack_region (lexicals_of stack) refl are,
 )
 
 pub nested_lexical : (stack : List Entry) (e : Environment) (w : World) → IsNested stack e w → IsNested (CloseLexical (length w.regions) ∷ stack) e (opened_as Lexical w)
-nested_lexical stack e w (open_all, below, is) = (
+nested_lexical stack e w (open_all, below, is, are) = (
   (newest_found Lexical w tt, opened_open Lexical stack w open_all),
   (omega (arith, length-append w.regions (new_region Lexical ∷ [])), below),
   is,
+  scopes_new w.regions (new_region Lexical) (lexicals_of stack) refl are,
 )
 
 pub nested_dynamic : (stack : List Entry) (e : Environment) (w : World) → IsNested stack e w → IsNested stack e (opened_as Dynamic w)
-nested_dynamic stack e w (open_all, below, is) = (
+nested_dynamic stack e w (open_all, below, is, are) = (
   opened_open Dynamic stack w open_all,
   below_more (ends_of stack) (length w.regions) (length (w.regions ++ new_region Dynamic ∷ [])) (omega (arith, length-append w.regions (new_region Dynamic ∷ []))) below,
   is,
+  scopes_more w.regions (new_region Dynamic) (lexicals_of stack) refl are,
 )
 
 below_closed : (region number : ℕ) (r : Region) (ns : List ℕ) (w : World) → AreBelow region ns → AreBelow (length w.regions) (region ∷ ns) → AreBelow (length (closed w number r).regions) ns
@@ -109,27 +199,37 @@ below_closed region number r ns w below (less, rest) =
     below_more ns region (length (set w.regions number (record r { is_open = false }))) (omega (arith, less, length-set w.regions number (record r { is_open = false }))) below
 
 pub nested_closed : (region home : ℕ) (r : Region) (stack : List Entry) (e : Environment) (w : World) → IsNested (CloseRegion region home ∷ stack) e w → IsNested stack (record e { home = home }) (closed w region r)
-nested_closed region home r stack e w ((found, open_all), (less, below), (same, is)) = (
+nested_closed region home r stack e w ((found, open_all), (less, below), (same, is), are) = (
   open_below w.regions region (record r { is_open = false }) (ends_of stack) below open_all,
   below_closed region region r (ends_of stack) w below (less, below),
   is,
+  scopes_less w.regions region (record r { is_open = false }) (lexicals_of stack) (shut_none r) (none_above stack region region below (omega arith)) (λ number other. are number),
 )
 
+-- the innermost of them closes
+pub scopes_closed : (region : ℕ) (r : Region) (stack : List Entry) (regions : List Region) → AreBelow region (ends_of stack) → AreScopes regions (region ∷ lexicals_of stack)
+    → AreScopes (set regions region (record r { is_open = false })) (lexicals_of stack)
+scopes_closed region r stack regions below are =
+    scopes_less regions region (record r { is_open = false }) (lexicals_of stack) (shut_none r) (none_above stack region region below (omega arith))
+    (λ number other. are number ∙ one_there number region (lexicals_of stack) other)
+
 pub nested_closed_lexical : (region : ℕ) (r : Region) (stack : List Entry) (e : Environment) (w : World) → IsNested (CloseLexical region ∷ stack) e w → IsNested stack e (closed w region r)
-nested_closed_lexical region r stack e w ((found, open_all), (less, below), is) = (
+nested_closed_lexical region r stack e w ((found, open_all), (less, below), is, are) = (
   open_below w.regions region (record r { is_open = false }) (ends_of stack) below open_all,
   below_closed region region r (ends_of stack) w below (less, below),
   is,
+  scopes_closed region r stack w.regions below are,
 )
 
 -- a region that no scope ends is closed
 pub nested_closed_dynamic : (number : ℕ) (r : Region) (stack : List Entry) (e : Environment) (w : World) → region_at w number ≡ Found r → (IsScoped r.sort → ⊥) → IsNested stack e w → IsNested stack e (closed w number r)
-nested_closed_dynamic number r stack e w found free (open_all, below, is) =
+nested_closed_dynamic number r stack e w found free (open_all, below, is, are) =
     let there : slice_get w.regions number ≡ Some r = region_found w number r found in
     let here : found_region (Some r) ≡ Found r = sym (ap found_region there) ∙ found in (
       set_open w.regions number r (record r { is_open = false }) (ends_of stack) there (λ scoped. absurd (free (subst IsFound here scoped))) open_all,
       below_more (ends_of stack) (length w.regions) (length (set w.regions number (record r { is_open = false }))) (omega (arith, length-set w.regions number (record r { is_open = false }))) below,
       is,
+      scopes_set w.regions number r (record r { is_open = false }) (lexicals_of stack) there (shut_free r.sort r.is_open free) are,
     )
 
 with_blocks : (r : Region) (blocks : List ℕ) (b : Bool) → IsFound (if b then Found r else Closed) → IsFound (if b then Found (record r { blocks = blocks }) else Closed)
@@ -137,15 +237,16 @@ with_blocks r blocks true scoped = scoped
 with_blocks r blocks false scoped = scoped
 
 pub nested_made_in : (number : ℕ) (r : Region) (cells : List Cell) (stack : List Entry) (e : Environment) (w : World) → region_at w number ≡ Found r → IsNested stack e w → IsNested stack e (made_in w number r cells)
-nested_made_in number r cells stack e w found (open_all, below, is) =
+nested_made_in number r cells stack e w found (open_all, below, is, are) =
     let s : Region = record r { blocks = r.blocks ++ block_size cells ∷ [] } in (
       set_open w.regions number r s (ends_of stack) (region_found w number r found) (with_blocks r (r.blocks ++ block_size cells ∷ []) r.is_open) open_all,
       below_more (ends_of stack) (length w.regions) (length (set w.regions number s)) (omega (arith, length-set w.regions number s)) below,
       is,
+      scopes_set w.regions number r s (lexicals_of stack) (region_found w number r found) refl are,
     )
 
 pub nested_call : (stack : List Entry) (e : Environment) (w : World) → IsNested stack e w → IsNested (Caller e ∷ stack) no_locals w
-nested_call stack e w (open_all, below, is) = (open_all, below, (refl, is))
+nested_call stack e w (open_all, below, is, are) = (open_all, below, (refl, is), are)
 
 pub nested_return : (stack : List Entry) (e outer : Environment) (w : World) → IsNested (Caller outer ∷ stack) e w → IsNested stack outer w
-nested_return stack e outer w (open_all, below, (same, is)) = (open_all, below, is)
+nested_return stack e outer w (open_all, below, (same, is), are) = (open_all, below, is, are)

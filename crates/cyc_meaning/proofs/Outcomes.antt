@@ -16,7 +16,7 @@ use Rattle.cyc_meaning.specs.Values.{Value, Int, Null, Thin, Fat, Handle, Key, O
 use Rattle.cyc_meaning.specs.Operators.{Result, Gives, Raises, Misfits, is_zero, binary_result, unary_result, truth_of, decides}
 use Rattle.cyc_meaning.specs.Pointers.{element_count, pointer_result, result_kind, takes_kind, Reach, At, Stops, Nowhere, followed}
 use Rattle.cyc_meaning.specs.Conversion.{conversion}
-use Rattle.cyc_meaning.specs.State.{Sort, Stack, Lexical, Dynamic, Region, Owner, InRegion, Unique, Object, World, Access, Found, Closed, Missing, region_at, Located, cell_at, Environment, no_locals, Awaiting, ConvertTo, Operate, Chain, Apply, ApplyPointer, Decide, Store, StoreCell, Pass, Follow, FollowMember, Index, Advance, CountElements, FreeObject, CloseByKey, PlaceBy, MakePlain, MakeFields, MakeArray, FillElement, Initialise, Choose, Test, Return, ThrowWith, OpenBy, AliasOf, LoadFrom, TakeAddress, StoreTo, SwapLeft, SwapRight, Entry, Needs, NeedsPlace, Discard, Rest, Join, Loop, CloseRegion, CloseLexical, EndLoan, Handler, Caller, Main, Write, Focus, Evaluating, Locating, Given, GivenPlace, Executing, Proceeding, Calling, Entering, Binding, Naming, Writing, Beginning, Repeating, Swapping, Breaking, Continuing, Returning, Throwing, Catching, State, Running, Ended, Dead, Wrong, calls_in, closed}
+use Rattle.cyc_meaning.specs.State.{Sort, Stack, Lexical, Dynamic, Region, Owner, InRegion, Unique, Object, World, Access, Found, Closed, Missing, region_at, Located, cell_at, Environment, no_locals, Awaiting, ConvertTo, Operate, Chain, Apply, ApplyPointer, Decide, Store, StoreCell, Pass, Follow, FollowMember, Index, Advance, CountElements, FreeObject, CloseByKey, PlaceBy, BesideHandle, MakePlain, MakeFields, MakeArray, FillElement, Initialise, Choose, Test, Return, ThrowWith, OpenBy, AliasOf, LoadFrom, TakeAddress, StoreTo, SwapLeft, SwapRight, Entry, Needs, NeedsPlace, Discard, Rest, Join, Loop, CloseRegion, CloseLexical, EndLoan, Handler, Caller, Main, Write, Focus, Evaluating, Locating, Given, GivenPlace, Executing, Proceeding, Calling, Entering, Binding, Naming, Writing, Beginning, Repeating, Swapping, Breaking, Continuing, Returning, Throwing, Catching, State, Running, Ended, Dead, Wrong, calls_in, closed}
 use Rattle.cyc_meaning.specs.Objects.{compared, created_in}
 use Rattle.cyc_meaning.specs.Parts.{gives, computed, leads_to, object_of, read, loaded, loaded_from, stored, stored_at, step_writing, declared, inside, region_end, closing}
 use Rattle.cyc_meaning.specs.Parts as parts
@@ -392,9 +392,9 @@ looping (Some true) condition body stack e w = Goes refl Keeps (λ h. h)
 looping (Some false) condition body stack e w = Goes refl Keeps (λ h. h)
 looping None condition body stack e w = Fails
 
-placing_at : (initial : Initial) (region : ℕ) (stack : List Entry) (e : Environment) (w : World) → Silent (is_access_of (PlaceBy initial)) stack e w (makes (InRegion region) initial stack e w)
+placing_at : (initial : Initial) (region : ℕ) (stack : List Entry) (e : Environment) (w : World) → Silent (is_access_of (PlaceBy initial)) stack e w (makes (InRegion region) initial (Needs (BesideHandle region) ∷ stack) e w)
 placing_at (Plain kind a) region stack e w = Goes refl Keeps (λ h. h)
-placing_at (Fields NoArguments) region stack e w = filling (InRegion region) [] stack e w
+placing_at (Fields NoArguments) region stack e w = filling (InRegion region) [] (Needs (BesideHandle region) ∷ stack) e w
 placing_at (Fields (MoreArguments (Convert from to a) fields)) region stack e w = Goes refl Keeps (λ h. h)
 placing_at (Array place level count kind element) region stack e w = Goes refl Keeps (λ h. h)
 
@@ -420,6 +420,7 @@ supplying CountElements value stack e w = computes kinds.Int (element_count valu
 supplying FreeObject value stack e w = freeing value.value stack e w
 supplying CloseByKey value stack e w = closing_with value.value stack e w
 supplying (PlaceBy initial) value stack e w = placing initial value.value stack e w
+supplying (BesideHandle region) value stack e w = Goes refl Keeps (λ h. h)
 supplying (MakePlain owner kind) value stack e w = making_plain owner kind value stack e w
 supplying (MakeFields owner before NoArguments) value stack e w = filling owner (reverse (value ∷ before)) stack e w
 supplying (MakeFields owner before (MoreArguments (Convert from to a) fields)) value stack e w = Goes refl Keeps (λ h. h)

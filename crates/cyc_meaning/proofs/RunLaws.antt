@@ -11,14 +11,19 @@ use Rattle.cyc_meaning.specs.State.{World, Environment, Entry, Main, Focus, Ente
 use Rattle.cyc_meaning.specs.Step.{called, wrong, step}
 use Rattle.cyc_meaning.specs.Effects.{Changes, Keeps, Opens, Closes, Makes, MakesIn, MakesUnique, Frees, Writes, Prints, Reads, ChangesIn, printed_by, read_by, calls_after}
 use Rattle.cyc_meaning.specs.Run.{start, steps, run, is_within, limited, limited_step, limited_steps}
-use Rattle.cyc_meaning.specs.Nesting.{IsNested}
+use Rattle.cyc_meaning.specs.Nesting.{AreScopes, IsNested}
 use Rattle.cyc_meaning.proofs.Outcomes.{Outcome, Goes, Ends, Dies, Fails, outcome, calls_function}
 
 -- ---- one step
 
 -- `main` is called where only the globals' region is there
 pub start_nested : (program : Program) (input : List ℕ) → IsNested (Main ∷ []) no_locals (first_world program input)
-start_nested program input = ((tt, tt), (omega arith, tt), refl)
+start_nested program input = ((tt, tt), (omega arith, tt), refl, starts)
+  where
+    starts : AreScopes (first_world program input).regions []
+    starts zero = refl
+    starts (suc zero) = refl
+    starts (suc (suc number)) = refl
 
 change_printed : {w new : World} {printed : List ℕ} {count : ℕ} → Changes w printed count new → new.output ≡ w.output ++ printed
 change_printed {w} Keeps = sym (append-nil w.output)

@@ -7,7 +7,7 @@ use Rattle.cyc_types.specs.declared.typed.Kind.TheVariants as kinds
 use Rattle.cyc_types.specs.TypedTrees.{Expression, Placement, OnHeap, AsUnique, ByHandle, Initial, Plain, Fields, Array, Convert, Arguments, NoArguments, MoreArguments}
 use Rattle.cyc_meaning.specs.Values.{Value, Int, Thin, Fat, Handle, Operand, Cell, blank, words_of_kind, is_kind}
 use Rattle.cyc_meaning.specs.Operators.{array_size}
-use Rattle.cyc_meaning.specs.State.{Owner, InRegion, Unique, World, Access, Found, Closed, Missing, heap_number, cell_at, Environment, with_counter, ConvertTo, PlaceBy, MakePlain, MakeFields, MakeArray, FillElement, Entry, Needs, Write, Evaluating, Writing, Beginning, Repeating, Throwing, State, Running}
+use Rattle.cyc_meaning.specs.State.{Owner, InRegion, Unique, World, Access, Found, Closed, Missing, heap_number, cell_at, Environment, with_counter, ConvertTo, PlaceBy, BesideHandle, MakePlain, MakeFields, MakeArray, FillElement, Entry, Needs, Write, Evaluating, Writing, Beginning, Repeating, Throwing, State, Running}
 use Rattle.cyc_meaning.specs.Objects.{created}
 use Rattle.cyc_meaning.specs.Parts.{dead, wrong, gives, stored, target_by}
 
@@ -96,5 +96,5 @@ allocates AsUnique initial stack e w = makes (Unique true) initial stack e w
 allocates (ByHandle a) initial stack e w = Running (Evaluating a) (Needs (PlaceBy initial) ∷ stack) e w
 
 abbrev pub makes_by : Initial → (handle : Value) → List Entry → Environment → World → State
-makes_by initial (Handle region) stack e w = makes (InRegion region) initial stack e w
+makes_by initial (Handle region) stack e w = makes (InRegion region) initial (Needs (BesideHandle region) ∷ stack) e w
 makes_by initial value stack e w = wrong w

@@ -1,9 +1,10 @@
 -- Regions of blocks and lexical regions end in the opposite order of that in which they were opened: what holds of every state, by its
 -- control stack (Grossman et al. 2002). Dynamic regions are closed by programs, whenever they like, and are none of these.
-use Rattle.std.specs.Prelude.{◌≡◌, ℕ, ◌<◌, Bool, true, false, List, [], ◌∷◌, length, slice_get}
+use Rattle.std.specs.Prelude.{◌≡◌, ℕ, ◌<◌, ◌==◌, Bool, true, false, List, [], ◌∷◌, length, Option, None, Some, slice_get}
+use Rattle.std.specs.List.{list_any}
 use Rattle.cyc_types.specs.declared.typed.PointerOperator.TheVariants as pointers
 use Rattle.cyc_types.specs.TypedTrees.{NoArguments, Expression, Copy, Move, Peek, New, Fields, Items, MoreItems, OpenRegion, DeclareAlias}
-use Rattle.cyc_meaning.specs.State.{Sort, Dynamic, Region, World, Access, Found, Closed, Missing, found_region, globals_number, Environment, Awaiting, ApplyPointer, Store, StoreCell, FreeObject, CloseByKey, PlaceBy, MakePlain, MakeFields, FillElement, OpenBy, LoadFrom, Entry, Needs, NeedsPlace, Rest, CloseRegion, CloseLexical, Handler, Caller, Focus, Evaluating, Given, GivenPlace, Proceeding, Writing, Beginning, Swapping, State, Running, Ended, Dead, Wrong}
+use Rattle.cyc_meaning.specs.State.{Sort, Lexical, Dynamic, Region, World, Access, Found, Closed, Missing, found_region, globals_number, Environment, Awaiting, ApplyPointer, Store, StoreCell, FreeObject, CloseByKey, PlaceBy, MakePlain, MakeFields, FillElement, OpenBy, LoadFrom, Entry, Needs, NeedsPlace, Rest, CloseRegion, CloseLexical, Handler, Caller, Focus, Evaluating, Given, GivenPlace, Proceeding, Writing, Beginning, Swapping, State, Running, Ended, Dead, Wrong}
 
 -- the regions that will end, innermost first, and that of the globals, which never does
 abbrev pub ends_of : List Entry → List ℕ
@@ -38,9 +39,29 @@ IsHome home (CloseRegion region outer ∷ stack) = (home ≡ region) × IsHome o
 IsHome home (Caller outer ∷ stack) = (home ≡ globals_number) × IsHome outer.home stack
 IsHome home (entry ∷ stack) = IsHome home stack
 
--- all these regions are open, they nest, and variables live in the innermost
+-- the lexical ones of them
+abbrev pub lexicals_of : List Entry → List ℕ
+lexicals_of [] = []
+lexicals_of (CloseLexical region ∷ stack) = region ∷ lexicals_of stack
+lexicals_of (entry ∷ stack) = lexicals_of stack
+
+-- a lexical region that is open
+abbrev pub is_scope : Sort → (flag : Bool) → Bool
+is_scope Lexical flag = flag
+is_scope sort flag = false
+
+abbrev pub is_open_scope : Option Region → Bool
+is_open_scope None = false
+is_open_scope (Some r) = is_scope r.sort r.is_open
+
+-- the lexical regions that are open are these
+abbrev pub AreScopes : List Region → List ℕ → Type 0
+AreScopes regions ns = (number : ℕ) → is_open_scope (slice_get regions number) ≡ list_any (λ (n : ℕ). n == number) ns
+
+-- all these regions are open, they nest, variables live in the innermost, and no other lexical region is open
 abbrev pub IsNested : List Entry → Environment → World → Type 0
-IsNested stack e w = AreOpen w.regions (ends_of stack) × AreBelow (length w.regions) (ends_of stack) × IsHome e.home stack
+IsNested stack e w =
+    AreOpen w.regions (ends_of stack) × AreBelow (length w.regions) (ends_of stack) × IsHome e.home stack × AreScopes w.regions (lexicals_of stack)
 
 -- Whether this focus touches a cell, an object or a region: it reads or writes a variable or a cell that a pointer led to, compares
 -- pointers, makes an object, frees one, or opens or closes a region by its key.

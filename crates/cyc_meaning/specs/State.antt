@@ -188,6 +188,8 @@ pub data Awaiting : Type 0 where
   CloseByKey : Awaiting
   -- the handle of the region in which `rnew` makes an object
   PlaceBy : Initial → Awaiting
+  -- an object that `rnew` makes in this region: its handle stays while the initial value is evaluated, and the value is handed on
+  BesideHandle : (region : ℕ) → Awaiting
   -- the value of the only cell of a new object, of this kind; where it is to be made is said by its owner
   MakePlain : Owner → Kind → Awaiting
   -- a field of a new struct, with those before it, newest first, and those after it

@@ -19,7 +19,7 @@ use Rattle.cyc_meaning.specs.Values.{Value, Int, Null, Thin, Handle, Operand, ki
 use Rattle.cyc_meaning.specs.Operators.{is_zero, truth, binary_result, unary_result, truth_of, decides}
 use Rattle.cyc_meaning.specs.Pointers.{followed, element_count, pointer_result, result_kind, takes_kind}
 use Rattle.cyc_meaning.specs.Conversion.{conversion}
-use Rattle.cyc_meaning.specs.State.{World, Access, Found, Closed, Missing, heap_number, region_at, opened, Environment, no_locals, Awaiting, ConvertTo, Operate, Chain, Apply, ApplyPointer, Decide, Store, StoreCell, Pass, Follow, FollowMember, Index, Advance, CountElements, FreeObject, CloseByKey, PlaceBy, MakePlain, MakeFields, MakeArray, FillElement, Initialise, Choose, Test, Return, ThrowWith, OpenBy, AliasOf, LoadFrom, TakeAddress, StoreTo, Entry, Needs, NeedsPlace, Discard, Rest, Join, Loop, CloseRegion, CloseLexical, EndLoan, Handler, Caller, Main, Focus, Evaluating, Locating, Given, GivenPlace, Executing, Proceeding, Calling, Entering, Binding, Naming, Writing, Beginning, Repeating, Swapping, Breaking, Continuing, Returning, Throwing, Catching, State, Running, Ended, Dead, Wrong}
+use Rattle.cyc_meaning.specs.State.{World, Access, Found, Closed, Missing, heap_number, region_at, opened, Environment, no_locals, Awaiting, ConvertTo, Operate, Chain, Apply, ApplyPointer, Decide, Store, StoreCell, Pass, Follow, FollowMember, Index, Advance, CountElements, FreeObject, CloseByKey, PlaceBy, BesideHandle, MakePlain, MakeFields, MakeArray, FillElement, Initialise, Choose, Test, Return, ThrowWith, OpenBy, AliasOf, LoadFrom, TakeAddress, StoreTo, Entry, Needs, NeedsPlace, Discard, Rest, Join, Loop, CloseRegion, CloseLexical, EndLoan, Handler, Caller, Main, Focus, Evaluating, Locating, Given, GivenPlace, Executing, Proceeding, Calling, Entering, Binding, Naming, Writing, Beginning, Repeating, Swapping, Breaking, Continuing, Returning, Throwing, Catching, State, Running, Ended, Dead, Wrong}
 use Rattle.cyc_meaning.specs.Objects.{compared}
 use Rattle.cyc_meaning.specs.Places.{follows, follows_member, indexes, advances, step_locating, step_given_place}
 use Rattle.cyc_meaning.specs.Swaps.{swaps, step_swapping}
@@ -201,6 +201,7 @@ supplied CountElements value stack e w = computed kinds.Int (element_count value
 supplied FreeObject value stack e w = frees value.value stack e w
 supplied CloseByKey value stack e w = closes_with value.value stack e w
 supplied (PlaceBy initial) value stack e w = makes_by initial value.value stack e w
+supplied (BesideHandle region) value stack e w = Running (Given value) stack e w
 supplied (MakePlain owner kind) value stack e w = makes_plain owner kind value stack e w
 supplied (MakeFields owner before fields) value stack e w = makes_fields owner (value ∷ before) fields stack e w
 supplied (MakeArray owner level kind element) value stack e w = makes_array owner level kind element value.value stack e w

@@ -93,8 +93,8 @@ pub fn numbers_stay()
         → StaysIn w (steps program count (state.Running focus stack e w)) }
 {}
 
-/// Regions of blocks and lexical regions nest: those that will end are open, each is opened before the next, and variables are made in
-/// the innermost of blocks. So no step is dead but one that touches a cell, an object or a region by a value.
+/// Regions of blocks and lexical regions nest: those that will end are open, each is opened before the next, variables are made in
+/// the innermost of blocks, and no other lexical region is open. So no step is dead but one that touches a cell, an object or a region by a value.
 pub fn regions_nest()
     ensures nest { (program : Program) (input : List ℕ) (count : ℕ) → Nests (run program input count) }
     ensures dies { (program : Program) (input : List ℕ) (count : ℕ) (focus : Focus) (stack : List Entry) (e : Environment) (w : World)

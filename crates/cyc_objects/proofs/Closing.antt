@@ -11,8 +11,9 @@ use Rattle.cyc_store.proofs.LookupLemmas.{when_equal, when_other, same_some, IsP
 use Rattle.cyc_store.proofs.HolderLemmas.{covers_from, IsPart-down_to}
 use Rattle.cyc_store.proofs.ServiceLemmas.{served-sound}
 use Rattle.cyc_meaning.specs.State.{Sort, Heap, Globals, Stack, Lexical, Dynamic, Region, World, has_pages, closed}
+use Rattle.cyc_meaning.specs.Nesting.{is_scope}
 use Rattle.cyc_objects.specs.Tables.{Tables}
-use Rattle.cyc_objects.specs.Related.{sort_of, has_home, Regions, no_regions, passed, taken, Related, is_scope, scopes, IsNewest, closed_to}
+use Rattle.cyc_objects.specs.Related.{sort_of, has_home, Regions, no_regions, passed, taken, Related, scopes, IsNewest, closed_to}
 use Rattle.cyc_objects.proofs.Values.{Grows-same}
 use Rattle.cyc_objects.proofs.RegionLemmas.{not_true, HasHome, home-found, first-other, shut, without-none}
 use Rattle.cyc_objects.proofs.Serving.{WordsStay, block-home, objects-inherited}
@@ -134,7 +135,7 @@ scopes-closed (q ∷ rs) (suc n) r there scope =
 scopes-some : (rs : List Region) (n : ℕ) (r : Region) → slice_get rs n ≡ Some r → is_scope r.sort r.is_open ≡ true → (k : ℕ) × (scopes rs ≡ suc k)
 scopes-some rs n r there scope = (scopes (set rs n (shut r)), scopes-closed rs n r there scope)
 
-scopes-none : (rs : List Region) → ((i : ℕ) (q : Region) → slice_get rs i ≡ Some q → is_scope q.sort q.is_open ≡ true → ⊥) → scopes rs ≡ 0
+pub scopes-none : (rs : List Region) → ((i : ℕ) (q : Region) → slice_get rs i ≡ Some q → is_scope q.sort q.is_open ≡ true → ⊥) → scopes rs ≡ 0
 scopes-none [] none = refl
 scopes-none (q ∷ rs) none = elim (cases_Bool (is_scope q.sort q.is_open)) [
   | inl scope ↦ absurd (none 0 q refl scope)

@@ -9,6 +9,7 @@ pub mod Making
 pub mod Variables
 pub mod Services
 pub mod Closing
+pub mod Scopes
 pub mod Start
 -- what stands below
 pub mod NumberLemmas

@@ -10,6 +10,7 @@ use Rattle.cyc_store.specs.Soundness.{IsSound}
 use Rattle.cyc_store.specs.declared.range.TheConstants.{STORE_BASE, PAGE_WORDS, MOST_PAGES, HEAP, UNIQUE}
 use Rattle.cyc_meaning.specs.Values.{Cell, kinds_of, block_size}
 use Rattle.cyc_meaning.specs.State.{Sort, Heap, Globals, Stack, Lexical, Dynamic, Region, Owner, InRegion, Unique, Object, World, heap_number, has_pages, is_live, global_object}
+use Rattle.cyc_meaning.specs.Nesting.{is_scope}
 use Rattle.cyc_meaning.specs.Objects.{live_in}
 use Rattle.cyc_objects.specs.Tables.{Row, Variable, Placed, Tables}
 use Rattle.cyc_objects.specs.Words.{words_of_kinds, words_from, AreCells}
@@ -143,10 +144,6 @@ pub record Related (t : Tables) (w : World) (s : StoreState) : Type 0 where
       → slice_get t.rows number ≡ Some (Placed address ks) → slice_get t.rows other ≡ Some (Placed address ls) → number ≡ other
 
 -- ---- lexical regions
-
-abbrev pub is_scope : Sort → (flag : Bool) → Bool
-is_scope Lexical flag = flag
-is_scope sort flag = false
 
 -- how many lexical regions are open
 abbrev pub scopes : List Region → ℕ

@@ -15,12 +15,13 @@ ghost use Rattle.cyc_meaning.specs.Operators.{Gives, truth};
 ghost use Rattle.cyc_meaning.specs.Pointers.{moved, null_test};
 ghost use Rattle.cyc_meaning.specs.Conversion.{conversion};
 ghost use Rattle.cyc_meaning.specs.State.{Lexical, Dynamic, Stack, Region, InRegion, Unique, Object, World, Found, Located, region_at, cell_at, opened_as, closed, variable, made, written, first_world};
+ghost use Rattle.cyc_meaning.specs.Nesting.{is_scope};
 ghost use Rattle.cyc_meaning.specs.Objects.{compared, made_in, made_unique, freed};
 ghost use Rattle.cyc_meaning.specs.Allocation.{blanks};
 ghost use Rattle.cyc_meaning.specs.Effects.{pages_of};
 ghost use Rattle.cyc_objects.specs.Tables.{Row, Placed, Tables, with_row, with_handle, Grows, first_tables};
 ghost use Rattle.cyc_objects.specs.Words.{words_from, Points, IsPartOf, Is, IsContent, AreBlank};
-ghost use Rattle.cyc_objects.specs.Related.{has_home, IsOfVariable, HasKinds, Alive, LiveVariable, AreApart, AreGlobals, Related, is_scope, scopes, IsNewest, closed_to};
+ghost use Rattle.cyc_objects.specs.Related.{has_home, IsOfVariable, HasKinds, Alive, LiveVariable, AreApart, AreGlobals, Related, scopes, IsNewest, closed_to};
 
 /// What words are stays said of them when more objects are made and more regions opened, and of equal words elsewhere.
 pub fn words_stay_values()

@@ -277,6 +277,7 @@ waits_whole (stacks.indexes c t r f h stands evaluates target alive) peek e = pa
 waits_whole (stacks.advances {peek = o} t r f target alive) peek e = part_whole o peek e
 waits_whole (stacks.counts_elements t l f) peek e = part_whole None peek e
 waits_whole (stacks.places_by c m t r f h stands makes alive) peek e = part_whole None peek e
+waits_whole (stacks.beside_handle t f) peek e = part_whole None peek e
 waits_whole (stacks.makes_plain t r f plain alive owner kind) peek e = part_whole None peek e
 waits_whole (stacks.makes_fields c done t ts n ls r f h alive owner stands passes fields) peek e = part_whole None peek e
 waits_whole (stacks.makes_array c t r f alive owner stands repeats) peek e = part_whole None peek e
@@ -519,6 +520,7 @@ void_waits (stacks.indexes c t r f h stands evaluates target alive) e = value_vo
 void_waits (stacks.advances t r f target alive) e = value_void e
 void_waits (stacks.counts_elements t l f) e = value_void e
 void_waits (stacks.places_by c m t r f h stands makes alive) e = value_void e
+void_waits (stacks.beside_handle t f) e = value_void e
 void_waits (stacks.makes_plain t r f plain alive owner kind) e = value_void e
 void_waits (stacks.makes_fields c done t ts n ls r f h alive owner stands passes fields) e = value_void e
 void_waits (stacks.makes_array c t r f alive owner stands repeats) e = value_void e
@@ -893,6 +895,7 @@ waits_within {bs = bs} (stacks.indexes c t r f h stands evaluates target alive) 
 waits_within {bs = bs} (stacks.advances t r f target alive) = itself bs
 waits_within {bs = bs} (stacks.counts_elements t l f) = itself bs
 waits_within {bs = bs} (stacks.places_by c m t r f h stands makes alive) = itself bs
+waits_within {bs = bs} (stacks.beside_handle t f) = itself bs
 waits_within {bs = bs} (stacks.makes_plain t r f plain alive owner kind) = itself bs
 waits_within {bs = bs} (stacks.makes_fields c done t ts n ls r f h alive owner stands passes fields) = itself bs
 waits_within {bs = bs} (stacks.makes_array c t r f alive owner stands repeats) = itself bs

@@ -21,7 +21,7 @@ use Rattle.cyc_meaning.specs.Values as values
 use Rattle.cyc_meaning.specs.Operators.{unary_result, binary_result}
 use Rattle.cyc_types.specs.declared.typed.UnaryOperator.TheVariants as unary
 use Rattle.cyc_meaning.specs.Allocation.{makes_by, fills_element}
-use Rattle.cyc_meaning.specs.State.{InRegion, World, region_at, variable, made, Environment, Awaiting, Entry, Needs, Rest, Join, Loop, Focus, Executing, Proceeding, Returning, Throwing, State, Running}
+use Rattle.cyc_meaning.specs.State.{InRegion, World, region_at, variable, made, Environment, Awaiting, BesideHandle, Entry, Needs, Rest, Join, Loop, Focus, Given, Executing, Proceeding, Returning, Throwing, State, Running}
 use Rattle.cyc_meaning.specs.State as state
 use Rattle.cyc_meaning.specs.Parts.{wrong, declared}
 use Rattle.cyc_meaning.specs.Exceptions.{throws_value}
@@ -240,7 +240,8 @@ module _ (p : Source) (g : Typing) (x : Exits) (bs : List InScope) (e : Environm
       → IsThere bs r → IsMade c i m t → Derives (rule_initial q i f) h → InInitial p.reading (relied_at x.relied k) i → HasType g (lives.Handle (lives_in bs r)) v
       → IsStack p g x bs (Val (Value (lives.Pointer m (read bs t) (lives_in bs r))) h) k → IsWell p (makes_by i v k e w)
   placed_by i (values.Handle region) k c m t r f h q opens live stands holds alive made flows kept has stack =
-      makes_on p g x bs e w typed globals bound variables i (InRegion region) k c m t r f h q opens live stands holds alive (owner_is (lives_in bs r) region has) made flows kept stack
+      makes_on p g x bs e w typed globals bound variables i (InRegion region) (Needs (BesideHandle region) ∷ k) c m t r f h q opens live stands holds alive (owner_is (lives_in bs r) region has) made flows kept
+      ([], bs, Val (Value (lives.Pointer m (read bs t) (lives_in bs r))) h, stacks.beside_handle (lives.Pointer m (read bs t) (lives_in bs r)) h, tt, stack)
   placed_by i v k c m t r f h q opens live stands holds alive made flows kept has stack = absurd has
 
   -- the next element of an array has its value, and the counter is out of scope
@@ -286,6 +287,7 @@ module _ (p : Source) (g : Typing) (x : Exits) (bs : List InScope) (e : Environm
   given v k nests live holds is comes (stacks.advances {peek} {target} {base} t r f same alive) ((base_is, unit), claims) stack = advance_on p g x bs e w typed globals bound variables t r target base v k f live holds same alive base_is is stack
   given v k nests live holds is comes (stacks.counts_elements t l f) are stack = count_on p g x bs e w typed globals bound variables t l v k f live holds is stack
   given v k nests live holds is comes (stacks.places_by {i} c m t r f h stands makes alive) are stack = placed_by i v.value k c m t r f h makes.waiting nests.0 live stands holds alive makes.typed makes.flows makes.kept is.1 stack
+  given v k nests live holds is comes (stacks.beside_handle t f) are stack = on (Given v) k live (Value t, f, holds, is, comes_alone g k (Value t) comes, stack)
   given v k nests live holds is comes (stacks.makes_plain {owner} {kind} t r f plain alive owned kind_is) are stack = plain_on p g x bs e w typed globals bound variables owner kind v t r k f plain nests.0 live holds alive owned kind_is is stack
   given v k nests live holds is comes (stacks.makes_fields {owner} {before} {rest} c done t ts n ls r f h alive owned stands passes fields) are stack =
       let (operands, claims) = fields_kept g (operands_in k) owner before rest done are in

@@ -29,7 +29,7 @@ use Rattle.cyc_types.specs.flow.Statements.{rule_side, side_demanded, locks_of, 
 use Rattle.cyc_types.specs.flow.Programs.{start_of, in_function}
 use Rattle.cyc_meaning.specs.Values.{Operand}
 use Rattle.cyc_meaning.specs.Values as values
-use Rattle.cyc_meaning.specs.State.{Owner, Awaiting, ConvertTo, Operate, Chain, Apply, ApplyPointer, Decide, Store, StoreCell, Pass, Follow, FollowMember, Index, Advance, CountElements, PlaceBy, MakePlain, MakeFields, MakeArray, FillElement, Initialise, Choose, Test, Return, ThrowWith, CloseByKey, OpenBy, AliasOf, AwaitingPlace, LoadFrom, TakeAddress, StoreTo, SwapLeft, SwapRight, Write, Entry, Needs, NeedsPlace, Discard, Rest, Join, Loop, CloseRegion, CloseLexical, EndLoan, Handler, Caller, Main, Environment, World, Focus, Evaluating, Locating, Given, GivenPlace, Executing, Proceeding, Calling, Entering, Binding, Naming, Writing, Swapping, Beginning, Repeating, Breaking, Continuing, Returning, Throwing, Catching, State, Running, Ended, Dead, Wrong}
+use Rattle.cyc_meaning.specs.State.{Owner, Awaiting, ConvertTo, Operate, Chain, Apply, ApplyPointer, Decide, Store, StoreCell, Pass, Follow, FollowMember, Index, Advance, CountElements, PlaceBy, BesideHandle, MakePlain, MakeFields, MakeArray, FillElement, Initialise, Choose, Test, Return, ThrowWith, CloseByKey, OpenBy, AliasOf, AwaitingPlace, LoadFrom, TakeAddress, StoreTo, SwapLeft, SwapRight, Write, Entry, Needs, NeedsPlace, Discard, Rest, Join, Loop, CloseRegion, CloseLexical, EndLoan, Handler, Caller, Main, Environment, World, Focus, Evaluating, Locating, Given, GivenPlace, Executing, Proceeding, Calling, Entering, Binding, Naming, Writing, Swapping, Beginning, Repeating, Breaking, Continuing, Returning, Throwing, Catching, State, Running, Ended, Dead, Wrong}
 use Rattle.cyc_meaning.specs.Allocation.{writes_from}
 use Rattle.cyc_meaning.specs.Parts.{target_of, target_of_value}
 use Rattle.cyc_soundness.specs.Lives.{Life, RunTy, RunValue, Value, Seen, at, value_at, heap_life, lives_of, as_heap, Reading, AllIn, IsKnown}
@@ -267,6 +267,7 @@ pub data Waits (p : Source) (x : Exits) (q : Relied) (bs : List InScope) : Await
   counts_elements : (t : RunTy) (l : Life) (f : flow.State) → Waits p x q bs CountElements [] (Value (lives.Pointer marks.Fat t l)) f bs (Val (Value lives.Int) f)
   places_by : {i : Initial} (c : Context) (m : PointerKind) (t : Ty) (r : Region) (f h : flow.State) → IsContext p x bs c → Makes p.reading q c i m t f h → IsThere bs r
       → Waits p x q bs (PlaceBy i) [] (Value (lives.Handle (lives_in bs r))) f bs (Val (Value (lives.Pointer m (read bs t) (lives_in bs r))) h)
+  beside_handle : {region : ℕ} (t : RunTy) (f : flow.State) → Waits p x q bs (BesideHandle region) [] (Value t) f bs (Val (Value t) f)
   makes_plain : {owner : Owner} {kind : Kind} (t : Ty) (r : Region) (f : flow.State) → is_key t ≡ false → IsThere bs r → IsOwner (lives_in bs r) owner → kind ≡ kind_of t
       → Waits p x q bs (MakePlain owner kind) [] (Value (read bs t)) f bs (Val (Value (lives.Pointer marks.NonNull (read bs t) (lives_in bs r))) f)
   makes_fields : {owner : Owner} {before : List Operand} {rest : Arguments} (c : Context) (done : List RunTy) (t : Ty) (ts : List Ty) (n : ℕ) (ls : List Life) (r : Region) (f h : flow.State)

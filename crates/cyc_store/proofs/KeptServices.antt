@@ -85,7 +85,7 @@ lexical-length (r ∷ rs) = either (is_lexical r.sort) r.handle (lexical_handles
     either true h hs n e = ap suc e
     either false h hs n e = e
 
-lexical-few : (rs : List Home) → lexical_count rs ≤ length rs
+pub lexical-few : (rs : List Home) → lexical_count rs ≤ length rs
 lexical-few [] = omega arith
 lexical-few (r ∷ rs) = either (is_lexical r.sort) (lexical_count rs) (length rs) (lexical-few rs)
   where
@@ -99,7 +99,7 @@ pages-some pages filled (size ∷ sizes) = cond_both (nat_le (filled + size) pag
     (λ e. pages-some pages (filled + size) sizes)
     (λ e. let more : suc pages ≤ pages_from (suc pages) size sizes = pages-some (suc pages) size sizes in omega (arith, more))
 
-regions-few : (rs : List Home) (classes : List ℕ) → length rs ≤ demand_of (sizes_in rs) classes
+pub regions-few : (rs : List Home) (classes : List ℕ) → length rs ≤ demand_of (sizes_in rs) classes
 regions-few [] classes = least (demand_of (sizes_in []) classes)
   where
     least : (n : ℕ) → 0 ≤ n

@@ -1,5 +1,5 @@
 use borrow.Author.Rules.{rules, get_or_read}
-use Rattle.std.proofs.Common.{◌≡◌, ℕ, ◌+◌, List, [], ◌∷◌, ◌++◌, length, set, Option, ◌∙◌, sym, ap, arith}
+use Rattle.std.proofs.Common.{◌≡◌, ℕ, ◌+◌, List, [], ◌∷◌, ◌++◌, length, set, Option, ◌∙◌, refl, sym, ap, arith}
 use Rattle.std.proofs.lemmas.Result.{on_ok_weaker}
 use Rattle.cyc_types.specs.declared.ty.Ty.TheFolds as types
 use Rattle.cyc_types.specs.declared.typed.Item.{Item}
@@ -9,10 +9,11 @@ use Rattle.cyc_types.specs.TypedTreeView.{view_expression, view_statement, items
 use Rattle.cyc_meaning.specs.FrameCount.{kept_by_items, kept_by_clauses}
 use Rattle.cyc_plain.specs.declared.instruction.Instruction.{Instruction}
 use Rattle.cyc_plain.specs.declared.instruction.Instruction.TheVariants.{Jump, Leave}
-use Rattle.cyc_lower.specs.Lowering.{items_code, clauses_code, other_jump}
+use Rattle.cyc_lower.specs.Lowering.{items_code, clauses_code, other_jump, statement_code, inside_try}
+use Rattle.cyc_lower.specs.declared.statements.Exits.{Exits}
 use Rattle.cyc_lower.specs.Emission.{view_starts}
-use Rattle.cyc_lower.proofs.Branching.{made_block, made_if, made_loop}
-use Rattle.cyc_lower.proofs.Handlers.{kept_of_item, kept_of_clause, made_clause, made_clauses, more_clauses, made_handler, clauses_longer, body_longer}
+use Rattle.cyc_lower.proofs.Branching.{made_block, made_if, made_loop, item_room, more_items, closes_begin, closes_next, closes_end}
+use Rattle.cyc_lower.proofs.Handlers.{kept_of_clause, made_clause, made_clauses, more_clauses, made_handler, record_room, clauses_longer, body_longer}
 use Rattle.cyc_lower.proofs.Emitting.{no_shorter_than}
 use Rattle.std.proofs.lemmas.List.{length-append}
 use Rattle.cyc_lower.proofs.NeedsFound.{block_keeps, try_keeps}
@@ -71,45 +72,86 @@ lower_default-lower_items-requires t c =
     let same = ap (λ (js : List Item). kept_by_items (items_of js)) c.deref.ensures.value in
     (search (rules, types.the_lemmas, statements.the_lemmas, get_or_read), (omega (arith, few, same, c.requires.slots), c.requires.begun))
 
-pub lower_items-lower_item-requires : goal.lower_items-lower_item-requires
-lower_items-lower_item-requires t c =
-    let few = kept_of_item c.args.items.now c.loop-item.item-index c.item-item.result c.loop-item-test.true c.item-item.is in
-    (search (rules, types.the_lemmas, statements.the_lemmas, get_or_read), (omega (arith, few, c.requires.slots), c.loop-item.invariant.2))
-
 pub lower_statement-lower_items-requires : goal.lower_statement-lower_items-requires
 lower_statement-lower_items-requires t c =
     let e = block_keeps c.args.statement.now c.in-Block.region c.in-Block.items c.in-Block.is c.deref.result.now c.deref.ensures.value in
     (search (rules, types.the_lemmas, statements.the_lemmas, get_or_read), (omega (arith, e, c.requires.slots), c.requires.begun))
 
+pub lower_items-lower_item-requires : goal.lower_items-lower_item-requires
+lower_items-lower_item-requires t c = (
+  search (rules, types.the_lemmas, statements.the_lemmas, get_or_read),
+  (
+    item_room (view_starts c.args.starts.now) c.args.self.now.code.items c.args.items.now c.args.exits c.args.free c.loop-item.item-index c.loop-item.self.code.items c.loop-item.inside c.loop-item.behind c.item-item.result c.loop-item-test.true c.item-item.is c.loop-item.invariant,
+    c.loop-item.invariant.3,
+  ),
+)
+
+pub lower_items-free_behind-requires : goal.lower_items-free_behind-requires
+lower_items-free_behind-requires t c =
+    item_room (view_starts c.args.starts.now) c.args.self.now.code.items c.args.items.now c.args.exits c.args.free c.loop-item.item-index c.loop-item.self.code.items c.loop-item.inside c.loop-item.behind c.item-item.result c.loop-item-test.true c.item-item.is c.loop-item.invariant
+
+pub lower_items-loop-item-preserved : goal.lower_items-loop-item-preserved
+lower_items-loop-item-preserved t c =
+    more_items (view_starts c.args.starts.now) c.args.self.now.code.items c.args.items.now c.args.exits c.args.free c.loop-item.item-index c.loop-item.self.code.items c.loop-item.inside c.loop-item.behind c.item-item.result
+    c.lower_item.new.self.code.items c.exits_behind.result c.free_behind.result c.loop-item-test.true c.item-item.is c.in_ok-lower_item.ensures c.exits_behind.ensures c.free_behind.ensures c.loop-item.invariant
+
+pub lower_items-loop-behind-before : goal.lower_items-loop-behind-before
+lower_items-loop-behind-before t c =
+    closes_begin (view_starts c.args.starts.now) c.args.self.now.code.items c.args.items.now c.args.exits c.args.free c.loop-item.item-index c.loop-item.self.code.items c.loop-item.inside c.loop-item.behind c.loop-item-test.false c.loop-item.invariant
+
+pub lower_items-loop-behind-preserved : goal.lower_items-loop-behind-preserved
+lower_items-loop-behind-preserved t c =
+    closes_next (view_starts c.args.starts.now) _ c.loop-behind.self.code.items c.close_lexical.new.self.code.items c.args.free c.loop-behind.behind _ c.loop-behind-test.true refl c.in_ok-close_lexical.ensures c.loop-behind.invariant
+
+pub lower_items-returns : goal.lower_items-returns
+lower_items-returns t c = closes_end (view_starts c.args.starts.now) _ c.loop-behind.self.code.items c.args.free c.loop-behind.behind c.loop-behind-test.false c.loop-behind.invariant
+
+pub lower_statement-lower_statement-requires-in-Try : goal.lower_statement-lower_statement-requires-in-Try
+lower_statement-lower_statement-requires-in-Try t c =
+    let e = try_keeps c.args.statement.now c.in-Try.body c.in-Try.clauses c.in-Try.default c.in-Try.is c.deref-in-Try.result.now c.deref-in-Try.ensures c.in-Try.clauses.items refl in
+    let room = record_room c.args.starts.now.scopes c.args.free in
+    let zero = no_shorter_than c.args.self.now.code.items _ c.begin_try.new.self.code.items c.in_ok-behind-in-Try.ensures.1 in
+    let one = no_shorter_than c.begin_try.new.self.code.items _ c.reserve-in-Try.new.self.code.items c.in_ok-opening-in-Try.ensures.1 in
+    let head = ap (λ (exits : Exits). exits.head) c.inside_try.ensures in
+    (search (rules, types.the_lemmas, statements.the_lemmas, get_or_read), (omega (arith, e, room, c.in_ok-behind-in-Try.ensures.0, c.requires.slots), omega (arith, zero, one, head, c.requires.begun)))
+
 pub lower_statement-lower_clauses-requires : goal.lower_statement-lower_clauses-requires
 lower_statement-lower_clauses-requires t c =
     let e = try_keeps c.args.statement.now c.in-Try.body c.in-Try.clauses c.in-Try.default c.in-Try.is c.deref-in-Try.result.now c.deref-in-Try.ensures c.deref-in-Try-2.result.now c.deref-in-Try-2.ensures.value in
-    let one : length c.reserve-in-Try.new.self.code.items ≡ length c.args.self.now.code.items + 1 = ap length c.in_ok-opening-in-Try.ensures.1 ∙ length-append c.args.self.now.code.items (Jump 0 ∷ []) in
+    let zero = no_shorter_than c.args.self.now.code.items _ c.begin_try.new.self.code.items c.in_ok-behind-in-Try.ensures.1 in
+    let one = no_shorter_than c.begin_try.new.self.code.items _ c.reserve-in-Try.new.self.code.items c.in_ok-opening-in-Try.ensures.1 in
     let two = no_shorter_than c.reserve-in-Try.new.self.code.items _ c.lower_statement-in-Try.new.self.code.items c.in_ok-lower_statement-in-Try.ensures in
     let three = body_longer c.lower_statement-in-Try.new.self.code.items c.end_body.new.self.code.items (Leave c.args.free) (Jump 0) _ c.in_ok-opening-in-Try.opening c.in_ok-out-in-Try.ensures.1 in
-    (search (rules, types.the_lemmas, statements.the_lemmas, get_or_read), (omega (arith, e, c.requires.slots), omega (arith, one, two, three, c.requires.begun)))
+    let four = no_shorter_than c.end_body.new.self.code.items _ c.restore_scopes.new.self.code.items c.in_ok-restore_scopes-in-Try.ensures in
+    (search (rules, types.the_lemmas, statements.the_lemmas, get_or_read), (omega (arith, e, c.requires.slots), omega (arith, zero, one, two, three, four, c.requires.begun)))
 
 pub lower_statement-lower_default-requires : goal.lower_statement-lower_default-requires
 lower_statement-lower_default-requires t c =
     let e = try_keeps c.args.statement.now c.in-Try.body c.in-Try.clauses c.in-Try.default c.in-Try.is c.deref-in-Try.result.now c.deref-in-Try.ensures c.deref-in-Try-2.result.now c.deref-in-Try-2.ensures.value in
-    let one : length c.reserve-in-Try.new.self.code.items ≡ length c.args.self.now.code.items + 1 = ap length c.in_ok-opening-in-Try.ensures.1 ∙ length-append c.args.self.now.code.items (Jump 0 ∷ []) in
+    let zero = no_shorter_than c.args.self.now.code.items _ c.begin_try.new.self.code.items c.in_ok-behind-in-Try.ensures.1 in
+    let one = no_shorter_than c.begin_try.new.self.code.items _ c.reserve-in-Try.new.self.code.items c.in_ok-opening-in-Try.ensures.1 in
     let two = no_shorter_than c.reserve-in-Try.new.self.code.items _ c.lower_statement-in-Try.new.self.code.items c.in_ok-lower_statement-in-Try.ensures in
     let three = body_longer c.lower_statement-in-Try.new.self.code.items c.end_body.new.self.code.items (Leave c.args.free) (Jump 0) _ c.in_ok-opening-in-Try.opening c.in_ok-out-in-Try.ensures.1 in
-    let four = clauses_longer (view_starts c.args.starts.now) c.deref-in-Try-2.result.now c.in_ok-out-in-Try.out c.args.exits c.args.free c.end_body.new.self.code.items c.lower_clauses.new.self.code.items c.in_ok-lower_clauses-in-Try.ensures in
-    (search (rules, types.the_lemmas, statements.the_lemmas, get_or_read), (omega (arith, e, c.requires.slots), omega (arith, one, two, three, four, c.requires.begun)))
+    let four = no_shorter_than c.end_body.new.self.code.items _ c.restore_scopes.new.self.code.items c.in_ok-restore_scopes-in-Try.ensures in
+    let five = clauses_longer (view_starts c.args.starts.now) c.deref-in-Try-2.result.now c.in_ok-out-in-Try.out c.args.exits c.args.free c.restore_scopes.new.self.code.items c.lower_clauses.new.self.code.items c.in_ok-lower_clauses-in-Try.ensures in
+    (search (rules, types.the_lemmas, statements.the_lemmas, get_or_read), (omega (arith, e, c.requires.slots), omega (arith, zero, one, two, three, four, five, c.requires.begun)))
 
 pub lower_statement-jump_here-requires-in-Try : goal.lower_statement-jump_here-requires-in-Try
 lower_statement-jump_here-requires-in-Try t c =
-    let one : length c.reserve-in-Try.new.self.code.items ≡ length c.args.self.now.code.items + 1 = ap length c.in_ok-opening-in-Try.ensures.1 ∙ length-append c.args.self.now.code.items (Jump 0 ∷ []) in
-    let two = no_shorter_than c.reserve-in-Try.new.self.code.items _ c.lower_statement-in-Try.new.self.code.items c.in_ok-lower_statement-in-Try.ensures in
     let three = body_longer c.lower_statement-in-Try.new.self.code.items c.end_body.new.self.code.items (Leave c.args.free) (Jump 0) _ c.in_ok-opening-in-Try.opening c.in_ok-out-in-Try.ensures.1 in
-    let four = clauses_longer (view_starts c.args.starts.now) c.deref-in-Try-2.result.now c.in_ok-out-in-Try.out c.args.exits c.args.free c.end_body.new.self.code.items c.lower_clauses.new.self.code.items c.in_ok-lower_clauses-in-Try.ensures in
-    let five = no_shorter_than c.lower_clauses.new.self.code.items _ c.lower_default.new.self.code.items c.in_ok-lower_default-in-Try.ensures in
-    omega (arith, three, four, five, c.in_ok-out-in-Try.ensures.0)
+    let four = no_shorter_than c.end_body.new.self.code.items _ c.restore_scopes.new.self.code.items c.in_ok-restore_scopes-in-Try.ensures in
+    let five = clauses_longer (view_starts c.args.starts.now) c.deref-in-Try-2.result.now c.in_ok-out-in-Try.out c.args.exits c.args.free c.restore_scopes.new.self.code.items c.lower_clauses.new.self.code.items c.in_ok-lower_clauses-in-Try.ensures in
+    let six = no_shorter_than c.lower_clauses.new.self.code.items _ c.lower_default.new.self.code.items c.in_ok-lower_default-in-Try.ensures in
+    omega (arith, three, four, five, six, c.in_ok-out-in-Try.ensures.0)
 
 pub lower_statement-returns-in_ok-lower_default-in-Try : goal.lower_statement-returns-in_ok-lower_default-in-Try
 lower_statement-returns-in_ok-lower_default-in-Try t c =
+    let begun = c.reserve-in-Try.new.self.code.items in
+    let body = view_statement c.deref-in-Try.result.now in
     made_handler (view_starts c.args.starts.now) c.args.statement.now c.in-Try.body c.in-Try.clauses c.in-Try.default c.in-Try.is c.deref-in-Try.result.now c.deref-in-Try.ensures c.deref-in-Try-2.result.now c.deref-in-Try-2.ensures.value c.args.exits c.args.free c.args.self.now.code.items (Jump 0)
-    c.reserve-in-Try.new.self.code.items c.lower_statement-in-Try.new.self.code.items c.end_body.new.self.code.items c.lower_clauses.new.self.code.items c.lower_default.new.self.code.items c.jump_here-in-Try.new.self.code.items
+    c.begin_try.new.self.code.items begun c.lower_statement-in-Try.new.self.code.items c.end_body.new.self.code.items c.restore_scopes.new.self.code.items c.lower_clauses.new.self.code.items c.lower_default.new.self.code.items c.jump_here-in-Try.new.self.code.items
     c.in_ok-opening-in-Try.opening c.in_ok-out-in-Try.out
-    c.in_ok-opening-in-Try.ensures.0 c.in_ok-opening-in-Try.ensures.1 c.in_ok-lower_statement-in-Try.ensures c.in_ok-out-in-Try.ensures.0 c.in_ok-out-in-Try.ensures.1 c.in_ok-lower_clauses-in-Try.ensures c.in_ok-lower_default-in-Try.ensures c.jump_here-in-Try.ensures
+    c.in_ok-behind-in-Try.ensures.1 c.in_ok-opening-in-Try.ensures.0 c.in_ok-opening-in-Try.ensures.1
+    (c.in_ok-lower_statement-in-Try.ensures ∙ ap (λ (exits : Exits). begun ++ statement_code (view_starts c.args.starts.now) body (length begun) exits c.in_ok-behind-in-Try.behind) c.inside_try.ensures
+    ∙ ap (λ (n : ℕ). begun ++ statement_code (view_starts c.args.starts.now) body (length begun) (inside_try c.args.exits c.args.free) n) c.in_ok-behind-in-Try.ensures.0)
+    c.in_ok-out-in-Try.ensures.0 c.in_ok-out-in-Try.ensures.1 c.in_ok-restore_scopes-in-Try.ensures c.in_ok-lower_clauses-in-Try.ensures c.in_ok-lower_default-in-Try.ensures c.jump_here-in-Try.ensures

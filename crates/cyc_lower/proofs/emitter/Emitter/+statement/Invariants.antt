@@ -1,17 +1,23 @@
-use Rattle.std.specs.Prelude.{◌+◌, ◌≤◌, length}
+use Rattle.std.specs.Prelude.{◌+◌, ◌++◌, ◌≤◌, length}
 use Rattle.cyc_types.specs.TypedTreeView.{items_of, clauses_of}
 use Rattle.cyc_types.specs.TypedTrees.{Clauses, NoClauses}
-use Rattle.cyc_meaning.specs.FrameCount.{kept_by_items, kept_by_clauses}
+use Rattle.cyc_meaning.specs.FrameCount.{kept_by_clauses}
+use Rattle.cyc_lower.specs.Lowering.{items_code}
 use Rattle.cyc_lower.specs.Emission.{most_locals, view_starts}
 use Rattle.cyc_lower.proofs.Emitting.{Remains}
-use Rattle.cyc_lower.proofs.Branching.{all_items}
+use Rattle.cyc_lower.proofs.Branching.{ItemsRemain, ClosesLeft}
 use Rattle.cyc_lower.proofs.Handlers.{all_clauses}
 use Rattle.cyc_lower.proofs.emitter.Emitter.+statement.Given as goal
 
 abbrev pub invariant-lower_items-loop-item : goal.invariant-lower_items-loop-item
-invariant-lower_items-loop-item l =
-    Remains (all_items (view_starts l.starts) l.exits) l.fn.self.code.items l.items l.fn.free l.item-index l.self.code.items l.free
-    × (l.free + kept_by_items (items_of l.items) ≤ most_locals) × (l.exits.head ≤ length l.self.code.items)
+invariant-lower_items-loop-item l = ItemsRemain (view_starts l.starts) l.fn.self.code.items l.items l.exits l.free l.item-index l.self.code.items l.inside l.behind
+
+abbrev pub decreases-lower_items-loop-behind : goal.decreases-lower_items-loop-behind
+decreases-lower_items-loop-behind l = l.behind
+
+abbrev pub invariant-lower_items-loop-behind : goal.invariant-lower_items-loop-behind
+invariant-lower_items-loop-behind l =
+    ClosesLeft (view_starts l.starts) (l.fn.self.code.items ++ items_code (view_starts l.starts) (items_of l.items) (length l.fn.self.code.items) l.exits l.free) l.self.code.items l.free l.behind
 
 abbrev pub invariant-lower_clauses-loop-clause : goal.invariant-lower_clauses-loop-clause
 invariant-lower_clauses-loop-clause l =

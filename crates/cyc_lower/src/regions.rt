@@ -1,0 +1,135 @@
+//! The code of regions: handles are words, and the marks by which lexical regions are closed stand in slots.
+ghost use Rattle.std.specs.Prelude.{◌≡◌, ◌+◌, ◌≤◌, IfOk, length};
+ghost use Rattle.cyc_lower.specs.Lowering.{behind_record, closed_code, closing_code, dynamic_code, kept_code, named_code, opened_code, restored_code, scopes_code};
+ghost use Rattle.cyc_lower.specs.Emission.{Appends, Gives, most_locals, view_starts};
+
+use crate::emitter::Emitter;
+use crate::locals::slot_of;
+use crate::operands::slot_behind;
+use crate::operators::move_of;
+use crate::starts::Starts;
+use cyc_plain::{BinaryOperator, Instruction, Operand, RECORD_WORDS, Request};
+use cyc_types::typed::Kind;
+use std::alloc::AllocError;
+
+impl Emitter {
+    /// How many lexical regions are open now is kept in the global for it.
+    fn keep_scopes(&mut self, starts: &Starts, count: Operand) -> Result<(), AllocError>
+        ensures { Appends result self.old self.new (scopes_code (view_starts starts.now) count) }
+    {
+        match starts.scopes {
+            Some(global) => self.emit(Instruction::StoreGlobal {
+                global,
+                source: count,
+            }),
+            None => Ok(()),
+        }
+    }
+
+    /// A local that is declared gets a value of so many words, which stands in an operand.
+    pub(crate) fn name_local(
+        &mut self,
+        starts: &Starts,
+        words: usize,
+        number: usize,
+        source: Operand,
+    ) -> Result<(), AllocError>
+        ensures { Appends result self.old self.new (named_code (view_starts starts.now) words number source) }
+    {
+        self.emit(move_of(words, slot_of(starts, number), source))
+    }
+
+    /// A lexical region is opened, and a local becomes its handle. Its mark comes to the slot `free`, where it stays until the region
+    /// is closed.
+    pub(crate) fn open_lexical(
+        &mut self,
+        starts: &Starts,
+        number: usize,
+        free: usize,
+    ) -> Result<(), AllocError>
+        ensures { Appends result self.old self.new (opened_code (view_starts starts.now) number free) }
+    {
+        let behind = slot_behind(free, Kind::Handle)?;
+        let count = slot_behind(behind, Kind::Handle)?;
+        self.emit(Instruction::Ask {
+            request: Request::OpenLexical {
+                destination: behind,
+            },
+        })?;
+        self.emit(Instruction::Move {
+            destination: free,
+            source: Operand::Slot { number: count },
+        })?;
+        self.emit(Instruction::Binary {
+            operator: BinaryOperator::Add,
+            destination: count,
+            left: Operand::Slot { number: free },
+            right: Operand::Word { word: 1 },
+        })?;
+        self.keep_scopes(starts, Operand::Slot { number: count })?;
+        self.name_local(starts, 1, number, Operand::Slot { number: behind })
+    }
+
+    /// The newest lexical regions are closed, down to the mark in a slot.
+    pub(crate) fn close_lexical(&mut self, starts: &Starts, mark: usize) -> Result<(), AllocError>
+        ensures { Appends result self.old self.new (closed_code (view_starts starts.now) mark) }
+    {
+        let mark = Operand::Slot { number: mark };
+        self.emit(Instruction::Ask {
+            request: Request::CloseTo { mark },
+        })?;
+        self.keep_scopes(starts, mark)
+    }
+
+    /// A `try` has the record of its handler in the slots from `free` on, and behind it keeps how many lexical regions are open, where a
+    /// program has any. The slot behind both is answered.
+    pub(crate) fn begin_try(&mut self, starts: &Starts, free: usize) -> Result<usize, AllocError>
+        requires { free ≤ most_locals }
+        ensures { Gives (behind_record (view_starts starts.now) free) result self.old self.new (kept_code (view_starts starts.now) free) }
+    {
+        let behind = free + RECORD_WORDS;
+        let Some(global) = starts.scopes else {
+            return Ok(behind);
+        };
+        self.emit(Instruction::LoadGlobal {
+            destination: behind,
+            global,
+        })?;
+        Ok(behind + 1)
+    }
+
+    /// Where an exception comes to a `try`, the lexical regions are closed that were opened in it.
+    pub(crate) fn restore_scopes(&mut self, starts: &Starts, free: usize) -> Result<(), AllocError>
+        requires { free ≤ most_locals }
+        ensures { Appends result self.old self.new (restored_code (view_starts starts.now) free) }
+    {
+        match starts.scopes {
+            Some(_) => self.close_lexical(starts, free + RECORD_WORDS),
+            None => Ok(()),
+        }
+    }
+
+    /// A dynamic region is opened, and a local becomes its key.
+    pub(crate) fn open_dynamic(
+        &mut self,
+        starts: &Starts,
+        number: usize,
+        free: usize,
+    ) -> Result<(), AllocError>
+        ensures { Appends result self.old self.new (dynamic_code (view_starts starts.now) number free) }
+    {
+        self.emit(Instruction::Ask {
+            request: Request::OpenDynamic { destination: free },
+        })?;
+        self.name_local(starts, 1, number, Operand::Slot { number: free })
+    }
+
+    /// The dynamic region of a key is closed.
+    pub(crate) fn close_dynamic(&mut self, handle: Operand) -> Result<(), AllocError>
+        ensures { Appends result self.old self.new (closing_code handle) }
+    {
+        self.emit(Instruction::Ask {
+            request: Request::CloseDynamic { handle },
+        })
+    }
+}

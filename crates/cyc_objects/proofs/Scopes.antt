@@ -1,0 +1,76 @@
+-- The lexical regions that are open are those that the entries of the control stack end: so they are counted there, the innermost is the
+-- newest of them, and they are few.
+use Rattle.std.proofs.Common.{◌≡◌, ℕ, zero, suc, ◌≤◌, ◌<◌, Bool, true, false, List, [], ◌∷◌, ◌+◌, length, set, Option, None, Some, refl, sym, ap, subst, ◌∙◌, inl, inr, arith}
+use Rattle.std.specs.Prelude.{◌≢◌, if◌then◌else◌, slice_get}
+use Rattle.std.specs.List.{list_any}
+use Rattle.std.proofs.lemmas.Bool.{cases_eq, cases_lt, cases_Bool, cond-true}
+use Rattle.cyc_store.specs.State.{StoreState, lexical_count}
+use Rattle.cyc_store.specs.Soundness.{IsSound}
+use Rattle.cyc_store.proofs.KeptServices.{lexical-few, regions-few}
+use Rattle.cyc_store.proofs.LookupLemmas.{same_some}
+use Rattle.cyc_meaning.specs.State.{Sort, Heap, Globals, Stack, Lexical, Dynamic, Region, World, Found, Closed, region_at, found_region, globals_number, closed, Environment, Entry, CloseRegion, CloseLexical}
+use Rattle.cyc_meaning.specs.Nesting.{ends_of, AreBelow, lexicals_of, is_scope, is_open_scope, AreScopes, IsNested}
+use Rattle.cyc_meaning.proofs.NestingLemmas.{is_one, one_here, one_there, none_above, scopes_closed}
+use Rattle.cyc_objects.specs.Related.{scopes, IsNewest}
+use Rattle.cyc_objects.proofs.RegionLemmas.{shut, not_true}
+use Rattle.cyc_objects.proofs.Closing.{scopes-closed, scopes-none}
+
+-- a region that is found as a lexical one that is open
+scope-there : (o : Option Region) → is_open_scope o ≡ true → (r : Region) × (o ≡ Some r) × (is_scope r.sort r.is_open ≡ true)
+scope-there None scope = absurd (let e : false ≡ true = scope in cc)
+scope-there (Some r) scope = (r, refl, scope)
+
+scopes-are : (stack : List Entry) (regions : List Region) (bound : ℕ) → AreBelow bound (ends_of stack) → AreScopes regions (lexicals_of stack) → scopes regions ≡ length (lexicals_of stack)
+scopes-are [] regions bound below are =
+    scopes-none regions (λ i q there scope. not_true (sym (ap is_open_scope there) ∙ are i) scope)
+scopes-are (CloseLexical region ∷ stack) regions bound (less, below) are =
+    let (r, there, scope) = scope-there (slice_get regions region) (are region ∙ one_here region region (lexicals_of stack) refl) in
+    scopes-closed regions region r there scope
+    ∙ ap suc (scopes-are stack (set regions region (shut r)) region below (scopes_closed region r stack regions below are))
+scopes-are (CloseRegion region home ∷ stack) regions bound (less, below) are = scopes-are stack regions region below are
+scopes-are (entry ∷ stack) regions bound below are = scopes-are stack regions bound below are
+
+-- as many lexical regions are open as entries end
+pub scopes-counted : (stack : List Entry) (e : Environment) (w : World) → IsNested stack e w → scopes w.regions ≡ length (lexicals_of stack)
+scopes-counted stack e w (found, below, home, are) = scopes-are stack w.regions (length w.regions) below are
+
+-- the region that the newest entry ends
+pub record Ends (w : World) (number : ℕ) : Type 0 where
+  pub region : Region
+  pub there : slice_get w.regions number ≡ Some region
+  pub scope : is_scope region.sort region.is_open ≡ true
+  pub newest : IsNewest w.regions number
+  pub found : region_at w number ≡ Found region
+
+is-open : (sort : Sort) (flag : Bool) → is_scope sort flag ≡ true → flag ≡ true
+is-open Lexical flag scope = scope
+is-open Heap flag scope = absurd (let e : false ≡ true = scope in cc)
+is-open Globals flag scope = absurd (let e : false ≡ true = scope in cc)
+is-open Stack flag scope = absurd (let e : false ≡ true = scope in cc)
+is-open Dynamic flag scope = absurd (let e : false ≡ true = scope in cc)
+
+pub ends-newest : (number : ℕ) (stack : List Entry) (e : Environment) (w : World) → IsNested (CloseLexical number ∷ stack) e w → Ends w number
+ends-newest number stack e w (found, (less, below), home, are) =
+    let (r, there, scope) = scope-there (slice_get w.regions number) (are number ∙ one_here number number (lexicals_of stack) refl) in
+    record {
+      region = r;
+      there = there;
+      scope = scope;
+      newest = newest;
+      found = ap found_region there ∙ cond-true r.is_open (Found r) Closed (is-open r.sort r.is_open scope);
+    }
+  where
+    newest : IsNewest w.regions number
+    newest other q at open_too = elim (cases_lt number other) [
+      | inl past ↦
+          absurd (not_true
+          (one_there other number (lexicals_of stack) (λ e. (let same : number ≡ other = e in absurd (omega (arith, past, same)))) ∙ none_above stack number other below (omega (arith, past)))
+          (sym (are other) ∙ (ap is_open_scope at ∙ open_too)))
+      | inr before ↦ before
+    ]
+
+-- ---- how many there may be
+
+-- each region of a store has a page at least
+pub lexicals-within : (s : StoreState) → IsSound s → lexical_count s.regions ≤ s.pages
+lexicals-within s sound = omega (arith, lexical-few s.regions, regions-few s.regions s.classes, sound.demand)
