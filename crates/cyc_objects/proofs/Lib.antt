@@ -10,6 +10,7 @@ pub mod Variables
 pub mod Services
 pub mod Closing
 pub mod Start
+pub mod Inside
 -- what stands below
 pub mod NumberLemmas
 -- examples
