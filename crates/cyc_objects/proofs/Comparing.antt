@@ -71,7 +71,7 @@ module _ {t : Tables} {w : World} {s : StoreState} (related : Related t w s) whe
   -- ---- variables
 
   -- a pointer to an object of the store is in its range
-  pointer-inside : {o h k p : ℕ} {x : Object} → Alive t w o h x → Points t o k p → (STORE_BASE ≤ p) × (p < STORE_BASE + 4 * (PAGE_WORDS * MOST_PAGES))
+  pub pointer-inside : {o h k p : ℕ} {x : Object} → Alive t w o h x → Points t o k p → (STORE_BASE ≤ p) × (p < STORE_BASE + 4 * (PAGE_WORDS * MOST_PAGES))
   pointer-inside {o} {h} {k} {p} {x} alive points =
       let st : Stands t (homes s) s.memory h o x.cells = related.objects o h x alive in
       let placed = related.sound.regions.placed h st.address (record { address = st.address; size = room h (block_size x.cells) }) st.found in
@@ -87,7 +87,7 @@ module _ {t : Tables} {w : World} {s : StoreState} (related : Related t w s) whe
       (omega (arith, low, at, same), omega (arith, high, most, at, same, short, some, enough))
 
   -- and one to a variable is not
-  pointer-outside : {o k p : ℕ} {x : Object} → LiveVariable t w o x → Points t o k p → (p < STORE_BASE) ⊎ (STORE_BASE + 4 * (PAGE_WORDS * MOST_PAGES) ≤ p)
+  pub pointer-outside : {o k p : ℕ} {x : Object} → LiveVariable t w o x → Points t o k p → (p < STORE_BASE) ⊎ (STORE_BASE + 4 * (PAGE_WORDS * MOST_PAGES) ≤ p)
   pointer-outside {o} {k} {p} {x} variable points =
       let (kind, there) = slice_get-there points.kinds k points.inside in
       let short : before k points.kinds + words_of_kind kind ≤ words_of_kinds points.kinds = before-inside points.kinds k kind there in
@@ -110,22 +110,9 @@ module _ {t : Tables} {w : World} {s : StoreState} (related : Related t w s) whe
   one_live_cell apart (inl (h, alive)) (inl (g, beside)) first second = one_cell alive beside first second
   one_live_cell apart (inl (h, alive)) (inr variable) first second = absurd (not-both-ranges (pointer-inside alive first) (pointer-outside variable second))
   one_live_cell apart (inr variable) (inl (g, beside)) first second = absurd (not-both-ranges (pointer-inside beside second) (pointer-outside variable first))
-  one_live_cell apart {o} {i} {k} {q} {p} {x} {y} (inr variable) (inr other) first second = elim (cases_eq o i) [
-    | inl number ↦ (number, same-cell first (subst (λ n. Points t n q p) (sym number) second))
-    | inr away ↦
-        let (kind, there) = slice_get-there first.kinds k first.inside in
-        let short : before k first.kinds + words_of_kind kind ≤ words_of_kinds first.kinds = before-inside first.kinds k kind there in
-        let some : 0 < words_of_kind kind = kind-some kind in
-        let (other_kind, also) = slice_get-there second.kinds q second.inside in
-        let other_short : before q second.kinds + words_of_kind other_kind ≤ words_of_kinds second.kinds = before-inside second.kinds q other_kind also in
-        let other_some : 0 < words_of_kind other_kind = kind-some other_kind in
-        let at : p ≡ first.address + 4 * before k first.kinds = first.at in
-        let other_at : p ≡ second.address + 4 * before q second.kinds = second.at in
-        absurd (elim (apart o i first.address second.address x y first.kinds second.kinds variable other away first.row second.row) [
-          | inl below ↦ omega (arith, below, at, other_at, short, some)
-          | inr above ↦ omega (arith, above, at, other_at, other_short, other_some)
-        ])
-  ]
+  one_live_cell apart {o} {i} {k} {q} {p} {x} {y} (inr variable) (inr other) first second =
+      let number : o ≡ i = apart o i k q p x y variable other first second in
+      (number, same-cell first (subst (λ n. Points t n q p) (sym number) second))
 
   live-found : (o : ℕ) (x : Object) → object_at w o ≡ Found x → (slice_get w.objects o ≡ Some x) × (is_live w x.owner ≡ true)
   live-found o x found = elim (cases_option (slice_get w.objects o)) [

@@ -1,7 +1,7 @@
 -- What the source's world and a store have in common while the one is carried out on the other. The store's open regions are the source's
 -- in their order, block for block; live objects stand in live blocks; and nothing is said of what is closed or freed, so that its
 -- addresses and handles may be given out again. (The regions are those of Grossman et al. 2002; the form is this project's own choice.)
-use Rattle.std.specs.Prelude.{◌≡◌, ◌≢◌, ◌⊎◌, ℕ, suc, ◌+◌, ◌*◌, ◌<◌, ◌≤◌, Bool, true, false, if◌then◌else◌, List, [], ◌∷◌, length, Option, Some, None, is_some, slice_get}
+use Rattle.std.specs.Prelude.{◌≡◌, ◌⊎◌, ℕ, suc, ◌+◌, ◌*◌, ◌<◌, ◌≤◌, Bool, true, false, if◌then◌else◌, List, [], ◌∷◌, length, Option, Some, None, is_some, slice_get}
 use Rattle.cyc_types.specs.declared.typed.Kind.{Kind}
 use Rattle.cyc_types.specs.TypedTrees.{GlobalVariable, Program}
 use Rattle.cyc_store.specs.State as stores
@@ -13,7 +13,7 @@ use Rattle.cyc_meaning.specs.State.{Sort, Heap, Globals, Stack, Lexical, Dynamic
 use Rattle.cyc_meaning.specs.Nesting.{is_scope}
 use Rattle.cyc_meaning.specs.Objects.{live_in}
 use Rattle.cyc_objects.specs.Tables.{Row, Variable, Placed, Tables}
-use Rattle.cyc_objects.specs.Words.{words_of_kinds, words_from, AreCells}
+use Rattle.cyc_objects.specs.Words.{words_of_kinds, words_from, Points, AreCells}
 
 -- ---- regions
 
@@ -109,11 +109,10 @@ pub record LiveVariable (t : Tables) (w : World) (number : ℕ) (x : Object) : T
   pub entry : slice_get t.handles region ≡ Some None
   pub live : is_live w x.owner ≡ true
 
--- No two live variables have a word in common. Who places them sees to it.
+-- No word is of two live variables. Who places them sees to it.
 abbrev pub AreApart : Tables → World → Type 0
-AreApart t w = (number other address beside : ℕ) (x y : Object) (ks ls : List Kind) → LiveVariable t w number x → LiveVariable t w other y
-    → number ≢ other → slice_get t.rows number ≡ Some (Placed address ks) → slice_get t.rows other ≡ Some (Placed beside ls)
-    → (address + 4 * words_of_kinds ks ≤ beside) ⊎ (beside + 4 * words_of_kinds ls ≤ address)
+AreApart t w = (number other offset beside word : ℕ) (x y : Object) → LiveVariable t w number x → LiveVariable t w other y
+    → Points t number offset word → Points t other beside word → number ≡ other
 
 -- ---- the world and the store
 

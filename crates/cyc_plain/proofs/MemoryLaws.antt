@@ -3,7 +3,7 @@
 use Rattle.std.proofs.Common.{◌≡◌, ◌≢◌, ℕ, zero, suc, ◌+◌, ◌-◌, ◌*◌, ◌/◌, ◌<◌, ◌≤◌, Bool, true, false, ◌&&◌, ◌||◌, List, [], ◌∷◌, length, Option, None, Some, set, slice_get, refl, sym, ap, subst, ◌∙◌, arith, inl, inr}
 use Rattle.std.specs.Prelude.{◌==◌, ◌⊎◌, nat_le, nat_lt, if◌then◌else◌}
 use Rattle.std.proofs.lemmas.Bool.{cond-true, cond-false, and_from, and_parts, eq-eqb, eqb-true, ltb-true, leb-true, lt-ltb, le-leb, le-ltb, or_left, or_right}
-use Rattle.cyc_store.specs.State.{word_at, saved}
+use Rattle.cyc_store.specs.State.{StoreState, word_at, saved}
 use Rattle.cyc_store.specs.declared.range.TheConstants.{STORE_BASE}
 use Rattle.cyc_plain.specs.declared.instruction.Instruction.{Instruction}
 use Rattle.cyc_plain.specs.declared.instruction.Instruction.TheVariants as instructions
@@ -11,7 +11,7 @@ use Rattle.cyc_plain.specs.declared.limits.TheConstants.{GLOBALS_BASE}
 use Rattle.cyc_plain.specs.Program.{Program, routine_at}
 use Rattle.cyc_plain.specs.State.{put, Frame, Configuration}
 use Rattle.cyc_plain.specs.WellFormed.{IsInRange, IsWellFormed}
-use Rattle.cyc_plain.specs.Memory.{slots_base, slots_end, AreBelow, pins, is_pinned, numbered, global_at, slot_at, word_or, word_waiting, put_or, with_waiting, OfGlobals, OfStore, OfSlots, range_of, word_in, memory_at, with_global, with_slot, with_word, with_memory}
+use Rattle.cyc_plain.specs.Memory.{slots_base, slots_end, AreBelow, Range, pins, is_pinned, numbered, global_at, slot_at, word_or, word_waiting, put_or, with_waiting, OfGlobals, OfStore, OfSlots, range_of, word_in, memory_at, with_global, with_slot, with_word, with_memory}
 use Rattle.cyc_plain.proofs.Placed.{holds_at, routine_in}
 use Rattle.cyc_plain.proofs.Steps.{function_known}
 
@@ -203,6 +203,34 @@ memory-store program c a from below = ap (word_in program c a) (range-store a fr
 
 pub written-store : (program : Program) (c : Configuration) (a word : ℕ) → STORE_BASE ≤ a → a < slots_base → with_memory program c a word ≡ record c { store = saved c.store a word }
 written-store program c a word from below = ap (with_word program c a word) (range-store a from below)
+
+-- the word of a live block, where its address is in the store's range
+abbrev stored_in : StoreState → (address : ℕ) → Range → Option ℕ
+stored_in s address OfGlobals = None
+stored_in s address OfStore = word_at s address
+stored_in s address OfSlots = None
+
+abbrev pub stored_at : StoreState → (address : ℕ) → Option ℕ
+stored_at s address = stored_in s address (range_of address)
+
+pub stored-there : (s : StoreState) (a : ℕ) → STORE_BASE ≤ a → a < slots_base → stored_at s a ≡ word_at s a
+stored-there s a from below = ap (stored_in s a) (range-store a from below)
+
+-- it is found by its address, and written by it, whatever else is in memory
+module _ (program : Program) (c : Configuration) (a word : ℕ) (there : stored_at c.store a ≡ Some word) where
+  in-store : range_of a ≡ OfStore
+  in-store = go (range_of a) refl there
+    where
+      go : (range : Range) → range_of a ≡ range → stored_in c.store a range ≡ Some word → range_of a ≡ OfStore
+      go OfGlobals is found = absurd (let e : None ≡ Some word = found in cc)
+      go OfStore is found = is
+      go OfSlots is found = absurd (let e : None ≡ Some word = found in cc)
+
+  pub memory-stored : memory_at program c a ≡ Some word
+  memory-stored = ap (word_in program c a) in-store ∙ (sym (ap (stored_in c.store a) in-store) ∙ there)
+
+  pub written-stored : (new : ℕ) → with_memory program c a new ≡ record c { store = saved c.store a new }
+  written-stored new = ap (with_word program c a new) in-store
 
 module _ (program : Program) (well : IsWellFormed program) (c : Configuration) where
   -- a global
