@@ -1,12 +1,14 @@
 -- Where no variable stands anywhere: each row that says an address says one of the store's, so what a pointer leads to is in the store.
-use Rattle.std.proofs.Common.{◌≡◌, ℕ, ◌+◌, ◌*◌, ◌<◌, ◌≤◌, List, [], ◌∷◌, Some, sym, subst, ◌∙◌, inl, inr, arith}
-use Rattle.std.specs.Prelude.{slice_get}
+use Rattle.std.proofs.Common.{◌≡◌, ℕ, ◌+◌, ◌*◌, ◌<◌, ◌≤◌, List, [], ◌∷◌, None, Some, is_some, sym, subst, inl, inr, arith}
+use Rattle.std.specs.Prelude.{nat_le, if◌then◌else◌, slice_get}
+use Rattle.std.proofs.lemmas.Bool.{and_parts, leb-true}
 use Rattle.cyc_types.specs.declared.typed.Kind.{Kind}
-use Rattle.cyc_store.specs.State.{Block, StoreState}
-use Rattle.cyc_store.specs.Services.{IsPlaced}
-use Rattle.cyc_store.specs.declared.range.TheConstants.{STORE_BASE, PAGE_WORDS, MOST_PAGES}
-use Rattle.cyc_store.proofs.LookupLemmas.{same_some}
-use Rattle.cyc_meaning.specs.Values.{words_of_kind}
+use Rattle.cyc_store.specs.Lookup.{lookup}
+use Rattle.cyc_store.specs.State.{Block, handle_of, StoreState, homes}
+use Rattle.cyc_store.specs.Services.{Allocate, BadHandle, BadSize, Choice, block_of, is_full, full_at, is_size, refusal, IsPlaced, IsAllowed}
+use Rattle.cyc_store.specs.declared.range.TheConstants.{STORE_BASE, PAGE_WORDS, MOST_PAGES, MOST_BLOCK_WORDS}
+use Rattle.cyc_store.proofs.ServiceLemmas.{then-none}
+use Rattle.cyc_meaning.specs.Values.{words_of_kind, Cell, kinds_of, block_size}
 use Rattle.cyc_meaning.specs.State.{Object, World, Found, Located, cell_at}
 use Rattle.cyc_objects.specs.Tables.{Row, Variable, Placed, Tables, with_row}
 use Rattle.cyc_objects.specs.Words.{words_of_kinds, before, Points}
@@ -15,6 +17,7 @@ use Rattle.cyc_objects.proofs.NumberLemmas.{slice_get-there, slice_get-last}
 use Rattle.cyc_objects.proofs.Values.{kind-some, before-inside}
 use Rattle.cyc_objects.proofs.Cells.{found-either}
 use Rattle.cyc_objects.proofs.Comparing.{pointer-outside}
+use Rattle.cyc_objects.proofs.Making.{room-fits}
 
 -- a row of the store's, or of a variable that stands nowhere
 abbrev pub IsInside : Row → Type 0
@@ -37,6 +40,16 @@ placed-inside pages b ks placed few fits =
     let high : b.address + 4 * b.size ≤ 536870912 + 4 * (1024 * pages) = placed.high in
     let most : pages ≤ 65536 = few in
     (low, omega (arith, high, most, fits))
+
+-- what the store is asked for and does not refuse
+pub made-inside : {t : Tables} {w : World} {s : StoreState} → Related t w s → (g : ℕ) (cells : List Cell) (c : Choice) → refusal s (Allocate g (block_size cells)) ≡ None
+    → IsAllowed s (Allocate g (block_size cells)) c → IsInside (Placed c.address (kinds_of cells))
+made-inside {t} {w} {s} related g cells c none allowed =
+    let (known, sized) = then-none (is_some (lookup handle_of (homes s) g)) (if is_size (block_size cells) then full_at (is_full s (Allocate g (block_size cells))) else Some BadSize) BadHandle none in
+    let (size, room) = then-none (is_size (block_size cells)) (full_at (is_full s (Allocate g (block_size cells)))) BadSize sized in
+    let (some, few) = and_parts (nat_le 1 (block_size cells)) (nat_le (block_size cells) MOST_BLOCK_WORDS) size in
+    let short : block_size cells ≤ 1000 = leb-true (block_size cells) MOST_BLOCK_WORDS few in
+    placed-inside s.pages (block_of g (block_size cells) c) (kinds_of cells) allowed.may.0 related.few (room-fits g cells (omega (arith, short)))
 
 module _ {t : Tables} {w : World} {s : StoreState} (related : Related t w s) (inside : AreInside t) where
   -- no pointer leads to a variable
