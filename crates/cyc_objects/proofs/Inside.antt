@@ -3,6 +3,7 @@ use Rattle.std.proofs.Common.{◌≡◌, ℕ, ◌+◌, ◌*◌, ◌<◌, ◌≤�
 use Rattle.std.specs.Prelude.{nat_le, if◌then◌else◌, slice_get}
 use Rattle.std.proofs.lemmas.Bool.{and_parts, leb-true}
 use Rattle.cyc_types.specs.declared.typed.Kind.{Kind}
+use Rattle.cyc_types.specs.TypedTrees.{GlobalVariable, Program}
 use Rattle.cyc_store.specs.Lookup.{lookup}
 use Rattle.cyc_store.specs.State.{Block, handle_of, StoreState, homes}
 use Rattle.cyc_store.specs.Services.{Allocate, BadHandle, BadSize, Choice, block_of, is_full, full_at, is_size, refusal, IsPlaced, IsAllowed}
@@ -10,7 +11,7 @@ use Rattle.cyc_store.specs.declared.range.TheConstants.{STORE_BASE, PAGE_WORDS, 
 use Rattle.cyc_store.proofs.ServiceLemmas.{then-none}
 use Rattle.cyc_meaning.specs.Values.{words_of_kind, Cell, kinds_of, block_size}
 use Rattle.cyc_meaning.specs.State.{Object, World, Found, Located, cell_at}
-use Rattle.cyc_objects.specs.Tables.{Row, Variable, Placed, Tables, with_row}
+use Rattle.cyc_objects.specs.Tables.{Row, Variable, Placed, Tables, with_row, first_tables, without_addresses}
 use Rattle.cyc_objects.specs.Words.{words_of_kinds, before, Points}
 use Rattle.cyc_objects.specs.Related.{Alive, LiveVariable, AreApart, Related}
 use Rattle.cyc_objects.proofs.NumberLemmas.{slice_get-there, slice_get-last}
@@ -18,6 +19,7 @@ use Rattle.cyc_objects.proofs.Values.{kind-some, before-inside}
 use Rattle.cyc_objects.proofs.Cells.{found-either}
 use Rattle.cyc_objects.proofs.Comparing.{pointer-outside}
 use Rattle.cyc_objects.proofs.Making.{room-fits}
+use Rattle.cyc_objects.proofs.Start.{slice_get-image}
 
 -- a row of the store's, or of a variable that stands nowhere
 abbrev pub IsInside : Row → Type 0
@@ -32,6 +34,12 @@ inside-more t row all one number other at = elim (slice_get-last t.rows row numb
   | inl old ↦ all number other old
   | inr new ↦ subst IsInside (sym new.1) one
 ]
+
+-- the globals at the start
+pub start-inside : (program : Program) → AreInside (first_tables (without_addresses program))
+start-inside program number row at =
+    let (g, there, same) = slice_get-image (λ (g : GlobalVariable). Variable) program.globals number row at in
+    subst IsInside (sym same) tt
 
 -- a block that the store placed
 pub placed-inside : (pages : ℕ) (b : Block) (ks : List Kind) → IsPlaced pages b → pages ≤ MOST_PAGES → words_of_kinds ks ≤ b.size → IsInside (Placed b.address ks)

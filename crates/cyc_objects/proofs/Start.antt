@@ -14,7 +14,7 @@ use Rattle.cyc_objects.specs.Related.{lies_in, IsOfVariable, HasKinds, AreGlobal
 use Rattle.cyc_objects.proofs.NumberLemmas.{slice_get-map}
 
 -- what is found among images is the image of what is found
-slice_get-image : {A B : Type 0} (f : A → B) (xs : List A) (i : ℕ) (y : B) → slice_get (map f xs) i ≡ Some y → (x : A) × (slice_get xs i ≡ Some x) × (y ≡ f x)
+pub slice_get-image : {A B : Type 0} (f : A → B) (xs : List A) (i : ℕ) (y : B) → slice_get (map f xs) i ≡ Some y → (x : A) × (slice_get xs i ≡ Some x) × (y ≡ f x)
 slice_get-image f [] i y found = absurd (let e : None ≡ Some y = found in cc)
 slice_get-image f (x ∷ xs) zero y found = (x, refl, sym (same_some found))
 slice_get-image f (x ∷ xs) (suc i) y found = slice_get-image f xs i y found

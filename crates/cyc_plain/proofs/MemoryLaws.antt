@@ -205,7 +205,7 @@ pub written-store : (program : Program) (c : Configuration) (a word : ℕ) → S
 written-store program c a word from below = ap (with_word program c a word) (range-store a from below)
 
 -- the word of a live block, where its address is in the store's range
-abbrev stored_in : StoreState → (address : ℕ) → Range → Option ℕ
+abbrev pub stored_in : StoreState → (address : ℕ) → Range → Option ℕ
 stored_in s address OfGlobals = None
 stored_in s address OfStore = word_at s address
 stored_in s address OfSlots = None
@@ -215,6 +215,14 @@ stored_at s address = stored_in s address (range_of address)
 
 pub stored-there : (s : StoreState) (a : ℕ) → STORE_BASE ≤ a → a < slots_base → stored_at s a ≡ word_at s a
 stored-there s a from below = ap (stored_in s a) (range-store a from below)
+
+pub stored-word : (s : StoreState) (a word : ℕ) → stored_at s a ≡ Some word → word_at s a ≡ Some word
+stored-word s a word there = go (range_of a) there
+  where
+    go : (range : Range) → stored_in s a range ≡ Some word → word_at s a ≡ Some word
+    go OfGlobals found = absurd (let e : None ≡ Some word = found in cc)
+    go OfStore found = found
+    go OfSlots found = absurd (let e : None ≡ Some word = found in cc)
 
 -- it is found by its address, and written by it, whatever else is in memory
 module _ (program : Program) (c : Configuration) (a word : ℕ) (there : stored_at c.store a ≡ Some word) where
