@@ -205,37 +205,37 @@ pub written-store : (program : Program) (c : Configuration) (a word : ℕ) → S
 written-store program c a word from below = ap (with_word program c a word) (range-store a from below)
 
 -- the word of a live block, where its address is in the store's range
-abbrev pub stored_in : StoreState → (address : ℕ) → Range → Option ℕ
-stored_in s address OfGlobals = None
-stored_in s address OfStore = word_at s address
-stored_in s address OfSlots = None
+abbrev pub store_word_in : StoreState → (address : ℕ) → Range → Option ℕ
+store_word_in s address OfGlobals = None
+store_word_in s address OfStore = word_at s address
+store_word_in s address OfSlots = None
 
-abbrev pub stored_at : StoreState → (address : ℕ) → Option ℕ
-stored_at s address = stored_in s address (range_of address)
+abbrev pub store_word : StoreState → (address : ℕ) → Option ℕ
+store_word s address = store_word_in s address (range_of address)
 
-pub stored-there : (s : StoreState) (a : ℕ) → STORE_BASE ≤ a → a < slots_base → stored_at s a ≡ word_at s a
-stored-there s a from below = ap (stored_in s a) (range-store a from below)
+pub stored-there : (s : StoreState) (a : ℕ) → STORE_BASE ≤ a → a < slots_base → store_word s a ≡ word_at s a
+stored-there s a from below = ap (store_word_in s a) (range-store a from below)
 
-pub stored-word : (s : StoreState) (a word : ℕ) → stored_at s a ≡ Some word → word_at s a ≡ Some word
+pub stored-word : (s : StoreState) (a word : ℕ) → store_word s a ≡ Some word → word_at s a ≡ Some word
 stored-word s a word there = go (range_of a) there
   where
-    go : (range : Range) → stored_in s a range ≡ Some word → word_at s a ≡ Some word
+    go : (range : Range) → store_word_in s a range ≡ Some word → word_at s a ≡ Some word
     go OfGlobals found = absurd (let e : None ≡ Some word = found in cc)
     go OfStore found = found
     go OfSlots found = absurd (let e : None ≡ Some word = found in cc)
 
 -- it is found by its address, and written by it, whatever else is in memory
-module _ (program : Program) (c : Configuration) (a word : ℕ) (there : stored_at c.store a ≡ Some word) where
+module _ (program : Program) (c : Configuration) (a word : ℕ) (there : store_word c.store a ≡ Some word) where
   in-store : range_of a ≡ OfStore
   in-store = go (range_of a) refl there
     where
-      go : (range : Range) → range_of a ≡ range → stored_in c.store a range ≡ Some word → range_of a ≡ OfStore
+      go : (range : Range) → range_of a ≡ range → store_word_in c.store a range ≡ Some word → range_of a ≡ OfStore
       go OfGlobals is found = absurd (let e : None ≡ Some word = found in cc)
       go OfStore is found = is
       go OfSlots is found = absurd (let e : None ≡ Some word = found in cc)
 
   pub memory-stored : memory_at program c a ≡ Some word
-  memory-stored = ap (word_in program c a) in-store ∙ (sym (ap (stored_in c.store a) in-store) ∙ there)
+  memory-stored = ap (word_in program c a) in-store ∙ (sym (ap (store_word_in c.store a) in-store) ∙ there)
 
   pub written-stored : (new : ℕ) → with_memory program c a new ≡ record c { store = saved c.store a new }
   written-stored new = ap (with_word program c a new) in-store
