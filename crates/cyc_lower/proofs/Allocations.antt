@@ -52,6 +52,7 @@ use Rattle.cyc_lower.proofs.Handles.{has_handle}
 use Rattle.cyc_lower.proofs.Data.{Is-same, height-least, one_word, Holds-same, Holds-rest, Holds-grows, HoldsFrom-grows, in_order, words-reverse, data_above, data_grows, variables_grow, contents_made, data_written}
 use Rattle.cyc_lower.proofs.Accesses.{IsWell, is_fitting}
 use Rattle.cyc_lower.proofs.Paths.{by_path}
+use Rattle.cyc_lower.proofs.Asking.{past_pages, by_asking, by_full}
 use Rattle.cyc_lower.proofs.WideCells.{store_links, store_path, store_last, shared_stored, data_stored}
 use Rattle.cyc_lower.proofs.CellWrites.{SameVariables, data_beside, cell_is_there, saves_there, shared_saved, data_saved}
 use Rattle.cyc_lower.proofs.Matched.{IsMatched, below, silently, by_places, by_one, shared_way, shared_within, place_in, known, Executes}
@@ -173,56 +174,7 @@ object_made Missing object vs k e w well = absurd (well refl)
 demand_is : {t : Tables} {w : World} {s : StoreState} → objects.Related t w s → demand s ≡ pages_of w
 demand_is {t} {w} {s} related = ap (λ l. demand_of l s.classes) (sym (counted-same related.regions)) ∙ ap (demand_of (counted w.regions)) related.classes
 
--- what is more than all pages is not within them
-pub past_pages : (pages n : ℕ) (b : Bool) → nat_lt pages n ≡ true → (nat_le n pages && b) ≡ false
-past_pages pages n b over = ap (λ x. x && b) (false_from_ne_true (nat_le n pages) (λ h. absurd (omega (arith, leb-true n pages h, ltb-true pages n over))))
-
 module _ (source : Program) (pages calls : ℕ) where
-  -- ---- by a call of the store
-
-  -- one instruction calls the store, which serves it
-  pub by_asking : (focus : Focus) (k : List Entry) (e : Environment) (w : World) (c : Configuration) (next : State) (request : Request)
-      → step source (Running focus k e w) ≡ next → SharedAt source pages calls k e w c
-      → At (code_of source c.active.function) c.active.next (instructions.Ask request)
-      → refusal c.store (plain_step.call_in c.active.slots request) ≡ None
-      → ((choice : services.Choice) → plain_step.IsServed c.store (plain_step.call_in c.active.slots request) choice
-      → Matches source pages calls next (plain.Running (served_to choice c (plain_requests.destination_of request) (plain_step.call_in c.active.slots request)))
-      × (plain_step.is_within pages calls (plain.Running (served_to choice c (plain_requests.destination_of request) (plain_step.call_in c.active.slots request))) ≡ true))
-      → IsMatched source pages calls (Running focus k e w) (plain.Running c)
-  by_asking focus k e w c next request does shared here free goes =
-      by_places source pages calls (Running focus k e w) next (place_in source pages calls c) [] (plain.Running c) does (tt, tt) (known source pages calls c (instructions.Ask request) here, tt) (
-        refl,
-        shared_way source pages calls focus k e w c shared,
-        λ u stepped.
-            let (choice, served, is) = step_serves (lower_program source) pages calls c request u here stepped free (λ choice served. (goes choice served).1) in
-            subst (Executes source pages calls (Running focus k e w) next []) (sym is) (goes choice served).0,
-      )
-
-  -- there is no room: both runs are full
-  pub by_full : (focus : Focus) (k : List Entry) (e : Environment) (w : World) (c : Configuration) (next : State) (request : Request)
-      → step source (Running focus k e w) ≡ next → is_within pages calls next ≡ false → SharedAt source pages calls k e w c
-      → At (code_of source c.active.function) c.active.next (instructions.Ask request)
-      → refusal c.store (plain_step.call_in c.active.slots request) ≡ Some services.Full
-      → IsMatched source pages calls (Running focus k e w) (plain.Running c)
-  by_full focus k e w c next request does over shared here full =
-      let source_full : limited_step source pages calls (Running focus k e w) ≡ Ended Full w.output w.input =
-      ap (λ (b : Bool). if b then step source (Running focus k e w) else Ended Full w.output w.input) (ap (is_within pages calls) does ∙ over) in
-      record {
-        places = place_in source pages calls c ∷ [];
-        distinct = (tt, tt);
-        inside = (known source pages calls c (instructions.Ask request) here, tt);
-        comes = (
-          refl,
-          shared_way source pages calls focus k e w c shared,
-          λ u stepped. record {
-            next = Ended Full w.output w.input;
-            step = sym source_full;
-            matches = subst (Matches source pages calls (Ended Full w.output w.input)) (sym (step_full (lower_program source) pages calls c request u here stepped full)) (refl, shared.same_output);
-            lighter = λ none. absurd (omega (arith, none));
-          },
-        );
-      }
-
   -- ---- an object is made
 
   module _ (k : List Entry) (e : Environment) (w : World) (c : Configuration) (shared : SharedAt source pages calls k e w c) (facts : DataIn source shared.tables c.active.slots k e w c)
@@ -329,12 +281,12 @@ module _ (source : Program) (pages calls : ℕ) where
       = subst (λ n. At (code_of source c.active.function) c.active.next (instructions.Ask (requests.Allocate (t + words_held vs) handle (operands.Word n)))) (sized vs some few) ask in
       elim (cases_Bool (nat_lt c.store.pages (pages_of new))) [
         | inl over ↦
-            by_full focus k₀ e w c next request is_next
+            by_full source pages calls focus k₀ e w c next request is_next
             (past_pages pages (pages_of new) _ (subst (λ p. nat_lt p (pages_of new) ≡ true) shared.same_pages over))
             shared₀ here (makes.refuses ∙ ap full_at over)
         | inr room ↦
             let free = makes.refuses ∙ ap full_at room in
-            by_asking focus k₀ e w c next request is_next shared₀ here free
+            by_asking source pages calls focus k₀ e w c next request is_next shared₀ here free
             (λ choice served.
             let made = shared_made k e w c shared facts holds vs owner word new makes some few choice free served in (
               (

@@ -66,7 +66,8 @@ use Rattle.cyc_lower.proofs.Levels.{lands_arrays}
 use Rattle.cyc_lower.proofs.Matched.{IsMatched, above, below, Executes, executes, by_places, by_one, by_two, by_three, shared_way, shared_within, output_way, place_in, apart, known}
 use Rattle.cyc_lower.proofs.Evaluations.{IsStep, landed_made, made_moved}
 use Rattle.cyc_lower.proofs.Handling.{raised}
-use Rattle.cyc_lower.proofs.Allocations.{Makes, made_for, past_pages, by_asking, by_full}
+use Rattle.cyc_lower.proofs.Allocations.{Makes, made_for}
+use Rattle.cyc_lower.proofs.Asking.{past_pages, by_asking, by_full}
 use Rattle.cyc_words.proofs.WordLemmas.{IsWord-add_of, IsWord-mul_of, IsWord-shl_of}
 use Rattle.cyc_objects.proofs.Inside.{inside-more, made-inside}
 use Rattle.cyc_lower.proofs.StoredWords.{with_saved}

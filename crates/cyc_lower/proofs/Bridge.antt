@@ -12,7 +12,7 @@ use Rattle.cyc_types.specs.declared.typed.Operator.TheVariants as operators
 use Rattle.cyc_types.specs.declared.typed.PointerOperator.{PointerOperator}
 use Rattle.cyc_types.specs.declared.typed.PointerOperator.TheVariants as pointers
 use Rattle.cyc_types.specs.Types.{Ty, words_of}
-use Rattle.cyc_types.specs.TypedTrees.{Array, Counter, Load, New, OnHeap, AsUnique, ByHandle, Initial, Plain, Fields, Dereference, Target, Lvalue, Local, Global, Expression, Number, NullPointer, Copy, Call, Unary, Binary, Assign, Converted, Convert, Arguments, NoArguments, MoreArguments, Operations, NoOperations, ThenCompute, ThenTest, ThenPointer, Statement, Block, Empty, Evaluate, If, While, Return, Break, Continue, Items, NoItems, MoreItems, Execute, Declare, Signature, StructType, Function, Program, Move, Peek, ThenPointerPeek, type_of, AddressOfCell, Store, Member, type_of_place, FreeUnique, Side, VariableSide, CellSide, Swap, Throw, Try, Clauses, NoClauses, Default, Case, GlobalVariable, NumberOfElements, Element}
+use Rattle.cyc_types.specs.TypedTrees.{Array, Counter, Load, New, OnHeap, AsUnique, ByHandle, Initial, Plain, Fields, Dereference, Target, Lvalue, Local, Global, Expression, Number, NullPointer, Copy, Call, Unary, Binary, Assign, Converted, Convert, Arguments, NoArguments, MoreArguments, Operations, NoOperations, ThenCompute, ThenTest, ThenPointer, Statement, Block, Empty, Evaluate, If, While, Return, Break, Continue, Items, NoItems, MoreItems, Execute, Declare, Signature, StructType, Function, Program, Move, Peek, ThenPointerPeek, type_of, AddressOfCell, Store, Member, type_of_place, FreeUnique, Side, VariableSide, CellSide, Swap, Throw, Try, Clauses, NoClauses, Default, Case, GlobalVariable, NumberOfElements, Element, FreeKey, HeapRegion, DeclareRegion, OpenRegion, DeclareAlias, DeclareKey}
 use Rattle.cyc_types.specs.Numbered.{Numbering, argument_count, numbering_of, signatures_of}
 use Rattle.cyc_plain.specs.declared.instruction.UnaryOperator.TheVariants as plain_unary
 use Rattle.cyc_plain.specs.declared.instruction.BinaryOperator.TheVariants as plain_binary
@@ -33,13 +33,14 @@ use Rattle.cyc_meaning.specs.Values.{kind_of, words_of_kind, is_kind, is_thin}
 use Rattle.cyc_meaning.specs.FrameCount.{words_of_all, operand_words}
 use Rattle.cyc_objects.proofs.NumberLemmas.{slice_get-there}
 use Rattle.cyc_lower.specs.Slots.{counted, Types, starts_of, slot_of, global_of, global_types}
-use Rattle.cyc_lower.specs.Lowering.{most_elements, begun_code, filled_code, ended_code, elements_code, array_code, types_of, are_as_wide, converts_there, passed_words, source_of, source_slot, moved_by, move_of, operand_of, operand_or, code_unless, slot_or, code_unless_slot, left_with, left_of, value_slot, next_slot, slot_with, left_slot, value_operand, converted_operand, printed_operand, jump_if_nonzero, check_code, conversion_code, divisor_code, checked_code, operator_code, truth_code, load_code, low_byte, test_code, is_in, copy_code, expression_code, arguments_code, converted_code, converted_operand_code, printed_code, initial_code, assignment_code, assigned_operand, operations_code, discarded_code, failing_comparison, compared_or, compared_of, first_operand, first_code, second_code, pair_code, condition_code, condition_of, failing_jump, break_target, continue_target, return_code, declaration_code, statement_code, items_code, function_code, first_temporary, results_of, lower_function, lower_program, behind_left, pointer_code, outside_loops, inside_loop, pointer_operator, index_code, pointer_instructions, stores_code, object_code, made_code, place_operand, place_offset, place_code, address_code, raising, blocks, guard_code, body_code, free_code, jump_if_zero, right_slot, side_code, read_side, write_side, exchange_code, swap_code, leave_code, tag_operand, other_jump, goes_on, clause_code, thrown_code, thrown_operand, caught_code, clauses_code, counter_operand, count_code, span_of, null_of, tested_code, widened_code, conversion_by, loaded_code, saved_code, all_passed, bounds_code, stepped_code, bounded_code, past_bounded, thinned_code, reached_code, followed_code, span_in, pointer_of, pointer_slot, word_by_word, load_word, store_word, global_code, globals_of, load_at}
+use Rattle.cyc_lower.specs.Lowering.{most_elements, begun_code, filled_code, ended_code, elements_code, array_code, types_of, are_as_wide, converts_there, passed_words, source_of, source_slot, moved_by, move_of, operand_of, operand_or, code_unless, slot_or, code_unless_slot, left_with, left_of, value_slot, next_slot, slot_with, left_slot, value_operand, converted_operand, printed_operand, jump_if_nonzero, check_code, conversion_code, divisor_code, checked_code, operator_code, truth_code, load_code, low_byte, test_code, is_in, copy_code, expression_code, arguments_code, converted_code, converted_operand_code, printed_code, initial_code, assignment_code, assigned_operand, operations_code, discarded_code, failing_comparison, compared_or, compared_of, first_operand, first_code, second_code, pair_code, condition_code, condition_of, failing_jump, break_target, continue_target, return_code, declaration_code, statement_code, items_code, function_code, first_temporary, results_of, lower_function, lower_program, behind_left, pointer_code, outside_loops, inside_loop, pointer_operator, index_code, pointer_instructions, stores_code, object_code, made_code, place_operand, place_offset, place_code, address_code, raising, blocks, guard_code, body_code, free_code, jump_if_zero, right_slot, side_code, read_side, write_side, exchange_code, swap_code, leave_code, tag_operand, other_jump, goes_on, clause_code, thrown_code, thrown_operand, caught_code, clauses_code, counter_operand, count_code, span_of, null_of, tested_code, widened_code, conversion_by, loaded_code, saved_code, all_passed, bounds_code, stepped_code, bounded_code, past_bounded, thinned_code, reached_code, followed_code, span_in, pointer_of, pointer_slot, word_by_word, load_word, store_word, global_code, globals_of, load_at, kept_code, kept_code_in, restored_code, restored_code_in, behind_record, inside_try, closed_code, scopes_code_in, handlers_code, marks_code, try_code, scopes_of, opened_code, inside_region, named_code, dynamic_code}
 use Rattle.cyc_lower.specs.declared.statements.Exits.{Exits}
-use Rattle.cyc_lower.proofs.Stands.{BegunAt, FilledAt, OperandBy, CheckAt, ConversionBy, ConversionAt, DivisorAt, CheckedAt, OperatorAt, LoadAt, CopyBy, ExpressionAt, InitialAt, InitialBy, ConvertedAt, ConvertedOperandAt, PrintedAt, ArgumentsAt, OperationsAt, PairAt, ConditionAt, AssignmentAt, DiscardedAt, ReturnedAt, ReturnAt, DeclarationAt, StatementAt, ItemsAt, FirstTwoAt, IndexAt, PointerAt, StoresAt, ObjectAt, MadeAt, AddressAt, PlaceAt, GuardAt, FreedAt, HasSide, SideAt, ReadAt, WriteAt, SwapAt, LeaveBy, LeaveAt, ThrownAt, CaughtAt, ClausesAt, CountAt, TestedAt, WidenedAt, LoadedBy, SavedAt, BoundsAt, SteppedAt, ThinnedAt, ReachedAt, FollowedAt, EachAt, GlobalAt, ExchangeAt}
+use Rattle.cyc_lower.specs.declared.statements.Opened.{Opened}
+use Rattle.cyc_lower.proofs.Stands.{BegunAt, FilledAt, OperandBy, CheckAt, ConversionBy, ConversionAt, DivisorAt, CheckedAt, OperatorAt, LoadAt, CopyBy, ExpressionAt, InitialAt, InitialBy, ConvertedAt, ConvertedOperandAt, PrintedAt, ArgumentsAt, OperationsAt, PairAt, ConditionAt, AssignmentAt, DiscardedAt, ReturnedAt, ReturnAt, DeclarationAt, StatementAt, ItemsAt, FirstTwoAt, IndexAt, PointerAt, StoresAt, ObjectAt, MadeAt, AddressAt, PlaceAt, GuardAt, FreedAt, HasSide, SideAt, ReadAt, WriteAt, SwapAt, LeaveAt, ThrownAt, CaughtAt, ClausesAt, CountAt, TestedAt, WidenedAt, LoadedBy, SavedAt, BoundsAt, SteppedAt, ThinnedAt, ReachedAt, FollowedAt, EachAt, GlobalAt, ExchangeAt, ToldAt, ClosedAt, HandlersAt, MarksAt, KeptAt, RestoredAt, OpenedAt}
 use Rattle.cyc_lower.proofs.Lengths.{body_long, past_long}
 use Rattle.cyc_types.specs.typing.Expressions.{type_of_side}
 use Rattle.cyc_lower.specs.Lowerable.{is_converted, is_pointer}
-use Rattle.cyc_lower.proofs.Widths.{kind_of_result, given, passed_kind, type_words, kind_positive, kind_few}
+use Rattle.cyc_lower.proofs.Widths.{kind_of_result, given, passed_kind, type_words, kind_positive, kind_few, HasRoom}
 use Rattle.cyc_lower.proofs.Fitting.{FitsPlace, FitsCell, FitsObject, Fits, FitsConverted, FitArguments, FitOperations, FitsReturn, FitsInitial, FitsStatement, FitItems, AreFitting, IsFitting, FitsSide, FitsThrown, FitsCaught, FitClauses}
 use Rattle.cyc_lower.specs.Lowerable.{is_converted}
 use Rattle.cyc_lower.proofs.Values.{as_wide}
@@ -171,6 +172,7 @@ module _ (code : List Instruction) (b : Numbering) (types : Types) (raised : Blo
   in_slots : (k : Kind) (a : Expression) (t : ℕ) → is_pointer k ≡ true → k ≡ given b.functions a → IsInSlots (is_thin k) (value_operand (starts_of types) a t)
   in_slots k (Number n) t pointer is = absurd (let f : is_pointer kinds.Int ≡ true = ap is_pointer (sym is) ∙ pointer in cc)
   in_slots k NullPointer t pointer is = subst (λ (x : Kind). IsInSlots (is_thin x) (operands.Word 0)) (sym is) tt
+  in_slots k HeapRegion t pointer is = absurd (let f : is_pointer kinds.Handle ≡ true = ap is_pointer (sym is) ∙ pointer in cc)
   in_slots k (Copy (Local p n) ty) t pointer is = slot_any (is_thin k) (slot_of (starts_of types) n)
   in_slots k (Move p n ty) t pointer is = slot_any (is_thin k) (slot_of (starts_of types) n)
   in_slots k (Peek p n ty) t pointer is = slot_any (is_thin k) (slot_of (starts_of types) n)
@@ -323,7 +325,7 @@ module _ (code : List Instruction) (b : Numbering) (types : Types) (raised : Blo
   passed_least NoArguments = omega arith
   passed_least (MoreArguments (Convert from to a) cs) = omega (arith, passed_least cs, kind_positive to)
 
-  object_stands : (handle cells words d t p q : ℕ) → cells ≤ words → 1 ≤ words → words ≤ MOST_BLOCK_WORDS → p + length (object_code handle words d t) ≡ q → HasAt code p (object_code handle words d t)
+  object_stands : (handle : Operand) (cells words d t p q : ℕ) → cells ≤ words → 1 ≤ words → words ≤ MOST_BLOCK_WORDS → p + length (object_code handle words d t) ≡ q → HasAt code p (object_code handle words d t)
       → ObjectAt code b types handle cells words t d p q
   object_stands handle cells words d t p q least some few end (ask, rest) =
       let stores = stores_code words (t + words) 0 t in
@@ -332,7 +334,7 @@ module _ (code : List Instruction) (b : Numbering) (types : Types) (raised : Blo
       let (here, none) = has_back code (p + 1) stores move rest in
       (m, least, some, few, ask, stores_stand words (t + words) 0 t (p + 1) m refl (has_front code (p + 1) stores move rest), here, omega (arith, end, length-append stores move))
 
-  begun_stands : (handle words t p q : ℕ) → p + 7 ≡ q → HasAt code p (begun_code (starts_of types) handle words t) → BegunAt code b types handle words t p q
+  begun_stands : (handle : Operand) (words t p q : ℕ) → p + 7 ≡ q → HasAt code p (begun_code (starts_of types) handle words t) → BegunAt code b types handle words t p q
   begun_stands handle words t p q end (guard, (count, (index, (all, (none, (size, (ask, rest))))))) =
       (p + 1, guard_stands array_size comparisons.GreaterOrEqualUnsigned (operands.Slot t) (operands.Word (most_elements words + 1)) p (p + 1) (omega arith) (omega arith) refl (guard, tt), count, index, all, none, size, ask, omega (arith, end))
 
@@ -352,17 +354,17 @@ module _ (code : List Instruction) (b : Numbering) (types : Types) (raised : Blo
   address_stands o zero d p q end has = copy_by (is_in o d) 1 o d p q end has
   address_stands o (suc bytes) d p q end (here, none) = (here, end)
 
-  loaded_stands : (narrow : Bool) (o : Operand) (bytes d p q : ℕ)
-      → p + length (if narrow then instructions.Load d o bytes ∷ [] else address_code o bytes d ++ (instructions.Load (d + 2) (operands.Slot d) 8 ∷ instructions.Load (d + 1) (operands.Slot d) 4 ∷ instructions.Load d (operands.Slot d) 0 ∷ [])) ≡ q
-      → HasAt code p (if narrow then instructions.Load d o bytes ∷ [] else address_code o bytes d ++ (instructions.Load (d + 2) (operands.Slot d) 8 ∷ instructions.Load (d + 1) (operands.Slot d) 4 ∷ instructions.Load d (operands.Slot d) 0 ∷ []))
-      → LoadedBy code narrow o bytes d p q
-  loaded_stands true o bytes d p q end (here, none) = (here, end)
-  loaded_stands false o bytes d p q end has =
-      let front = address_code o bytes d in
-      let back = instructions.Load (d + 2) (operands.Slot d) 8 ∷ instructions.Load (d + 1) (operands.Slot d) 4 ∷ instructions.Load d (operands.Slot d) 0 ∷ [] in
+  loaded_stands : (narrow : Bool) (o : Operand) (bytes d t p q : ℕ)
+      → p + length (if narrow then instructions.Load d o bytes ∷ [] else address_code o bytes t ++ (instructions.Load (d + 2) (operands.Slot t) 8 ∷ instructions.Load (d + 1) (operands.Slot t) 4 ∷ instructions.Load d (operands.Slot t) 0 ∷ [])) ≡ q
+      → HasAt code p (if narrow then instructions.Load d o bytes ∷ [] else address_code o bytes t ++ (instructions.Load (d + 2) (operands.Slot t) 8 ∷ instructions.Load (d + 1) (operands.Slot t) 4 ∷ instructions.Load d (operands.Slot t) 0 ∷ []))
+      → LoadedBy code narrow o bytes d t p q
+  loaded_stands true o bytes d t p q end (here, none) = (here, end)
+  loaded_stands false o bytes d t p q end has =
+      let front = address_code o bytes t in
+      let back = instructions.Load (d + 2) (operands.Slot t) 8 ∷ instructions.Load (d + 1) (operands.Slot t) 4 ∷ instructions.Load d (operands.Slot t) 0 ∷ [] in
       let r = p + length front in
       let (first, (second, (third, none))) = has_back code p front back has in
-      (r, address_stands o bytes d p r refl (has_front code p front back has), first, second, third, omega (arith, cut p q front back end))
+      (r, address_stands o bytes t p r refl (has_front code p front back has), first, second, third, omega (arith, cut p q front back end))
 
   words_kept : (from to : Kind) (a : Expression) → from ≡ given b.functions a → converts_there from to ≡ true → words_of_kind (given b.functions a) ≡ words_of_kind to
   words_kept from to a kind lands = ap words_of_kind (sym kind) ∙ as_wide from to lands
@@ -392,6 +394,7 @@ module _ (code : List Instruction) (b : Numbering) where
     expression_stands : (types : Types) (raised : BlocksStand code types.raises) → (a : Expression) (d t p q : ℕ) → Fits b types a → p + length (expression_code (starts_of types) a p d t) ≡ q → HasAt code p (expression_code (starts_of types) a p d t) → ExpressionAt code b types a d t p q
     expression_stands types raised (Number n) d t p q numbered end (here, none) = (here, end)
     expression_stands types raised NullPointer d t p q numbered end (here, none) = (here, end)
+    expression_stands types raised HeapRegion d t p q numbered end (here, none) = (here, end)
     expression_stands types raised (Counter l) d t p q few end (here, none) =
         let (slot, there) = slice_get-there types.counters l few in
         (slot, there, subst (λ (s : Option ℕ). At code p (instructions.Move d (operands.Slot (unwrap_or s 0)))) there here, end)
@@ -452,13 +455,13 @@ module _ (code : List Instruction) (b : Numbering) where
     expression_stands types raised (Load x) d t p q numbered end has =
         let front = place_code (starts_of types) x p t in
         let o = place_operand (starts_of types) x t in
-        let back = loaded_code (words_of (type_of_place x)) o (place_offset (starts_of types) x) d in
+        let back = loaded_code (words_of (type_of_place x)) o (place_offset (starts_of types) x) d t in
         let r = p + length front in (
           o,
           place_offset (starts_of types) x,
           r,
           place_stands types raised x t p r numbered refl (has_front code p front back has),
-          loaded_stands code b types raised (words_of (type_of_place x) == 1) o (place_offset (starts_of types) x) d r q (cut p q front back end) (has_back code p front back has),
+          loaded_stands code b types raised (words_of (type_of_place x) == 1) o (place_offset (starts_of types) x) d t r q (cut p q front back end) (has_back code p front back has),
         )
     expression_stands types raised (AddressOfCell x ty) d t p q numbered end has =
         let o = place_operand (starts_of types) x t in
@@ -506,9 +509,23 @@ module _ (code : List Instruction) (b : Numbering) where
         let m = p + length front in
         let back = free_code o m in
         (o, m, operand_by code b types raised (operand_of (starts_of types) a) _ inner (value_slot (starts_of types) a t) p m refl (has_front code p front back has) (λ e h. expression_stands types raised a (value_slot (starts_of types) a t) t p m numbered e h), freed_stands code b types raised o m q (cut p q front back end) (has_back code p front back has))
-    expression_stands types raised (New OnHeap i ty) d t p q numbered end has = made_stands types raised i HEAP d t p q numbered end has
-    expression_stands types raised (New AsUnique i ty) d t p q numbered end has = made_stands types raised i UNIQUE d t p q numbered end has
-    expression_stands types raised (New (ByHandle h) i ty) d t p q numbered end has = absurd numbered
+    expression_stands types raised (New OnHeap i ty) d t p q numbered end has = made_stands types raised i (operands.Word HEAP) d t p q numbered end has
+    expression_stands types raised (New AsUnique i ty) d t p q numbered end has = made_stands types raised i (operands.Word UNIQUE) d t p q numbered end has
+    expression_stands types raised (New (ByHandle a) i ty) d t p q (kind_is, numbered, made) end has =
+        let front = expression_code (starts_of types) a p t t in
+        let m = p + length front in
+        let back = made_code (starts_of types) i (operands.Slot t) m d (t + 1) in (
+          m,
+          expression_stands types raised a t t p m numbered refl (has_front code p front back has),
+          subst (λ n. MadeAt code b types i (operands.Slot t) d n m q) (let e : t + 1 ≡ suc t = omega arith in e) (made_stands types raised i (operands.Slot t) d (t + 1) m q made (cut p q front back end) (has_back code p front back has)),
+        )
+    expression_stands types raised (FreeKey a) d t p q numbered end has =
+        let o = value_operand (starts_of types) a t in
+        let inner = expression_code (starts_of types) a p (value_slot (starts_of types) a t) t in
+        let front = code_unless (operand_of (starts_of types) a) inner in
+        let m = p + length front in
+        let (here, none) = has_back code p front _ has in
+        (o, m, operand_by code b types raised (operand_of (starts_of types) a) _ inner (value_slot (starts_of types) a t) p m refl (has_front code p front _ has) (λ e h. expression_stands types raised a (value_slot (starts_of types) a t) t p m numbered e h), here, cut p q front _ end)
     expression_stands types raised a d t p q numbered end has = absurd numbered
 
     place_stands : (types : Types) (raised : BlocksStand code types.raises) → (x : Dereference) (t p q : ℕ) → FitsCell b types x → p + length (place_code (starts_of types) x p t) ≡ q → HasAt code p (place_code (starts_of types) x p t)
@@ -569,7 +586,7 @@ module _ (code : List Instruction) (b : Numbering) where
           refl,
         )
 
-    made_stands : (types : Types) (raised : BlocksStand code types.raises) → (i : Initial) (handle d t p q : ℕ) → FitsObject b types i → p + length (made_code (starts_of types) i handle p d t) ≡ q → HasAt code p (made_code (starts_of types) i handle p d t) → MadeAt code b types i handle d t p q
+    made_stands : (types : Types) (raised : BlocksStand code types.raises) → (i : Initial) (handle : Operand) (d t p q : ℕ) → FitsObject b types i → p + length (made_code (starts_of types) i handle p d t) ≡ q → HasAt code p (made_code (starts_of types) i handle p d t) → MadeAt code b types i handle d t p q
     made_stands types raised (Plain kind a) handle d t p q (kind_is, numbered) end has =
         let front = expression_code (starts_of types) a p t t in
         let back = object_code handle (words_of_kind kind) d t in
@@ -814,19 +831,55 @@ module _ (code : List Instruction) (b : Numbering) (types : Types) (raised : Blo
   returns_numbered None c numbered = absurd numbered
   returns_numbered (Some t) c (kind, numbered) = numbered
 
-  leave_by : (none : Bool) (first p q : ℕ) → p + length (if none then [] else instructions.Leave first ∷ []) ≡ q → HasAt code p (if none then [] else instructions.Leave first ∷ []) → LeaveBy code b types none first p q
-  leave_by true first p q end has = omega (arith, end)
-  leave_by false first p q end (here, none) = (here, end)
+  told_stands : (scopes : Option ℕ) (o : Operand) (p q : ℕ) → p + length (scopes_code_in scopes o) ≡ q → HasAt code p (scopes_code_in scopes o) → ToldAt code b types scopes o p q
+  told_stands None o p q end has = omega (arith, end)
+  told_stands (Some global) o p q end (here, none) = (here, end)
 
-  leave_stands : (first t p q : ℕ) → p + length (leave_code first t) ≡ q → HasAt code p (leave_code first t) → LeaveAt code b types first t p q
-  leave_stands first t p q end has = leave_by (first == t) first p q end has
+  closed_stands : (mark p q : ℕ) → p + length (closed_code (starts_of types) mark) ≡ q → HasAt code p (closed_code (starts_of types) mark) → ClosedAt code b types mark p q
+  closed_stands mark p q end (ask, rest) = (ask, told_stands types.scopes (operands.Slot mark) (p + 1) q (omega (arith, end)) rest)
+
+  handlers_stand : (handler : Option ℕ) (p q : ℕ) → p + length (handlers_code handler) ≡ q → HasAt code p (handlers_code handler) → HandlersAt code b types handler p q
+  handlers_stand None p q end has = omega (arith, end)
+  handlers_stand (Some first) p q end (here, none) = (here, end)
+
+  marks_stand : (mark : Option ℕ) (p q : ℕ) → p + length (marks_code (starts_of types) mark) ≡ q → HasAt code p (marks_code (starts_of types) mark) → MarksAt code b types mark p q
+  marks_stand None p q end has = omega (arith, end)
+  marks_stand (Some mark) p q end has = closed_stands mark p q end has
+
+  leave_stands : (opened : Opened) (p q : ℕ) → p + length (leave_code (starts_of types) opened) ≡ q → HasAt code p (leave_code (starts_of types) opened) → LeaveAt code b types opened p q
+  leave_stands opened p q end has =
+      let front = handlers_code opened.handler in
+      let back = marks_code (starts_of types) opened.mark in
+      let r = p + length front in
+      (r, handlers_stand opened.handler p r refl (has_front code p front back has), marks_stand opened.mark r q (cut p q front back end) (has_back code p front back has))
+
+  -- a region is opened, and its handle is named
+  opened_stands : (n global t p q : ℕ) → types.scopes ≡ Some global → n < b.locals → HasRoom types n kinds.Handle → p + length (opened_code (starts_of types) n t) ≡ q → HasAt code p (opened_code (starts_of types) n t)
+      → OpenedAt code b types n t p q
+  opened_stands n global t p q counts few room end (ask, (move, (add, rest))) = by types.scopes counts end rest
+    where
+      by : (scopes : Option ℕ) → scopes ≡ Some global
+          → p + length (instructions.Ask (requests.OpenLexical (t + 1)) ∷ instructions.Move t (operands.Slot (t + 2)) ∷ instructions.Binary plain_binary.Add (t + 2) (operands.Slot t) (operands.Word 1) ∷ scopes_code_in scopes (operands.Slot (t + 2)) ++ named_code (starts_of types) 1 n (operands.Slot (t + 1))) ≡ q
+          → HasAt code (p + 1 + 1 + 1) (scopes_code_in scopes (operands.Slot (t + 2)) ++ named_code (starts_of types) 1 n (operands.Slot (t + 1))) → OpenedAt code b types n t p q
+      by None is end has = absurd (none-some global is)
+      by (Some place) is end (store, (named, none)) =
+          let same : place ≡ global = same_Some place global is in
+          (global, counts, ask, move, add, subst (λ g. At code (p + 1 + 1 + 1) (instructions.StoreGlobal g (operands.Slot (t + 2)))) same store, (few, room, named, omega (arith, end)))
+
+  kept_stands : (scopes : Option ℕ) (t p q : ℕ) → p + length (kept_code_in scopes t) ≡ q → HasAt code p (kept_code_in scopes t) → KeptAt code b types scopes (t + RECORD_WORDS) p q
+  kept_stands None t p q end has = omega (arith, end)
+  kept_stands (Some global) t p q end (here, none) = (here, end)
+
+  restored_stands : (scopes : Option ℕ) (t p q : ℕ) → p + length (restored_code_in (starts_of types) scopes t) ≡ q → HasAt code p (restored_code_in (starts_of types) scopes t) → RestoredAt code b types scopes (t + RECORD_WORDS) p q
+  restored_stands None t p q end has = omega (arith, end)
+  restored_stands (Some global) t p q end has = closed_stands (t + RECORD_WORDS) p q end has
 
   return_stands : (v : Option Converted) (exits : Exits) (t p q : ℕ) → FitsReturn b types b.result v → p + length (return_code (starts_of types) v p exits t) ≡ q → HasAt code p (return_code (starts_of types) v p exits t)
       → ReturnAt code b types v exits t p
   return_stands None exits t p q numbered end has =
-      let leave = leave_code exits.first_record t in
+      let leave = leave_code (starts_of types) exits.in_function in
       let (here, none) = has_back code p leave _ has in
-      (t, p + length leave, leave_stands exits.first_record t p (p + length leave) refl (has_front code p leave _ has), here)
+      (t, p + length leave, leave_stands exits.in_function p (p + length leave) refl (has_front code p leave _ has), here)
   return_stands (Some (Convert from to a)) exits t p q numbered end has =
       let known = source_of (starts_of types) (Convert from to a) in
       let inner = expression_code (starts_of types) a p t t in
@@ -836,7 +889,7 @@ module _ (code : List Instruction) (b : Numbering) (types : Types) (raised : Blo
       let conversion = conversion_code (starts_of types) from to (span_of a) (operands.Slot s) m in
       let both = front ++ conversion in
       let r = p + length both in
-      let leave = leave_code exits.first_record t in
+      let leave = leave_code (starts_of types) exits.in_function in
       let u = p + length (both ++ leave) in
       let has_left = has_front code p (both ++ leave) _ has in
       let has_both = has_front code p both leave has_left in
@@ -849,7 +902,7 @@ module _ (code : List Instruction) (b : Numbering) (types : Types) (raised : Blo
         u,
         returned_by code b types raised known _ inner t p m refl (has_front code p front conversion has_both) (λ e h. expression_stands code b types raised a t t p m fitting e h),
         conversion_stands code b types raised from to (span_of a) (operands.Slot s) t m r wide (λ narrow. returned_brought code b types raised from to a t narrow) (cut p r front conversion refl) (has_back code p front conversion has_both),
-        leave_stands exits.first_record t r u (cut p u both leave refl) (has_back code p both leave has_left),
+        leave_stands exits.in_function r u (cut p u both leave refl) (has_back code p both leave has_left),
         here,
         words,
         kind,
@@ -969,7 +1022,7 @@ module _ (code : List Instruction) (b : Numbering) (types : Types) (raised : Blo
     statement_stands (While w a s) in_loop exits t p q (numbered_a, numbered_s) end has =
         let condition = condition_code (starts_of types) a (p + 2) t in
         let m = p + 2 + length condition in
-        let body = statement_code (starts_of types) s (m + 1) (inside_loop p t exits) t in
+        let body = statement_code (starts_of types) s (m + 1) (inside_loop p exits) t in
         let r = m + 1 + length body in
         let test = failing_jump (condition_of (starts_of types) a t) (break_target p) ∷ body in
         let again = instructions.Jump (continue_target p) ∷ [] in
@@ -989,44 +1042,58 @@ module _ (code : List Instruction) (b : Numbering) (types : Types) (raised : Blo
           subst (λ x. At code (p + 1) (instructions.Jump x)) end_is leave,
           condition_stands a t (p + 2) m numbered_a refl (has_front code (p + 2) condition test front_has),
           jump,
-          statement_stands s true (inside_loop p t exits) t (m + 1) r numbered_s refl has_body,
+          statement_stands s true (inside_loop p exits) t (m + 1) r numbered_s refl has_body,
           subst (λ x. At code x (instructions.Jump (continue_target p))) (let e : p + 2 + length (condition ++ test) ≡ r = omega (arith, long) in e) back,
           end_is,
           omega (arith, end_is),
         )
     statement_stands (Return v) in_loop exits d p q numbered end has = return_stands v exits d p q numbered end has
     statement_stands Break in_loop exits d p q numbered end has =
-        let leave = leave_code exits.loop_record d in
+        let leave = leave_code (starts_of types) exits.in_loop in
         let (here, none) = has_back code p leave (instructions.Jump (break_target exits.head) ∷ []) has in
-        (p + length leave, leave_stands exits.loop_record d p (p + length leave) refl (has_front code p leave (instructions.Jump (break_target exits.head) ∷ []) has), here)
+        (p + length leave, leave_stands exits.in_loop p (p + length leave) refl (has_front code p leave (instructions.Jump (break_target exits.head) ∷ []) has), here)
     statement_stands Continue in_loop exits d p q numbered end has =
-        let leave = leave_code exits.loop_record d in
+        let leave = leave_code (starts_of types) exits.in_loop in
         let (here, none) = has_back code p leave (instructions.Jump (continue_target exits.head) ∷ []) has in
-        (p + length leave, leave_stands exits.loop_record d p (p + length leave) refl (has_front code p leave (instructions.Jump (continue_target exits.head) ∷ []) has), here)
+        (p + length leave, leave_stands exits.in_loop p (p + length leave) refl (has_front code p leave (instructions.Jump (continue_target exits.head) ∷ []) has), here)
     statement_stands (Throw tag v) in_loop exits t p q (word, numbered) end has =
         let front = thrown_code (starts_of types) v p t in
         let (here, none) = has_back code p front _ has in
         (word, thrown_operand (starts_of types) v t, p + length front, thrown_stands v t p (p + length front) numbered refl (has_front code p front _ has), here)
-    statement_stands (Try s cs) in_loop exits t p q (numbered_s, numbered) end (opening, has) =
-        let body = statement_code (starts_of types) s (p + 1) exits (t + RECORD_WORDS) in
+    statement_stands (Try s cs) in_loop exits t p q (numbered_s, numbered) end has =
+        let kept = kept_code (starts_of types) t in
+        let r = p + length kept in
+        let within = inside_try exits t in
+        let d = behind_record (starts_of types) t in
+        let body = statement_code (starts_of types) s (r + 1) within d in
         let close = instructions.Leave t ∷ [] in
-        let m = p + 1 + length body in
-        let out = p + 1 + length (body ++ close) in
+        let m = r + 1 + length body in
+        let out = r + 1 + length (body ++ close) in
         let long : length (body ++ close) ≡ length body + 1 = length-append body close in
         let out_is : out ≡ m + 1 = omega (arith, long) in
-        let clauses = clauses_code (starts_of types) cs (out + 1) out exits t in
-        let over = instructions.Jump (out + 1 + length clauses) in
-        let all : length ((body ++ close) ++ over ∷ clauses) ≡ length (body ++ close) + suc (length clauses) = length-append (body ++ close) (over ∷ clauses) in
-        let end_is : out + 1 + length clauses ≡ q = omega (arith, end, all) in
-        let has_front_part = has_front code (p + 1) (body ++ close) (over ∷ clauses) has in
-        let (jump, has_clauses) = has_back code (p + 1) (body ++ close) (over ∷ clauses) has in
-        let (leave, none) = has_back code (p + 1) body close has_front_part in (
+        let restored = restored_code (starts_of types) t in
+        let u = out + 1 + length restored in
+        let clauses = clauses_code (starts_of types) cs u out exits t in
+        let later = restored ++ clauses in
+        let over = instructions.Jump (out + 1 + length later) in
+        let tries = try_code t (body ++ close) later r in
+        let (opening, has_tries) = has_back code p kept tries has in
+        let all : length ((body ++ close) ++ over ∷ later) ≡ length (body ++ close) + suc (length later) = length-append (body ++ close) (over ∷ later) in
+        let end_is : out + 1 + length later ≡ q = omega (arith, cut p q kept tries end, all) in
+        let has_front_part = has_front code (r + 1) (body ++ close) (over ∷ later) has_tries in
+        let (jump, has_later) = has_back code (r + 1) (body ++ close) (over ∷ later) has_tries in
+        let (leave, none) = has_back code (r + 1) body close has_front_part in (
+          r,
           m,
-          subst (λ n. At code p (instructions.Try t (n + 1))) out_is opening,
-          statement_stands s in_loop exits (t + RECORD_WORDS) (p + 1) m numbered_s refl (has_front code (p + 1) body close has_front_part),
+          u,
+          kept_stands types.scopes t p r refl (has_front code p kept tries has),
+          subst (λ n. At code r (instructions.Try t (n + 1))) out_is opening,
+          statement_stands s in_loop within d (r + 1) m numbered_s refl (has_front code (r + 1) body close has_front_part),
           leave,
           subst (λ n. At code n (instructions.Jump q)) out_is (subst (λ n. At code out (instructions.Jump n)) end_is jump),
-          subst (λ n. ClausesAt code b types cs n exits t (n + 1) q) out_is (clauses_stand cs in_loop out exits t (out + 1) q (omega arith) numbered end_is has_clauses),
+          subst (λ n. RestoredAt code b types types.scopes (t + RECORD_WORDS) (n + 1) u) out_is (restored_stands types.scopes t (out + 1) u refl (has_front code (out + 1) restored clauses has_later)),
+          subst (λ n. ClausesAt code b types cs n exits t u q) out_is
+              (clauses_stand cs in_loop out exits t u q (omega arith) numbered (cut (out + 1) q restored clauses end_is) (has_back code (out + 1) restored clauses has_later)),
         )
 
     items_stand : (js : Items) (in_loop : Bool) (exits : Exits) (d p q : ℕ) → FitItems b types in_loop js → p + length (items_code (starts_of types) js p exits d) ≡ q → HasAt code p (items_code (starts_of types) js p exits d) → ItemsAt code b types js exits d p q
@@ -1039,7 +1106,28 @@ module _ (code : List Instruction) (b : Numbering) (types : Types) (raised : Blo
         let front = declaration_code (starts_of types) n v p d in
         let back = items_code (starts_of types) js (p + length front) exits d in
         (p + length front, declaration_stands n v d p (p + length front) few numbered refl (has_front code p front back has), items_stand js in_loop exits d (p + length front) q rest (cut p q front back end) (has_back code p front back has))
-    items_stand js in_loop exits d p q numbered end has = absurd numbered
+    items_stand (MoreItems (DeclareRegion r n) js) in_loop exits d p q ((global, counts), few, room, numbered) end has =
+        let front = opened_code (starts_of types) n d in
+        let m = p + length front in
+        let items = items_code (starts_of types) js m (inside_region exits d) (d + 1) in
+        let close = closed_code (starts_of types) d in
+        let u = m + length items in
+        let has_rest = has_back code p front (items ++ close) has in (
+          m,
+          u,
+          opened_stands n global d p m counts few room refl (has_front code p front (items ++ close) has),
+          items_stand js in_loop (inside_region exits d) (d + 1) m u numbered refl (has_front code m items close has_rest),
+          closed_stands d u q (cut m q items close (cut p q front (items ++ close) end)) (has_back code m items close has_rest),
+        )
+    items_stand (MoreItems (OpenRegion r n w key) js) in_loop exits d p q (few, room, there, key_room, numbered) end (here, has) =
+        (p + 1, (few, room, here, refl), items_stand js in_loop exits d (p + 1) q numbered (omega (arith, end)) has)
+    items_stand (MoreItems (DeclareAlias r n t w lent) js) in_loop exits d p q (few, room, there, lent_room, numbered) end (here, has) =
+        (p + 1, (few, room, subst (λ words. At code p (move_of words (slot_of (starts_of types) n) (operands.Slot (slot_of (starts_of types) lent)))) (sym (type_words t)) here, refl), items_stand js in_loop exits d (p + 1) q numbered (omega (arith, end)) has)
+    items_stand (MoreItems (DeclareKey r n) js) in_loop exits d p q (few, room, numbered) end (ask, (here, has)) =
+        let front = dynamic_code (starts_of types) n d in
+        let back = items_code (starts_of types) js (p + length front) exits d in
+        let m = p + length front in
+        (m, ask, (few, room, here, omega arith), items_stand js in_loop exits d m q numbered (cut p q front back end) (has_back code p front back (ask, (here, has))))
 
     clauses_stand : (cs : Clauses) (in_loop : Bool) (out : ℕ) (exits : Exits) (t p q : ℕ) → out < p → FitClauses b types in_loop cs → p + length (clauses_code (starts_of types) cs p out exits t) ≡ q
         → HasAt code p (clauses_code (starts_of types) cs p out exits t) → ClausesAt code b types cs out exits t p q
@@ -1075,38 +1163,38 @@ module _ (code : List Instruction) (b : Numbering) (types : Types) (raised : Blo
 
 -- ---- functions
 
-fitting_function : (structs : List StructType) (globals : List GlobalVariable) (signatures : List Signature) (hs : List Function) (n : ℕ) (h : Function) → AreFitting structs globals signatures hs → slice_get hs n ≡ Some h
-    → FitItems (numbering_of (length globals) signatures h) (types_of structs (global_types globals) h) false h.body
-fitting_function structs globals signatures [] n h numbered there = absurd (none-some h there)
-fitting_function structs globals signatures (g ∷ hs) zero h (first, rest) there =
-    subst (λ (f : Function). FitItems (numbering_of (length globals) signatures f) (types_of structs (global_types globals) f) false f.body) (same_Some g h there) first
-fitting_function structs globals signatures (g ∷ hs) (suc n) h (first, rest) there = fitting_function structs globals signatures hs n h rest there
+fitting_function : (structs : List StructType) (globals : List GlobalVariable) (scopes : Option ℕ) (signatures : List Signature) (hs : List Function) (n : ℕ) (h : Function) → AreFitting structs globals scopes signatures hs → slice_get hs n ≡ Some h
+    → FitItems (numbering_of (length globals) signatures h) (types_of structs (global_types globals) scopes h) false h.body
+fitting_function structs globals scopes signatures [] n h numbered there = absurd (none-some h there)
+fitting_function structs globals scopes signatures (g ∷ hs) zero h (first, rest) there =
+    subst (λ (f : Function). FitItems (numbering_of (length globals) signatures f) (types_of structs (global_types globals) scopes f) false f.body) (same_Some g h there) first
+fitting_function structs globals scopes signatures (g ∷ hs) (suc n) h (first, rest) there = fitting_function structs globals scopes signatures hs n h rest there
 
 module _ (source : Program) where
   -- each function is lowered by itself
-  pub routine_there : (n : ℕ) (h : Function) → slice_get source.functions n ≡ Some h → routine_at (lower_program source) n ≡ lower_function source.structs (globals_of source) h
-  routine_there n h there = get_or_from_slice_get (map (lower_function source.structs (globals_of source)) source.functions) n (lower_function source.structs (globals_of source) h) no_routine (slice_get-map (lower_function source.structs (globals_of source)) source.functions n ∙ ap (option_map (lower_function source.structs (globals_of source))) there)
+  pub routine_there : (n : ℕ) (h : Function) → slice_get source.functions n ≡ Some h → routine_at (lower_program source) n ≡ lower_function source.structs (globals_of source) (scopes_of source) h
+  routine_there n h there = get_or_from_slice_get (map (lower_function source.structs (globals_of source) (scopes_of source)) source.functions) n (lower_function source.structs (globals_of source) (scopes_of source) h) no_routine (slice_get-map (lower_function source.structs (globals_of source) (scopes_of source)) source.functions n ∙ ap (option_map (lower_function source.structs (globals_of source) (scopes_of source))) there)
 
   -- the code of a function, with its body at the beginning, and a return behind it
   abbrev BodyStands : Function → List Instruction → Option Function → Type 0
   BodyStands h code o =
-      (m : ℕ) × ItemsAt code (bounds_in source o) (types_in source o) h.body (outside_loops (words_of_all (types_in source o).locals)) (words_of_all (types_in source o).locals) 0 m
+      (m : ℕ) × ItemsAt code (bounds_in source o) (types_in source o) h.body outside_loops (words_of_all (types_in source o).locals) 0 m
       × At code m (instructions.Finish (words_of_all (types_in source o).locals))
 
-  body_stands : (h : Function) → FitItems (bounds_in source (Some h)) (types_of source.structs (global_types source.globals) h) false h.body → BodyStands h (function_code source.structs (globals_of source) h) (Some h)
+  body_stands : (h : Function) → FitItems (bounds_in source (Some h)) (types_of source.structs (global_types source.globals) (scopes_of source) h) false h.body → BodyStands h (function_code source.structs (globals_of source) (scopes_of source) h) (Some h)
   body_stands h numbered =
       let d = first_temporary h in
-      let types = types_of source.structs (global_types source.globals) h in
+      let types = types_of source.structs (global_types source.globals) (scopes_of source) h in
       let body = body_code (starts_of types) h in
       let end = instructions.Finish d ∷ blocks in
       let code = body ++ end in
       let has = has_whole code in
       let (here, raising_all) = has_back code 0 body end has in
-      let raised = blocks_stand code types.raises (subst (λ n. HasAt code (n + 1) blocks) (let e : 0 + length body ≡ types.raises = omega (arith, body_long source.structs (globals_of source) h) in e) raising_all) in
-      (0 + length body, items_stand code (bounds_in source (Some h)) types raised h.body false (outside_loops d) d 0 (0 + length body) numbered refl (has_front code 0 body end has), here)
+      let raised = blocks_stand code types.raises (subst (λ n. HasAt code (n + 1) blocks) (let e : 0 + length body ≡ types.raises = omega (arith, body_long source.structs (globals_of source) (scopes_of source) h) in e) raising_all) in
+      (0 + length body, items_stand code (bounds_in source (Some h)) types raised h.body false outside_loops d 0 (0 + length body) numbered refl (has_front code 0 body end has), here)
 
   pub functions_stand : (pages calls : ℕ) → IsFitting source → FunctionsStand source pages calls
   functions_stand pages calls numbered n h there =
       subst (λ (code : List Instruction). BodyStands h code (slice_get source.functions n)) (sym (ap (λ (r : Routine). r.code) (routine_there n h there)))
-      (subst (λ (o : Option Function). BodyStands h (function_code source.structs (globals_of source) h) o) (sym there)
-      (body_stands h (fitting_function source.structs source.globals (signatures_of source.functions) source.functions n h numbered.functions there)))
+      (subst (λ (o : Option Function). BodyStands h (function_code source.structs (globals_of source) (scopes_of source) h) o) (sym there)
+      (body_stands h (fitting_function source.structs source.globals (scopes_of source) (signatures_of source.functions) source.functions n h numbered.functions there)))

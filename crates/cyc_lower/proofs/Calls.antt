@@ -18,7 +18,7 @@ use Rattle.cyc_plain.specs.declared.instruction.Instruction.TheVariants as instr
 use Rattle.cyc_store.specs.State.{StoreState}
 use Rattle.cyc_plain.specs.State as plain
 use Rattle.cyc_plain.specs.State.{Words, put, copied, Handler, Frame, Configuration}
-use Rattle.cyc_plain.specs.Step.{Choice, operand_word, with_slots, at, advanced, performed, executed}
+use Rattle.cyc_plain.specs.Step.{Choice, operand_word, with_slots, advanced, performed, executed}
 use Rattle.cyc_plain.specs.Step as plain_step
 use Rattle.cyc_plain.proofs.RunLaws.{limited-full}
 use Rattle.cyc_plain.specs.Straight.{At}
@@ -29,7 +29,7 @@ use Rattle.cyc_meaning.specs.State.{World, Environment, no_locals, with_local, v
 use Rattle.cyc_meaning.specs.Step.{wrong, declared, inside, region_end, called, step}
 use Rattle.cyc_meaning.specs.SourceMachine.{status_in}
 use Rattle.cyc_meaning.specs.Run.{is_within, limited_step}
-use Rattle.cyc_lower.specs.Lowering.{outside_loops, lower_program, raises_of, globals_of}
+use Rattle.cyc_lower.specs.Lowering.{outside_loops, lower_program, raises_of, globals_of, scopes_of}
 use Rattle.cyc_lower.proofs.Stands.{ItemsAt}
 use Rattle.cyc_lower.specs.Slots.{starts_of, slot_of, global_types}
 use Rattle.cyc_lower.proofs.Slots.{slot-parameter, words-parameter, slot_types-many, words-append}
@@ -37,8 +37,9 @@ use Rattle.cyc_lower.proofs.Widths.{kind_of_result, result_kind, same_kind, type
 use Rattle.cyc_lower.proofs.Values.{of_kind, int_is}
 use Rattle.cyc_objects.specs.Tables.{Variable, with_row, with_handle}
 use Rattle.cyc_objects.specs.Words.{Is}
+use Rattle.cyc_objects.specs.Related.{scopes}
 use Rattle.cyc_objects.proofs.Values.{Grows-row, Grows-handle, Is-grows}
-use Rattle.cyc_lower.proofs.Relation.{AreCounted, IsIn, words_held, Holds, HoldsFrom, held, callers, homes, Shared, DataAt, DataIn, SharedAt, prints_only, gives_byte, StatementStack, LandsStack, PrintsStack, nowhere, behind_statement, Related, Matches, code_of, types_in, types_at, starts_at, parameters_in, parameters_at, bounds_in, bounds_at, called_at, returned_at, base_of, top, behind_records, in_place, floor, HandlersStand}
+use Rattle.cyc_lower.proofs.Relation.{IsIn, words_held, Holds, HoldsFrom, held, callers, homes, Shared, DataAt, DataIn, SharedAt, prints_only, gives_byte, StatementStack, LandsStack, PrintsStack, nowhere, behind_statement, Related, Matches, code_of, types_in, types_at, starts_at, parameters_in, parameters_at, bounds_in, bounds_at, called_at, returned_at, base_of, top, behind_records, in_place, floor, HandlersStand, CountsBy}
 use Rattle.cyc_lower.proofs.Data.{words-reverse, Holds-rest, in_order, arguments_copied, data_declared, data_called, data_grows, HoldsFrom-grows, calls_counted}
 use Rattle.cyc_lower.proofs.Accesses.{IsWell, is_fitting, is_declared, home_there}
 use Rattle.cyc_lower.proofs.Matched.{IsMatched, above, below, matching, silently, by_one, by_two_known, shared_within, shared_way, steps_to, place_in, known}
@@ -137,14 +138,14 @@ module _ (source : Program) (pages calls : ℕ) where
   parameter_in None first rest t own = absurd (omega (arith, ap length own, length-append first (t ∷ rest)))
   parameter_in (Some h) first rest t own = (
     omega (arith, slot_types-many h, ap length own, length-append first (t ∷ rest)),
-    ap (λ (ts : List Ty). slot_of (starts_of (record { locals = ts ++ h.locals; structs = source.structs; raises = raises_of source.structs (globals_of source) h; counters = []; globals = global_types source.globals })) (length first)) own ∙ slot-parameter source.structs (raises_of source.structs (globals_of source) h) (global_types source.globals) first rest t h.locals,
+    ap (λ (ts : List Ty). slot_of (starts_of (record { locals = ts ++ h.locals; structs = source.structs; raises = raises_of source.structs (globals_of source) (scopes_of source) h; counters = []; globals = global_types source.globals; scopes = scopes_of source })) (length first)) own ∙ slot-parameter source.structs (raises_of source.structs (globals_of source) (scopes_of source) h) (global_types source.globals) (scopes_of source) first rest t h.locals,
     ap (λ (ts : List Ty). words_in (ts ++ h.locals) (length first)) own ∙ words-parameter first rest t h.locals,
   )
 
   pub binding : (n : ℕ) (types : List Ty) (arguments : List Kinded) (body : Items) (k : List Entry) (e : Environment) (w : World) (c : Configuration) → IsStep source pages calls (Binding n types arguments body) k e w c
   binding n [] [] body k e w c well (shared, facts, (m, first, items, stack, holds, own, count)) =
       silently source pages calls (Running (Binding n [] [] body) k e w) (Running Proceeding (Rest body ∷ k) e w) (plain.Running c) refl
-      (shared, behind_statement (outside_loops (base_of source c.active.function)) facts (m, items, stack))
+      (shared, behind_statement outside_loops facts (m, items, stack))
       (omega arith)
   binding n [] (v ∷ arguments) body k e w c well related = absurd (well refl)
   binding n (t ∷ types) [] body k e w c well related = absurd (well refl)
@@ -193,7 +194,7 @@ module _ (source : Program) (pages calls : ℕ) where
   -- the code of each function stands where it does
   abbrev pub FunctionsStand : Type 0
   FunctionsStand = (n : ℕ) (h : Function) → slice_get source.functions n ≡ Some h
-      → (m : ℕ) × ItemsAt (code_of source n) (bounds_at source n) (types_at source n) h.body (outside_loops (base_of source n)) (base_of source n) 0 m
+      → (m : ℕ) × ItemsAt (code_of source n) (bounds_at source n) (types_at source n) h.body outside_loops (base_of source n) 0 m
       × At (code_of source n) m (instructions.Finish (base_of source n))
 
   parameters_fit : (n : ℕ) (h : Function) → slice_get source.functions n ≡ Some h → parameters_at source n ≡ h.parameters
@@ -218,9 +219,9 @@ module _ (source : Program) (pages calls : ℕ) where
   -- a function has been called, with its arguments in the first slots
   pub entered : FunctionsStand → (n base : ℕ) (h : Function) (arguments : List Kinded) (k : List Entry) (w : World) (slots globals : Words) (handlers : List Handler) (frames : List Frame) (store : StoreState) (output input : List ℕ)
       → slice_get source.functions n ≡ Some h
-      → (shared : Shared pages calls w (no_locals.home ∷ homes k) (AreCounted no_locals.counters k) output input store (length frames))
+      → (shared : Shared pages calls w (no_locals.home ∷ homes k) (CountsBy source None no_locals k globals store (scopes w.regions)) output input store (length frames))
       → DataAt source shared.tables n w.objects (λ (number : ℕ). None) (callers k) slots globals frames × HandlersStand source n slots handlers frames k → floor source n k ≡ base_of source n
-      → HoldsFrom shared.tables slots 0 arguments → ((m : ℕ) → At (code_of source n) m (instructions.Finish (base_of source n)) → StatementStack source n (outside_loops (base_of source n)) m frames k)
+      → HoldsFrom shared.tables slots 0 arguments → ((m : ℕ) → At (code_of source n) m (instructions.Finish (base_of source n)) → StatementStack source n outside_loops m frames k)
       → Related source pages calls (Entering h arguments) k no_locals w
       (record { active = record { function = n; next = 0; base = base; slots = slots; handlers = handlers }; frames = frames; globals = globals; store = store; output = output; input = input })
   entered stand n base h arguments k w slots globals handlers frames store output input there shared facts least holds stack =
@@ -228,7 +229,7 @@ module _ (source : Program) (pages calls : ℕ) where
       let g = code_of source n in (
         shared,
         facts,
-        (m, subst (λ t. ItemsAt g (bounds_at source n) (types_at source n) h.body (outside_loops (base_of source n)) t 0 m) (sym least) items, stack m end, holds, parameters_fit n h there),
+        (m, subst (λ t. ItemsAt g (bounds_at source n) (types_at source n) h.body outside_loops t 0 m) (sym least) items, stack m end, holds, parameters_fit n h there),
       )
 
   -- no more calls fit: both runs are full

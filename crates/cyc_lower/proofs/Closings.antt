@@ -1,9 +1,8 @@
 -- Lexical regions are closed down to a mark, by the store, and it is told how many are open then. The source closes one at a step, and the
 -- store several of them at once.
-use Rattle.std.proofs.Common.{◌≡◌, ◌≢◌, ℕ, suc, ◌+◌, ◌≤◌, ◌<◌, Bool, true, List, [], ◌∷◌, ◌++◌, length, Option, None, Some, slice_get, set, refl, sym, ap, subst, ◌∙◌, arith}
+use Rattle.std.proofs.Common.{◌≡◌, ◌≢◌, ℕ, suc, ◌+◌, ◌≤◌, ◌<◌, true, List, [], ◌∷◌, Option, None, Some, refl, sym, ap, subst, arith}
 use Rattle.std.specs.Prelude.{Contains}
 use Rattle.std.specs.List.{AllByRecursion}
-use Rattle.std.proofs.lemmas.Option.{same_Some, none-some}
 use Rattle.cyc_words.specs.Simulation.{IsDistinct}
 use Rattle.cyc_types.specs.TypedTrees.{Program}
 use Rattle.cyc_words.specs.Demand.{demand_of}
@@ -19,20 +18,25 @@ use Rattle.cyc_plain.specs.declared.instruction.Instruction.TheVariants as instr
 use Rattle.cyc_plain.specs.Program.{CodePlace, places_of}
 use Rattle.cyc_plain.specs.Straight.{At}
 use Rattle.cyc_plain.specs.State as plain
-use Rattle.cyc_plain.specs.State.{Words, put, Configuration}
-use Rattle.cyc_plain.specs.Step.{at, advanced, with_slots, served_to, IsServed}
+use Rattle.cyc_plain.specs.State.{Words, put, Frame, Configuration}
+use Rattle.cyc_plain.specs.Step.{at, served_to}
 use Rattle.cyc_plain.specs.Step as plain_step
 use Rattle.cyc_plain.proofs.Steps.{step_serves}
-use Rattle.cyc_plain.proofs.SlotLaws.{put-same}
-use Rattle.cyc_meaning.specs.State.{Region, World, closed, Environment, Entry, CloseLexical, Focus, State, Running}
+use Rattle.cyc_plain.proofs.SlotLaws.{put-same, put-other}
+use Rattle.cyc_meaning.specs.FrameCount.{words_of_all}
+use Rattle.cyc_meaning.specs.State.{Object, World, closed, Environment, Entry, CloseLexical, Focus, State, Running}
 use Rattle.cyc_meaning.specs.Step.{step}
+use Rattle.cyc_objects.specs.Tables.{Tables}
 use Rattle.cyc_objects.specs.Related.{Related, scopes, closed_to}
-use Rattle.cyc_objects.proofs.Closing.{scopes-same, scopes-closed, down-less, closed-behind, closed-at_once, refusal-close_to}
+use Rattle.cyc_objects.proofs.Closing.{scopes-closed, down-less, closed-behind, closed-at_once, refusal-close_to}
 use Rattle.cyc_objects.proofs.Scopes.{Ends}
+use Rattle.cyc_lower.specs.Slots.{global_types}
 use Rattle.cyc_lower.specs.Lowering.{lower_program, scopes_of}
+use Rattle.cyc_lower.proofs.Slots.{scopes_behind}
+use Rattle.cyc_lower.proofs.Data.{data_behind}
 use Rattle.cyc_lower.proofs.Stands.{ToldAt, ClosedAt}
-use Rattle.cyc_lower.proofs.Relation.{IsTold, HasScopes, IsAhead, store_by, silent, scopes_in, ScopesBy, SharedBy, SharedAt, Matches, code_of, bounds_at, types_at}
-use Rattle.cyc_lower.proofs.Matched.{Inside, IsMatched, Executes, executes, by_places, place_in, known, apart, output_way, inside_within}
+use Rattle.cyc_lower.proofs.Relation.{IsTold, HasScopes, store_by, silent, scopes_in, Waiting, DataAt, ScopesBy, SharedBy, SharedAt, Matches, code_of, bounds_at, types_at}
+use Rattle.cyc_lower.proofs.Matched.{Inside, IsMatched, Executes, executes, by_places, place_in, known, apart, elsewhere, output_way, inside_within}
 
 -- what the word holds then
 abbrev pub told_in : (scopes : Option ℕ) → Words → (many : ℕ) → Words
@@ -66,6 +70,17 @@ module _ (source : Program) (pages calls : ℕ) where
       → AllByRecursion (Contains (places_of (lower_program source))) (place_in source pages calls c ∷ closing_rest scopes c)
   closing_known None c slot q ask tells = (known source pages calls c _ ask, tt)
   closing_known (Some place) c slot q ask (tells, end) = (known source pages calls c _ ask, (known source pages calls (at c (c.active.next + 1)) _ tells, tt))
+
+  -- another instruction stands elsewhere
+  pub closing_apart : (scopes : Option ℕ) (c : Configuration) (slot q : ℕ) → At (code_of source c.active.function) c.active.next (instructions.Ask (requests.CloseTo (operands.Slot slot)))
+      → ToldAt (code_of source c.active.function) (bounds_at source c.active.function) (types_at source c.active.function) scopes (operands.Slot slot) (c.active.next + 1) q
+      → (place : CodePlace) (i : Instruction) → At (code_of source place.function) place.index i → (i ≢ instructions.Ask (requests.CloseTo (operands.Slot slot)))
+      → ((global : ℕ) → i ≢ instructions.StoreGlobal global (operands.Slot slot)) → AllByRecursion (λ q. place ≢ q) (place_in source pages calls c ∷ closing_rest scopes c)
+  closing_apart None c slot q ask tells place i here first second = (elsewhere source pages calls place (place_in source pages calls c) i _ here ask first, tt)
+  closing_apart (Some global) c slot q ask (tells, end) place i here first second = (
+    elsewhere source pages calls place (place_in source pages calls c) i _ here ask first,
+    (elsewhere source pages calls place (place_in source pages calls (at c (c.active.next + 1))) i _ here tells (second global), tt),
+  )
 
   -- the store closes them, whatever it chooses
   pub closing_executes : (focus : Focus) (k : List Entry) (e : Environment) (w : World) (next : State) (c : Configuration) (scopes : Option ℕ) (slot many q : ℕ)
@@ -121,6 +136,18 @@ module _ (source : Program) (pages calls : ℕ) where
       by_places source pages calls (Running focus k e w) next (place_in source pages calls c) (closing_rest (scopes_of source) c) (plain.Running c) does
       (closing_distinct (scopes_of source) c) (closing_known (scopes_of source) c slot q ask tells)
       (closing_executes focus k e w next c (scopes_of source) slot many q ask tells inside marked more goes)
+
+  -- ---- data
+
+  -- the globals of the source stay
+  pub data_told : (t : Tables) (g : ℕ) (objects : List Object) (locals : ℕ → Option ℕ) (outer : List Waiting) (slots globals : Words) (frames : List Frame) (many : ℕ)
+      → DataAt source t g objects locals outer slots globals frames → DataAt source t g objects locals outer slots (told_in (scopes_of source) globals many) frames
+  data_told t g objects locals outer slots globals frames many facts =
+      data_behind t source g objects locals outer slots globals (told_in (scopes_of source) globals many) frames (λ m below. stays m below (scopes_of source) (scopes_behind source)) facts
+    where
+      stays : (m : ℕ) → m < words_of_all (global_types source.globals) → (o : Option ℕ) → ((place : ℕ) → o ≡ Some place → words_of_all (global_types source.globals) ≡ place) → told_in o globals many m ≡ globals m
+      stays m below None behind = refl
+      stays m below (Some place) behind = put-other globals place m many (λ same. omega (arith, same, below, behind place refl))
 
   -- ---- what is shared
 

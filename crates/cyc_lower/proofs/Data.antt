@@ -6,14 +6,14 @@ use Rattle.std.proofs.lemmas.List.{reverse-append}
 use Rattle.std.proofs.lemmas.Option.{same_Some, none-some}
 use Rattle.cyc_types.specs.TypedTrees.{Program}
 use Rattle.cyc_plain.specs.State as plain
-use Rattle.cyc_plain.specs.State.{Words, put, copied, Frame}
+use Rattle.cyc_plain.specs.State.{Words, copied, Frame}
 use Rattle.cyc_plain.specs.Step.{operand_word}
 use Rattle.cyc_plain.specs.declared.limits.TheConstants.{RECORD_WORDS}
-use Rattle.cyc_plain.proofs.SlotLaws.{put-same, put-other, copied-inside}
+use Rattle.cyc_plain.proofs.SlotLaws.{copied-inside}
 use Rattle.cyc_types.specs.declared.typed.Kind.{Kind}
 use Rattle.cyc_types.specs.declared.typed.Kind.TheVariants as kinds
 use Rattle.cyc_meaning.specs.Values.{Value, Int, Null, Thin, Handle, Key, Operand, words_of_kind}
-use Rattle.cyc_meaning.specs.State.{Object, Environment, with_local, Entry, Handler, Caller, Main, calls_in, CloseLexical, EndLoan, Loop}
+use Rattle.cyc_meaning.specs.State.{Object, Environment, with_local, Entry, Handler, Caller, Main, calls_in, CloseLexical, Loop}
 use Rattle.cyc_meaning.specs.FrameCount.{words_of_all}
 use Rattle.cyc_lower.specs.Slots.{starts_of, slot_of, global_of, global_types, Types}
 use Rattle.cyc_lower.specs.Lowering.{behind_record_in, scopes_of}
@@ -566,8 +566,8 @@ module _ (source : Program) where
       )
   handlers_same g slots other handlers frames (Caller e ∷ k) same stand = stand
   handlers_same g slots other handlers frames (Main ∷ k) same stand = stand
-  handlers_same g slots other handlers frames (CloseLexical region ∷ k) same stand = absurd stand
-  handlers_same g slots other handlers frames (EndLoan lent ∷ k) same stand = absurd stand
+  handlers_same g slots other handlers frames (CloseLexical region ∷ k) same (marked, stand) =
+      (same (floor source g k) (floor-least source g k) (omega arith) ∙ marked, handlers_same g slots other handlers frames k (λ n from to. same n from (omega (arith, to))) stand)
   handlers_same g slots other handlers frames (entry ∷ k) same stand = handlers_same g slots other handlers frames k same stand
 
   -- a local is written
@@ -597,8 +597,7 @@ module _ (source : Program) where
   calls_counted g slots handlers [] (Main ∷ []) (none, last) = refl
   calls_counted g slots handlers [] (Main ∷ entry ∷ k) (none, last) = absurd last
   calls_counted g slots handlers (f ∷ frames) (Main ∷ k) (none, last) = absurd last
-  calls_counted g slots handlers frames (CloseLexical region ∷ k) stand = absurd stand
-  calls_counted g slots handlers frames (EndLoan lent ∷ k) stand = absurd stand
+  calls_counted g slots handlers frames (CloseLexical region ∷ k) (marked, stand) = calls_counted g slots handlers frames k stand
   calls_counted g slots handlers frames (entry ∷ k) stand = calls_counted g slots handlers frames k stand
 
 -- as many calls are under way where entries of one are left

@@ -9,14 +9,15 @@ use Rattle.cyc_types.specs.declared.typed.Callee.TheVariants.{Putchar, Getchar, 
 use Rattle.cyc_types.specs.declared.typed.UnaryOperator.TheVariants as unary
 use Rattle.cyc_types.specs.declared.typed.Operator.TheVariants.{Equal, NotEqual, Less, Greater, Add, Subtract, Multiply, Divide, Remainder}
 use Rattle.cyc_types.specs.declared.typed.LogicalOperator.TheVariants.{AndThen, OrElse}
-use Rattle.cyc_types.specs.Types.{Ty, Int, Pointer, Value}
-use Rattle.cyc_types.specs.TypedTrees.{Local, Global, Expression, Number, Copy, Call, Unary, Binary, Assign, Converted, Convert, Arguments, NoArguments, MoreArguments, Operations, NoOperations, ThenCompute, ThenTest, Statement, Block, Empty, Evaluate, If, While, Return, Break, Continue, Items, NoItems, MoreItems, Execute, Declare, Word, Null, Function, Program, Throw, Try, Case, Default, NoClauses, GlobalVariable}
+use Rattle.cyc_types.specs.Types.{Ty, Int, Pointer, Handle, Value}
+use Rattle.cyc_types.specs.TypedTrees.{Local, Global, Expression, Number, Copy, Call, Unary, Binary, Assign, Converted, Convert, Arguments, NoArguments, MoreArguments, Operations, NoOperations, ThenCompute, ThenTest, Statement, Block, Empty, Evaluate, If, While, Return, Break, Continue, Items, NoItems, MoreItems, Execute, Declare, DeclareRegion, Word, Null, Function, Program, Throw, Try, Case, Default, NoClauses, GlobalVariable}
 use Rattle.cyc_types.specs.declared.region.Region.TheVariants.{Heap}
 use Rattle.cyc_syntax.specs.declared.tree.PointerKind.TheVariants.{Nullable, NonNull, Fat}
 use Rattle.cyc_plain.specs.declared.instruction.Instruction.{Instruction}
 use Rattle.cyc_plain.specs.declared.instruction.Operand.TheVariants.{Slot, Word as Constant}
 use Rattle.cyc_plain.specs.declared.instruction.Instruction.TheVariants.{Move, Jump}
 use Rattle.cyc_plain.specs.declared.instruction.Instruction.TheVariants as instructions
+use Rattle.cyc_plain.specs.declared.instruction.Request.TheVariants as requests
 use Rattle.cyc_plain.specs.declared.instruction.BinaryOperator.TheVariants as plain_binary
 use Rattle.cyc_plain.specs.declared.instruction.Comparison.TheVariants as comparisons
 use Rattle.cyc_words.specs.Simulation.{Status, Ended}
@@ -382,6 +383,76 @@ wide_globals : function_code [] (starts_from 0 (global_types (fat_global ∷ int
     ∷ instructions.LoadGlobal 3 3
     ∷ instructions.Finish 4 ∷ blocks
 wide_globals = refl
+
+-- ---- lexical regions
+
+-- A region is opened in each of five passes of a loop, and left by all ways: there is room for two at once.
+abbrev with_handle : Items → List Function → Program
+with_handle body others = record {
+  structs = [];
+  exceptions = [];
+  globals = [];
+  functions = function [] (Int ∷ Handle Heap ∷ []) body ∷ others;
+  main = 0;
+}
+
+-- the local 0 counts passes, and the local 1 is the handle
+abbrev passes : Statement → Program
+passes body =
+    with_handle (MoreItems (Declare 0 Int (Some (int (Number 0)))) (all (
+    While nowhere (two (local 0) (ThenCompute Less (Number 5) NoOperations)) (Block 1 (all (
+    Evaluate (sets 0 (two (local 0) (ThenCompute Add (Number 1) NoOperations))) ∷ body ∷ [])))
+    ∷ returns (local 0) ∷ []))) []
+
+-- a block with a region
+abbrev in_region : List Statement → Statement
+in_region body = Block 2 (MoreItems (DeclareRegion 3 1) (all body))
+
+region_ends : ends 160 (passes (in_region [])) [] ≡ Ended (Returned (pos 5))
+region_ends = refl
+
+source_ends_region : source_ends 400 (passes (in_region [])) [] ≡ Ended (Returned (pos 5))
+unfolding slt_of
+source_ends_region = refl
+
+region_is_continued : ends 160 (passes (in_region (Continue ∷ []))) [] ≡ Ended (Returned (pos 5))
+region_is_continued = refl
+
+region_is_broken : ends 200 (passes (While nowhere (Number 1) (in_region (Break ∷ [])))) [] ≡ Ended (Returned (pos 5))
+region_is_broken = refl
+
+region_is_thrown_from : ends 260 (passes (Try (in_region (Throw 5 None ∷ [])) (Case 5 None 4 NoItems NoClauses))) [] ≡ Ended (Returned (pos 5))
+region_is_thrown_from = refl
+
+-- regions on both sides of a handler are left at once
+both_are_left : ends 260 (passes (While nowhere (Number 1) (in_region (Try (Block 5 (MoreItems (DeclareRegion 6 1) (all (Break ∷ [])))) (Default 7 NoItems) ∷ [])))) [] ≡ Ended (Returned (pos 5))
+both_are_left = refl
+
+-- a call returns out of its region, or leaves it by an exception
+abbrev calling_out : Statement → Program
+calling_out body = with_handle (MoreItems (Declare 0 Int (Some (int (Number 0)))) (all (
+    While nowhere (two (local 0) (ThenCompute Less (Number 5) NoOperations)) (Block 1 (all (
+    Evaluate (sets 0 (two (local 0) (ThenCompute Add (Number 1) NoOperations)))
+    ∷ Try (Evaluate (call (Calls 1) [])) (Default 2 NoItems) ∷ [])))
+    ∷ returns (local 0) ∷ []))) (function [] (Int ∷ Handle Heap ∷ []) (all (body ∷ [])) ∷ [])
+
+region_is_returned_from : ends 260 (calling_out (in_region (returns (Number 1) ∷ []))) [] ≡ Ended (Returned (pos 5))
+region_is_returned_from = refl
+
+call_throws_from_region : ends 260 (calling_out (in_region (Throw 5 None ∷ []))) [] ≡ Ended (Returned (pos 5))
+call_throws_from_region = refl
+
+source_throws_from_region : source_ends 600 (calling_out (in_region (Throw 5 None ∷ []))) [] ≡ Ended (Returned (pos 5))
+unfolding slt_of
+source_throws_from_region = refl
+
+-- its mark is in the first temporary, and the word behind the globals tells how many are open
+region_code : function_code [] [] (Some 0) (function [] (Int ∷ Handle Heap ∷ []) (all (in_region [] ∷ []))) ≡
+    instructions.Ask (requests.OpenLexical 3) ∷ Move 2 (Slot 4) ∷ instructions.Binary plain_binary.Add 4 (Slot 2) (Constant 1) ∷ instructions.StoreGlobal 0 (Slot 4)
+    ∷ Move 1 (Slot 3)
+    ∷ instructions.Ask (requests.CloseTo (Slot 2)) ∷ instructions.StoreGlobal 0 (Slot 2)
+    ∷ instructions.Finish 2 ∷ blocks
+region_code = refl
 
 -- ---- frame counts
 

@@ -1,6 +1,8 @@
 -- The steps of exceptions: a `try` is entered, an exception is thrown, and comes to the clauses of a handler.
-use Rattle.std.proofs.Common.{◌≡◌, ◌≢◌, ℕ, suc, ◌+◌, ◌≤◌, ◌<◌, Bool, true, false, List, [], ◌∷◌, length, Option, None, Some, slice_get, refl, sym, ap, subst, ◌∙◌, arith, inl, inr}
-use Rattle.std.specs.Prelude.{◌==◌, ◌%◌, ◌^◌, not, if◌then◌else◌}
+use Rattle.std.proofs.Common.{◌≡◌, ◌≢◌, ℕ, suc, ◌+◌, ◌≤◌, ◌<◌, Bool, true, false, List, [], ◌∷◌, length, Option, None, Some, refl, sym, ap, subst, ◌∙◌, arith, inl, inr}
+use Rattle.std.specs.List.{AllByRecursion}
+use Rattle.cyc_words.specs.Simulation.{IsDistinct}
+use Rattle.std.specs.Prelude.{Contains, ◌==◌, ◌%◌, ◌^◌, not, if◌then◌else◌}
 use Rattle.std.proofs.lemmas.Bool.{eq-eqb, eqb-true, false_from_ne_true}
 use Rattle.std.proofs.lemmas.Option.{same_Some}
 use Rattle.cyc_words.specs.Word.{IsWord as IsNumber, signed}
@@ -11,36 +13,41 @@ use Rattle.cyc_types.specs.TypedTrees as typed
 use Rattle.cyc_plain.specs.declared.instruction.Comparison.TheVariants as comparisons
 use Rattle.cyc_plain.specs.declared.instruction.Operand.{Operand}
 use Rattle.cyc_plain.specs.declared.instruction.Operand.TheVariants as operands
-use Rattle.cyc_plain.specs.declared.instruction.Instruction.{Instruction}
 use Rattle.cyc_plain.specs.declared.instruction.Instruction.TheVariants as instructions
 use Rattle.cyc_plain.specs.declared.limits.TheConstants.{RECORD_WORDS}
-use Rattle.cyc_plain.specs.Program.{CodePlace}
+use Rattle.cyc_plain.specs.Program.{CodePlace, places_of}
+use Rattle.cyc_plain.specs.declared.instruction.Request.TheVariants as requests
 use Rattle.cyc_plain.specs.Straight.{At}
 use Rattle.cyc_plain.specs.State as plain
 use Rattle.cyc_plain.specs.State.{Words, put, copied, Activation, Frame, Configuration}
-use Rattle.cyc_plain.specs.Step.{Choice, at, with_slots, advanced, operand_word, is_intact, lands, throws, tries, opens, performed}
+use Rattle.cyc_plain.specs.Step.{Choice, at, with_slots, advanced, operand_word, lands, throws, tries, opens, performed}
 use Rattle.cyc_plain.specs.Step as plain_step
 use Rattle.cyc_plain.proofs.SlotLaws.{put-same, put-other, copied-inside, copied-below, copied-above}
 use Rattle.cyc_plain.specs.Operators.{compares}
-use Rattle.cyc_meaning.specs.Values.{Value, Int, Operand as Kinded, words_of_kind}
-use Rattle.cyc_meaning.specs.State.{World, Environment, variable, made, opened, closed, with_local, region_at, ThrowWith, Entry, Needs, NeedsPlace, Discard, Rest, Join, Loop, CloseRegion, CloseLexical, EndLoan, Handler, Caller, Main, Focus, Evaluating, Executing, Proceeding, Naming, Throwing, Catching, Running, Ended}
-use Rattle.cyc_meaning.specs.Step.{inside, region_end, step}
+use Rattle.cyc_meaning.specs.Values.{Int, Operand as Kinded, words_of_kind}
+use Rattle.cyc_meaning.specs.State.{World, Environment, variable, made, opened, closed, with_local, region_at, ThrowWith, Entry, Needs, NeedsPlace, Discard, Rest, Join, Loop, CloseRegion, CloseLexical, EndLoan, Handler, Caller, Main, Evaluating, Executing, Proceeding, Naming, Throwing, Catching, Running, Ended, State, Region, Access}
+use Rattle.cyc_meaning.specs.Nesting.{IsNested}
+use Rattle.cyc_meaning.specs.Regions.{closing_lexical}
+use Rattle.cyc_meaning.specs.Step.{inside}
 use Rattle.cyc_meaning.specs.Exceptions.{catches}
 use Rattle.cyc_lower.specs.declared.statements.Exits.{Exits}
 use Rattle.cyc_lower.specs.Slots.{slot_of}
-use Rattle.cyc_lower.specs.Lowering.{tag_operand, other_jump, lower_program}
+use Rattle.cyc_lower.specs.Lowering.{tag_operand, lower_program, inside_try, scopes_of}
 use Rattle.cyc_objects.specs.Tables.{Variable, Tables, with_row, with_handle}
+use Rattle.cyc_objects.specs.Related as objects
+use Rattle.cyc_objects.proofs.Scopes.{scopes-counted, ends-newest}
 use Rattle.cyc_objects.specs.Words.{Is}
 use Rattle.cyc_objects.proofs.Values.{Is-grows, Grows-row, Grows-handle}
 use Rattle.cyc_lower.proofs.Slots.{slot-room, room-inside}
 use Rattle.cyc_lower.proofs.Widths.{kind_positive, HasRoom, Outside}
-use Rattle.cyc_lower.proofs.Moves.{moved_slots, moves, moved_is, moved_elsewhere}
-use Rattle.cyc_lower.proofs.Stands.{ThrownAt, CaughtAt, ItemsAt, ClausesAt}
+use Rattle.cyc_lower.proofs.Moves.{moved_slots, put_elsewhere, moves, moved_is, moved_elsewhere}
+use Rattle.cyc_lower.proofs.Stands.{CaughtAt, ItemsAt, ClausesAt, KeptAt, RestoredAt}
 use Rattle.cyc_lower.proofs.Sharing.{shared_less, shared_declared, row_declared, shared_opened, shared_closed, shared_left}
-use Rattle.cyc_lower.proofs.Relation.{AreCounted, behind_records, IsIntact, Opened, HandlersStand, CatchesAt, CaughtBy, DataIn, types_at, starts_at, held, callers, homes, Shared, SharedAt, StatementStack, Related, Matches, as_operand, behind_statement, in_place, by_jumps, code_of, bounds_at, base_of, floor, Arrives, DataAt}
-use Rattle.cyc_lower.proofs.Data.{handlers_same, handlers_beside, data_written, data_declared, data_returned, data_grows, record_below}
-use Rattle.cyc_lower.proofs.Accesses.{IsWell, is_declared, is_closed, home_there}
-use Rattle.cyc_lower.proofs.Matched.{IsMatched, silently, by_one, by_two, by_two_places, place_in, shared_within, shared_way}
+use Rattle.cyc_lower.proofs.Relation.{behind_records, scopes_in, IsTold, IsKept, HasScopes, SharedBy, IsIntact, HandlersStand, DataIn, types_at, starts_at, held, callers, SharedAt, StatementStack, Matches, as_operand, behind_statement, in_place, by_jumps, code_of, bounds_at, floor, Arrives, DataAt}
+use Rattle.cyc_lower.proofs.Data.{handlers_beside, data_written, data_declared, data_returned, data_grows}
+use Rattle.cyc_lower.proofs.Accesses.{is_declared, is_closed, home_there}
+use Rattle.cyc_lower.proofs.Matched.{Inside, inside_by, inside_within, IsMatched, Executes, executes, by_places, known, elsewhere, output_way, silently, by_one, by_one_printed, by_two, place_in}
+use Rattle.cyc_lower.proofs.Closings.{closing_rest, closing_distinct, closing_known, closing_apart, closing_executes, data_told, shared_behind, settled}
 use Rattle.cyc_lower.proofs.Handling.{intact, closes_here, newest_open, caught_by, raised}
 use Rattle.cyc_lower.proofs.Evaluations.{IsStep}
 use Rattle.cyc_lower.proofs.Values.{taken, not_taken}
@@ -53,8 +60,7 @@ module _ (source : Program) (pages calls : ℕ) where
   never_caught g slots handlers frames (Handler handler ∷ k) stand = stand
   never_caught g slots handlers frames (Caller e ∷ k) (none, below) = let f : plain.Caught ∷ handlers ≡ [] = none in cc
   never_caught g slots handlers frames (Main ∷ k) (none, last) = let f : plain.Caught ∷ handlers ≡ [] = none in cc
-  never_caught g slots handlers frames (CloseLexical region ∷ k) stand = stand
-  never_caught g slots handlers frames (EndLoan lent ∷ k) stand = stand
+  never_caught g slots handlers frames (CloseLexical region ∷ k) (marked, stand) = never_caught g slots handlers frames k stand
   never_caught g slots handlers frames (entry ∷ k) stand = never_caught g slots handlers frames k stand
 
   opens_one : (choice : Choice) (c : Configuration) (first p : ℕ) (handlers : List plain.Handler) (g : ℕ) (slots : Words) (frames : List Frame) (k : List Entry) → HandlersStand source g slots handlers frames k
@@ -226,86 +232,165 @@ module _ (source : Program) (pages calls : ℕ) where
       ap (λ (handlers : List plain.Handler). lands c tag value a (f ∷ rest) (throws c tag value f.caller rest) handlers) are
       ∙ ap (λ (b : Bool). if b then plain.Running (catching_in tag value index first later c a (f ∷ rest)) else plain.Stuck c.output c.input) (intact a.slots first contents same)
 
-  -- fewer calls are under way
-  abbrev shared_fewer : (k : List Entry) (e : Environment) (w : World) (c : Configuration) (many : ℕ) → many ≤ length c.frames → SharedAt source pages calls k e w c
-      → Shared pages calls w (e.home ∷ homes k) (AreCounted e.counters k) c.output c.input c.store many
-  shared_fewer k e w c many less s = record {
-    tables = s.tables;
-    same_output = s.same_output;
-    same_input = s.same_input;
-    inside = s.inside;
-    same_pages = s.same_pages;
-    related = s.related;
-    globals = s.globals;
-    variables = s.variables;
-    few_pages = s.few_pages;
-    fits = omega (arith, less, s.fits);
-    counters = s.counters;
-  }
+  both_elsewhere : (slots : Words) (first tag value m : ℕ) → Outside first 2 m → put (put slots first tag) (suc first) value m ≡ slots m
+  both_elsewhere slots first tag value m (inl below) =
+      put-other (put slots first tag) (suc first) m value (λ equal. omega (arith, equal, below)) ∙ put-other slots first m tag (λ equal. omega (arith, equal, below))
+  both_elsewhere slots first tag value m (inr above) =
+      put-other (put slots first tag) (suc first) m value (λ equal. omega (arith, equal, above)) ∙ put-other slots first m tag (λ equal. omega (arith, equal, above))
+
+  -- An exception comes to the newest handler of a call: by the instruction that throws it, and then the handler's own.
+  module _ (tag value : ℕ) (handler : Clauses) (k : List Entry) (e : Environment) (w : World) (c : Configuration) (x o : Operand) (a : Activation) (rest : List Frame)
+      (index first : ℕ) (contents : Words) (later : List plain.Handler) (exits : Exits) (m p out q : ℕ) (word : IsNumber tag)
+      (here : At (code_of source c.active.function) c.active.next (instructions.Throw x o)) (x_is : operand_word c.active.slots x ≡ tag) (o_is : operand_word c.active.slots o ≡ value)
+      (less : length rest ≤ length c.frames) (same : throws c tag value c.active c.frames ≡ throws c tag value a rest)
+      (are : a.handlers ≡ plain.Open index first contents ∷ later) (first_is : first ≡ floor source a.function k) (whole : IsIntact a.slots first contents)
+      (opening : At (code_of source a.function) index (instructions.Try (floor source a.function k) m))
+      (clauses : ClausesAt (code_of source a.function) (bounds_at source a.function) (types_at source a.function) handler out exits (floor source a.function k) p q)
+      (over : At (code_of source a.function) out (instructions.Jump q)) (stack : StatementStack source a.function exits q rest k) where
+    abbrev thrown_to : Configuration
+    thrown_to = catching_in tag value index first later c a rest
+
+    abbrev told_slots : Words
+    told_slots = put (put a.slots first tag) (suc first) value
+
+    -- the handler is closed, and what it holds is told
+    abbrev resumed : Configuration
+    resumed = record c { active = record a { next = m; slots = told_slots; handlers = later }; frames = rest }
+
+    abbrev old_state : State
+    old_state = Running (Throwing tag value) (Handler handler ∷ k) e w
+
+    abbrev new_state : State
+    new_state = Running (Catching tag value handler) k e w
+
+    tag_is : told_slots (floor source a.function k) ≡ tag
+    tag_is = ap told_slots (sym first_is) ∙ put-other (put a.slots first tag) (suc first) first value (λ equal. omega (arith, equal)) ∙ put-same a.slots first tag
+
+    value_is : told_slots (floor source a.function k + 1) ≡ value
+    value_is = ap told_slots (let z : floor source a.function k + 1 ≡ suc first = omega (arith, first_is) in z) ∙ put-same (put a.slots first tag) (suc first) value
+
+    -- what is shared then
+    abbrev shared_fewer : (closing : Option ℕ) → SharedBy source closing pages calls (Handler handler ∷ k) e w c → SharedBy source closing pages calls k e w resumed
+    shared_fewer closing s = record {
+      tables = s.tables;
+      same_output = s.same_output;
+      same_input = s.same_input;
+      inside = s.inside;
+      same_pages = s.same_pages;
+      related = s.related;
+      globals = s.globals;
+      variables = s.variables;
+      few_pages = s.few_pages;
+      fits = omega (arith, less, s.fits);
+      counters = s.counters;
+    }
+
+    written : (t : Tables) → DataAt source t a.function w.objects e.locals (callers k) a.slots c.globals rest → HandlersStand source a.function a.slots later rest k
+        → DataAt source t a.function w.objects e.locals (callers k) told_slots c.globals rest × HandlersStand source a.function told_slots later rest k
+    written t facts others =
+        data_written source t a.function w.objects e.locals k a.slots told_slots later c.globals rest first 2 (omega (arith, first_is)) (λ n away. both_elsewhere a.slots first tag value n away) (facts, others)
+
+    -- two instructions, and then those at these places
+    by_handler : (places : List CodePlace) → Inside source pages calls w resumed → c.output ≡ w.output
+        → AllByRecursion (λ r. place_in source pages calls c ≢ r) places → AllByRecursion (λ r. place_in source pages calls thrown_to ≢ r) places → IsDistinct places
+        → AllByRecursion (Contains (places_of (lower_program source))) places
+        → Executes source pages calls old_state new_state places (plain.Running resumed) → IsMatched source pages calls old_state (plain.Running c)
+    by_handler places inside output apart_first apart_second distinct inside_all goes =
+        let apart_two : place_in source pages calls c ≢ place_in source pages calls thrown_to =
+        elsewhere source pages calls (place_in source pages calls c) (place_in source pages calls thrown_to) _ _ here opening (λ equal. let f : instructions.Throw x o ≡ instructions.Try (floor source a.function k) m = equal in cc) in
+        let leads : (choice : Choice) → performed (lower_program source) choice c (instructions.Throw x o) ≡ plain.Running thrown_to =
+        λ choice. thrown tag value c x o choice x_is o_is ∙ same ∙ lands_on tag value index first contents later c a rest are whole in
+        by_places source pages calls old_state new_state (place_in source pages calls c) (place_in source pages calls thrown_to ∷ places) (plain.Running c) refl
+        ((apart_two, apart_first), (apart_second, distinct)) (known source pages calls c _ here, (known source pages calls thrown_to _ opening, inside_all))
+        (executes source pages calls old_state new_state c (instructions.Throw x o) (place_in source pages calls thrown_to ∷ places) here
+        (λ choice. ap (plain_step.is_within pages calls) (leads choice) ∙ inside_within source pages calls w thrown_to inside)
+        (output_way source pages calls (Throwing tag value) (Handler handler ∷ k) e w c output)
+        (λ choice. subst (Executes source pages calls old_state new_state (place_in source pages calls thrown_to ∷ places)) (sym (leads choice))
+        (executes source pages calls old_state new_state thrown_to (instructions.Try (floor source a.function k) m) places opening
+        (λ other. inside_within source pages calls w resumed inside)
+        (output_way source pages calls (Throwing tag value) (Handler handler ∷ k) e w thrown_to output)
+        (λ other. goes))))
+
+    inside_resumed : Inside source pages calls w c → Inside source pages calls w resumed
+    inside_resumed (output, few, fits, asked) = (output, few, omega (arith, fits, less), asked)
+
+    -- and then the lexical regions are closed that were opened in the `try`
+    by_restoring : (scopes : Option ℕ) → scopes_of source ≡ scopes → objects.scopes w.regions ≡ scopes_in k → (shared : SharedBy source scopes pages calls (Handler handler ∷ k) e w c)
+        → DataAt source shared.tables a.function w.objects e.locals (callers k) a.slots c.globals rest → HandlersStand source a.function a.slots later rest k
+        → RestoredAt (code_of source a.function) (bounds_at source a.function) (types_at source a.function) scopes (floor source a.function k + RECORD_WORDS) m p
+        → IsKept scopes a.slots (floor source a.function k + RECORD_WORDS) (scopes_in k) → IsMatched source pages calls old_state (plain.Running c)
+    by_restoring None is counted shared facts others end kept =
+        by_handler [] (inside_resumed (inside_by source None pages calls (Handler handler ∷ k) e w c shared)) shared.same_output tt tt tt tt
+        (subst (λ n. Matches source pages calls new_state (plain.Running (at resumed n))) (sym end)
+        (shared_fewer None shared, written shared.tables facts others, (exits, out, q, clauses, over, stack, word, tag_is, value_is)))
+    by_restoring (Some place) is counted shared facts others (ask, tells) kept =
+        let slot = floor source a.function k + RECORD_WORDS in
+        let inside = inside_resumed (inside_by source (Some place) pages calls (Handler handler ∷ k) e w c shared) in
+        let fewer = shared_fewer (Some place) shared in
+        let (holds, stands) = written shared.tables facts others in
+        by_handler (place_in source pages calls resumed ∷ closing_rest source pages calls (scopes_of source) resumed) inside shared.same_output
+        (closing_apart source pages calls (scopes_of source) resumed slot p ask tells (place_in source pages calls c) _ here
+        (λ equal. let f : instructions.Throw x o ≡ instructions.Ask (requests.CloseTo (operands.Slot slot)) = equal in cc)
+        (λ global equal. let f : instructions.Throw x o ≡ instructions.StoreGlobal global (operands.Slot slot) = equal in cc))
+        (closing_apart source pages calls (scopes_of source) resumed slot p ask tells (place_in source pages calls thrown_to) _ opening
+        (λ equal. let f : instructions.Try (floor source a.function k) m ≡ instructions.Ask (requests.CloseTo (operands.Slot slot)) = equal in cc)
+        (λ global equal. let f : instructions.Try (floor source a.function k) m ≡ instructions.StoreGlobal global (operands.Slot slot) = equal in cc))
+        (closing_distinct source pages calls (scopes_of source) resumed) (closing_known source pages calls (scopes_of source) resumed slot p ask tells)
+        (closing_executes source pages calls (Throwing tag value) (Handler handler ∷ k) e w new_state resumed (scopes_of source) slot (scopes_in k) p ask tells inside
+        (both_elsewhere a.slots first tag value slot (inr (omega (arith, first_is))) ∙ kept) (omega (arith, counted, shared.counters.1.2))
+        (λ choice allowed. (
+          settled source pages calls place k e w resumed (scopes_in k) p choice counted refl allowed fewer,
+          (data_told source pages calls shared.tables a.function w.objects e.locals (callers k) told_slots c.globals rest (scopes_in k) holds, stands),
+          (exits, out, q, clauses, over, stack, word, tag_is, value_is),
+        )))
 
   comes_to : (tag value : ℕ) (handler : Clauses) (k : List Entry) (e : Environment) (w : World) (c : Configuration) (x o : Operand) (a : Activation) (rest : List Frame)
-      → (shared : SharedAt source pages calls k e w c) → IsNumber tag → At (code_of source c.active.function) c.active.next (instructions.Throw x o)
+      → objects.scopes w.regions ≡ scopes_in k → (shared : SharedBy source (scopes_of source) pages calls k e w c) → IsNumber tag → At (code_of source c.active.function) c.active.next (instructions.Throw x o)
       → operand_word c.active.slots x ≡ tag → operand_word c.active.slots o ≡ value → length rest ≤ length c.frames → throws c tag value c.active c.frames ≡ throws c tag value a rest
       → DataAt source shared.tables a.function w.objects e.locals (callers k) a.slots c.globals rest → HandlersStand source a.function a.slots a.handlers rest (Handler handler ∷ k)
       → IsMatched source pages calls (Running (Throwing tag value) (Handler handler ∷ k) e w) (plain.Running c)
-  comes_to tag value handler k e w c x o a rest shared word here x_is o_is less same facts stand =
-      let t = floor source a.function k in
-      let (index, first, contents, later, are, (first_is, whole, (exits, p, out, q, opening, clauses, over, stack), others)) = newest_open a.handlers _ stand in
-      let d : Configuration = catching_in tag value index first later c a rest in
-      let slots = put (put a.slots first tag) (suc first) value in
-      let shared_there = shared_fewer k e w c (length rest) less shared in
-      let elsewhere : (m : ℕ) → Outside first 2 m → slots m ≡ a.slots m = λ m out. both_elsewhere a.slots first tag value m out in
-      let written = data_written source shared.tables a.function w.objects e.locals k a.slots slots later c.globals rest first 2 (omega (arith, first_is)) elsewhere (facts, others) in
-      let tag_is : slots t ≡ tag = ap slots (sym first_is) ∙ put-other (put a.slots first tag) (suc first) first value (λ equal. omega (arith, equal)) ∙ put-same a.slots first tag in
-      let value_is : slots (t + 1) ≡ value = ap slots (let z : t + 1 ≡ suc first = omega (arith, first_is) in z) ∙ put-same (put a.slots first tag) (suc first) value in
-      by_two_places source pages calls d refl shared (shared_within source pages calls k e w d shared_there) (shared_way source pages calls (Throwing tag value) (Handler handler ∷ k) e w d shared_there)
-      here (λ choice. thrown tag value c x o choice x_is o_is ∙ same ∙ lands_on tag value index first contents later c a rest are whole)
-      opening
-      (λ (equal : place_in source pages calls c ≡ place_in source pages calls d).
-      let f : instructions.Throw x o ≡ instructions.Try t p
-      = same_Some (instructions.Throw x o) (instructions.Try t p) (sym here ∙ ap (λ (place : CodePlace). slice_get (code_of source place.function) place.index) equal ∙ opening) in
-      absurd (let g : instructions.Throw x o ≡ instructions.Try t p = f in cc))
-      (λ choice. (shared_there, written, (exits, out, q, clauses, over, stack, word, tag_is, value_is)))
-    where
-      both_elsewhere : (slots : Words) (first tag value m : ℕ) → Outside first 2 m → put (put slots first tag) (suc first) value m ≡ slots m
-      both_elsewhere slots first tag value m (inl below) =
-          put-other (put slots first tag) (suc first) m value (λ equal. omega (arith, equal, below)) ∙ put-other slots first m tag (λ equal. omega (arith, equal, below))
-      both_elsewhere slots first tag value m (inr above) =
-          put-other (put slots first tag) (suc first) m value (λ equal. omega (arith, equal, above)) ∙ put-other slots first m tag (λ equal. omega (arith, equal, above))
+  comes_to tag value handler k e w c x o a rest counted shared word here x_is o_is less same facts stand =
+      let (index, first, contents, later, are, (first_is, whole, kept, (exits, m, p, out, q, opening, restoring, clauses, over, stack), others)) = newest_open a.handlers _ stand in
+      by_restoring tag value handler k e w c x o a rest index first contents later exits m p out q word here x_is o_is less same are first_is whole opening clauses over stack
+      (scopes_of source) refl counted shared facts others restoring kept
 
-  pub throwing : (tag value : ℕ) (k : List Entry) (e : Environment) (w : World) (c : Configuration) → IsStep source pages calls (Throwing tag value) k e w c
-  throwing tag value [] e w c well (shared, fits, word, x, o, here, x_is, o_is, a, rest, less, same, facts, (none, last)) =
-      by_one source pages calls refl shared here
+  told_has : (scopes : Option ℕ) → (scopes ≡ None → ⊥) → HasScopes scopes
+  told_has None never = never refl
+  told_has (Some place) never = tt
+
+  pub throwing : (tag value : ℕ) (k : List Entry) (e : Environment) (w : World) (c : Configuration) → IsNested k e w → IsStep source pages calls (Throwing tag value) k e w c
+  throwing tag value [] e w c nested well (shared, fits, word, x, o, here, x_is, o_is, a, rest, less, same, facts, (none, last)) =
+      by_one_printed source pages calls refl shared.same_output here
       (λ choice. subst (Matches source pages calls (Ended (Uncaught tag (signed value)) w.output w.input)) (sym (thrown tag value c x o choice x_is o_is ∙ same ∙ beyond_all tag value c a rest none last)) (refl, shared.same_output))
-  throwing tag value (Needs awaiting ∷ k) e w c well (shared, fits, word, x, o, here, x_is, o_is, a, rest, less, same, facts, stand) =
+  throwing tag value (Needs awaiting ∷ k) e w c nested well (shared, fits, word, x, o, here, x_is, o_is, a, rest, less, same, facts, stand) =
       silently source pages calls (Running (Throwing tag value) (Needs awaiting ∷ k) e w) (Running (Throwing tag value) k e w) (plain.Running c) refl
-      (shared_less source pages calls awaiting k e w c shared, fits, word, x, o, here, x_is, o_is, a, rest, less, same, facts, caught_by source a rest k stand)
+      (shared_less source (scopes_of source) pages calls awaiting k e w c shared, fits, word, x, o, here, x_is, o_is, a, rest, less, same, facts, caught_by source a rest k stand)
       (omega arith)
-  throwing tag value (Discard ∷ k) e w c well (shared, fits, word, x, o, here, x_is, o_is, a, rest, less, same, facts, stand) =
+  throwing tag value (Discard ∷ k) e w c nested well (shared, fits, word, x, o, here, x_is, o_is, a, rest, less, same, facts, stand) =
       silently source pages calls (Running (Throwing tag value) (Discard ∷ k) e w) (Running (Throwing tag value) k e w) (plain.Running c) refl
       (shared, fits, word, x, o, here, x_is, o_is, a, rest, less, same, facts, caught_by source a rest k stand)
       (omega arith)
-  throwing tag value (Rest js ∷ k) e w c well (shared, fits, word, x, o, here, x_is, o_is, a, rest, less, same, facts, stand) =
+  throwing tag value (Rest js ∷ k) e w c nested well (shared, fits, word, x, o, here, x_is, o_is, a, rest, less, same, facts, stand) =
       silently source pages calls (Running (Throwing tag value) (Rest js ∷ k) e w) (Running (Throwing tag value) k e w) (plain.Running c) refl
       (shared, fits, word, x, o, here, x_is, o_is, a, rest, less, same, facts, caught_by source a rest k stand)
       (omega arith)
-  throwing tag value (Join ∷ k) e w c well (shared, fits, word, x, o, here, x_is, o_is, a, rest, less, same, facts, stand) =
+  throwing tag value (Join ∷ k) e w c nested well (shared, fits, word, x, o, here, x_is, o_is, a, rest, less, same, facts, stand) =
       silently source pages calls (Running (Throwing tag value) (Join ∷ k) e w) (Running (Throwing tag value) k e w) (plain.Running c) refl
       (shared, fits, word, x, o, here, x_is, o_is, a, rest, less, same, facts, caught_by source a rest k stand)
       (omega arith)
-  throwing tag value (Loop condition body ∷ k) e w c well (shared, fits, word, x, o, here, x_is, o_is, a, rest, less, same, facts, stand) =
+  throwing tag value (Loop condition body ∷ k) e w c nested well (shared, fits, word, x, o, here, x_is, o_is, a, rest, less, same, facts, stand) =
       silently source pages calls (Running (Throwing tag value) (Loop condition body ∷ k) e w) (Running (Throwing tag value) k e w) (plain.Running c) refl
       (shared, fits, word, x, o, here, x_is, o_is, a, rest, less, same, facts, caught_by source a rest k stand)
       (omega arith)
-  throwing tag value (CloseRegion region home ∷ k) e w c well (shared, fits, word, x, o, here, x_is, o_is, a, rest, less, same, facts, stand) =
+  throwing tag value (CloseRegion region home ∷ k) e w c nested well (shared, fits, word, x, o, here, x_is, o_is, a, rest, less, same, facts, stand) =
       let found = is_closed (Throwing tag value) region home k e w well in
       silently source pages calls (Running (Throwing tag value) (CloseRegion region home ∷ k) e w) (Running (Throwing tag value) k (record e { home = home }) (closed w region found.region)) (plain.Running c) found.gives
-      (shared_closed source pages calls k e w c region home found.region found.there shared, fits, word, x, o, here, x_is, o_is, a, rest, less, same, facts, caught_by source a rest k stand)
+      (shared_closed source (scopes_of source) pages calls k e w c region home found.region found.there shared, fits, word, x, o, here, x_is, o_is, a, rest, less, same, facts, caught_by source a rest k stand)
       (omega arith)
-  throwing tag value (Caller outer ∷ k) e w c well (shared, fits, word, x, o, here, x_is, o_is, a, [], less, same, facts, (none, stand)) = absurd stand
-  throwing tag value (Caller outer ∷ k) e w c well (shared, fits, word, x, o, here, x_is, o_is, a, f ∷ rest, less, same, facts, (none, stand)) =
+  throwing tag value (Caller outer ∷ k) e w c nested well (shared, fits, word, x, o, here, x_is, o_is, a, [], less, same, facts, (none, stand)) = absurd stand
+  throwing tag value (Caller outer ∷ k) e w c nested well (shared, fits, word, x, o, here, x_is, o_is, a, f ∷ rest, less, same, facts, (none, stand)) =
       silently source pages calls (Running (Throwing tag value) (Caller outer ∷ k) e w) (Running (Throwing tag value) k outer w) (plain.Running c) refl (
-        shared_left source pages calls k e outer w c shared,
+        shared_left source (scopes_of source) pages calls k e outer w c shared,
         omega (arith, fits),
         word,
         x,
@@ -321,20 +406,36 @@ module _ (source : Program) (pages calls : ℕ) where
         caught_by source f.caller rest k stand,
       )
       (omega arith)
-  throwing tag value (NeedsPlace awaiting ∷ k) e w c well (shared, fits, word, x, o, here, x_is, o_is, a, rest, less, same, facts, stand) =
+  throwing tag value (NeedsPlace awaiting ∷ k) e w c nested well (shared, fits, word, x, o, here, x_is, o_is, a, rest, less, same, facts, stand) =
       silently source pages calls (Running (Throwing tag value) (NeedsPlace awaiting ∷ k) e w) (Running (Throwing tag value) k e w) (plain.Running c) refl
       (shared, fits, word, x, o, here, x_is, o_is, a, rest, less, same, facts, caught_by source a rest k stand)
       (omega arith)
-  throwing tag value (CloseLexical region ∷ k) e w c well (shared, fits, word, x, o, here, x_is, o_is, a, rest, less, same, facts, stand) = absurd stand
-  throwing tag value (EndLoan lent ∷ k) e w c well (shared, fits, word, x, o, here, x_is, o_is, a, rest, less, same, facts, stand) = absurd stand
-  throwing tag value (Handler handler ∷ k) e w c well (shared, fits, word, x, o, here, x_is, o_is, a, rest, less, same, facts, stand) =
-      comes_to tag value handler k e w c x o a rest shared word here x_is o_is less same facts stand
-  throwing tag value (Main ∷ []) e w c well (shared, fits, word, x, o, here, x_is, o_is, a, [], less, same, facts, (none, last)) =
+  throwing tag value (CloseLexical region ∷ k) e w c nested well (shared, fits, word, x, o, here, x_is, o_is, a, rest, less, same, facts, (marked, stand)) =
+      let ends = ends-newest region k e w nested in
+      let has = told_has (scopes_of source) (λ none. by_none none shared) in
+      silently source pages calls (Running (Throwing tag value) (CloseLexical region ∷ k) e w) (Running (Throwing tag value) k e (closed w region ends.region)) (plain.Running c)
+      (ap (λ (found : Access Region). closing_lexical found (Throwing tag value) region k e w) ends.found)
+      (shared_behind source pages calls (scopes_of source) region k e w c ends has has shared, fits, word, x, o, here, x_is, o_is, a, rest, less, same, facts, caught_by source a rest k stand)
+      (omega arith)
+    where
+      by_none : scopes_of source ≡ None → SharedBy source (scopes_of source) pages calls (CloseLexical region ∷ k) e w c → ⊥
+      by_none none s =
+          let told : IsTold (scopes_of source) c.globals (suc (scopes_in k)) =
+          (subst (λ (closing : Option ℕ). SharedBy source closing pages calls (CloseLexical region ∷ k) e w c) none s).counters.1 in
+          let many : suc (scopes_in k) ≡ 0 = subst (λ (scopes : Option ℕ). IsTold scopes c.globals (suc (scopes_in k))) none told in
+          omega (arith, many)
+  throwing tag value (EndLoan lent ∷ k) e w c nested well (shared, fits, word, x, o, here, x_is, o_is, a, rest, less, same, facts, stand) =
+      silently source pages calls (Running (Throwing tag value) (EndLoan lent ∷ k) e w) (Running (Throwing tag value) k e w) (plain.Running c) refl
+      (shared, fits, word, x, o, here, x_is, o_is, a, rest, less, same, facts, caught_by source a rest k stand)
+      (omega arith)
+  throwing tag value (Handler handler ∷ k) e w c nested well (shared, fits, word, x, o, here, x_is, o_is, a, rest, less, same, facts, stand) =
+      comes_to tag value handler k e w c x o a rest (scopes-counted (Handler handler ∷ k) e w nested) shared word here x_is o_is less same facts stand
+  throwing tag value (Main ∷ []) e w c nested well (shared, fits, word, x, o, here, x_is, o_is, a, [], less, same, facts, (none, last)) =
       silently source pages calls (Running (Throwing tag value) (Main ∷ []) e w) (Running (Throwing tag value) [] e w) (plain.Running c) refl
       (shared, omega (arith, fits), word, x, o, here, x_is, o_is, a, [], less, same, facts, (none, refl))
       (omega arith)
-  throwing tag value (Main ∷ entry ∷ k) e w c well (shared, fits, word, x, o, here, x_is, o_is, a, [], less, same, facts, (none, last)) = absurd last
-  throwing tag value (Main ∷ k) e w c well (shared, fits, word, x, o, here, x_is, o_is, a, f ∷ rest, less, same, facts, (none, last)) = absurd last
+  throwing tag value (Main ∷ entry ∷ k) e w c nested well (shared, fits, word, x, o, here, x_is, o_is, a, [], less, same, facts, (none, last)) = absurd last
+  throwing tag value (Main ∷ k) e w c nested well (shared, fits, word, x, o, here, x_is, o_is, a, f ∷ rest, less, same, facts, (none, last)) = absurd last
 
   -- ---- the clauses of a handler
 

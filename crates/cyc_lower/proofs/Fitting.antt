@@ -1,12 +1,14 @@
 -- What lowering asks of a tree: each number that it has names something that is there, and each value has room where it comes to. The tree
 -- of a well typed program whose numbers are in range has it.
-use Rattle.std.proofs.Common.{◌≡◌, ◌⊎◌, ℕ, ◌≤◌, ◌<◌, Bool, true, false, List, [], ◌∷◌, length, map, Option, None, Some, slice_get, refl, sym, ap, subst, ◌∙◌, arith, inl, inr, suc, length-append}
-use Rattle.std.specs.Prelude.{option_map, if◌then◌else◌, not, ◌&&◌}
-use Rattle.std.proofs.lemmas.Option.{same_Some}
+use Rattle.std.proofs.Common.{◌≡◌, ◌⊎◌, ℕ, ◌≤◌, ◌<◌, Bool, true, false, List, [], ◌∷◌, length, map, Option, None, Some, slice_get, refl, sym, ap, subst, ◌∙◌, arith, inl, inr, suc, length-append, zero, ◌++◌}
+use Rattle.std.specs.Prelude.{option_map, if◌then◌else◌, not, ◌&&◌, ◌||◌}
+use Rattle.std.proofs.lemmas.Option.{same_Some, none-some}
 use Rattle.cyc_words.specs.Word.{IsWord}
 use Rattle.cyc_syntax.specs.declared.tree.PointerKind.{PointerKind}
 use Rattle.cyc_syntax.specs.declared.tree.PointerKind.TheVariants as marks
 use Rattle.cyc_types.specs.declared.region.Region.{Region}
+use Rattle.cyc_types.specs.declared.region.Region.TheVariants.{Variable}
+use Rattle.cyc_types.specs.declared.scope.ScopeKind.TheVariants as scopes
 use Rattle.cyc_types.specs.declared.typed.Kind.{Kind}
 use Rattle.cyc_types.specs.declared.typed.Kind.TheVariants as kinds
 use Rattle.cyc_types.specs.declared.typed.Callee.{Callee}
@@ -16,22 +18,25 @@ use Rattle.cyc_types.specs.declared.typed.PointerOperator.{PointerOperator}
 use Rattle.cyc_types.specs.declared.typed.PointerOperator.TheVariants as pointers
 use Rattle.cyc_types.specs.Types.{Ty, words_of, words_of_mark, substituted_ty, ValueType, Void, Value, result_type}
 use Rattle.cyc_types.specs.Types as type_forms
-use Rattle.cyc_types.specs.TypedTrees.{Load, New, OnHeap, AsUnique, ByHandle, Initial, Plain, Fields, Array, Dereference, Target, Lvalue, Local, Global, Expression, Number, NullPointer, Copy, Peek, Call, Unary, Binary, Assign, Converted, Convert, Arguments, NoArguments, MoreArguments, Operations, NoOperations, ThenCompute, ThenTest, ThenPointer, Statement, Block, Empty, Evaluate, If, While, Return, Break, Continue, Items, NoItems, MoreItems, Execute, Declare, Signature, StructType, GlobalVariable, Function, Program, Store, Member, Element, type_of_place, type_of, HeapRegion, Counter, Move, AddressOf, AddressOfCell, NumberOfElements, FreeUnique, FreeKey, ThenPointerPeek, Side, VariableSide, CellSide, Swap, Throw, Try, Clauses, NoClauses, Default, Case}
+use Rattle.cyc_types.specs.TypedTrees.{Load, New, OnHeap, AsUnique, ByHandle, Initial, Plain, Fields, Array, Dereference, Target, Lvalue, Local, Global, Expression, Number, NullPointer, Copy, Peek, Call, Unary, Binary, Assign, Converted, Convert, Arguments, NoArguments, MoreArguments, Operations, NoOperations, ThenCompute, ThenTest, ThenPointer, Statement, Block, Empty, Evaluate, If, While, Return, Break, Continue, Items, NoItems, MoreItems, Execute, Declare, Signature, StructType, GlobalVariable, Function, Program, Store, Member, Element, type_of_place, type_of, HeapRegion, Counter, Move, AddressOf, AddressOfCell, NumberOfElements, FreeUnique, FreeKey, ThenPointerPeek, Side, VariableSide, CellSide, Swap, Throw, Try, Clauses, NoClauses, Default, Case, DeclareRegion, OpenRegion, DeclareAlias, DeclareKey}
 use Rattle.cyc_types.specs.typing.Scopes.{signature_of_ints}
+use Rattle.cyc_types.specs.typing.Statements.{with_region_of}
 use Rattle.cyc_types.specs.typing.Tests as tests
 use Rattle.cyc_types.specs.typing.Expressions.{instantiated, type_of_side}
-use Rattle.cyc_types.specs.typing.WellTyped.{with_counter, Context, PointerOperation, adds, subtracts, equals, differs, thin_null, thin_there, fat_null, fat_there, null_is, null_is_not, IsCallee, Converts, IsPeek, WellTyped, IsCell, IsConverted, ArePassed, IsChain, IsCondition, IsReturned, IsInitial, WellTypedStatement, WellTypedItems, behind, in_block, in_body, with_local, body_context, AreWellTypedFunctions, AreWellTypedGlobals, IsWellTypedProgram, IsLeft, IsMade, IsSide, IsThrown, IsCaught, WellTypedClauses, with_caught, behind_clause}
+use Rattle.cyc_types.specs.typing.WellTyped.{with_counter, Context, PointerOperation, adds, subtracts, equals, differs, thin_null, thin_there, fat_null, fat_there, null_is, null_is_not, IsCallee, Converts, IsPeek, WellTyped, IsCell, IsConverted, ArePassed, IsChain, IsCondition, IsReturned, IsInitial, WellTypedStatement, WellTypedItems, behind, in_block, in_body, with_local, body_context, AreWellTypedFunctions, AreWellTypedGlobals, IsWellTypedProgram, IsLeft, IsMade, IsSide, IsThrown, IsCaught, WellTypedClauses, with_caught, behind_clause, with_opened, with_key_opened, with_region}
 use Rattle.cyc_types.specs.Numbered.{Numbering, signatures_of, IsSignature, argument_count, numbering_of}
 use Rattle.cyc_meaning.specs.Pointers.{result_kind as operator_kind}
 use Rattle.cyc_lower.specs.Lowerable.{IsLowerable, IsLowerableConverted, AreLowerableArguments, AreLowerableOperations, IsLowerableReturn, IsLowerableInitial, IsLowerableStatement, AreLowerableItems, AreLowerableFunctions, IsLowerableProgram, is_comparison, are_sums, stands_alone, IsLowerableCell, IsLowerableObject, IsLowerableSide, IsLowerableThrown, IsLowerableCaught, AreLowerableClauses, is_converted, is_pointer}
 use Rattle.cyc_store.specs.declared.range.TheConstants.{MOST_BLOCK_WORDS}
-use Rattle.cyc_meaning.specs.Values.{kind_of, is_thin, words_of_kind, is_kind}
+use Rattle.cyc_meaning.specs.Values.{kind_of, is_thin, words_of_kind}
 use Rattle.cyc_meaning.specs.FrameCount.{result_words, words_of_all, operand_words}
 use Rattle.cyc_lower.specs.Slots.{Types, counted, global_types}
-use Rattle.cyc_lower.specs.Lowering.{types_of, are_as_wide, passed_words, all_passed, results_of, left_kind, scopes_of}
+use Rattle.cyc_lower.specs.Lowering.{types_of, passed_words, all_passed, results_of, left_kind, scopes_of, is_handle, may_open, scopes_if, lower_globals}
 use Rattle.cyc_lower.proofs.Widths.{kind_of_result, result_kind, called_kind, given, passed_kind, type_words, HasRoom, HasGlobal, chain_kind, HasField}
 use Rattle.cyc_lower.proofs.Slots.{words-there, words_positive}
 use Rattle.cyc_plain.proofs.Placed.{below_of_get}
+use Rattle.std.specs.List.{list_any}
+use Rattle.std.proofs.lemmas.List.Folds.{list_any-append}
 
 -- ---- what is asked
 
@@ -95,6 +100,10 @@ module _ (b : Numbering) where
     FitOperations types left t (ThenPointer o a os) = (words_of_kind (left_kind o) ≤ left) × Fits types a × FitOperations types (words_of t) t os
     FitOperations types left t (ThenPointerPeek n o a os) = (words_of_kind (left_kind o) ≤ left) × Fits types a × FitOperations types (words_of t) t os
 
+-- a word tells how many lexical regions are open
+abbrev pub IsCounting : (scopes : Option ℕ) → Type 0
+IsCounting scopes = (global : ℕ) × (scopes ≡ Some global)
+
 module _ (b : Numbering) (types : Types) where
   -- a side of a swap of values of this kind
   abbrev pub FitsSide : Side → Kind → Type 0
@@ -138,7 +147,12 @@ module _ (b : Numbering) (types : Types) where
     FitItems l NoItems = Unit {0}
     FitItems l (MoreItems (Execute s) js) = FitsStatement l s × FitItems l js
     FitItems l (MoreItems (Declare n t v) js) = (n < b.locals) × FitsInitial n v × FitItems l js
-    FitItems l js = ⊥
+    FitItems l (MoreItems (DeclareRegion r n) js) = IsCounting types.scopes × (n < b.locals) × HasRoom types n kinds.Handle × FitItems l js
+    FitItems l (MoreItems (OpenRegion r n w k) js) =
+        (n < b.locals) × HasRoom types n kinds.Handle × (k < b.locals) × HasRoom types k kinds.Handle × FitItems l js
+    FitItems l (MoreItems (DeclareAlias r n t w m) js) =
+        (n < b.locals) × HasRoom types n (kind_of t) × (m < b.locals) × HasRoom types m (kind_of t) × FitItems l js
+    FitItems l (MoreItems (DeclareKey r n) js) = (n < b.locals) × HasRoom types n kinds.Key × FitItems l js
 
     pub FitClauses : Bool → Clauses → Type 0
     FitClauses l NoClauses = Unit {0}
@@ -173,6 +187,14 @@ kind_substituted m (type_forms.Pointer k t r) = refl
 kind_substituted m (type_forms.Handle r) = refl
 kind_substituted m (type_forms.Key r) = refl
 kind_substituted m (type_forms.Struct n rs) = refl
+
+-- nor does one that a pointer gets
+kind_moved : (r : Region) (t : Ty) → kind_of (with_region_of r t) ≡ kind_of t
+kind_moved r type_forms.Int = refl
+kind_moved r (type_forms.Pointer k t s) = refl
+kind_moved r (type_forms.Handle s) = refl
+kind_moved r (type_forms.Key s) = refl
+kind_moved r (type_forms.Struct n rs) = refl
 
 words_substituted : (m : List Region) (t : Ty) → words_of (substituted_ty m t) ≡ words_of t
 words_substituted m type_forms.Int = refl
@@ -321,6 +343,8 @@ module _ (b : Numbering) (types : Types) where
     globals : c.globals ≡ types.globals
     counters : c.counters ≡ length types.counters
     result : c.result ≡ b.result
+    -- where a local is a handle, it may be that of a region that is opened
+    scopes : (n : ℕ) (r : Region) → slice_get c.variables n ≡ Some (type_forms.Handle r) → IsCounting types.scopes
 
   room_in : (c : Context) (n : ℕ) (t : Ty) (kind : Kind) → Suits c → slice_get c.variables n ≡ Some t → kind ≡ kind_of t → HasRoom types n kind
   room_in c n t kind suits at same =
@@ -388,6 +412,7 @@ module _ (b : Numbering) where
     globals = suits.globals;
     counters = ap suc suits.counters ∙ sym (length-append types.counters (slot ∷ []) ∙ omega arith);
     result = suits.result;
+    scopes = suits.scopes;
   }
 
   mutual
@@ -548,7 +573,7 @@ module _ (b : Numbering) (types : Types) where
       (room_in b types c n t (passed_kind d) suits there kind, fitting)
 
   suits_behind : (s : Statement) (c : Context) → Suits b types c → Suits b types (behind c s)
-  suits_behind s c suits = record { functions = suits.functions; structs = suits.structs; variables = suits.variables; globals = suits.globals; counters = suits.counters; result = suits.result }
+  suits_behind s c suits = record { functions = suits.functions; structs = suits.structs; variables = suits.variables; globals = suits.globals; counters = suits.counters; result = suits.result; scopes = suits.scopes }
 
   fits_side : (x : Side) (c : Context) (t : Ty) → Suits b types c → IsLowerableSide b x → IsSide c x t → (t ≡ type_of_side x) × FitsSide b types x (kind_of t)
   fits_side (VariableSide (Local p n) u) c t suits within (r, (m, place, home, there), is) = (is, (within, room_in b types c n u (kind_of t) suits there (ap kind_of is)))
@@ -556,8 +581,8 @@ module _ (b : Numbering) (types : Types) where
   fits_side (CellSide x) c t suits numbered (r, cell) = fits_cell b types x c t r suits numbered cell
 
   suits_caught : (x : Option ℕ) (c : Context) → Suits b types c → Suits b types (with_caught x (in_block c))
-  suits_caught None c suits = record { functions = suits.functions; structs = suits.structs; variables = suits.variables; globals = suits.globals; counters = suits.counters; result = suits.result }
-  suits_caught (Some n) c suits = record { functions = suits.functions; structs = suits.structs; variables = suits.variables; globals = suits.globals; counters = suits.counters; result = suits.result }
+  suits_caught None c suits = record { functions = suits.functions; structs = suits.structs; variables = suits.variables; globals = suits.globals; counters = suits.counters; result = suits.result; scopes = suits.scopes }
+  suits_caught (Some n) c suits = record { functions = suits.functions; structs = suits.structs; variables = suits.variables; globals = suits.globals; counters = suits.counters; result = suits.result; scopes = suits.scopes }
 
   fits_thrown : (v : Option Expression) (has : Bool) (c : Context) → Suits b types c → IsLowerableThrown b v → IsThrown c has v → FitsThrown b types v
   fits_thrown None has c suits numbered well = tt
@@ -572,7 +597,7 @@ module _ (b : Numbering) (types : Types) where
   mutual
     fits_statement : (s : Statement) (l : Bool) (c : Context) → Suits b types c → IsLowerableStatement b l s → WellTypedStatement c s → FitsStatement b types l s
     fits_statement (Block r js) l c suits numbered (next, well) =
-        fit_items js l (in_block c) (record { functions = suits.functions; structs = suits.structs; variables = suits.variables; globals = suits.globals; counters = suits.counters; result = suits.result }) numbered well
+        fit_items js l (in_block c) (record { functions = suits.functions; structs = suits.structs; variables = suits.variables; globals = suits.globals; counters = suits.counters; result = suits.result; scopes = suits.scopes }) numbered well
     fits_statement Empty l c suits numbered well = tt
     fits_statement (Evaluate a) l c suits numbered (t, well) = (fits b types a c t suits numbered well).1
     fits_statement (Swap x y) l c suits (low_x, low_y) (t, side_x, side_y, flat) =
@@ -583,7 +608,7 @@ module _ (b : Numbering) (types : Types) where
         (fits_condition a c suits numbered_a well_a, fits_statement s l c suits numbered_s well_s, fits_statement t l (behind c s) (suits_behind s c suits) numbered_t well_t)
     fits_statement (While p a s) l c suits (numbered_a, numbered_s) (well_a, well_s) = (
       fits_condition a c suits numbered_a well_a,
-      fits_statement s true (in_body c) (record { functions = suits.functions; structs = suits.structs; variables = suits.variables; globals = suits.globals; counters = suits.counters; result = suits.result }) numbered_s well_s,
+      fits_statement s true (in_body c) (record { functions = suits.functions; structs = suits.structs; variables = suits.variables; globals = suits.globals; counters = suits.counters; result = suits.result; scopes = suits.scopes }) numbered_s well_s,
     )
     fits_statement (Return v) l c suits numbered well = fits_return b.result v c suits numbered (subst (λ (r : Option Ty). IsReturned c r v) suits.result well)
     fits_statement Break l c suits numbered well = numbered
@@ -598,34 +623,82 @@ module _ (b : Numbering) (types : Types) where
     fit_items (MoreItems (Declare n t v) js) l c suits (few, one, all) ((next, there, live), well, rest) = (
       few,
       fits_initial v n t c suits there one well,
-      fit_items js l (with_local true t c) (record { functions = suits.functions; structs = suits.structs; variables = suits.variables; globals = suits.globals; counters = suits.counters; result = suits.result }) all rest,
+      fit_items js l (with_local true t c) (record { functions = suits.functions; structs = suits.structs; variables = suits.variables; globals = suits.globals; counters = suits.counters; result = suits.result; scopes = suits.scopes }) all rest,
     )
-    fit_items js l c suits numbered well = absurd numbered
+    fit_items (MoreItems (DeclareRegion r n) js) l c suits (few, all) (next, (number, there, live), rest) = (
+      suits.scopes n (Variable r) there,
+      few,
+      room_in b types c n (type_forms.Handle (Variable r)) kinds.Handle suits there refl,
+      fit_items js l (with_local false (type_forms.Handle (Variable r)) (with_opened scopes.Lexical c)) (record { functions = suits.functions; structs = suits.structs; variables = suits.variables; globals = suits.globals; counters = suits.counters; result = suits.result; scopes = suits.scopes }) all rest,
+    )
+    fit_items (MoreItems (OpenRegion r n w k) js) l c suits (few, low, all) (key, (number, there, live), rest) = (
+      few,
+      room_in b types c n (type_forms.Handle (Variable r)) kinds.Handle suits there refl,
+      low,
+      room_in b types c k (type_forms.Key (Variable r)) kinds.Key suits key.1 refl,
+      fit_items js l (with_local false (type_forms.Handle (Variable r)) (with_key_opened r c)) (record { functions = suits.functions; structs = suits.structs; variables = suits.variables; globals = suits.globals; counters = suits.counters; result = suits.result; scopes = suits.scopes }) all rest,
+    )
+    fit_items (MoreItems (DeclareAlias r n t w m) js) l c suits (few, low, all) (next, (u, lent, unique, t_is), (number, there, live), rest) = (
+      few,
+      room_in b types c n t (kind_of t) suits there refl,
+      low,
+      room_in b types c m u (kind_of t) suits lent.1 (ap kind_of t_is ∙ kind_moved (Variable r) u),
+      fit_items js l (with_local true t (with_opened scopes.Alias c)) (record { functions = suits.functions; structs = suits.structs; variables = suits.variables; globals = suits.globals; counters = suits.counters; result = suits.result; scopes = suits.scopes }) all rest,
+    )
+    fit_items (MoreItems (DeclareKey r n) js) l c suits (few, all) (next, (number, there, live), rest) = (
+      few,
+      room_in b types c n (type_forms.Key (Variable r)) kinds.Key suits there refl,
+      fit_items js l (with_local true (type_forms.Key (Variable r)) (with_region c)) (record { functions = suits.functions; structs = suits.structs; variables = suits.variables; globals = suits.globals; counters = suits.counters; result = suits.result; scopes = suits.scopes }) all rest,
+    )
 
     fit_clauses : (cs : Clauses) (l : Bool) (c : Context) → Suits b types c → AreLowerableClauses b l cs → WellTypedClauses c cs → FitClauses b types l cs
     fit_clauses NoClauses l c suits numbered well = tt
     fit_clauses (Default r js) l c suits numbered (next, well) =
-        fit_items js l (in_block c) (record { functions = suits.functions; structs = suits.structs; variables = suits.variables; globals = suits.globals; counters = suits.counters; result = suits.result }) numbered well
+        fit_items js l (in_block c) (record { functions = suits.functions; structs = suits.structs; variables = suits.variables; globals = suits.globals; counters = suits.counters; result = suits.result; scopes = suits.scopes }) numbered well
     fit_clauses (Case tag x r js cs) l c suits (word, few, one, all) (has, known, caught, next, well, rest) = (
       word,
       fits_caught x has c suits few caught,
       fit_items js l (with_caught x (in_block c)) (suits_caught x c suits) one well,
-      fit_clauses cs l (behind_clause c x js) (record { functions = suits.functions; structs = suits.structs; variables = suits.variables; globals = suits.globals; counters = suits.counters; result = suits.result }) all rest,
+      fit_clauses cs l (behind_clause c x js) (record { functions = suits.functions; structs = suits.structs; variables = suits.variables; globals = suits.globals; counters = suits.counters; result = suits.result; scopes = suits.scopes }) all rest,
     )
 
-  pub body_fits : (js : Items) (c : Context) → c.functions ≡ b.functions → c.structs ≡ types.structs → c.variables ≡ types.locals → c.globals ≡ types.globals → c.counters ≡ length types.counters → c.result ≡ b.result → AreLowerableItems b false js → WellTypedItems c js → FitItems b types false js
-  body_fits js c functions structs variables globals counters result numbered well = fit_items js false c (record { functions = functions; structs = structs; variables = variables; globals = globals; counters = counters; result = result }) numbered well
+  pub body_fits : (js : Items) (c : Context) → c.functions ≡ b.functions → c.structs ≡ types.structs → c.variables ≡ types.locals → c.globals ≡ types.globals → c.counters ≡ length types.counters → c.result ≡ b.result
+      → ((n : ℕ) (r : Region) → slice_get c.variables n ≡ Some (type_forms.Handle r) → IsCounting types.scopes) → AreLowerableItems b false js → WellTypedItems c js → FitItems b types false js
+  body_fits js c functions structs variables globals counters result scopes numbered well =
+      fit_items js false c (record { functions = functions; structs = structs; variables = variables; globals = globals; counters = counters; result = result; scopes = scopes }) numbered well
 
 -- ---- programs
 
-functions_fit : (p : Program) (hs : List Function) → AreLowerableFunctions (length p.globals) (signatures_of p.functions) hs → AreWellTypedFunctions p hs → AreFitting p.structs p.globals (scopes_of p) (signatures_of p.functions) hs
-functions_fit p [] numbered well = tt
-functions_fit p (h ∷ hs) (one, all) (well, rest) =
-    (body_fits (numbering_of (length p.globals) (signatures_of p.functions) h) (types_of p.structs (global_types p.globals) (scopes_of p) h) h.body (body_context p h) refl refl refl refl refl refl one well.body, functions_fit p hs all rest)
+either : (x y : Bool) → y ≡ true → (x || y) ≡ true
+either true y is = refl
+either false y is = is
+
+-- a function with a local that is a handle may open regions
+has_handle : (ts : List Ty) (n : ℕ) (r : Region) → slice_get ts n ≡ Some (type_forms.Handle r) → list_any is_handle ts ≡ true
+has_handle [] n r there = absurd (none-some (type_forms.Handle r) there)
+has_handle (t ∷ ts) zero r there = ap (λ (u : Ty). is_handle u || list_any is_handle ts) (same_Some t (type_forms.Handle r) there)
+has_handle (t ∷ ts) (suc n) r there = either (is_handle t) (list_any is_handle ts) (has_handle ts n r there)
+
+may_count : (may : Bool) (globals : ℕ) → may ≡ true → IsCounting (scopes_if may globals)
+may_count true globals is = (globals, refl)
+may_count false globals is = absurd (let f : false ≡ true = is in cc)
+
+-- these functions are of the program
+functions_fit : (p : Program) (hs : List Function) → (list_any may_open hs ≡ true → list_any may_open p.functions ≡ true) → AreLowerableFunctions (length p.globals) (signatures_of p.functions) hs → AreWellTypedFunctions p hs
+    → AreFitting p.structs p.globals (scopes_of p) (signatures_of p.functions) hs
+functions_fit p [] among numbered well = tt
+functions_fit p (h ∷ hs) among (one, all) (well, rest) = (
+  body_fits (numbering_of (length p.globals) (signatures_of p.functions) h) (types_of p.structs (global_types p.globals) (scopes_of p) h) h.body (body_context p h) refl refl refl refl refl refl
+      (λ n r there. may_count (list_any may_open p.functions) (length (lower_globals p.globals)) (among (ap (λ (x : Bool). x || list_any may_open hs) (opens n r there)))) one well.body,
+  functions_fit p hs (λ later. among (either (may_open h) (list_any may_open hs) later)) all rest,
+)
+  where
+    opens : (n : ℕ) (r : Region) → slice_get (h.parameters ++ h.locals) n ≡ Some (type_forms.Handle r) → may_open h ≡ true
+    opens n r there = sym (list_any-append is_handle h.parameters h.locals) ∙ has_handle (h.parameters ++ h.locals) n r there
 
 pub is_fitting_program : (p : Program) → IsLowerableProgram p → IsWellTypedProgram p → IsFitting p
 is_fitting_program p numbered well = record {
-  functions = functions_fit p p.functions numbered.functions well.functions;
+  functions = functions_fit p p.functions (λ is. is) numbered.functions well.functions;
   globals = well.globals;
   main = numbered.main;
 }

@@ -1,7 +1,6 @@
 -- A value comes from a global to slots, or from slots to a global, word by word.
 use Rattle.std.proofs.Common.{◌≡◌, ℕ, zero, suc, ◌+◌, ◌≤◌, ◌<◌, List, [], ◌∷◌, length, refl, sym, ap, subst, ◌∙◌, arith, inl, inr}
 use Rattle.cyc_types.specs.TypedTrees.{Program}
-use Rattle.cyc_plain.specs.declared.instruction.Instruction.{Instruction}
 use Rattle.cyc_plain.specs.declared.instruction.Instruction.TheVariants as instructions
 use Rattle.cyc_plain.specs.declared.instruction.Operand.{Operand}
 use Rattle.cyc_plain.specs.declared.instruction.Operand.TheVariants as operands
@@ -16,7 +15,7 @@ use Rattle.cyc_meaning.specs.Step.{step}
 use Rattle.cyc_objects.specs.Tables.{Tables}
 use Rattle.cyc_objects.specs.Words.{Is}
 use Rattle.cyc_lower.specs.Lowering.{lower_program, load_word, store_word}
-use Rattle.cyc_lower.proofs.Widths.{Outside, kind_positive}
+use Rattle.cyc_lower.proofs.Widths.{Outside}
 use Rattle.cyc_lower.proofs.Stands.{EachAt, GlobalAt}
 use Rattle.cyc_lower.proofs.Relation.{IsIn, SharedAt, Matches, code_of}
 use Rattle.cyc_lower.proofs.Data.{Is-same, IsWord-is}

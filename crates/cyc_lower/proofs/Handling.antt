@@ -1,5 +1,5 @@
 -- What becomes of the open handlers where a statement leaves some of them.
-use Rattle.std.proofs.Common.{◌≡◌, ℕ, ◌+◌, ◌≤◌, ◌<◌, Bool, true, false, List, [], ◌∷◌, Option, None, Some, refl, sym, ap, subst, ◌∙◌, arith}
+use Rattle.std.proofs.Common.{◌≡◌, ℕ, suc, ◌+◌, ◌<◌, Bool, true, false, List, [], ◌∷◌, Option, None, Some, refl, sym, ap, subst, ◌∙◌, arith}
 use Rattle.std.specs.Prelude.{◌==◌, if◌then◌else◌}
 use Rattle.std.proofs.lemmas.Bool.{eq-eqb, eqb-true, and_from, false_from_ne_true}
 use Rattle.std.proofs.lemmas.Option.{same_Some, none-some}
@@ -15,10 +15,10 @@ use Rattle.cyc_meaning.specs.State.{World, Environment, Entry, Rest, Join, Loop,
 use Rattle.cyc_meaning.specs.Step.{step}
 use Rattle.cyc_lower.specs.declared.statements.Exits.{Exits}
 use Rattle.cyc_lower.specs.declared.statements.Opened.{Opened}
-use Rattle.cyc_lower.specs.Lowering.{outermost, with_handler, scopes_of}
+use Rattle.cyc_lower.specs.Lowering.{outermost, with_handler, with_mark, scopes_of}
 use Rattle.cyc_lower.proofs.Weights.{weight}
-use Rattle.cyc_lower.proofs.Stands.{HandlersAt, MarksAt, LeaveAt}
-use Rattle.cyc_lower.proofs.Relation.{IsIntact, HandlersStand, left_by, SharedAt, StatementStack, Related, Matches, code_of, bounds_at, types_at, base_of, floor, HasScopes, Newest, opened_by, CaughtBy, DataIn}
+use Rattle.cyc_lower.proofs.Stands.{HandlersAt, MarksAt}
+use Rattle.cyc_lower.proofs.Relation.{IsIntact, HandlersStand, left_by, SharedAt, SharedBy, StatementStack, Related, Matches, code_of, bounds_at, types_at, floor, scopes_in, IsTold, IsMark, HasScopes, Newest, opened_by, CaughtBy, DataIn}
 use Rattle.cyc_lower.proofs.Sharing.{shared_ahead}
 use Rattle.cyc_lower.proofs.Data.{calls_counted, record_below}
 use Rattle.cyc_lower.proofs.Matched.{IsMatched, silently, by_one}
@@ -62,6 +62,12 @@ module _ (source : Program) where
         ap (λ (x : Exits). x.in_loop) is ∙ ap (λ (x : Opened). with_handler x (floor source g k)) in_loop,
         ap (λ (x : Exits). x.in_function) is ∙ ap (λ (x : Opened). with_handler x (floor source g k)) in_function,
       )
+  record_left g exits p frames (CloseLexical region ∷ k) (outer, q, is, closing, stack) =
+      let (in_loop, in_function) = record_left g outer q frames k stack in (
+        ap (λ (x : Exits). x.in_loop) is ∙ ap (λ (x : Opened). with_mark x (floor source g k)) in_loop,
+        ap (λ (x : Exits). x.in_function) is ∙ ap (λ (x : Opened). with_mark x (floor source g k)) in_function,
+      )
+  record_left g exits p frames (EndLoan lent ∷ k) stack = record_left g exits p frames k stack
   record_left g exits p frames (Caller e ∷ k) (s, at, outside, below) = outside
   record_left g exits p frames (Main ∷ k) (s, at, outside, last) = outside
   record_left g exits p frames k stack = absurd stack
@@ -94,8 +100,7 @@ module _ (source : Program) where
       by (Some outer) none = absurd (none-some outer (sym none))
   none_left loop g slots handlers frames (Caller e ∷ k) none stand = stand
   none_left loop g slots handlers frames (Main ∷ k) none stand = stand
-  none_left loop g slots handlers frames (CloseLexical region ∷ k) none stand = absurd stand
-  none_left loop g slots handlers frames (EndLoan lent ∷ k) none stand = absurd stand
+  none_left loop g slots handlers frames (CloseLexical region ∷ k) none (marked, stand) = none_left loop g slots handlers frames k none stand
   none_left loop g slots handlers frames (entry ∷ k) none stand = none_left loop g slots handlers frames k none stand
 
   -- the others are left by closing the outermost of them
@@ -129,63 +134,116 @@ module _ (source : Program) where
           (others, closes_later c first index slot contents handlers apart ∙ gone, stand)
   left_closed loop c handlers first (Caller e ∷ k) is stand = absurd (none-some first is)
   left_closed loop c handlers first (Main ∷ k) is stand = absurd (none-some first is)
-  left_closed loop c handlers first (CloseLexical region ∷ k) is stand = absurd stand
-  left_closed loop c handlers first (EndLoan lent ∷ k) is stand = absurd stand
+  left_closed loop c handlers first (CloseLexical region ∷ k) is (marked, stand) = left_closed loop c handlers first k is stand
   left_closed loop c handlers first (entry ∷ k) is stand = left_closed loop c handlers first k is stand
 
-  -- no region is open whose mark closes it
-  no_mark : (loop : Bool) (g : ℕ) (slots : Words) (handlers : List plain.Handler) (frames : List Frame) (k : List Entry) → HandlersStand source g slots handlers frames k → (opened_by source loop g k).mark ≡ None
-  no_mark loop g slots handlers frames [] stand = refl
-  no_mark true g slots handlers frames (Loop condition body ∷ k) stand = refl
-  no_mark false g slots handlers frames (Loop condition body ∷ k) stand = no_mark false g slots handlers frames k stand
-  no_mark loop g slots [] frames (Handler handler ∷ k) stand = absurd stand
-  no_mark loop g slots (plain.Caught ∷ handlers) frames (Handler handler ∷ k) stand = absurd stand
-  no_mark loop g slots (plain.Open index first contents ∷ handlers) frames (Handler handler ∷ k) (is, same, kept, catches, rest) = no_mark loop g slots handlers frames k rest
-  no_mark loop g slots handlers frames (Caller e ∷ k) stand = refl
-  no_mark loop g slots handlers frames (Main ∷ k) stand = refl
-  no_mark loop g slots handlers frames (CloseLexical region ∷ k) stand = absurd stand
-  no_mark loop g slots handlers frames (EndLoan lent ∷ k) stand = absurd stand
-  no_mark loop g slots handlers frames (entry ∷ k) stand = no_mark loop g slots handlers frames k stand
+  -- where no mark is left, no lexical regions are
+  pub unmarked : (loop : Bool) (g : ℕ) (k : List Entry) → (opened_by source loop g k).mark ≡ None → scopes_in (left_by loop k) ≡ scopes_in k
+  unmarked loop g [] none = refl
+  unmarked true g (Loop condition body ∷ k) none = refl
+  unmarked false g (Loop condition body ∷ k) none = unmarked false g k none
+  unmarked loop g (CloseLexical region ∷ k) none = by (opened_by source loop g k).mark none
+    where
+      by : (o : Option ℕ) → outermost o (floor source g k) ≡ None → scopes_in (left_by loop k) ≡ suc (scopes_in k)
+      by None none = absurd (none-some (floor source g k) (sym none))
+      by (Some outer) none = absurd (none-some outer (sym none))
+  unmarked loop g (Caller e ∷ k) none = refl
+  unmarked loop g (Main ∷ k) none = refl
+  unmarked loop g (entry ∷ k) none = unmarked loop g k none
+
+  -- a mark is that of a region that is open
+  marked_some : (loop : Bool) (g : ℕ) (k : List Entry) (mark : ℕ) → (opened_by source loop g k).mark ≡ Some mark → 0 < scopes_in k
+  marked_some loop g [] mark is = absurd (none-some mark is)
+  marked_some true g (Loop condition body ∷ k) mark is = absurd (none-some mark is)
+  marked_some false g (Loop condition body ∷ k) mark is = marked_some false g k mark is
+  marked_some loop g (CloseLexical region ∷ k) mark is = omega arith
+  marked_some loop g (Caller e ∷ k) mark is = absurd (none-some mark is)
+  marked_some loop g (Main ∷ k) mark is = absurd (none-some mark is)
+  marked_some loop g (entry ∷ k) mark is = marked_some loop g k mark is
+
+  -- and there is a word for their number then
+  pub marked_told : (loop : Bool) (g : ℕ) (k : List Entry) (globals : Words) → IsTold (scopes_of source) globals (scopes_in k) → (mark : ℕ) → (opened_by source loop g k).mark ≡ Some mark → HasScopes (scopes_of source)
+  marked_told loop g k globals told mark is = by (scopes_of source) told
+    where
+      by : (o : Option ℕ) → IsTold o globals (scopes_in k) → HasScopes o
+      by None none = omega (arith, none, marked_some loop g k mark is)
+      by (Some place) told = tt
+
+  -- It tells how many are open where those are left.
+  pub marked_by : (loop : Bool) (g : ℕ) (slots : Words) (handlers : List plain.Handler) (frames : List Frame) (k : List Entry) (mark : ℕ) → (opened_by source loop g k).mark ≡ Some mark
+      → HandlersStand source g slots handlers frames k → slots mark ≡ scopes_in (left_by loop k)
+  marked_by loop g slots handlers frames [] mark is stand = absurd stand
+  marked_by true g slots handlers frames (Loop condition body ∷ k) mark is stand = absurd (none-some mark is)
+  marked_by false g slots handlers frames (Loop condition body ∷ k) mark is stand = marked_by false g slots handlers frames k mark is stand
+  marked_by loop g slots [] frames (Handler handler ∷ k) mark is stand = absurd stand
+  marked_by loop g slots (plain.Caught ∷ handlers) frames (Handler handler ∷ k) mark is stand = absurd stand
+  marked_by loop g slots (plain.Open index first contents ∷ handlers) frames (Handler handler ∷ k) mark is (slot_is, same, kept, catches, rest) = marked_by loop g slots handlers frames k mark is rest
+  marked_by loop g slots handlers frames (CloseLexical region ∷ k) mark is (marked, rest) = by (opened_by source loop g k).mark (unmarked loop g k) (λ there. marked_by loop g slots handlers frames k mark there rest) is
+    where
+      by : (o : Option ℕ) → (o ≡ None → scopes_in (left_by loop k) ≡ scopes_in k) → (o ≡ Some mark → slots mark ≡ scopes_in (left_by loop k))
+          → outermost o (floor source g k) ≡ Some mark → slots mark ≡ scopes_in (left_by loop k)
+      by None left outer is = ap slots (sym (same_Some (floor source g k) mark is)) ∙ marked ∙ sym (left refl)
+      by (Some other) left outer is = outer is
+  marked_by loop g slots handlers frames (Caller e ∷ k) mark is stand = absurd (none-some mark is)
+  marked_by loop g slots handlers frames (Main ∷ k) mark is stand = absurd (none-some mark is)
+  marked_by loop g slots handlers frames (entry ∷ k) mark is stand = marked_by loop g slots handlers frames k mark is stand
+
+  pub mark_there : (loop : Bool) (g : ℕ) (slots : Words) (handlers : List plain.Handler) (frames : List Frame) (k : List Entry) → HandlersStand source g slots handlers frames k
+      → IsMark source (opened_by source loop g k).mark slots (scopes_in (left_by loop k))
+  mark_there loop g slots handlers frames k stand = by (opened_by source loop g k).mark (λ mark is. marked_by loop g slots handlers frames k mark is stand)
+    where
+      by : (o : Option ℕ) → ((mark : ℕ) → o ≡ Some mark → slots mark ≡ scopes_in (left_by loop k)) → IsMark source o slots (scopes_in (left_by loop k))
+      by None marked = tt
+      by (Some mark) marked = marked mark refl
 
   pub caught_by : (a : Activation) (rest : List Frame) (k : List Entry) → HandlersStand source a.function a.slots a.handlers rest k → CaughtBy source a rest k
   caught_by a rest [] stand = absurd stand
   caught_by a rest (entry ∷ k) stand = stand
 
 module _ (source : Program) (pages calls : ℕ) where
-  -- A step that leaves handlers: one instruction closes them, or there are none.
-  pub leaving : (loop : Bool) (from next : Focus) (old k : List Entry) (e : Environment) (w : World) (c : Configuration) (opened : Opened) (q : ℕ)
+  -- what is shared then
+  abbrev pub shared_leaving : (loop : Bool) (k : List Entry) (e : Environment) (w : World) (c : Configuration) → SharedAt source pages calls k e w c
+      → SharedBy source (opened_by source loop c.active.function k).mark pages calls k e w c
+  shared_leaving loop k e w c shared =
+      shared_ahead source (opened_by source loop c.active.function k).mark pages calls k e w c (marked_told source loop c.active.function k c.globals shared.counters.1) shared
+
+  -- A step that begins to leave entries: one instruction closes their handlers, or there are none. Lexical regions are closed later.
+  pub leaving : (loop : Bool) (from next : Focus) (old k : List Entry) (e : Environment) (w : World) (c : Configuration) (opened : Opened) (r q : ℕ)
       → step source (Running from old e w) ≡ Running next k e w → SharedAt source pages calls old e w c → weight (Running next k e w) < weight (Running from old e w)
       → opened ≡ opened_by source loop c.active.function k
-      → LeaveAt (code_of source c.active.function) (bounds_at source c.active.function) (types_at source c.active.function) opened c.active.next q
+      → HandlersAt (code_of source c.active.function) (bounds_at source c.active.function) (types_at source c.active.function) opened.handler c.active.next r
+      → MarksAt (code_of source c.active.function) (bounds_at source c.active.function) (types_at source c.active.function) opened.mark r q
       → HandlersStand source c.active.function c.active.slots c.active.handlers c.frames k
       → ((handlers : List plain.Handler) → HandlersStand source c.active.function c.active.slots handlers c.frames (left_by loop k)
-      → Related source pages calls next k e w (record c { active = record c.active { next = q; handlers = handlers } }))
+      → MarksAt (code_of source c.active.function) (bounds_at source c.active.function) (types_at source c.active.function) (opened_by source loop c.active.function k).mark r q
+      → IsMark source (opened_by source loop c.active.function k).mark c.active.slots (scopes_in (left_by loop k))
+      → Related source pages calls next k e w (record c { active = record c.active { next = r; handlers = handlers } }))
       → IsMatched source pages calls (Running from old e w) (plain.Running c)
-  leaving loop from next old k e w c opened q does shared lighter opened_is (r, closing, marks) stand goes =
+  leaving loop from next old k e w c opened r q does shared lighter opened_is closing marks stand goes =
       by opened.handler refl closing
     where
       g : ℕ
       g = c.active.function
 
-      unmarked : opened.mark ≡ None
-      unmarked = ap (λ (x : Opened). x.mark) opened_is ∙ no_mark source loop g c.active.slots c.active.handlers c.frames k stand
-
-      end : r ≡ q
-      end = subst (λ mark. MarksAt (code_of source g) (bounds_at source g) (types_at source g) mark r q) unmarked marks
+      goes_on : (handlers : List plain.Handler) → HandlersStand source g c.active.slots handlers c.frames (left_by loop k)
+          → Related source pages calls next k e w (record c { active = record c.active { next = r; handlers = handlers } })
+      goes_on handlers rest =
+          goes handlers rest (subst (λ mark. MarksAt (code_of source g) (bounds_at source g) (types_at source g) mark r q) (ap (λ (x : Opened). x.mark) opened_is) marks)
+          (mark_there source loop g c.active.slots c.active.handlers c.frames k stand)
 
       by : (o : Option ℕ) → opened.handler ≡ o
           → HandlersAt (code_of source g) (bounds_at source g) (types_at source g) o c.active.next r → IsMatched source pages calls (Running from old e w) (plain.Running c)
       by None none here =
           let none_open : (opened_by source loop g k).handler ≡ None = sym (ap (λ (x : Opened). x.handler) opened_is) ∙ none in
           silently source pages calls (Running from old e w) (Running next k e w) (plain.Running c) does
-          (subst (λ n. Related source pages calls next k e w (record c { active = record c.active { next = n; handlers = c.active.handlers } })) (sym (here ∙ end))
-          (goes c.active.handlers (none_left source loop g c.active.slots c.active.handlers c.frames k none_open stand)))
+          (subst (λ n. Related source pages calls next k e w (record c { active = record c.active { next = n; handlers = c.active.handlers } })) (sym here)
+          (goes_on c.active.handlers (none_left source loop g c.active.slots c.active.handlers c.frames k none_open stand)))
           lighter
       by (Some first) there (here, behind) =
           let (later, gone, rest) = left_closed source loop c c.active.handlers first k (sym (ap (λ (x : Opened). x.handler) opened_is) ∙ there) stand in
           by_one source pages calls does shared here
           (λ choice. subst (Matches source pages calls (Running next k e w)) (sym gone)
-          (subst (λ n. Related source pages calls next k e w (record c { active = record c.active { next = n; handlers = later } })) (sym (behind ∙ end)) (goes later rest)))
+          (subst (λ n. Related source pages calls next k e w (record c { active = record c.active { next = n; handlers = later } })) (sym behind) (goes_on later rest)))
 
   -- an exception is raised by this instruction
   pub raised : (tag value : ℕ) (k : List Entry) (e : Environment) (w : World) (c : Configuration) (x o : Operand) → IsNumber tag → (shared : SharedAt source pages calls k e w c) → DataIn source shared.tables c.active.slots k e w c

@@ -1,5 +1,5 @@
 -- The step that closes a dynamic region by its key: the store is asked to close the region of that handle.
-use Rattle.std.proofs.Common.{◌≡◌, ℕ, ◌+◌, ◌≤◌, Bool, true, false, List, ◌∷◌, Option, None, Some, slice_get, refl, sym, ap, ◌∙◌, subst, arith}
+use Rattle.std.proofs.Common.{◌≡◌, ℕ, ◌≤◌, true, List, ◌∷◌, None, Some, slice_get, refl, sym, ap, ◌∙◌, subst, arith}
 use Rattle.std.specs.Prelude.{if◌then◌else◌}
 use Rattle.cyc_types.specs.declared.typed.Kind.{Kind}
 use Rattle.cyc_types.specs.declared.typed.Kind.TheVariants as kinds
@@ -15,19 +15,18 @@ use Rattle.cyc_plain.specs.State as plain
 use Rattle.cyc_plain.specs.State.{Words, Configuration}
 use Rattle.cyc_plain.specs.Step.{operand_word, served_to}
 use Rattle.cyc_plain.specs.Step as plain_step
-use Rattle.cyc_meaning.specs.Values.{Value, Int, Null, Thin, Fat, Handle, Key, Operand as Kinded}
+use Rattle.cyc_meaning.specs.Values.{Value, Key}
 use Rattle.cyc_meaning.specs.Regions.{is_dynamic, closes_dynamic}
-use Rattle.cyc_meaning.specs.State.{Sort, Heap, Globals, Stack, Lexical, Dynamic, Region, World, Access, Found, Closed, Missing, region_at, closed, Environment, CloseByKey, Entry, Needs, Given, Proceeding, Running}
+use Rattle.cyc_meaning.specs.State.{Sort, Dynamic, Region, World, Access, Found, Closed, Missing, region_at, closed, Environment, CloseByKey, Entry, Needs, Given, Proceeding, Running}
 use Rattle.cyc_meaning.specs.Step.{wrong, step}
 use Rattle.cyc_objects.specs.Tables.{Tables}
-use Rattle.cyc_objects.specs.Words.{Is}
 use Rattle.cyc_objects.specs.Related.{has_home}
 use Rattle.cyc_objects.proofs.Making.{open-home}
 use Rattle.cyc_objects.proofs.Services.{refusal-close, closed-dynamic}
-use Rattle.cyc_lower.proofs.Relation.{IsIn, DataIn, SharedAt, ValueStack, LandsStack, code_of}
+use Rattle.cyc_lower.proofs.Relation.{IsIn, DataIn, SharedAt, ValueStack, LandsStack}
 use Rattle.cyc_lower.proofs.Accesses.{IsWell}
 use Rattle.cyc_lower.proofs.Matched.{IsMatched, shared_within}
-use Rattle.cyc_lower.proofs.Allocations.{by_asking}
+use Rattle.cyc_lower.proofs.Asking.{by_asking}
 use Rattle.cyc_lower.proofs.UniqueBlocks.{proceeds}
 
 -- the word of a key is the handle of its region

@@ -10,7 +10,7 @@ use Rattle.cyc_types.specs.declared.typed.Operator.{Operator}
 use Rattle.cyc_types.specs.declared.typed.Operator.TheVariants as operators
 use Rattle.cyc_types.specs.declared.typed.PointerOperator.{PointerOperator}
 use Rattle.cyc_types.specs.declared.typed.PointerOperator.TheVariants as pointers
-use Rattle.cyc_types.specs.TypedTrees.{Load, New, OnHeap, Initial, Plain, Fields, Array, Dereference, Target, Member, Element, Lvalue, Local, Global, Expression, Number, NullPointer, Copy, Call, Unary, Binary, Assign, Converted, Convert, Arguments, NoArguments, MoreArguments, Operations, NoOperations, ThenCompute, ThenTest, ThenPointer, ThenPointerPeek, Statement, Block, Empty, Evaluate, If, While, Return, Break, Continue, Items, NoItems, MoreItems, Execute, Declare, StructType, Function, Move, Peek, AddressOfCell, Store, AsUnique, FreeUnique, Side, VariableSide, CellSide, Swap, Throw, Try, Clauses, NoClauses, Default, Case, NumberOfElements, type_of_place}
+use Rattle.cyc_types.specs.TypedTrees.{Load, New, OnHeap, Initial, Plain, Fields, Array, Dereference, Target, Member, Element, Lvalue, Local, Global, Expression, Number, NullPointer, Copy, Call, Unary, Binary, Assign, Converted, Convert, Arguments, NoArguments, MoreArguments, Operations, NoOperations, ThenCompute, ThenTest, ThenPointer, ThenPointerPeek, Statement, Block, Empty, Evaluate, If, While, Return, Break, Continue, Items, NoItems, MoreItems, Execute, Declare, StructType, Function, Move, Peek, AddressOfCell, Store, AsUnique, FreeUnique, Side, VariableSide, CellSide, Swap, Throw, Try, Clauses, NoClauses, Default, Case, NumberOfElements, type_of_place, ByHandle, FreeKey, HeapRegion, AddressOf, DeclareRegion, OpenRegion, DeclareAlias, DeclareKey}
 use Rattle.cyc_types.specs.Types.{words_of}
 use Rattle.cyc_plain.specs.declared.instruction.Operand.{Operand}
 use Rattle.cyc_plain.specs.declared.instruction.Operand.TheVariants as operands
@@ -18,7 +18,7 @@ use Rattle.cyc_plain.specs.declared.instruction.Instruction.{Instruction}
 use Rattle.cyc_store.specs.declared.range.TheConstants.{HEAP, UNIQUE}
 use Rattle.cyc_lower.specs.declared.statements.Exits.{Exits}
 use Rattle.cyc_lower.specs.Slots.{with_counter, Starts, starts_of, slot_of, global_of}
-use Rattle.cyc_lower.specs.Lowering.{begun_code, filled_code, elements_code, ended_code, types_of, raises_of, body_code, first_temporary, outside_loops, are_as_wide, converts_there, passed_words, operand_of, operand_or, code_unless, code_unless_slot, left_with, left_of, value_slot, slot_with, left_slot, value_operand, next_slot, source_of, source_slot, converted_operand, converted_by, moved_by, conversion_code, divisor_code, operator_code, pointer_instructions, first_two, load_code, copy_code, address_code, object_code, place_operand, place_offset, expression_code, place_code, made_code, arguments_code, converted_code, converted_operand_code, printed_code, initial_code, operations_code, assignment_code, discarded_code, first_code, second_code, pair_code, condition_code, return_code, declaration_code, statement_code, items_code, behind_left, if_code, while_code, condition_of, failing_jump, compared_of, inside_loop, checked_code, right_slot, side_code, swap_code, thrown_code, caught_code, clauses_code, leave_code, try_code, clause_code, break_target, continue_target, null_of, span_of, span_in, followed_operand, followed_code, conversion_by, widened_code, count_code, loaded_code, saved_code, slot_or, all_passed, thinned_code, bounded_code, past_bounded, pointer_of, pointer_slot, reached_operand, reached_code, word_by_word, load_word, global_code, starts_with, stores_code, read_side, write_side, exchange_code}
+use Rattle.cyc_lower.specs.Lowering.{begun_code, filled_code, elements_code, ended_code, types_of, raises_of, body_code, first_temporary, outside_loops, are_as_wide, converts_there, passed_words, operand_of, operand_or, code_unless, code_unless_slot, left_with, left_of, value_slot, slot_with, left_slot, value_operand, next_slot, source_of, source_slot, converted_operand, converted_by, moved_by, conversion_code, divisor_code, operator_code, pointer_instructions, first_two, load_code, copy_code, address_code, object_code, place_operand, place_offset, expression_code, place_code, made_code, arguments_code, converted_code, converted_operand_code, printed_code, initial_code, operations_code, assignment_code, discarded_code, first_code, second_code, pair_code, condition_code, return_code, declaration_code, statement_code, items_code, behind_left, if_code, while_code, condition_of, failing_jump, compared_of, inside_loop, checked_code, right_slot, side_code, swap_code, thrown_code, caught_code, clauses_code, leave_code, try_code, clause_code, break_target, continue_target, null_of, span_of, span_in, followed_operand, followed_code, conversion_by, widened_code, count_code, loaded_code, saved_code, slot_or, all_passed, thinned_code, bounded_code, past_bounded, pointer_of, pointer_slot, reached_operand, reached_code, word_by_word, load_word, global_code, starts_with, stores_code, read_side, write_side, exchange_code, kept_code, restored_code, behind_record, inside_try, inside_region, opened_code, closed_code}
 use Rattle.cyc_plain.specs.declared.instruction.Instruction.TheVariants as instructions
 use Rattle.cyc_plain.specs.declared.limits.TheConstants.{RECORD_WORDS}
 use Rattle.cyc_meaning.specs.Values.{is_thin, words_of_kind}
@@ -206,14 +206,18 @@ module _ (raises : ℕ) where
         joined _ _ _ _ (initial_long starts c p q (slot_of starts n) (slot_of starts n) t refl) (λ i. length (copy_code (passed_words c) (operands.Slot (slot_of starts n)) (same i)))
     expression_long starts (Assign (Global n) c ty) p q d e t same =
         joined _ _ _ _ (joined _ _ _ _ (converted_operand_long starts c p q t) (λ i. length (global_code (passed_words c) (global_of starts n) (same_converted starts raises c t i)))) (λ i. length (copy_code (passed_words c) (same_converted starts raises c t i) (same i)))
-    expression_long starts (Load x) p q d e t same = joined _ _ _ _ (place_long starts x p q t) (λ i. length (loaded_code (words_of (type_of_place x)) (same_place starts raises x t i) (same_offset starts raises x i) (same i)))
+    expression_long starts (Load x) p q d e t same = joined _ _ _ _ (place_long starts x p q t) (λ i. length (loaded_code (words_of (type_of_place x)) (same_place starts raises x t i) (same_offset starts raises x i) (same i) t))
     expression_long starts (AddressOfCell x ty) p q d e t same = joined _ _ _ _ (place_long starts x p q t) (λ i. length (address_code (same_place starts raises x t i) (same_offset starts raises x i) (same i)))
     expression_long starts (Store x c ty) p q d e t same =
         joined _ _ _ _
         (joined _ _ _ _ (joined _ _ _ _ (place_long starts x p q t) (λ i. length (address_code (same_place starts raises x t i) (same_offset starts raises x i) t))) (joined _ _ _ _ (converted_operand_long starts c _ _ (t + 1)) (λ i. length (saved_code (passed_words c) t (same_converted starts raises c (t + 1) i)))))
         (λ i. length (copy_code (passed_words c) (same_converted starts raises c (t + 1) i) (same i)))
-    expression_long starts (New OnHeap x ty) p q d e t same = made_long starts x HEAP p q d e t same
-    expression_long starts (New AsUnique x ty) p q d e t same = made_long starts x UNIQUE p q d e t same
+    expression_long starts (New OnHeap x ty) p q d e t same = made_long starts x (operands.Word HEAP) p q d e t same
+    expression_long starts (New AsUnique x ty) p q d e t same = made_long starts x (operands.Word UNIQUE) p q d e t same
+    expression_long starts (New (ByHandle a) x ty) p q d e t same =
+        joined (expression_code starts a p t t) (made_code starts x (operands.Slot t) (p + length (expression_code starts a p t t)) d (t + 1)) (expression_code (other starts raises) a q t t) (made_code (other starts raises) x (operands.Slot t) (q + length (expression_code (other starts raises) a q t t)) e (t + 1))
+        (expression_long starts a p q t t t refl) (made_long starts x (operands.Slot t) _ _ d e (t + 1) same)
+    expression_long starts (FreeKey a) p q d e t same = joined _ _ _ _ (operand_by starts raises a p q t (expression_long starts a p q _ _ t (same_slot starts raises a t))) refl
     expression_long starts (FreeUnique a) p q d e t same = joined _ _ _ _ (operand_by starts raises a p q t (expression_long starts a p q _ _ t (same_slot starts raises a t))) refl
     expression_long starts a p q d e t same = refl
 
@@ -226,7 +230,7 @@ module _ (raises : ℕ) where
         (joined _ _ _ _ (operand_by starts raises x _ _ (t + 3) (expression_long starts x _ _ _ _ (t + 3) (same_slot starts raises x (t + 3))))
         (λ i. suc (length (reached_code (other starts raises) (span_in ty) (slot_or (same_pointer starts raises a x i) t) (t + 2) t))))
 
-    made_long : (starts : Starts) → (x : Initial) (handle p q d e t : ℕ) → d ≡ e → length (made_code starts x handle p d t) ≡ length (made_code (other starts raises) x handle q e t)
+    made_long : (starts : Starts) → (x : Initial) (handle : Operand) (p q d e t : ℕ) → d ≡ e → length (made_code starts x handle p d t) ≡ length (made_code (other starts raises) x handle q e t)
     made_long starts (Plain kind a) handle p q d e t same = joined _ _ _ _ (expression_long starts a p q t t t refl) (λ i. length (object_code handle (words_of_kind kind) (same i) t))
     made_long starts (Fields cs) handle p q d e t same = joined _ _ _ _ (arguments_long starts cs p q t) (λ i. length (object_code handle (all_passed cs) (same i) t))
     made_long starts (Array w level n kind a) handle p q d e t same =
@@ -357,31 +361,49 @@ module _ (starts : Starts) (raises : ℕ) where
     statement_long (While w a s) p q head exits t =
         let m = p + 2 + length (condition_code starts a (p + 2) t) in
         let n = q + 2 + length (condition_code (other starts raises) a (q + 2) t) in
-        let around = inside_loop p t exits in
+        let around = inside_loop p exits in
         while_long (condition_code starts a (p + 2) t) (statement_code starts s (m + 1) around t) (condition_code (other starts raises) a (q + 2) t) (statement_code (other starts raises) s (n + 1) (record around { head = q }) t)
         (failing_jump (condition_of starts a t)) (failing_jump (condition_of (other starts raises) a t)) p q
         (condition_long (compared_of a).left (compared_of a).right (p + 2) (q + 2) t) (statement_long s (m + 1) (n + 1) q around t)
     statement_long (Return v) p q head exits t = return_long v p q head exits t
     statement_long Break p q head exits t =
-        joined (leave_code exits.loop_record t) (instructions.Jump (break_target exits.head) ∷ []) (leave_code exits.loop_record t) (instructions.Jump (break_target head) ∷ []) refl refl
+        joined (leave_code starts exits.in_loop) (instructions.Jump (break_target exits.head) ∷ []) (leave_code starts exits.in_loop) (instructions.Jump (break_target head) ∷ []) refl refl
     statement_long Continue p q head exits t =
-        joined (leave_code exits.loop_record t) (instructions.Jump (continue_target exits.head) ∷ []) (leave_code exits.loop_record t) (instructions.Jump (continue_target head) ∷ []) refl refl
+        joined (leave_code starts exits.in_loop) (instructions.Jump (continue_target exits.head) ∷ []) (leave_code starts exits.in_loop) (instructions.Jump (continue_target head) ∷ []) refl refl
     statement_long (Throw tag v) p q head exits t = joined _ _ _ _ (thrown_long v p q t) refl
     statement_long (Try s cs) p q head exits t =
         let close = instructions.Leave t ∷ [] in
-        let a = statement_code starts s (p + 1) exits (t + RECORD_WORDS) in
-        let x = statement_code (other starts raises) s (q + 1) (record exits { head = head }) (t + RECORD_WORDS) in
-        let out = p + 1 + length (a ++ close) in
-        let aim = q + 1 + length (x ++ close) in
-        try_long (a ++ close) (clauses_code starts cs (out + 1) out exits t) (x ++ close) (clauses_code (other starts raises) cs (aim + 1) aim (record exits { head = head }) t) t p q
-        (joined a close x close (statement_long s (p + 1) (q + 1) head exits (t + RECORD_WORDS)) refl) (clauses_long cs (out + 1) (aim + 1) out aim head exits t)
+        let kept = kept_code starts t in
+        let restored = restored_code starts t in
+        let within = inside_try exits t in
+        let m = p + length kept in
+        let n = q + length kept in
+        let a = statement_code starts s (m + 1) within (behind_record starts t) in
+        let x = statement_code (other starts raises) s (n + 1) (record within { head = head }) (behind_record starts t) in
+        let out = m + 1 + length (a ++ close) in
+        let aim = n + 1 + length (x ++ close) in
+        let first = clauses_code starts cs (out + 1 + length restored) out exits t in
+        let second = clauses_code (other starts raises) cs (aim + 1 + length restored) aim (record exits { head = head }) t in
+        joined kept (try_code t (a ++ close) (restored ++ first) m) kept (try_code t (x ++ close) (restored ++ second) n) refl
+        (try_long (a ++ close) (restored ++ first) (x ++ close) (restored ++ second) t m n
+        (joined a close x close (statement_long s (m + 1) (n + 1) head within (behind_record starts t)) refl)
+        (joined restored first restored second refl (clauses_long cs (out + 1 + length restored) (aim + 1 + length restored) out aim head exits t)))
     statement_long (Swap x y) p q head exits t = swap_long x y p q t
 
     items_long : (js : Items) (p q head : ℕ) (exits : Exits) (t : ℕ) → length (items_code starts js p exits t) ≡ length (items_code (other starts raises) js q (record exits { head = head }) t)
     items_long NoItems p q head exits t = refl
     items_long (MoreItems (Execute s) js) p q head exits t = joined _ _ _ _ (statement_long s p q head exits t) (items_long js _ _ head exits t)
     items_long (MoreItems (Declare n ty v) js) p q head exits t = joined _ _ _ _ (declaration_long n v p q t) (items_long js _ _ head exits t)
-    items_long (MoreItems j js) p q head exits t = items_long js p q head exits t
+    items_long (MoreItems (DeclareRegion r n) js) p q head exits t =
+        let opened = opened_code starts n t in
+        let closed = closed_code starts t in
+        let within = inside_region exits t in
+        let first = items_code starts js (p + length opened) within (t + 1) in
+        let second = items_code (other starts raises) js (q + length opened) (record within { head = head }) (t + 1) in
+        joined opened (first ++ closed) opened (second ++ closed) refl (joined first closed second closed (items_long js (p + length opened) (q + length opened) head within (t + 1)) refl)
+    items_long (MoreItems (OpenRegion r n w k) js) p q head exits t = ap suc (items_long js (p + 1) (q + 1) head exits t)
+    items_long (MoreItems (DeclareAlias r n ty w s) js) p q head exits t = ap suc (items_long js (p + 1) (q + 1) head exits t)
+    items_long (MoreItems (DeclareKey r n) js) p q head exits t = ap (λ m. suc (suc m)) (items_long js (p + 2) (q + 2) head exits t)
 
     clauses_long : (cs : Clauses) (p q out aim head : ℕ) (exits : Exits) (t : ℕ) → length (clauses_code starts cs p out exits t) ≡ length (clauses_code (other starts raises) cs q aim (record exits { head = head }) t)
     clauses_long NoClauses p q out aim head exits t = refl
@@ -399,5 +421,5 @@ module _ (starts : Starts) (raises : ℕ) where
         (clauses_long cs m n out aim head exits t)
 
 -- so the blocks stand behind the place that the checks are told
-pub body_long : (structs : List StructType) (globals : List ℕ) (h : Function) → length (body_code (starts_with (raises_of structs globals h) structs globals h) h) ≡ raises_of structs globals h
-body_long structs globals h = sym (items_long (starts_with 0 structs globals h) (raises_of structs globals h) h.body 0 0 0 (outside_loops (first_temporary h)) (first_temporary h))
+pub body_long : (structs : List StructType) (globals : List ℕ) (scopes : Option ℕ) (h : Function) → length (body_code (starts_with (raises_of structs globals scopes h) structs globals scopes h) h) ≡ raises_of structs globals scopes h
+body_long structs globals scopes h = sym (items_long (starts_with 0 structs globals scopes h) (raises_of structs globals scopes h) h.body 0 0 0 outside_loops (first_temporary h))

@@ -28,7 +28,7 @@ use Rattle.cyc_words.proofs.Matching.{by_none, way_before}
 use Rattle.cyc_plain.proofs.Steps.{step_performs, place_known}
 use Rattle.cyc_plain.specs.Straight.{At}
 use Rattle.cyc_words.specs.Demand.{demand_of}
-use Rattle.cyc_meaning.specs.State.{FreeObject, CloseByKey, PlaceBy, BesideHandle, CountElements, Index, Advance, ThrowWith, SwapLeft, SwapRight, Handler, World, Environment, ConvertTo, Operate, Chain, Apply, ApplyPointer, Follow, LoadFrom, Decide, Store, Pass, MakePlain, MakeFields, MakeArray, FillElement, Initialise, Choose, Test, Return, Entry, Needs, NeedsPlace, Discard, Rest, Join, Loop, CloseRegion, Caller, Main, counted, calls_in, Focus, Evaluating, Locating, Given, Executing, Proceeding, Calling, Entering, Binding, Writing, Beginning, Repeating, Breaking, Continuing, Returning, Throwing, State, Running, Ended, Dead, Wrong, output_of, input_of, status_of, GivenPlace, FollowMember, TakeAddress, StoreTo, StoreCell}
+use Rattle.cyc_meaning.specs.State.{FreeObject, CloseByKey, PlaceBy, BesideHandle, CountElements, Index, Advance, ThrowWith, SwapLeft, SwapRight, Handler, World, Environment, ConvertTo, Operate, Chain, Apply, ApplyPointer, Follow, LoadFrom, Decide, Store, Pass, MakePlain, MakeFields, MakeArray, FillElement, Initialise, Choose, Test, Return, Entry, Needs, NeedsPlace, Discard, Rest, Join, Loop, CloseRegion, EndLoan, CloseLexical, Caller, Main, counted, calls_in, Focus, Evaluating, Locating, Given, Executing, Proceeding, Calling, Entering, Binding, Writing, Beginning, Repeating, Breaking, Continuing, Returning, Throwing, State, Running, Ended, Dead, Wrong, output_of, input_of, status_of, GivenPlace, FollowMember, TakeAddress, StoreTo, StoreCell, OpenBy, AliasOf}
 use Rattle.cyc_meaning.specs.Step.{step}
 use Rattle.cyc_meaning.specs.Run.{is_within, limited_step}
 use Rattle.cyc_objects.specs.Tables.{Tables}
@@ -112,6 +112,8 @@ module _ (source : Program) where
     value_arrays g locals kind o p frames (Needs CloseByKey ∷ k) (d, q, at, end, lands) =
         by_lands source lands (λ stack. value_arrays g locals kinds.Int (operands.Slot d) q frames k stack) (λ stack. ahead_arrays g locals kinds.Int d q frames k stack)
     value_arrays g locals kind o p frames (Needs (ThrowWith tag) ∷ k) (exits, q, small, at, stack) = statement_arrays g exits q frames k stack
+    value_arrays g locals kind o p frames (Needs (OpenBy number lent items) ∷ k) (exits, m, q, named, items_at, stack) = statement_arrays g exits q frames k stack
+    value_arrays g locals kind o p frames (Needs (AliasOf number lent items) ∷ k) (exits, m, q, named, items_at, stack) = statement_arrays g exits q frames k stack
     value_arrays g locals kind o p frames (entry ∷ k) stack = absurd stack
 
     place_arrays : (g : ℕ) (locals : ℕ → Option ℕ) (o : Operand) (c p : ℕ) (frames : List Frame) (k : List Entry) → PlaceStack source g locals o c p frames k → AllCount k
@@ -152,6 +154,8 @@ module _ (source : Program) where
     statement_arrays g exits p frames (Loop a s ∷ k) (outer, q, at, jump, stack) = statement_arrays g outer q frames k stack
     statement_arrays g exits p frames (CloseRegion r h ∷ k) (q, at, stack) = statement_arrays g exits q frames k stack
     statement_arrays g exits p frames (Handler handler ∷ k) (outer, q, is, leave, jump, stack) = statement_arrays g outer q frames k stack
+    statement_arrays g exits p frames (CloseLexical region ∷ k) (outer, q, is, closing, stack) = statement_arrays g outer q frames k stack
+    statement_arrays g exits p frames (EndLoan lent ∷ k) stack = statement_arrays g exits p frames k stack
     statement_arrays g exits p frames (Caller e ∷ k) stack = refl
     statement_arrays g exits p [] (Main ∷ []) (s, at, outside, last) = refl
     statement_arrays g exits p (f ∷ frames) (Main ∷ k) (s, at, outside, last) = absurd last

@@ -13,6 +13,9 @@ pub mod Matched
 pub mod Closings
 pub mod Handling
 pub mod Paths
+pub mod Asking
+pub mod Scoped
+pub mod RegionSteps
 pub mod GlobalSteps
 pub mod Stands
 pub mod Fitting
@@ -46,6 +49,7 @@ pub mod Handles
 pub mod Counters
 pub mod Calls
 pub mod ExceptionSteps
+pub mod WaysOut
 pub mod StatementSteps
 pub mod Keeping
 pub mod Levels

@@ -1,45 +1,36 @@
 -- How a step of the source is matched: what is the same in all cases.
-use Rattle.std.proofs.Common.{◌≡◌, ◌≢◌, ℕ, suc, ◌+◌, ◌≤◌, ◌<◌, Bool, true, false, List, [], ◌∷◌, length, Option, None, Some, refl, sym, ap, subst, ◌∙◌, arith}
-use Rattle.std.specs.Prelude.{Contains, if◌then◌else◌, option_map}
+use Rattle.std.proofs.Common.{◌≡◌, ◌≢◌, ℕ, suc, ◌≤◌, ◌<◌, Bool, true, false, List, [], ◌∷◌, length, Option, None, Some, slice_get, refl, sym, ap, subst, ◌∙◌, arith}
+use Rattle.std.specs.Prelude.{Contains, if◌then◌else◌}
 use Rattle.std.specs.List.{AllByRecursion}
 use Rattle.std.proofs.lemmas.Bool.{le-leb, and_from}
+use Rattle.std.proofs.lemmas.Option.{same_Some}
 use Rattle.cyc_words.specs.Ending.{Ending, Full}
-use Rattle.cyc_types.specs.declared.typed.Kind.{Kind}
-use Rattle.cyc_types.specs.declared.typed.Kind.TheVariants as kinds
-use Rattle.cyc_types.specs.declared.typed.Callee.TheVariants as callees
-use Rattle.cyc_types.specs.declared.typed.Operator.{Operator}
-use Rattle.cyc_types.specs.TypedTrees.{Expression, Convert, NoOperations, Program}
-use Rattle.cyc_meaning.specs.Values.{Thin, Operand as Kinded, is_thin, words_of_kind}
-use Rattle.cyc_plain.specs.declared.instruction.Comparison.{Comparison}
-use Rattle.cyc_plain.specs.declared.instruction.Comparison.TheVariants as comparisons
+use Rattle.cyc_types.specs.TypedTrees.{Program}
+use Rattle.cyc_meaning.specs.Values.{Operand as Kinded}
 use Rattle.cyc_plain.specs.declared.instruction.Operand.{Operand}
-use Rattle.cyc_plain.specs.declared.instruction.Operand.TheVariants as operands
 use Rattle.cyc_plain.specs.declared.instruction.Instruction.{Instruction}
 use Rattle.cyc_words.specs.Simulation as simulation
-use Rattle.cyc_words.specs.Simulation.{Status, Failed, Machine, Matching, Comes, IsOnTheWay, IsMatchedStep, IsStepped, IsDistinct}
+use Rattle.cyc_words.specs.Simulation.{Machine, Matching, Comes, IsOnTheWay, IsMatchedStep, IsStepped, IsDistinct}
 use Rattle.cyc_plain.specs.Program.{CodePlace, places_of}
 use Rattle.cyc_store.specs.State.{demand}
 use Rattle.cyc_plain.specs.State as plain
-use Rattle.cyc_plain.specs.State.{Words, Frame, Configuration}
+use Rattle.cyc_plain.specs.State.{Words, Configuration}
 use Rattle.cyc_plain.specs.Step.{Choice, performed, machine}
 use Rattle.cyc_plain.specs.Step as plain_step
 use Rattle.cyc_words.proofs.Matching.{by_none, way_before}
 use Rattle.cyc_plain.proofs.Steps.{step_performs, place_known}
 use Rattle.cyc_plain.specs.Straight.{At}
 use Rattle.cyc_words.specs.Demand.{demand_of}
-use Rattle.cyc_meaning.specs.State.{World, Environment, ConvertTo, Operate, Chain, Apply, ApplyPointer, Follow, LoadFrom, Decide, Store, Pass, MakePlain, MakeFields, MakeArray, FillElement, Initialise, Choose, Test, Return, Entry, Needs, NeedsPlace, Discard, Rest, Join, Loop, CloseRegion, Caller, Main, counted, calls_in, Focus, Evaluating, Locating, Given, Executing, Proceeding, Calling, Entering, Binding, Writing, Beginning, Repeating, Breaking, Continuing, Returning, Throwing, State, Running, Ended, Dead, Wrong, output_of, input_of, status_of, GivenPlace, FollowMember, TakeAddress, StoreTo, StoreCell, FreeObject, SwapLeft, SwapRight, Swapping, CountElements, Index, Advance}
+use Rattle.cyc_meaning.specs.State.{World, Environment, Entry, counted, calls_in, Focus, Given, Proceeding, Breaking, Continuing, Returning, Throwing, State, Running, Ended, Dead, Wrong, output_of, input_of, status_of}
 use Rattle.cyc_meaning.specs.Step.{step}
 use Rattle.cyc_meaning.specs.Run.{is_within, limited_step}
 use Rattle.cyc_objects.specs.Tables.{Tables}
 use Rattle.cyc_objects.proofs.RegionLemmas.{counted-same}
-use Rattle.cyc_lower.specs.declared.statements.Exits.{Exits}
-use Rattle.cyc_lower.specs.Lowering.{compared_of, outside_loops, lower_program, followed_operand, scopes_of}
-use Rattle.cyc_meaning.specs.Pointers.{result_kind as operator_kind}
-use Rattle.cyc_lower.proofs.Widths.{chain_kind}
+use Rattle.cyc_lower.specs.Lowering.{lower_program, scopes_of}
 use Rattle.cyc_meaning.specs.SourceMachine.{status_in, source_machine}
 use Rattle.cyc_lower.proofs.Weights.{weight}
 use Rattle.cyc_lower.proofs.Data.{calls_counted, calls_left}
-use Rattle.cyc_lower.proofs.Relation.{base_of, Lands, in_temporary, in_local, HandsOn, drops, leaves, copies, Prints, prints_only, gives_byte, SharedAt, SharedBy, to_slot, to_jump, ValueStack, PlaceStack, ConditionStack, DroppedStack, AheadStack, StatementStack, LandsStack, PrintsStack, AppliedStack, RightAt, ReadyAt, EvaluatingAt, as_operand, into_slot, for_effect, as_right, as_condition, FocusAt, GivenAt, in_operand, nowhere, ahead, compared, with_left, ProceedingAt, behind_statement, behind_call, behind_wrong, Related, Matches, code_of, given_at, called_at, returned_at, top, DataFor, handling}
+use Rattle.cyc_lower.proofs.Relation.{Lands, in_temporary, in_local, HandsOn, drops, leaves, copies, Prints, prints_only, gives_byte, SharedAt, SharedBy, opened_by, GivenAt, in_operand, nowhere, ahead, compared, with_left, ProceedingAt, behind_statement, behind_call, behind_wrong, Related, Matches, code_of, DataFor, handling}
 
 module _ (source : Program) where
   -- ---- where a value goes
@@ -76,6 +67,9 @@ module _ (source : Program) where
 
   pub inside_of : (pages calls : ℕ) (focus : Focus) (k : List Entry) (e : Environment) (w : World) (c : Configuration) → Related source pages calls focus k e w c → Inside pages calls w c
   inside_of pages calls (Throwing tag value) k e w c r = inside_by (scopes_of source) pages calls k e w c r.0
+  inside_of pages calls Breaking k e w c r = inside_by (opened_by source true c.active.function k).mark pages calls k e w c r.0
+  inside_of pages calls Continuing k e w c r = inside_by (opened_by source true c.active.function k).mark pages calls k e w c r.0
+  inside_of pages calls (Returning v) k e w c r = inside_by (opened_by source false c.active.function k).mark pages calls k e w c r.0
   inside_of pages calls (Given v) k e w c r = inside_by None pages calls k e w c r.0
   inside_of pages calls Proceeding k e w c r = inside_by None pages calls k e w c r.0
   inside_of pages calls focus k e w c r = inside_by None pages calls k e w c r.0
@@ -252,6 +246,11 @@ module _ (source : Program) (pages calls : ℕ) where
 
   pub apart : (c d : Configuration) → c.active.next ≢ d.active.next → place_in c ≢ place_in d
   apart c d other same = other (ap (λ (p : CodePlace). p.index) same)
+
+  -- two instructions stand at two places
+  pub elsewhere : (p q : CodePlace) (i j : Instruction) → At (code_of source p.function) p.index i → At (code_of source q.function) q.index j → i ≢ j → p ≢ q
+  elsewhere p q i j here there other same =
+      other (same_Some i j (sym here ∙ ap (λ (place : CodePlace). slice_get (code_of source place.function) place.index) same ∙ there))
 
   -- one instruction, where this is printed
   pub by_one_printed : {focus : Focus} {k : List Entry} {e : Environment} {w : World} {c : Configuration} {next : State} {i : Instruction}

@@ -57,7 +57,7 @@ module _ (source : Program) where
   path_joined c (l ∷ first) rest (at, leads, on, quiet, path) behind = (at, leads, on, quiet, path_joined l.behind first rest path behind)
 
 module _ (source : Program) (pages calls : ℕ) where
-  abbrev path_places : Configuration → List Link → List CodePlace
+  abbrev pub path_places : Configuration → List Link → List CodePlace
   path_places c [] = []
   path_places c (l ∷ links) = place_in source pages calls l.behind ∷ path_places l.behind links
 
@@ -77,12 +77,12 @@ module _ (source : Program) (pages calls : ℕ) where
   are_known c [] i path last = (known source pages calls c i last, tt)
   are_known c (l ∷ links) i (at, leads, on, quiet, path) last = (known source pages calls c l.instruction at, are_known l.behind links i path last)
 
-  stays_within : (c d : Configuration) → IsQuiet c d → plain_step.is_within pages calls (plain.Running c) ≡ true → plain_step.is_within pages calls (plain.Running d) ≡ true
+  pub stays_within : (c d : Configuration) → IsQuiet c d → plain_step.is_within pages calls (plain.Running c) ≡ true → plain_step.is_within pages calls (plain.Running d) ≡ true
   stays_within c d quiet within =
       ap (λ (n : ℕ). nat_le n pages && nat_le (suc (length d.frames)) calls) quiet.demand
       ∙ (ap (λ (n : ℕ). nat_le (demand c.store) pages && nat_le (suc n) calls) quiet.frames ∙ within)
 
-  runs : (focus : Focus) (k : List Entry) (e : Environment) (w : World) (next : State) (c : Configuration) (links : List Link) (i : Instruction)
+  pub runs : (focus : Focus) (k : List Entry) (e : Environment) (w : World) (next : State) (c : Configuration) (links : List Link) (i : Instruction)
       → plain_step.is_within pages calls (plain.Running c) ≡ true → c.output ≡ w.output → IsPath source c links
       → At (code_of source (end_of c links).active.function) (end_of c links).active.next i
       → ((choice : Choice) → Matches source pages calls next (performed (lower_program source) choice (end_of c links) i))

@@ -35,7 +35,7 @@ use Rattle.cyc_plain.specs.State as plain
 use Rattle.cyc_plain.specs.Straight.{At}
 use Rattle.cyc_meaning.specs.Values.{Fat, Value, Null, Thin, Handle, Operand as Kinded, Cell, kinds_of, words_of_kind, is_thin}
 use Rattle.cyc_meaning.specs.Allocation.{writes_from, blanks_of}
-use Rattle.cyc_meaning.specs.State.{Owner, InRegion, Unique, Object, World, heap_number, globals_number, Environment, ConvertTo, Operate, Chain, Apply, ApplyPointer, Follow, LoadFrom, Decide, Store, Pass, PlaceBy, BesideHandle, MakePlain, MakeFields, MakeArray, FillElement, Initialise, Choose, Test, Return, Entry, Needs, NeedsPlace, Discard, Rest, Join, Loop, CloseRegion, CloseLexical, EndLoan, Handler, Caller, Main, calls_in, Focus, Evaluating, Locating, Given, Executing, Proceeding, Calling, Entering, Binding, Writing, Beginning, Repeating, Breaking, Continuing, Returning, Throwing, State, Running, Ended, GivenPlace, FollowMember, TakeAddress, StoreTo, StoreCell, FreeObject, CloseByKey, SwapLeft, SwapRight, Write, Swapping, ThrowWith, Naming, Catching, CountElements, Index, Advance}
+use Rattle.cyc_meaning.specs.State.{Owner, InRegion, Unique, Object, World, heap_number, globals_number, Environment, ConvertTo, Operate, Chain, Apply, ApplyPointer, Follow, LoadFrom, Decide, Store, Pass, PlaceBy, BesideHandle, MakePlain, MakeFields, MakeArray, FillElement, Initialise, Choose, Test, Return, Entry, Needs, NeedsPlace, Discard, Rest, Join, Loop, CloseRegion, CloseLexical, EndLoan, Handler, Caller, Main, calls_in, Focus, Evaluating, Locating, Given, Executing, Proceeding, Calling, Entering, Binding, Writing, Beginning, Repeating, Breaking, Continuing, Returning, Throwing, State, Running, Ended, GivenPlace, FollowMember, TakeAddress, StoreTo, StoreCell, FreeObject, CloseByKey, SwapLeft, SwapRight, Write, Swapping, ThrowWith, Naming, Catching, CountElements, Index, Advance, OpenBy, AliasOf}
 use Rattle.cyc_meaning.specs.Nesting.{lexicals_of}
 use Rattle.cyc_meaning.specs.Step.{object_of}
 use Rattle.cyc_meaning.specs.Operators.{null_exception, is_zero}
@@ -44,9 +44,9 @@ use Rattle.cyc_lower.specs.declared.statements.Exits.{Exits}
 use Rattle.cyc_lower.specs.declared.statements.Opened.{Opened}
 use Rattle.cyc_meaning.specs.Pointers.{result_kind as operator_kind}
 use Rattle.cyc_lower.specs.Slots.{Types, Starts, starts_of, slot_of, global_of, global_types}
-use Rattle.cyc_lower.specs.Lowering.{most_elements, unary_operator, failing_comparison, operand_of, move_of, low_byte, converts_there, all_passed, compared_of, break_target, continue_target, results_of, lower_program, outside_loops, slot_types, raises_of, right_slot, tag_operand, followed_operand, reached_operand, globals_of, scopes_of, nothing_opened, with_handler, with_mark, inside_try, behind_record_in}
+use Rattle.cyc_lower.specs.Lowering.{unary_operator, failing_comparison, operand_of, move_of, low_byte, converts_there, all_passed, compared_of, break_target, continue_target, results_of, lower_program, outside_loops, slot_types, raises_of, right_slot, tag_operand, followed_operand, reached_operand, globals_of, scopes_of, nothing_opened, with_handler, with_mark, inside_try, inside_region, behind_record_in}
 use Rattle.cyc_lower.proofs.Widths.{kind_of_result, given, called_kind, HasRoom, Outside, chain_kind, HasGlobal, made_kind}
-use Rattle.cyc_lower.proofs.Stands.{BegunAt, ElementsAt, CheckAt, ConversionAt, PlaceAt, OperatorAt, TruthAt, CopyAt, ExpressionAt, ArgumentsAt, OperationsAt, ValueAt, ConditionAt, FailingAt, ComparesAt, DiscardedAt, StatementAt, ItemsAt, PointerAt, StoresAt, ObjectAt, AddressAt, ConvertedOperandAt, FreedAt, HasSide, SideAt, ReadAt, WriteAt, ExchangeAt, LeaveAt, ClausesAt, CountAt, SavedAt, LoadedAt, FollowedAt, ReachedAt, GlobalAt, RestoredAt, MadeAt}
+use Rattle.cyc_lower.proofs.Stands.{BegunAt, ElementsAt, CheckAt, ConversionAt, PlaceAt, OperatorAt, TruthAt, CopyAt, ExpressionAt, ArgumentsAt, OperationsAt, ValueAt, ConditionAt, FailingAt, ComparesAt, DiscardedAt, StatementAt, ItemsAt, PointerAt, StoresAt, ObjectAt, AddressAt, ConvertedOperandAt, FreedAt, HasSide, SideAt, ReadAt, WriteAt, ExchangeAt, LeaveAt, ClausesAt, CountAt, SavedAt, LoadedAt, FollowedAt, ReachedAt, GlobalAt, ClosedAt, MarksAt, RestoredAt, MadeAt, NamedAt}
 use Rattle.cyc_objects.proofs.Inside.{AreInside}
 
 -- ---- values in slots
@@ -410,7 +410,7 @@ module _ (source : Program) where
   abbrev pub opened_by : (loop : Bool) → ℕ → List Entry → Opened
   opened_by loop g [] = nothing_opened
   opened_by loop g (Loop condition body ∷ k) = if loop then nothing_opened else opened_by loop g k
-  opened_by loop g (Handler clauses ∷ k) = with_handler (opened_by loop g k) (floor g k)
+  opened_by loop g (Handler handler ∷ k) = with_handler (opened_by loop g k) (floor g k)
   opened_by loop g (CloseLexical region ∷ k) = with_mark (opened_by loop g k) (floor g k)
   opened_by loop g (Caller e ∷ k) = nothing_opened
   opened_by loop g (Main ∷ k) = nothing_opened
@@ -657,6 +657,12 @@ module _ (source : Program) where
         (q : ℕ) × At (code_of g) p (instructions.Binary plain_binary.Add (top g k + 2) (operands.Slot (top g k + 2)) o)
         × ReachedAt (code_of g) (bounds_at g) (types_on g k) (option_map words_of_kind target) (top g k) (top g k + 2) (top g k) (p + 1) q
         × PlaceStack g locals (reached_operand (option_map words_of_kind target) (top g k) (top g k)) 0 q frames k
+    ValueStack g locals kind o p frames (Needs (OpenBy number lent items) ∷ k) =
+        (exits : Exits) × (m : ℕ) × (q : ℕ) × NamedAt (code_of g) (bounds_at g) (types_at g) number kinds.Handle o p m
+        × ItemsAt (code_of g) (bounds_at g) (types_at g) items exits (floor g k) m q × StatementStack g exits q frames k
+    ValueStack g locals kind o p frames (Needs (AliasOf number lent items) ∷ k) =
+        (exits : Exits) × (m : ℕ) × (q : ℕ) × NamedAt (code_of g) (bounds_at g) (types_at g) number kind o p m
+        × ItemsAt (code_of g) (bounds_at g) (types_at g) items exits (floor g k) m q × StatementStack g exits q frames k
     ValueStack g locals kind o p frames (Discard ∷ k) = (exits : Exits) × StatementStack g exits p frames k
     ValueStack g locals kind o p frames (entry ∷ k) = ⊥
 
@@ -722,6 +728,9 @@ module _ (source : Program) where
     StatementStack g exits p frames (Handler handler ∷ k) =
         (outer : Exits) × (q : ℕ) × (exits ≡ inside_try outer (floor g k)) × At (code_of g) p (instructions.Leave (floor g k)) × At (code_of g) (p + 1) (instructions.Jump q)
         × StatementStack g outer q frames k
+    StatementStack g exits p frames (CloseLexical region ∷ k) =
+        (outer : Exits) × (q : ℕ) × (exits ≡ inside_region outer (floor g k)) × ClosedAt (code_of g) (bounds_at g) (types_at g) (floor g k) p q × StatementStack g outer q frames k
+    StatementStack g exits p frames (EndLoan lent ∷ k) = StatementStack g exits p frames k
     StatementStack g exits p frames (Caller e ∷ k) =
         (s : ℕ) × At (code_of g) p (instructions.Finish s) × IsOutside exits
         × Below frames (λ f rest. Lands (base_of f.caller.function) (top f.caller.function k) f.result (words_of_kind (returned_at g))
@@ -894,7 +903,8 @@ module _ (source : Program) where
       × RestoredAt (code_of g) (bounds_at g) (types_at g) (scopes_of source) (floor g k + RECORD_WORDS) m p
       × ClausesAt (code_of g) (bounds_at g) (types_at g) handler out exits (floor g k) p q × At (code_of g) out (instructions.Jump q) × StatementStack g exits q frames k
 
-  -- The handlers that the running call has open, and those of the calls that wait: one for each entry, with its record.
+  -- The handlers that the running call has open, and those of the calls that wait: one for each entry, with its record. And each lexical
+  -- region has its mark, which tells how many were open before it.
   abbrev pub HandlersStand : (g : ℕ) → Words → List plain.Handler → List Frame → List Entry → Type 0
   HandlersStand g slots handlers frames [] = ⊥
   HandlersStand g slots handlers frames (Handler handler ∷ k) =
@@ -903,8 +913,7 @@ module _ (source : Program) where
   HandlersStand g slots handlers frames (Caller e ∷ k) =
       (handlers ≡ []) × Below frames (λ f rest. HandlersStand f.caller.function f.caller.slots f.caller.handlers rest k)
   HandlersStand g slots handlers frames (Main ∷ k) = (handlers ≡ []) × IsLast frames k
-  HandlersStand g slots handlers frames (CloseLexical region ∷ k) = ⊥
-  HandlersStand g slots handlers frames (EndLoan lent ∷ k) = ⊥
+  HandlersStand g slots handlers frames (CloseLexical region ∷ k) = (slots (floor g k) ≡ scopes_in k) × HandlersStand g slots handlers frames k
   HandlersStand g slots handlers frames (entry ∷ k) = HandlersStand g slots handlers frames k
 
   -- the data of the running call and of those that wait, where the running one has these slots, and the handlers of these entries
@@ -956,8 +965,23 @@ module _ (source : Program) where
       × (a : Activation) × (rest : List Frame) × (length rest ≤ length c.frames) × (throws c tag value c.active c.frames ≡ throws c tag value a rest)
       × DataAt shared.tables a.function w.objects e.locals (callers k) a.slots c.globals rest × CaughtBy a rest k
 
+  -- Entries are left, and lexical regions among them: the plain program closes them all where the source leaves the outermost of them. Until
+  -- then it stands before that, with their mark in a slot.
+  abbrev pub IsMark : Option ℕ → Words → (many : ℕ) → Type 0
+  IsMark None slots many = Unit {0}
+  IsMark (Some mark) slots many = slots mark ≡ many
+
+  abbrev pub Leaves : (loop : Bool) → (closing : Option ℕ) → (pages calls : ℕ) → Focus → List Entry → Environment → World → Configuration → Type 0
+  Leaves loop closing pages calls focus k e w c =
+      (shared : SharedBy closing pages calls k e w c) × DataFor shared.tables c.active.slots (left_by loop k) k e w c
+      × (r : ℕ) × MarksAt (code_of c.active.function) (bounds_at c.active.function) (types_at c.active.function) closing c.active.next r
+      × IsMark closing c.active.slots (scopes_in (left_by loop k)) × FocusAt shared.tables focus k e.locals c.active.function r c.active.slots c.frames
+
   abbrev pub Related : (pages calls : ℕ) → Focus → List Entry → Environment → World → Configuration → Type 0
   Related pages calls (Throwing tag value) k e w c = Throws pages calls tag value k e w c
+  Related pages calls Breaking k e w c = Leaves true (opened_by true c.active.function k).mark pages calls Breaking k e w c
+  Related pages calls Continuing k e w c = Leaves true (opened_by true c.active.function k).mark pages calls Continuing k e w c
+  Related pages calls (Returning v) k e w c = Leaves false (opened_by false c.active.function k).mark pages calls (Returning v) k e w c
   Related pages calls (Given v) k e w c = (shared : SharedAt pages calls k e w c) × GivenAt shared.tables v k e w c
   Related pages calls Proceeding k e w c = (shared : SharedAt pages calls k e w c) × ProceedingAt shared.tables k e w c
   Related pages calls focus k e w c = GoesOn pages calls focus k e w c

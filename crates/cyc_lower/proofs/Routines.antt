@@ -5,7 +5,7 @@ use Rattle.cyc_words.specs.declared.fault.Code.TheVariants.{TooManyFunctions}
 use Rattle.cyc_words.specs.declared.fault.Fault.{Fault}
 use Rattle.cyc_types.specs.declared.typed.TypedTree.{TypedTree}
 use Rattle.cyc_types.specs.declared.typed.Function.{Function as FunctionCode}
-use Rattle.cyc_types.specs.TypedTrees.{Items, StructType, Function, Program}
+use Rattle.cyc_types.specs.TypedTrees.{StructType, Function, Program}
 use Rattle.cyc_types.specs.TypedTreeView.{view_function, view_program}
 use Rattle.cyc_meaning.specs.FrameCount.{kept_by_items, frame_count, words_of_all}
 use Rattle.cyc_plain.specs.declared.instruction.Instruction.{Instruction}

@@ -9,7 +9,7 @@ use Rattle.cyc_types.specs.declared.typed.Operator.{Operator}
 use Rattle.cyc_types.specs.declared.typed.Operator.TheVariants as operators
 use Rattle.cyc_types.specs.declared.typed.PointerOperator.{PointerOperator}
 use Rattle.cyc_types.specs.declared.typed.PointerOperator.TheVariants as pointers
-use Rattle.cyc_types.specs.TypedTrees.{Array, Counter, type_of_place, Load, Dereference, Target, Lvalue, Local, Global, Expression, Number, NullPointer, Copy, Call, Unary, Binary, Assign, Converted, Convert, Arguments, NoArguments, MoreArguments, Operations, NoOperations, ThenCompute, ThenTest, ThenPointer, Statement, Block, Empty, Evaluate, If, While, Return, Break, Continue, Items, NoItems, MoreItems, Execute, Declare, Move, Peek, ThenPointerPeek, New, OnHeap, Initial, Plain, Fields, AddressOfCell, Store, Member, AsUnique, ByHandle, FreeUnique, FreeKey, HeapRegion, Side, VariableSide, CellSide, Swap, Throw, Try, Clauses, NoClauses, Default, Case, NumberOfElements, Element}
+use Rattle.cyc_types.specs.TypedTrees.{Array, Counter, type_of_place, Load, Dereference, Target, Lvalue, Local, Global, Expression, Number, NullPointer, Copy, Call, Unary, Binary, Assign, Converted, Convert, Arguments, NoArguments, MoreArguments, Operations, NoOperations, ThenCompute, ThenTest, ThenPointer, Statement, Block, Empty, Evaluate, If, While, Return, Break, Continue, Items, NoItems, MoreItems, Execute, Declare, Move, Peek, ThenPointerPeek, New, OnHeap, Initial, Plain, Fields, AddressOfCell, Store, Member, AsUnique, ByHandle, FreeUnique, FreeKey, HeapRegion, Side, VariableSide, CellSide, Swap, Throw, Try, Clauses, NoClauses, Default, Case, NumberOfElements, Element, DeclareRegion, OpenRegion, DeclareAlias, DeclareKey}
 use Rattle.cyc_types.specs.Types.{words_of}
 use Rattle.cyc_types.specs.typing.Expressions.{type_of_side}
 use Rattle.cyc_types.specs.Numbered.{Numbering, argument_count}
@@ -31,7 +31,7 @@ use Rattle.cyc_meaning.specs.Values.{is_thin, words_of_kind, kind_of}
 use Rattle.cyc_lower.specs.declared.statements.Exits.{Exits}
 use Rattle.cyc_lower.specs.declared.statements.Opened.{Opened}
 use Rattle.cyc_lower.specs.Slots.{counted, Types, starts_of, slot_of, field_of, global_of}
-use Rattle.cyc_lower.specs.Lowering.{most_elements, unary_operator, binary_operator, operand_of, source_of, source_slot, failing_comparison, left_with, left_of, value_slot, next_slot, slot_with, left_slot, is_in, jump_if_nonzero, move_of, test_jump, are_as_wide, converts_there, passed_words, all_passed, compared_of, low_byte, break_target, continue_target, results_of, behind_left, inside_loop, inside_try, behind_record_in, pointer_operator, raising, jump_if_zero, right_slot, tag_operand, other_jump, goes_on, span_of, span_in, followed_operand, scale_of, pointer_of, reached_operand, load_word, store_word, load_at}
+use Rattle.cyc_lower.specs.Lowering.{most_elements, unary_operator, binary_operator, operand_of, source_of, source_slot, failing_comparison, left_with, left_of, value_slot, next_slot, slot_with, left_slot, is_in, move_of, test_jump, are_as_wide, converts_there, passed_words, all_passed, compared_of, low_byte, break_target, continue_target, results_of, behind_left, inside_loop, inside_try, behind_record_in, pointer_operator, raising, jump_if_zero, right_slot, tag_operand, other_jump, goes_on, span_of, span_in, followed_operand, scale_of, pointer_of, reached_operand, load_word, store_word, load_at, inside_region}
 use Rattle.cyc_lower.proofs.Widths.{kind_of_result, given, passed_kind, HasRoom, HasField, HasGlobal}
 
 -- ---- expressions
@@ -507,6 +507,20 @@ module _ (code : List Instruction) (bounds : Numbering) (types : Types) where
   CaughtAt (Some n) t p q =
       (n < bounds.locals) × HasRoom types n kinds.Int × At code p (instructions.Move (slot_of (starts_of types) n) (operands.Slot (t + 1))) × (p + 1 ≡ q)
 
+  -- a local that is declared gets a value of a kind, which stands in an operand
+  abbrev pub NamedAt : (number : ℕ) → Kind → Operand → (p q : ℕ) → Type 0
+  NamedAt n kind o p q =
+      (n < bounds.locals) × HasRoom types n kind × At code p (move_of (words_of_kind kind) (slot_of (starts_of types) n) o) × (p + 1 ≡ q)
+
+  -- a lexical region is opened, and there is a word that tells how many are open
+  abbrev pub OpenedAt : (number t p q : ℕ) → Type 0
+  OpenedAt n t p q =
+      (global : ℕ) × (types.scopes ≡ Some global) × At code p (instructions.Ask (requests.OpenLexical (t + 1)))
+      × At code (p + 1) (instructions.Move t (operands.Slot (t + 2)))
+      × At code (p + 1 + 1) (instructions.Binary plain_binary.Add (t + 2) (operands.Slot t) (operands.Word 1))
+      × At code (p + 1 + 1 + 1) (instructions.StoreGlobal global (operands.Slot (t + 2)))
+      × NamedAt n kinds.Handle (operands.Slot (t + 1)) (p + 1 + 1 + 1 + 1) q
+
   -- with these ways out
   abbrev mutual
     pub StatementAt : Statement → Exits → (t p q : ℕ) → Type 0
@@ -534,7 +548,14 @@ module _ (code : List Instruction) (bounds : Numbering) (types : Types) where
     ItemsAt NoItems exits t p q = p ≡ q
     ItemsAt (MoreItems (Execute s) js) exits t p q = (m : ℕ) × StatementAt s exits t p m × ItemsAt js exits t m q
     ItemsAt (MoreItems (Declare n ty v) js) exits t p q = (m : ℕ) × DeclarationAt n v t p m × ItemsAt js exits t m q
-    ItemsAt js exits t p q = ⊥
+    ItemsAt (MoreItems (DeclareRegion r n) js) exits t p q =
+        (m : ℕ) × (u : ℕ) × OpenedAt n t p m × ItemsAt js (inside_region exits t) (t + 1) m u × ClosedAt t u q
+    ItemsAt (MoreItems (OpenRegion r n w key) js) exits t p q =
+        (m : ℕ) × NamedAt n kinds.Handle (operands.Slot (slot_of (starts_of types) key)) p m × ItemsAt js exits t m q
+    ItemsAt (MoreItems (DeclareAlias r n ty w lent) js) exits t p q =
+        (m : ℕ) × NamedAt n (kind_of ty) (operands.Slot (slot_of (starts_of types) lent)) p m × ItemsAt js exits t m q
+    ItemsAt (MoreItems (DeclareKey r n) js) exits t p q =
+        (m : ℕ) × At code p (instructions.Ask (requests.OpenDynamic t)) × NamedAt n kinds.Key (operands.Slot t) (p + 1) m × ItemsAt js exits t m q
 
     -- the clauses of a `try`, each of which ends in a jump to this place
     pub ClausesAt : Clauses → (out : ℕ) → Exits → (t p q : ℕ) → Type 0

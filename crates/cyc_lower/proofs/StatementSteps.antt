@@ -3,10 +3,10 @@ use Rattle.std.proofs.Common.{◌≡◌, ℕ, zero, suc, ◌≤◌, ◌<◌, Boo
 use Rattle.std.specs.Prelude.{if◌then◌else◌}
 use Rattle.std.proofs.lemmas.Option.{same_Some, none-some}
 use Rattle.cyc_words.specs.Word.{signed}
-use Rattle.cyc_words.specs.Ending.{Returned, Uncaught}
+use Rattle.cyc_words.specs.Ending.{Returned}
 use Rattle.cyc_types.specs.declared.typed.Kind.{Kind}
 use Rattle.cyc_types.specs.Types.{Ty}
-use Rattle.cyc_types.specs.TypedTrees.{Counter, Local, Expression, Copy, Move, Peek, Converted, Convert, Statement, Block, Empty, Evaluate, If, While, Break, Continue, Items, NoItems, MoreItems, Execute, Declare, Function, Program, Swap, NullPointer}
+use Rattle.cyc_types.specs.TypedTrees.{Counter, Local, Expression, Copy, Move, Peek, Convert, Statement, Block, Empty, Evaluate, If, While, Break, Continue, Items, NoItems, MoreItems, Execute, Declare, Function, Program, Swap, NullPointer, DeclareRegion, OpenRegion, DeclareAlias, DeclareKey}
 use Rattle.cyc_types.specs.TypedTrees as typed
 use Rattle.cyc_plain.specs.declared.instruction.Operand.{Operand}
 use Rattle.cyc_plain.specs.declared.instruction.Operand.TheVariants as operands
@@ -15,35 +15,41 @@ use Rattle.cyc_plain.specs.declared.instruction.Instruction.TheVariants as instr
 use Rattle.cyc_plain.specs.Program.{no_routine, routine_at}
 use Rattle.cyc_store.specs.State.{StoreState}
 use Rattle.cyc_plain.specs.State as plain
-use Rattle.cyc_plain.specs.State.{Words, put, copied, Activation, Frame, Configuration}
+use Rattle.cyc_plain.specs.State.{Words, copied, Activation, Frame, Configuration}
 use Rattle.cyc_plain.specs.Step.{Choice, at, performed}
 use Rattle.cyc_plain.specs.Step as plain_step
 use Rattle.cyc_plain.proofs.SlotLaws.{copied-below}
 use Rattle.cyc_plain.specs.Straight.{At}
 use Rattle.cyc_meaning.specs.Values.{Value, Int, kind_of, Operand as Kinded, words_of_kind}
-use Rattle.cyc_meaning.specs.State.{World, Environment, variable, made, opened, closed, with_local, region_at, ConvertTo, Initialise, Choose, Return, Entry, Needs, NeedsPlace, Discard, Rest, Join, Loop, CloseRegion, CloseLexical, EndLoan, Handler, Caller, Main, Focus, Evaluating, Given, Executing, Proceeding, Breaking, Continuing, Returning, Throwing, Running, Ended, State}
+use Rattle.cyc_meaning.specs.State.{Access, Region, World, Environment, variable, made, opened, closed, with_local, region_at, ConvertTo, Initialise, Choose, Return, Entry, Needs, NeedsPlace, Discard, Rest, Join, Loop, CloseRegion, CloseLexical, EndLoan, Handler, Caller, Main, Focus, Evaluating, Given, Executing, Proceeding, Breaking, Continuing, Returning, Running, Ended, State}
+use Rattle.cyc_meaning.specs.Nesting.{IsNested}
+use Rattle.cyc_meaning.specs.Regions.{closing_lexical}
 use Rattle.cyc_meaning.specs.Step.{target_by, inside, region_end, step}
 use Rattle.cyc_lower.specs.declared.statements.Exits.{Exits}
 use Rattle.cyc_lower.specs.Slots.{slot_of}
-use Rattle.cyc_lower.proofs.Slots.{slot-room, room-inside, slot_types-many}
+use Rattle.cyc_lower.proofs.Slots.{slot-room, room-inside}
 use Rattle.cyc_lower.proofs.Widths.{HasRoom, Outside}
 use Rattle.cyc_lower.proofs.Moves.{copied_is, copied_elsewhere}
-use Rattle.cyc_lower.specs.Lowering.{counter_operand, operand_of, are_as_wide, converts_there, break_target, inside_loop, results_of, lower_function, lower_program, globals_of, null_of}
+use Rattle.cyc_lower.specs.Lowering.{counter_operand, operand_of, are_as_wide, converts_there, break_target, continue_target, scopes_of, inside_loop, results_of, lower_function, lower_program, globals_of, null_of}
 use Rattle.cyc_lower.proofs.Stands.{OperandBy, ExpressionAt, InitialAt, InitialBy, ReturnedAt, ItemsAt}
 use Rattle.cyc_objects.specs.Tables.{Variable, Tables, with_row, with_handle}
+use Rattle.cyc_objects.specs.Related.{scopes}
 use Rattle.cyc_objects.specs.Words.{Is}
 use Rattle.cyc_objects.proofs.Values.{Grows-row, Grows-handle}
-use Rattle.cyc_lower.proofs.Sharing.{shared_less, shared_declared, row_declared, shared_opened, shared_closed, shared_left}
-use Rattle.cyc_lower.proofs.Relation.{counters_of, AreCounted, types_on, starts_on, types_in, types_at, starts_at, given_at, returned_at, Holds, held, callers, homes, Shared, DataAt, SharedAt, in_temporary, in_local, ValueStack, AheadStack, StatementStack, LandsStack, Related, EvaluatingAt, as_operand, into_slot, for_effect, as_condition, in_operand, ahead, behind_statement, behind_call, behind_wrong, Below, IsLast, Arrives, in_place, by_jump, code_of, bounds_in, bounds_at, base_of, top, behind_records, by_jumps, HandlersStand, DataIn, Matches, floor}
+use Rattle.cyc_lower.proofs.Sharing.{shared_declared, row_declared, shared_opened, shared_closed}
+use Rattle.cyc_lower.proofs.Relation.{kept, counters_of, CountsBy, opened_by, types_on, starts_on, types_at, starts_at, given_at, returned_at, Holds, held, callers, homes, Shared, DataAt, SharedAt, in_temporary, in_local, ValueStack, AheadStack, StatementStack, LandsStack, Related, EvaluatingAt, as_operand, into_slot, for_effect, as_condition, in_operand, ahead, behind_statement, behind_call, behind_wrong, Below, IsLast, Arrives, in_place, by_jump, code_of, bounds_in, bounds_at, top, behind_records, by_jumps, HandlersStand, DataIn, Matches, floor}
 use Rattle.cyc_lower.proofs.Data.{height-least, Holds-same, Holds-above, data_declared, data_returned, data_grows, held_by_caller, floor-least, handlers_same, calls_counted}
 use Rattle.cyc_lower.proofs.Values.{int_at}
 use Rattle.cyc_lower.proofs.Accesses.{IsWell, is_declared, is_closed, home_there}
 use Rattle.cyc_lower.proofs.SwapSteps.{begins_swap}
 use Rattle.cyc_lower.proofs.Weights.{weight}
-use Rattle.cyc_lower.proofs.Handling.{leaving, record_left}
+use Rattle.cyc_lower.proofs.Handles.{kept_holds}
+use Rattle.cyc_lower.proofs.Handling.{leaving, shared_leaving, record_left}
+use Rattle.cyc_lower.proofs.WaysOut.{leaves_region}
 use Rattle.cyc_lower.proofs.Matched.{IsMatched, silently, by_one, by_two}
 use Rattle.cyc_lower.proofs.ExceptionSteps.{begins, ends, throws_none, throws_some}
 use Rattle.cyc_lower.proofs.Evaluations.{IsStep, sources}
+use Rattle.cyc_lower.proofs.RegionSteps.{local_there, opens_region, opens_by, aliases_local, declares_key, closes_region, ends_loan}
 
 module _ (source : Program) (pages calls : ℕ) where
   -- ---- calls
@@ -116,20 +122,20 @@ module _ (source : Program) (pages calls : ℕ) where
       (omega arith)
   executing (While p a s) k e w c well (shared, facts, (exits, q, (x, y, m, r, enter, leave, at_a, jump, at_s, back, end, after), stack)) =
       by_one source pages calls refl shared enter
-      (λ choice. (shared, facts, as_condition x y m at_a tt (inside_loop c.active.next (floor source c.active.function k) exits, exits, q, (refl, refl, x, y, m, r, leave, at_a, jump, at_s, back, after), r, jump, at_s, back, stack)))
-  executing (typed.Return None) k e w c well (shared, facts, (exits, q, (s, m, leave, here), stack)) =
-      leaving source pages calls false (Executing (typed.Return None)) (Returning None) k k e w c exits.first_record m refl shared (omega arith) (record_left source c.active.function exits q c.frames k stack).1 leave facts.1
-      (λ handlers stand. (shared, (facts.0, stand), (exits, q, s, here, stack)))
+      (λ choice. (shared, facts, as_condition x y m at_a tt (inside_loop c.active.next exits, exits, q, (refl, refl, x, y, m, r, leave, at_a, jump, at_s, back, after), r, jump, at_s, back, stack)))
+  executing (typed.Return None) k e w c well (shared, facts, (exits, q, (s, m, (r, closing, marks), here), stack)) =
+      leaving source pages calls false (Executing (typed.Return None)) (Returning None) k k e w c exits.in_function r m refl shared (omega arith) (record_left source c.active.function exits q c.frames k stack).1 closing marks facts.1
+      (λ handlers stand marks_there marked. (shared_leaving source pages calls false k e w c shared, (facts.0, stand), m, marks_there, marked, (exits, q, s, here, stack)))
   executing (typed.Return (Some (Convert from to a))) k e w c well (shared, facts, (exits, q, (s, m, r, u, at_a, at_to, leave, here, wide, kind_is), stack)) =
       silently source pages calls (Running (Executing (typed.Return (Some (Convert from to a)))) k e w) (Running (Evaluating a) (Needs (ConvertTo from to (target_by a)) ∷ Needs Return ∷ k) e w) (plain.Running c) refl
       (shared, facts, returned shared.tables a (are_as_wide from to) e.locals c.active.function c.active.next c.active.slots c.frames (Needs (ConvertTo from to (target_by a)) ∷ Needs Return ∷ k) s m at_a tt (r, at_to, (exits, q, s, u, refl, leave, here, (wide, kind_is), stack)))
       (omega arith)
-  executing Break k e w c well (shared, facts, (exits, q, (m, leave, here), stack)) =
-      leaving source pages calls true (Executing Break) Breaking k k e w c exits.loop_record m refl shared (omega arith) (record_left source c.active.function exits q c.frames k stack).0 leave facts.1
-      (λ handlers stand. (shared, (facts.0, stand), (exits, q, here, stack)))
-  executing Continue k e w c well (shared, facts, (exits, q, (m, leave, here), stack)) =
-      leaving source pages calls true (Executing Continue) Continuing k k e w c exits.loop_record m refl shared (omega arith) (record_left source c.active.function exits q c.frames k stack).0 leave facts.1
-      (λ handlers stand. (shared, (facts.0, stand), (exits, q, here, stack)))
+  executing Break k e w c well (shared, facts, (exits, q, (m, (r, closing, marks), here), stack)) =
+      leaving source pages calls true (Executing Break) Breaking k k e w c exits.in_loop r m refl shared (omega arith) (record_left source c.active.function exits q c.frames k stack).0 closing marks facts.1
+      (λ handlers stand marks_there marked. (shared_leaving source pages calls true k e w c shared, (facts.0, stand), m, marks_there, marked, (exits, q, here, stack)))
+  executing Continue k e w c well (shared, facts, (exits, q, (m, (r, closing, marks), here), stack)) =
+      leaving source pages calls true (Executing Continue) Continuing k k e w c exits.in_loop r m refl shared (omega arith) (record_left source c.active.function exits q c.frames k stack).0 closing marks facts.1
+      (λ handlers stand marks_there marked. (shared_leaving source pages calls true k e w c shared, (facts.0, stand), m, marks_there, marked, (exits, q, here, stack)))
   executing (typed.Throw tag None) k e w c well related = throws_none source pages calls tag k e w c well related
   executing (typed.Throw tag (Some a)) k e w c well related = throws_some source pages calls tag a k e w c well related
   executing (typed.Try s handler) k e w c well related = begins source pages calls s handler k e w c well related
@@ -184,12 +190,12 @@ module _ (source : Program) (pages calls : ℕ) where
       let back = comes_back shared.tables active.function s results active.slots globals f frames k e.locals outer w facts stand least in
       by_one source pages calls does shared here
       (λ choice. finished (Running Proceeding k outer w) c s choice none
-      (shared_returned w (outer.home ∷ homes k) (AreCounted outer.counters k) output input store e.home (length frames) shared, behind_call (returned_at source active.function) (operands.Slot f.result) back.0 stack))
+      (shared_returned w (outer.home ∷ homes k) (CountsBy source None outer k globals store (scopes w.regions)) output input store e.home (length frames) shared, behind_call (returned_at source active.function) (operands.Slot f.result) back.0 stack))
   leaves_call focus active (f ∷ frames) globals store output input k e outer w s does shared (facts, (none, stand)) here (in_local below stack) =
       let c : Configuration = record { active = active; frames = f ∷ frames; globals = globals; store = store; output = output; input = input } in
       by_one source pages calls does shared here
       (λ choice. finished (Running Proceeding k outer w) c s choice none
-      (shared_returned w (outer.home ∷ homes k) (AreCounted outer.counters k) output input store e.home (length frames) shared, behind_wrong (returned_at source active.function) f.result (calls_counted source f.caller.function f.caller.slots f.caller.handlers frames k stand) stack))
+      (shared_returned w (outer.home ∷ homes k) (CountsBy source None outer k globals store (scopes w.regions)) output input store e.home (length frames) shared, behind_wrong (returned_at source active.function) f.result (calls_counted source f.caller.function f.caller.slots f.caller.handlers frames k stand) stack))
 
   -- with a value
   hands_back : (v : Kinded) (active : Activation) (frames : List Frame) (globals : Words) (store : StoreState) (output input : List ℕ) (k : List Entry) (e outer : Environment) (w : World) (s : ℕ)
@@ -205,8 +211,8 @@ module _ (source : Program) (pages calls : ℕ) where
       let back = comes_back shared.tables active.function s results active.slots globals f frames k e.locals outer w facts stand least in
       by_one source pages calls refl shared here
       (λ choice. finished (Running (Given v) k outer w) c s choice none (
-        shared_returned w (outer.home ∷ homes k) (AreCounted outer.counters k) output input store e.home (length frames) shared,
-        in_operand (operands.Slot f.result) back.0 (copied_is shared.tables v active.slots f.caller.slots s results f.result (omega (arith, wide)) is) back.1 stack,
+        shared_returned w (outer.home ∷ homes k) (CountsBy source None outer k globals store (scopes w.regions)) output input store e.home (length frames) shared,
+        in_operand (operands.Slot f.result) back.0 (copied_is shared.tables v active.slots f.caller.slots s results f.result (omega (arith, wide)) is) (kept_holds _ _ _ k back.1) stack,
       ))
   hands_back v active (f ∷ frames) globals store output input k e outer w s shared (facts, (none, stand)) here is wide (in_local below stack) =
       let c : Configuration = record { active = active; frames = f ∷ frames; globals = globals; store = store; output = output; input = input } in
@@ -219,7 +225,7 @@ module _ (source : Program) (pages calls : ℕ) where
       λ n out. copied_elsewhere active.slots f.caller.slots s results d n (subst (λ many. Outside d many n) (sym wide) out) in
       by_one source pages calls refl shared here
       (λ choice. finished (Running (Given v) k outer w) c s choice none (
-        shared_returned w (outer.home ∷ homes k) (AreCounted outer.counters k) output input store e.home (length frames) shared,
+        shared_returned w (outer.home ∷ homes k) (CountsBy source None outer k globals store (scopes w.regions)) output input store e.home (length frames) shared,
         ahead d (
           f.caller.slots,
           λ n out. sym (elsewhere n out),
@@ -229,28 +235,20 @@ module _ (source : Program) (pages calls : ℕ) where
           ),
         )
             (copied_is shared.tables v active.slots f.caller.slots s results d (omega (arith, wide)) is)
-            (Holds-above shared.tables f.caller.slots now base (held k) (λ n from. elsewhere n (inr (omega (arith, from, below, floor-least source f.caller.function k)))) holds)
+            (Holds-above shared.tables f.caller.slots now base (kept k) (λ n from. elsewhere n (inr (omega (arith, from, below, floor-least source f.caller.function k)))) (kept_holds _ _ _ k holds))
             stack,
       ))
 
   -- ---- what goes on when something is done
 
   -- what the instructions of a function return is what its bounds say
-  results_in : (hs : List Function) (g : ℕ) → (slice_index_or (map (lower_function source.structs (globals_of source)) hs) g no_routine).results ≡ results_of (bounds_in source (slice_get hs g)).result
+  results_in : (hs : List Function) (g : ℕ) → (slice_index_or (map (lower_function source.structs (globals_of source) (scopes_of source)) hs) g no_routine).results ≡ results_of (bounds_in source (slice_get hs g)).result
   results_in [] g = refl
   results_in (h ∷ hs) zero = refl
   results_in (h ∷ hs) (suc g) = results_in hs g
 
   results_at : (g : ℕ) → (routine_at (lower_program source) g).results ≡ results_of (bounds_at source g).result
   results_at g = results_in source.functions g
-
-  locals_in : (h : Option Function) → (bounds_in source h).locals ≡ length (types_in source h).locals
-  locals_in None = refl
-  locals_in (Some h) = sym (slot_types-many h)
-
-  -- a local of a function, in its bounds
-  local_there : (g n : ℕ) → n < (bounds_at source g).locals → n < length (types_at source g).locals
-  local_there g n few = omega (arith, few, locals_in (slice_get source.functions g))
 
   declares : (n : ℕ) (t : Ty) (js : Items) (k : List Entry) (e : Environment) (w : World) (c : Configuration) (exits : Exits) (m q : ℕ)
       → IsWell (step source (Running Proceeding (Rest (MoreItems (Declare n t None) js) ∷ k) e w))
@@ -321,35 +319,44 @@ module _ (source : Program) (pages calls : ℕ) where
       (initial_by (converts_there from to) n ty from to a js k e w c exits m q refl shared facts room at items stack)
       (omega arith)
 
-  after_statement : (k : List Entry) (e : Environment) (w : World) (c : Configuration) (exits : Exits) → IsWell (step source (Running Proceeding k e w))
+  after_statement : (k : List Entry) (e : Environment) (w : World) (c : Configuration) (exits : Exits) → IsNested k e w → IsWell (step source (Running Proceeding k e w))
       → (shared : SharedAt source pages calls k e w c) → DataIn source shared.tables c.active.slots k e w c
       → StatementStack source c.active.function exits c.active.next c.frames k → IsMatched source pages calls (Running Proceeding k e w) (plain.Running c)
-  after_statement (Rest NoItems ∷ k) e w c exits well shared facts (q, end, stack) =
+  after_statement (Rest NoItems ∷ k) e w c exits nested well shared facts (q, end, stack) =
       silently source pages calls (Running Proceeding (Rest NoItems ∷ k) e w) (Running Proceeding k e w) (plain.Running c) refl
       (shared, behind_statement exits facts (subst (λ r. StatementStack source c.active.function exits r c.frames k) (sym end) stack))
       (omega arith)
-  after_statement (Rest (MoreItems (Execute s) js) ∷ k) e w c exits well shared facts (q, (m, at_s, items), stack) =
+  after_statement (Rest (MoreItems (Execute s) js) ∷ k) e w c exits nested well shared facts (q, (m, at_s, items), stack) =
       silently source pages calls (Running Proceeding (Rest (MoreItems (Execute s) js) ∷ k) e w) (Running (Executing s) (Rest js ∷ k) e w) (plain.Running c) refl
       (shared, facts, (exits, m, at_s, (q, items, stack)))
       (omega arith)
-  after_statement (Rest (MoreItems (Declare n t None) js) ∷ k) e w c exits well shared facts (q, (m, (few, end), items), stack) =
-      declares n t js k e w c exits m q well shared facts (local_there c.active.function n few) end items stack
-  after_statement (Rest (MoreItems (Declare n t (Some (Convert from to a))) js) ∷ k) e w c exits well shared facts (q, (m, (few, room, at), items), stack) =
+  after_statement (Rest (MoreItems (Declare n t None) js) ∷ k) e w c exits nested well shared facts (q, (m, (few, end), items), stack) =
+      declares n t js k e w c exits m q well shared facts (local_there source pages calls c.active.function n few) end items stack
+  after_statement (Rest (MoreItems (Declare n t (Some (Convert from to a))) js) ∷ k) e w c exits nested well shared facts (q, (m, (few, room, at), items), stack) =
       initial n t from to a js k e w c exits m q shared facts room at items stack
-  after_statement (Rest js ∷ k) e w c exits well shared facts (q, at, stack) = absurd at
-  after_statement (Join ∷ k) e w c exits well shared facts (q, comes, stack) = arrives (Join ∷ k) k e e w w c exits q refl shared (omega arith) shared facts comes stack
-  after_statement (Loop a s ∷ k) e w c exits well shared facts (outer, q, (record_is, first_is, x, y, m, r, leave, at_a, jump, at_s, back, after), here, stack) =
+  after_statement (Rest (MoreItems (DeclareRegion r n) js) ∷ k) e w c exits nested well shared facts (q, items, stack) =
+      opens_region source pages calls r n js k e w c exits q shared facts nested items stack
+  after_statement (Rest (MoreItems (OpenRegion r n p key) js) ∷ k) e w c exits nested well shared facts (q, items, stack) =
+      opens_by source pages calls r n key p js k e w c exits q well shared facts items stack
+  after_statement (Rest (MoreItems (DeclareAlias r n t p lent) js) ∷ k) e w c exits nested well shared facts (q, items, stack) =
+      aliases_local source pages calls r n lent t p js k e w c exits q well shared facts items stack
+  after_statement (Rest (MoreItems (DeclareKey r n) js) ∷ k) e w c exits nested well shared facts (q, items, stack) =
+      declares_key source pages calls r n js k e w c exits q shared facts items stack
+  after_statement (Join ∷ k) e w c exits nested well shared facts (q, comes, stack) = arrives (Join ∷ k) k e e w w c exits q refl shared (omega arith) shared facts comes stack
+  after_statement (Loop a s ∷ k) e w c exits nested well shared facts (outer, q, (loop_is, function_is, x, y, m, r, leave, at_a, jump, at_s, back, after), here, stack) =
       by_one source pages calls refl shared here
-      (λ choice. (shared, facts, as_condition x y m at_a tt (exits, outer, q, (record_is, first_is, x, y, m, r, leave, at_a, jump, at_s, back, after), r, jump, at_s, back, stack)))
-  after_statement (CloseRegion region home ∷ k) e w c exits well shared facts (q, comes, stack) =
+      (λ choice. (shared, facts, as_condition x y m at_a tt (exits, outer, q, (loop_is, function_is, x, y, m, r, leave, at_a, jump, at_s, back, after), r, jump, at_s, back, stack)))
+  after_statement (CloseRegion region home ∷ k) e w c exits nested well shared facts (q, comes, stack) =
       let found = is_closed Proceeding region home k e w well in
       arrives (CloseRegion region home ∷ k) k (record e { home = home }) e (closed w region found.region) w c exits q found.gives shared (omega arith)
-      (shared_closed source pages calls k e w c region home found.region found.there shared) facts comes stack
-  after_statement (Handler handler ∷ k) e w c exits well shared facts stack = ends source pages calls handler k e w c exits shared facts stack
-  after_statement (Caller outer ∷ k) e w c exits well shared facts (s, here, outside, below) =
+      (shared_closed source None pages calls k e w c region home found.region found.there shared) facts comes stack
+  after_statement (Handler handler ∷ k) e w c exits nested well shared facts stack = ends source pages calls handler k e w c exits shared facts stack
+  after_statement (Caller outer ∷ k) e w c exits nested well shared facts (s, here, outside, below) =
       leaves_call Proceeding c.active c.frames c.globals c.store c.output c.input k e outer w s refl shared facts here below
-  after_statement (Main ∷ k) e w c exits well shared facts stack = absurd (well refl)
-  after_statement k e w c exits well shared facts stack = absurd stack
+  after_statement (CloseLexical region ∷ k) e w c exits nested well shared facts stack = closes_region source pages calls region k e w c exits shared facts nested stack
+  after_statement (EndLoan lent ∷ k) e w c exits nested well shared facts stack = ends_loan source pages calls lent k e w c exits shared facts stack
+  after_statement (Main ∷ k) e w c exits nested well shared facts stack = absurd (well refl)
+  after_statement k e w c exits nested well shared facts stack = absurd stack
 
   after_call : (k : List Entry) (e : Environment) (w : World) (c : Configuration) (kind : Kind) (o : Operand) → IsWell (step source (Running Proceeding k e w))
       → (shared : SharedAt source pages calls k e w c) → DataIn source shared.tables c.active.slots k e w c
@@ -366,67 +373,78 @@ module _ (source : Program) (pages calls : ℕ) where
   after_wrong (Needs a ∷ k) e w c kind n well stack = absurd (well refl)
   after_wrong k e w c kind n well stack = absurd stack
 
-  pub proceeding : (k : List Entry) (e : Environment) (w : World) (c : Configuration) → IsStep source pages calls Proceeding k e w c
-  proceeding k e w c well (shared, behind_statement exits facts stack) = after_statement k e w c exits well shared facts stack
-  proceeding k e w c well (shared, behind_call kind o facts stack) = after_call k e w c kind o well shared facts stack
-  proceeding k e w c well (shared, behind_wrong kind n counted stack) = after_wrong k e w c kind n well stack
+  pub proceeding : (k : List Entry) (e : Environment) (w : World) (c : Configuration) → IsNested k e w → IsStep source pages calls Proceeding k e w c
+  proceeding k e w c nested well (shared, behind_statement exits facts stack) = after_statement k e w c exits nested well shared facts stack
+  proceeding k e w c nested well (shared, behind_call kind o facts stack) = after_call k e w c kind o well shared facts stack
+  proceeding k e w c nested well (shared, behind_wrong kind n counted stack) = after_wrong k e w c kind n well stack
 
   -- ---- breaks
 
-  pub breaking : (k : List Entry) (e : Environment) (w : World) (c : Configuration) → IsStep source pages calls Breaking k e w c
-  breaking [] e w c well related = absurd (well refl)
-  breaking (Needs a ∷ k) e w c well (shared, facts, (exits, q, here, stack)) = absurd stack
-  breaking (Discard ∷ k) e w c well (shared, facts, (exits, q, here, stack)) = absurd stack
-  breaking (Rest js ∷ k) e w c well (shared, facts, (exits, q, here, (r, items, stack))) =
-      silently source pages calls (Running Breaking (Rest js ∷ k) e w) (Running Breaking k e w) (plain.Running c) refl (shared, facts, (exits, r, here, stack)) (omega arith)
-  breaking (Join ∷ k) e w c well (shared, facts, (exits, q, here, (r, arrives, stack))) =
-      silently source pages calls (Running Breaking (Join ∷ k) e w) (Running Breaking k e w) (plain.Running c) refl (shared, facts, (exits, r, here, stack)) (omega arith)
-  breaking (Loop a s ∷ k) e w c well (shared, facts, (exits, q, here, (outer, r, (record_is, first_is, x, y, m, n, leave, at_a, jump, at_s, back, after), again, stack))) =
+  pub breaking : (k : List Entry) (e : Environment) (w : World) (c : Configuration) → IsNested k e w → IsStep source pages calls Breaking k e w c
+  breaking [] e w c nested well related = absurd (well refl)
+  breaking (Needs a ∷ k) e w c nested well (shared, facts, r, marks, marked, (exits, q, here, stack)) = absurd stack
+  breaking (Discard ∷ k) e w c nested well (shared, facts, r, marks, marked, (exits, q, here, stack)) = absurd stack
+  breaking (Rest js ∷ k) e w c nested well (shared, facts, r, marks, marked, (exits, q, here, (u, items, stack))) =
+      silently source pages calls (Running Breaking (Rest js ∷ k) e w) (Running Breaking k e w) (plain.Running c) refl (shared, facts, r, marks, marked, (exits, u, here, stack)) (omega arith)
+  breaking (Join ∷ k) e w c nested well (shared, facts, r, marks, marked, (exits, q, here, (u, arrives, stack))) =
+      silently source pages calls (Running Breaking (Join ∷ k) e w) (Running Breaking k e w) (plain.Running c) refl (shared, facts, r, marks, marked, (exits, u, here, stack)) (omega arith)
+  breaking (Loop a s ∷ k) e w c nested well (shared, facts, r, end, marked, (exits, q, jumps, (outer, u, (loop_is, function_is, x, y, m, n, leave, at_a, jump, at_s, back, after), again, stack))) =
+      let here : At (code_of source c.active.function) c.active.next (instructions.Jump (break_target exits.head)) = subst (λ n. At (code_of source c.active.function) n (instructions.Jump (break_target exits.head))) (sym end) jumps in
       by_two source pages calls (at c (break_target exits.head)) refl shared shared here (λ choice. refl) leave
       (λ same.
-      let jumps : r ≡ break_target exits.head = ap (λ (i : Instruction). target_of i) (same_Some (instructions.Jump r) (instructions.Jump (break_target exits.head)) (sym leave ∙ ap (slice_get (code_of source c.active.function)) (sym same) ∙ here)) in
+      let jumps : u ≡ break_target exits.head = ap (λ (i : Instruction). target_of i) (same_Some (instructions.Jump u) (instructions.Jump (break_target exits.head)) (sym leave ∙ ap (slice_get (code_of source c.active.function)) (sym same) ∙ here)) in
       absurd (omega (arith, jumps, after)))
       (λ choice. (shared, behind_statement outer facts stack))
     where
       target_of : Instruction → ℕ
       target_of (instructions.Jump t) = t
       target_of i = 0
-  breaking (CloseRegion region home ∷ k) e w c well (shared, facts, (exits, q, here, (r, comes, stack))) =
+  breaking (CloseRegion region home ∷ k) e w c nested well (shared, facts, r, marks, marked, (exits, q, here, (u, comes, stack))) =
       let found = is_closed Breaking region home k e w well in
       silently source pages calls (Running Breaking (CloseRegion region home ∷ k) e w) (Running Breaking k (record e { home = home }) (closed w region found.region)) (plain.Running c) found.gives
-      (shared_closed source pages calls k e w c region home found.region found.there shared, facts, (exits, r, here, stack))
+      (shared_closed source (opened_by source true c.active.function k).mark pages calls k e w c region home found.region found.there shared, facts, r, marks, marked, (exits, u, here, stack))
       (omega arith)
-  breaking (Caller outer ∷ k) e w c well related = absurd (well refl)
-  breaking (NeedsPlace a ∷ k) e w c well (shared, facts, (exits, q, here, stack)) = absurd stack
-  breaking (CloseLexical region ∷ k) e w c well (shared, facts, (exits, q, here, stack)) = absurd stack
-  breaking (EndLoan lent ∷ k) e w c well (shared, facts, (exits, q, here, stack)) = absurd stack
-  breaking (Handler handler ∷ k) e w c well (shared, facts, (exits, q, here, (r, leave, over, stack))) =
-      silently source pages calls (Running Breaking (Handler handler ∷ k) e w) (Running Breaking k e w) (plain.Running c) refl (shared, facts, (exits, r, here, stack)) (omega arith)
-  breaking (Main ∷ k) e w c well related = absurd (well refl)
+  breaking (Caller outer ∷ k) e w c nested well related = absurd (well refl)
+  breaking (NeedsPlace a ∷ k) e w c nested well (shared, facts, r, marks, marked, (exits, q, here, stack)) = absurd stack
+  breaking (CloseLexical region ∷ k) e w c nested well (shared, facts, r, marks, marked, (exits, q, here, (outer, u, is, closing, stack))) =
+      leaves_region source pages calls true Breaking region k e w c (λ r found. ap (λ (a : Access Region). closing_lexical a Breaking region k e w) found) (λ v. omega arith) (λ v d leaves. leaves) nested shared facts r marks marked
+      (outer, u, subst (λ n. At (code_of source c.active.function) r (instructions.Jump n)) (ap (λ (x : Exits). break_target x.head) is) here, stack)
+  breaking (EndLoan lent ∷ k) e w c nested well (shared, facts, r, marks, marked, (exits, q, here, stack)) =
+      silently source pages calls (Running Breaking (EndLoan lent ∷ k) e w) (Running Breaking k e w) (plain.Running c) refl (shared, facts, r, marks, marked, (exits, q, here, stack)) (omega arith)
+  breaking (Handler handler ∷ k) e w c nested well (shared, facts, r, marks, marked, (exits, q, here, (outer, u, is, leave, over, stack))) =
+      silently source pages calls (Running Breaking (Handler handler ∷ k) e w) (Running Breaking k e w) (plain.Running c) refl
+      (shared, facts, r, marks, marked, (outer, u, subst (λ n. At (code_of source c.active.function) r (instructions.Jump n)) (ap (λ (x : Exits). break_target x.head) is) here, stack))
+      (omega arith)
+  breaking (Main ∷ k) e w c nested well related = absurd (well refl)
 
-  pub continuing : (k : List Entry) (e : Environment) (w : World) (c : Configuration) → IsStep source pages calls Continuing k e w c
-  continuing [] e w c well related = absurd (well refl)
-  continuing (Needs a ∷ k) e w c well (shared, facts, (exits, q, here, stack)) = absurd stack
-  continuing (Discard ∷ k) e w c well (shared, facts, (exits, q, here, stack)) = absurd stack
-  continuing (Rest js ∷ k) e w c well (shared, facts, (exits, q, here, (r, items, stack))) =
-      silently source pages calls (Running Continuing (Rest js ∷ k) e w) (Running Continuing k e w) (plain.Running c) refl (shared, facts, (exits, r, here, stack)) (omega arith)
-  continuing (Join ∷ k) e w c well (shared, facts, (exits, q, here, (r, arrives, stack))) =
-      silently source pages calls (Running Continuing (Join ∷ k) e w) (Running Continuing k e w) (plain.Running c) refl (shared, facts, (exits, r, here, stack)) (omega arith)
-  continuing (Loop a s ∷ k) e w c well (shared, facts, (exits, q, here, (outer, r, (record_is, first_is, x, y, m, n, leave, at_a, jump, at_s, back, after), again, stack))) =
-      by_one source pages calls refl shared here
-      (λ choice. (shared, facts, as_condition x y m at_a tt (exits, outer, r, (record_is, first_is, x, y, m, n, leave, at_a, jump, at_s, back, after), n, jump, at_s, back, stack)))
-  continuing (CloseRegion region home ∷ k) e w c well (shared, facts, (exits, q, here, (r, comes, stack))) =
+  pub continuing : (k : List Entry) (e : Environment) (w : World) (c : Configuration) → IsNested k e w → IsStep source pages calls Continuing k e w c
+  continuing [] e w c nested well related = absurd (well refl)
+  continuing (Needs a ∷ k) e w c nested well (shared, facts, r, marks, marked, (exits, q, here, stack)) = absurd stack
+  continuing (Discard ∷ k) e w c nested well (shared, facts, r, marks, marked, (exits, q, here, stack)) = absurd stack
+  continuing (Rest js ∷ k) e w c nested well (shared, facts, r, marks, marked, (exits, q, here, (u, items, stack))) =
+      silently source pages calls (Running Continuing (Rest js ∷ k) e w) (Running Continuing k e w) (plain.Running c) refl (shared, facts, r, marks, marked, (exits, u, here, stack)) (omega arith)
+  continuing (Join ∷ k) e w c nested well (shared, facts, r, marks, marked, (exits, q, here, (u, arrives, stack))) =
+      silently source pages calls (Running Continuing (Join ∷ k) e w) (Running Continuing k e w) (plain.Running c) refl (shared, facts, r, marks, marked, (exits, u, here, stack)) (omega arith)
+  continuing (Loop a s ∷ k) e w c nested well (shared, facts, r, end, marked, (exits, q, here, (outer, u, (loop_is, function_is, x, y, m, n, leave, at_a, jump, at_s, back, after), again, stack))) =
+      by_one source pages calls refl shared (subst (λ n. At (code_of source c.active.function) n (instructions.Jump (continue_target exits.head))) (sym end) here)
+      (λ choice. (shared, facts, as_condition x y m at_a tt (exits, outer, u, (loop_is, function_is, x, y, m, n, leave, at_a, jump, at_s, back, after), n, jump, at_s, back, stack)))
+  continuing (CloseRegion region home ∷ k) e w c nested well (shared, facts, r, marks, marked, (exits, q, here, (u, comes, stack))) =
       let found = is_closed Continuing region home k e w well in
       silently source pages calls (Running Continuing (CloseRegion region home ∷ k) e w) (Running Continuing k (record e { home = home }) (closed w region found.region)) (plain.Running c) found.gives
-      (shared_closed source pages calls k e w c region home found.region found.there shared, facts, (exits, r, here, stack))
+      (shared_closed source (opened_by source true c.active.function k).mark pages calls k e w c region home found.region found.there shared, facts, r, marks, marked, (exits, u, here, stack))
       (omega arith)
-  continuing (Caller outer ∷ k) e w c well related = absurd (well refl)
-  continuing (NeedsPlace a ∷ k) e w c well (shared, facts, (exits, q, here, stack)) = absurd stack
-  continuing (CloseLexical region ∷ k) e w c well (shared, facts, (exits, q, here, stack)) = absurd stack
-  continuing (EndLoan lent ∷ k) e w c well (shared, facts, (exits, q, here, stack)) = absurd stack
-  continuing (Handler handler ∷ k) e w c well (shared, facts, (exits, q, here, (r, leave, over, stack))) =
-      silently source pages calls (Running Continuing (Handler handler ∷ k) e w) (Running Continuing k e w) (plain.Running c) refl (shared, facts, (exits, r, here, stack)) (omega arith)
-  continuing (Main ∷ k) e w c well related = absurd (well refl)
+  continuing (Caller outer ∷ k) e w c nested well related = absurd (well refl)
+  continuing (NeedsPlace a ∷ k) e w c nested well (shared, facts, r, marks, marked, (exits, q, here, stack)) = absurd stack
+  continuing (CloseLexical region ∷ k) e w c nested well (shared, facts, r, marks, marked, (exits, q, here, (outer, u, is, closing, stack))) =
+      leaves_region source pages calls true Continuing region k e w c (λ r found. ap (λ (a : Access Region). closing_lexical a Continuing region k e w) found) (λ v. omega arith) (λ v d leaves. leaves) nested shared facts r marks marked
+      (outer, u, subst (λ n. At (code_of source c.active.function) r (instructions.Jump n)) (ap (λ (x : Exits). continue_target x.head) is) here, stack)
+  continuing (EndLoan lent ∷ k) e w c nested well (shared, facts, r, marks, marked, (exits, q, here, stack)) =
+      silently source pages calls (Running Continuing (EndLoan lent ∷ k) e w) (Running Continuing k e w) (plain.Running c) refl (shared, facts, r, marks, marked, (exits, q, here, stack)) (omega arith)
+  continuing (Handler handler ∷ k) e w c nested well (shared, facts, r, marks, marked, (exits, q, here, (outer, u, is, leave, over, stack))) =
+      silently source pages calls (Running Continuing (Handler handler ∷ k) e w) (Running Continuing k e w) (plain.Running c) refl
+      (shared, facts, r, marks, marked, (outer, u, subst (λ n. At (code_of source c.active.function) r (instructions.Jump n)) (ap (λ (x : Exits). continue_target x.head) is) here, stack))
+      (omega arith)
+  continuing (Main ∷ k) e w c nested well related = absurd (well refl)
 
   -- ---- returns
 
@@ -444,56 +462,64 @@ module _ (source : Program) (pages calls : ℕ) where
   ends_main i (Int a) active (f ∷ frames) globals store output input k e w s well shared closed here is last = absurd last
   ends_main i v active frames globals store output input k e w s well shared closed here is last = absurd (well refl)
 
-  returning_none : (k : List Entry) (e : Environment) (w : World) (c : Configuration) → IsStep source pages calls (Returning None) k e w c
-  returning_none [] e w c well related = absurd (well refl)
-  returning_none (Needs a ∷ k) e w c well (shared, facts, (exits, q, s, here, stack)) = absurd stack
-  returning_none (Discard ∷ k) e w c well (shared, facts, (exits, q, s, here, stack)) = absurd stack
-  returning_none (Rest js ∷ k) e w c well (shared, facts, (exits, q, s, here, (r, items, stack))) =
-      silently source pages calls (Running (Returning None) (Rest js ∷ k) e w) (Running (Returning None) k e w) (plain.Running c) refl (shared, facts, (exits, r, s, here, stack)) (omega arith)
-  returning_none (Join ∷ k) e w c well (shared, facts, (exits, q, s, here, (r, arrives, stack))) =
-      silently source pages calls (Running (Returning None) (Join ∷ k) e w) (Running (Returning None) k e w) (plain.Running c) refl (shared, facts, (exits, r, s, here, stack)) (omega arith)
-  returning_none (Loop a b ∷ k) e w c well (shared, facts, (exits, q, s, here, (outer, r, around, again, stack))) =
-      silently source pages calls (Running (Returning None) (Loop a b ∷ k) e w) (Running (Returning None) k e w) (plain.Running c) refl (shared, facts, (outer, r, s, here, stack)) (omega arith)
-  returning_none (CloseRegion region home ∷ k) e w c well (shared, facts, (exits, q, s, here, (r, comes, stack))) =
+  returning_none : (k : List Entry) (e : Environment) (w : World) (c : Configuration) → IsNested k e w → IsStep source pages calls (Returning None) k e w c
+  returning_none [] e w c nested well related = absurd (well refl)
+  returning_none (Needs a ∷ k) e w c nested well (shared, facts, r, marks, marked, (exits, q, s, here, stack)) = absurd stack
+  returning_none (Discard ∷ k) e w c nested well (shared, facts, r, marks, marked, (exits, q, s, here, stack)) = absurd stack
+  returning_none (Rest js ∷ k) e w c nested well (shared, facts, r, marks, marked, (exits, q, s, here, (u, items, stack))) =
+      silently source pages calls (Running (Returning None) (Rest js ∷ k) e w) (Running (Returning None) k e w) (plain.Running c) refl (shared, facts, r, marks, marked, (exits, u, s, here, stack)) (omega arith)
+  returning_none (Join ∷ k) e w c nested well (shared, facts, r, marks, marked, (exits, q, s, here, (u, arrives, stack))) =
+      silently source pages calls (Running (Returning None) (Join ∷ k) e w) (Running (Returning None) k e w) (plain.Running c) refl (shared, facts, r, marks, marked, (exits, u, s, here, stack)) (omega arith)
+  returning_none (Loop a b ∷ k) e w c nested well (shared, facts, r, marks, marked, (exits, q, s, here, (outer, u, around, again, stack))) =
+      silently source pages calls (Running (Returning None) (Loop a b ∷ k) e w) (Running (Returning None) k e w) (plain.Running c) refl (shared, facts, r, marks, marked, (outer, u, s, here, stack)) (omega arith)
+  returning_none (CloseRegion region home ∷ k) e w c nested well (shared, facts, r, marks, marked, (exits, q, s, here, (u, comes, stack))) =
       let found = is_closed (Returning None) region home k e w well in
       silently source pages calls (Running (Returning None) (CloseRegion region home ∷ k) e w) (Running (Returning None) k (record e { home = home }) (closed w region found.region)) (plain.Running c) found.gives
-      (shared_closed source pages calls k e w c region home found.region found.there shared, facts, (exits, r, s, here, stack))
+      (shared_closed source (opened_by source false c.active.function k).mark pages calls k e w c region home found.region found.there shared, facts, r, marks, marked, (exits, u, s, here, stack))
       (omega arith)
-  returning_none (Caller outer ∷ k) e w c well (shared, facts, (exits, q, s, here, (u, last, outside, below))) =
-      leaves_call (Returning None) c.active c.frames c.globals c.store c.output c.input k e outer w s refl shared facts here below
-  returning_none (NeedsPlace a ∷ k) e w c well (shared, facts, (exits, q, s, here, stack)) = absurd stack
-  returning_none (CloseLexical region ∷ k) e w c well (shared, facts, (exits, q, s, here, stack)) = absurd stack
-  returning_none (EndLoan lent ∷ k) e w c well (shared, facts, (exits, q, s, here, stack)) = absurd stack
-  returning_none (Handler handler ∷ k) e w c well (shared, facts, (exits, q, s, here, (r, leave, over, stack))) =
-      silently source pages calls (Running (Returning None) (Handler handler ∷ k) e w) (Running (Returning None) k e w) (plain.Running c) refl (shared, facts, (exits, r, s, here, stack)) (omega arith)
-  returning_none (Main ∷ k) e w c well related = absurd (well refl)
+  returning_none (Caller outer ∷ k) e w c nested well (shared, facts, r, end, marked, (exits, q, s, here, (u, last, outside, below))) =
+      leaves_call (Returning None) c.active c.frames c.globals c.store c.output c.input k e outer w s refl shared facts
+      (subst (λ n. At (code_of source c.active.function) n (instructions.Finish s)) (sym end) here) below
+  returning_none (NeedsPlace a ∷ k) e w c nested well (shared, facts, r, marks, marked, (exits, q, s, here, stack)) = absurd stack
+  returning_none (CloseLexical region ∷ k) e w c nested well (shared, facts, r, marks, marked, (exits, q, s, here, (outer, u, is_inside, closing, stack))) =
+      leaves_region source pages calls false (Returning None) region k e w c (λ r found. ap (λ (a : Access Region). closing_lexical a (Returning None) region k e w) found) (λ v. omega arith) (λ v d leaves. leaves) nested shared facts r marks marked
+      (outer, u, s, here, stack)
+  returning_none (EndLoan lent ∷ k) e w c nested well (shared, facts, r, marks, marked, (exits, q, s, here, stack)) =
+      silently source pages calls (Running (Returning None) (EndLoan lent ∷ k) e w) (Running (Returning None) k e w) (plain.Running c) refl (shared, facts, r, marks, marked, (exits, q, s, here, stack)) (omega arith)
+  returning_none (Handler handler ∷ k) e w c nested well (shared, facts, r, marks, marked, (exits, q, s, here, (outer, u, is_inside, leave, over, stack))) =
+      silently source pages calls (Running (Returning None) (Handler handler ∷ k) e w) (Running (Returning None) k e w) (plain.Running c) refl (shared, facts, r, marks, marked, (outer, u, s, here, stack)) (omega arith)
+  returning_none (Main ∷ k) e w c nested well related = absurd (well refl)
 
-  returning_some : (v : Kinded) (k : List Entry) (e : Environment) (w : World) (c : Configuration) → IsStep source pages calls (Returning (Some v)) k e w c
-  returning_some v [] e w c well related = absurd (well refl)
-  returning_some v (Needs a ∷ k) e w c well (shared, facts, (exits, q, s, here, is, single, stack)) = absurd stack
-  returning_some v (Discard ∷ k) e w c well (shared, facts, (exits, q, s, here, is, single, stack)) = absurd stack
-  returning_some v (Rest js ∷ k) e w c well (shared, facts, (exits, q, s, here, is, single, (r, items, stack))) =
-      silently source pages calls (Running (Returning (Some v)) (Rest js ∷ k) e w) (Running (Returning (Some v)) k e w) (plain.Running c) refl (shared, facts, (exits, r, s, here, is, single, stack)) (omega arith)
-  returning_some v (Join ∷ k) e w c well (shared, facts, (exits, q, s, here, is, single, (r, arrives, stack))) =
-      silently source pages calls (Running (Returning (Some v)) (Join ∷ k) e w) (Running (Returning (Some v)) k e w) (plain.Running c) refl (shared, facts, (exits, r, s, here, is, single, stack)) (omega arith)
-  returning_some v (Loop a b ∷ k) e w c well (shared, facts, (exits, q, s, here, is, single, (outer, r, around, again, stack))) =
-      silently source pages calls (Running (Returning (Some v)) (Loop a b ∷ k) e w) (Running (Returning (Some v)) k e w) (plain.Running c) refl (shared, facts, (outer, r, s, here, is, single, stack)) (omega arith)
-  returning_some v (CloseRegion region home ∷ k) e w c well (shared, facts, (exits, q, s, here, is, single, (r, comes, stack))) =
+  returning_some : (v : Kinded) (k : List Entry) (e : Environment) (w : World) (c : Configuration) → IsNested k e w → IsStep source pages calls (Returning (Some v)) k e w c
+  returning_some v [] e w c nested well related = absurd (well refl)
+  returning_some v (Needs a ∷ k) e w c nested well (shared, facts, r, marks, marked, (exits, q, s, here, is, single, stack)) = absurd stack
+  returning_some v (Discard ∷ k) e w c nested well (shared, facts, r, marks, marked, (exits, q, s, here, is, single, stack)) = absurd stack
+  returning_some v (Rest js ∷ k) e w c nested well (shared, facts, r, marks, marked, (exits, q, s, here, is, single, (u, items, stack))) =
+      silently source pages calls (Running (Returning (Some v)) (Rest js ∷ k) e w) (Running (Returning (Some v)) k e w) (plain.Running c) refl (shared, facts, r, marks, marked, (exits, u, s, here, is, single, stack)) (omega arith)
+  returning_some v (Join ∷ k) e w c nested well (shared, facts, r, marks, marked, (exits, q, s, here, is, single, (u, arrives, stack))) =
+      silently source pages calls (Running (Returning (Some v)) (Join ∷ k) e w) (Running (Returning (Some v)) k e w) (plain.Running c) refl (shared, facts, r, marks, marked, (exits, u, s, here, is, single, stack)) (omega arith)
+  returning_some v (Loop a b ∷ k) e w c nested well (shared, facts, r, marks, marked, (exits, q, s, here, is, single, (outer, u, around, again, stack))) =
+      silently source pages calls (Running (Returning (Some v)) (Loop a b ∷ k) e w) (Running (Returning (Some v)) k e w) (plain.Running c) refl (shared, facts, r, marks, marked, (outer, u, s, here, is, single, stack)) (omega arith)
+  returning_some v (CloseRegion region home ∷ k) e w c nested well (shared, facts, r, marks, marked, (exits, q, s, here, is, single, (u, comes, stack))) =
       let found = is_closed (Returning (Some v)) region home k e w well in
       silently source pages calls (Running (Returning (Some v)) (CloseRegion region home ∷ k) e w) (Running (Returning (Some v)) k (record e { home = home }) (closed w region found.region)) (plain.Running c) found.gives
-      (shared_closed source pages calls k e w c region home found.region found.there shared, facts, (exits, r, s, here, is, single, stack))
+      (shared_closed source (opened_by source false c.active.function k).mark pages calls k e w c region home found.region found.there shared, facts, r, marks, marked, (exits, u, s, here, is, single, stack))
       (omega arith)
-  returning_some v (Caller outer ∷ k) e w c well (shared, facts, (exits, q, s, here, is, single, (u, last, outside, below))) =
-      hands_back v c.active c.frames c.globals c.store c.output c.input k e outer w s shared facts here is (results_at c.active.function ∙ single.0)
-      (subst (λ i. Below source c.frames (Waits i outer k)) (sym single.1) below)
-  returning_some v (NeedsPlace a ∷ k) e w c well (shared, facts, (exits, q, s, here, is, single, stack)) = absurd stack
-  returning_some v (CloseLexical region ∷ k) e w c well (shared, facts, (exits, q, s, here, is, single, stack)) = absurd stack
-  returning_some v (EndLoan lent ∷ k) e w c well (shared, facts, (exits, q, s, here, is, single, stack)) = absurd stack
-  returning_some v (Handler handler ∷ k) e w c well (shared, facts, (exits, q, s, here, is, single, (r, leave, over, stack))) =
-      silently source pages calls (Running (Returning (Some v)) (Handler handler ∷ k) e w) (Running (Returning (Some v)) k e w) (plain.Running c) refl (shared, facts, (exits, r, s, here, is, single, stack)) (omega arith)
-  returning_some v (Main ∷ k) e w c well (shared, facts, (exits, q, s, here, is, single, (u, last, outside, none))) =
-      ends_main v.kind v.value c.active c.frames c.globals c.store c.output c.input k e w s well shared facts.1.0 here is none
+  returning_some v (Caller outer ∷ k) e w c nested well (shared, facts, r, end, marked, (exits, q, s, here, is, single, (u, last, outside, below))) =
+      hands_back v c.active c.frames c.globals c.store c.output c.input k e outer w s shared facts (subst (λ n. At (code_of source c.active.function) n (instructions.Finish s)) (sym end) here) is
+      (results_at c.active.function ∙ single.0) (subst (λ i. Below source c.frames (Waits i outer k)) (sym single.1) below)
+  returning_some v (NeedsPlace a ∷ k) e w c nested well (shared, facts, r, marks, marked, (exits, q, s, here, is, single, stack)) = absurd stack
+  returning_some v (CloseLexical region ∷ k) e w c nested well (shared, facts, r, marks, marked, (exits, q, s, here, is, single, (outer, u, is_inside, closing, stack))) =
+      leaves_region source pages calls false (Returning (Some v)) region k e w c (λ r found. ap (λ (a : Access Region). closing_lexical a (Returning (Some v)) region k e w) found) (λ v. omega arith) (λ v d leaves. leaves) nested shared facts r marks marked
+      (outer, u, s, here, is, single, stack)
+  returning_some v (EndLoan lent ∷ k) e w c nested well (shared, facts, r, marks, marked, (exits, q, s, here, is, single, stack)) =
+      silently source pages calls (Running (Returning (Some v)) (EndLoan lent ∷ k) e w) (Running (Returning (Some v)) k e w) (plain.Running c) refl (shared, facts, r, marks, marked, (exits, q, s, here, is, single, stack)) (omega arith)
+  returning_some v (Handler handler ∷ k) e w c nested well (shared, facts, r, marks, marked, (exits, q, s, here, is, single, (outer, u, is_inside, leave, over, stack))) =
+      silently source pages calls (Running (Returning (Some v)) (Handler handler ∷ k) e w) (Running (Returning (Some v)) k e w) (plain.Running c) refl (shared, facts, r, marks, marked, (outer, u, s, here, is, single, stack)) (omega arith)
+  returning_some v (Main ∷ k) e w c nested well (shared, facts, r, end, marked, (exits, q, s, here, is, single, (u, last, outside, none))) =
+      ends_main v.kind v.value c.active c.frames c.globals c.store c.output c.input k e w s well shared facts.1.0
+      (subst (λ n. At (code_of source c.active.function) n (instructions.Finish s)) (sym end) here) is none
 
-  pub returning : (v : Option Kinded) (k : List Entry) (e : Environment) (w : World) (c : Configuration) → IsStep source pages calls (Returning v) k e w c
-  returning None k e w c well related = returning_none k e w c well related
-  returning (Some v) k e w c well related = returning_some v k e w c well related
+  pub returning : (v : Option Kinded) (k : List Entry) (e : Environment) (w : World) (c : Configuration) → IsNested k e w → IsStep source pages calls (Returning v) k e w c
+  returning None k e w c nested well related = returning_none k e w c nested well related
+  returning (Some v) k e w c nested well related = returning_some v k e w c nested well related

@@ -9,7 +9,7 @@ use Rattle.cyc_syntax.specs.Yields.{Yield, item_number}
 use Rattle.cyc_syntax.specs.Yields as yields
 use Rattle.cyc_syntax.specs.Grammar.{IsSpelled, HasTree}
 
--- ---- the constants of a tree, but those in forms that are not built
+-- ---- the constants of a tree
 
 abbrev mutual
   pub IsOfWordsWritten : Expression → Type 0
@@ -23,7 +23,7 @@ abbrev mutual
   IsOfWordsWritten (Binary e os) = IsOfWordsWritten e × AreOfWordsChain os
   IsOfWordsWritten (Chained e ps) = IsOfWordsWritten e × AreOfWordsPostfixes ps
   IsOfWordsWritten (New p i) = IsOfWordsMadeOf i
-  IsOfWordsWritten (RegionNew p h i) = IsOfWordsMadeOf i
+  IsOfWordsWritten (RegionNew p h i) = IsOfWordsWritten h × IsOfWordsMadeOf i
   IsOfWordsWritten (Assign a b) = IsOfWordsWritten a × IsOfWordsWritten b
   IsOfWordsWritten e = Unit {0}
 
@@ -149,7 +149,8 @@ mutual
   expression_constants d (Binary e os) h = (expression_constants d e (front_part (yields.expression d e) _ h), chain_constants d 1 os (rest_part (yields.expression d e) _ h))
   expression_constants d (Chained e ps) h = (expression_constants d e (front_part (yields.expression d e) _ h), postfixes_constants d 1 ps (rest_part (yields.expression d e) _ h))
   expression_constants d (New p i) (l, h) = initial_constants (suc d) i h
-  expression_constants d (RegionNew p e i) (l, (m, h)) = initial_constants (suc d) i ((rest_part (yields.expression (suc (suc d)) e) _ h).1)
+  expression_constants d (RegionNew p e i) (l, (m, h)) =
+      (expression_constants (suc (suc d)) e (front_part (yields.expression (suc (suc d)) e) _ h), initial_constants (suc d) i ((rest_part (yields.expression (suc (suc d)) e) _ h).1))
   expression_constants d (Assign a b) h = (expression_constants d a (front_part (yields.expression d a) _ h), expression_constants (suc d) b ((rest_part (yields.expression d a) _ h).1))
   expression_constants d e h = tt
 

@@ -22,7 +22,7 @@ use Rattle.cyc_types.specs.Built.{is_built_type, is_built_result, is_built_value
 use Rattle.cyc_types.specs.typing.Scopes.{Meaning, Unknown, Fixed, Counter, Routine, Scope, meaning_of, behind, in_block, in_labelled, in_body, counted, with_counter}
 use Rattle.cyc_types.specs.typing.Scopes as scopes
 use Rattle.cyc_types.specs.typing.Tests.{is_unique, is_moved, is_pointer}
-use Rattle.cyc_types.specs.typing.Expressions.{passed, variable_read, variable_looked, read, looked, rule_looked, Found, place_meant, Reached, pointed, indexed, selected, loaded, pointer_to, address_of, assignment, is_looking, is_looking_first, operand, Joined, peeked_local, then_pointer, then_added, ints_joined, tests_joined, sums_joined, then_compared, equality_joined, joined, instance_of, instantiated, called, key_freed, Made, field_types, arguments_written, fields_known, rule, rule_all, rule_chain, rule_place, rule_postfixed, rule_further, rule_made}
+use Rattle.cyc_types.specs.typing.Expressions.{passed, variable_read, variable_looked, read, looked, rule_looked, Found, place_meant, Reached, pointed, indexed, selected, loaded, pointer_to, address_of, assignment, is_looking, is_looking_first, operand, Joined, peeked_local, then_pointer, then_added, ints_joined, tests_joined, sums_joined, then_compared, equality_joined, joined, instance_of, instantiated, called, key_freed, Made, field_types, arguments_written, fields_known, rule, rule_all, rule_chain, rule_place, rule_postfixed, rule_further, rule_made, Placed, rule_placement}
 use Rattle.cyc_types.specs.typing.Statements.{rule_condition, returned, rule_returned, exception_among, rule_initial, behind_item, rule_statement, rule_body, rule_items, rule_thrown, rule_clauses, with_caught, behind_clause}
 use Rattle.cyc_types.specs.typing.Heads.{signature_of}
 use Rattle.cyc_types.specs.typing.Programs.{Program, program_known, body_scope, rule_functions, constant_of, globals_of, IsTypedProgram}
@@ -32,7 +32,7 @@ use Rattle.cyc_words.specs.Word.{IsWord}
 use Rattle.cyc_lower.specs.Words.{IsOfWords, IsOfWordsCell, IsOfWordsObject, IsOfWordsConverted, AreOfWordsArguments, AreOfWordsOperations, IsOfWordsSide, IsOfWordsInitial, IsOfWordsStatement, AreOfWordsItems, IsOfWordsConstant, AreOfWordsGlobals, AreOfWordsFunctions, IsOfWordsProgram, IsOfWordsThrown, AreOfWordsClauses}
 use Rattle.cyc_lower.proofs.TreeConstants.{IsOfWordsWritten, IsOfWordsMadeOf, AreOfWordsWritten, AreOfWordsPostfixes, AreOfWordsChain, IsOfWordsValue, IsOfWordsWrittenStatement, IsOfWordsBody, AreOfWordsWrittenItems, IsOfWordsGlobalValue, IsOfWordsTree, AreOfWordsWrittenClauses}
 
--- ---- the constants of a typed tree, but those in forms that are not built
+-- ---- the constants of a typed tree
 
 abbrev mutual
   HasWords : typed.Expression → Type 0
@@ -41,13 +41,18 @@ abbrev mutual
   HasWords (typed.AddressOfCell d t) = CellHasWords d
   HasWords (typed.NumberOfElements a) = HasWords a
   HasWords (typed.FreeUnique a) = HasWords a
+  HasWords (typed.FreeKey a) = HasWords a
   HasWords (typed.Call f cs t) = ArgumentsHaveWords cs
   HasWords (typed.Unary o a) = HasWords a
   HasWords (typed.Binary a os t) = HasWords a × OperationsHaveWords os
   HasWords (typed.Assign l c t) = ConvertedHasWords c
   HasWords (typed.Store d c t) = CellHasWords d × ConvertedHasWords c
-  HasWords (typed.New w i t) = InitialHasWords i
+  HasWords (typed.New w i t) = PlacementHasWords w × InitialHasWords i
   HasWords a = Unit {0}
+
+  PlacementHasWords : typed.Placement → Type 0
+  PlacementHasWords (typed.ByHandle a) = HasWords a
+  PlacementHasWords w = Unit {0}
 
   CellHasWords : typed.Dereference → Type 0
   CellHasWords (typed.Target k a t) = HasWords a
@@ -101,7 +106,10 @@ abbrev mutual
   ItemsHaveWords typed.NoItems = Unit {0}
   ItemsHaveWords (typed.MoreItems (typed.Execute s) js) = StatementHasWords s × ItemsHaveWords js
   ItemsHaveWords (typed.MoreItems (typed.Declare n t v) js) = ValueHasWords v × ItemsHaveWords js
-  ItemsHaveWords js = Unit {0}
+  ItemsHaveWords (typed.MoreItems (typed.DeclareRegion r n) js) = ItemsHaveWords js
+  ItemsHaveWords (typed.MoreItems (typed.OpenRegion r n p k) js) = ItemsHaveWords js
+  ItemsHaveWords (typed.MoreItems (typed.DeclareAlias r n t p m) js) = ItemsHaveWords js
+  ItemsHaveWords (typed.MoreItems (typed.DeclareKey r n) js) = ItemsHaveWords js
 
   ClausesHaveWords : typed.Clauses → Type 0
   ClausesHaveWords typed.NoClauses = Unit {0}
@@ -200,6 +208,12 @@ key_constants (Fixed l t) p a d = absurd d
 key_constants (Counter n) p a d = absurd d
 key_constants (Routine f s) p a d = absurd d
 
+-- the handle of `rnew`
+placement_constants : (g : Scope) (p : Place) (e : Expression) (walked : Rule typed.Expression) → GivesWords walked → (w : Placed) → Derives (rule_placement g p e walked) w → PlacementHasWords w.placement
+placement_constants g p (UniqueRegion q) walked h w d = subst (λ (z : Placed). PlacementHasWords z.placement) (sym d.1) tt
+placement_constants g p (Bracketed q e) walked h w d = placement_constants g p e walked h w d
+placement_constants g p e walked h w d = subst (λ (z : Placed). PlacementHasWords z.placement) (sym d.2.1) (h d.0 d.1)
+
 -- what an operation puts in front of its chain has words for its constants where its operand and the chain have
 abbrev HasWordsBefore : typed.Expression → Joined → Type 0
 HasWordsBefore a j = (os : typed.Operations) → HasWords a → OperationsHaveWords os → OperationsHaveWords (j.0 os)
@@ -275,8 +289,9 @@ mutual
   expression_constants g (Prefixed p prefixes.Dereference e) w a (b, kb, d) =
       loaded_constants p (pointed g (place_of e) b) (seen_constants g e (rule g e) (λ c h. expression_constants g e w c h) b kb) a d
   expression_constants g (Prefixed p prefixes.AddressOf e) w a (x, kx, (k, eq)) = subst HasWords (sym eq) (address_words x.side (pointer_to x) (found_constants g (place_of e) e w x kx))
-  expression_constants g (New p v) w a (m, km, (k, eq)) = subst HasWords (sym eq) (made_constants g v w m km)
-  expression_constants g (RegionNew p e v) w a (v', kv, (m, km, (k, eq))) = subst HasWords (sym eq) (made_constants g v w m km)
+  expression_constants g (New p v) w a (m, km, (k, eq)) = subst HasWords (sym eq) (tt, made_constants g v w m km)
+  expression_constants g (RegionNew p e v) (w, ws) a (v', kv, (m, km, (k, eq))) =
+      subst HasWords (sym eq) (placement_constants g (place_of e) e (rule g e) (λ c h. expression_constants g e w c h) v' kv, made_constants g v ws m km)
   expression_constants g (Binary e os) (w, ws) a (b, kb, (bs, ks, (u, eq))) =
       subst HasWords (sym eq)
       (operand_constants g (is_looking_first os) e (λ c h. expression_constants g e w c h) b kb, chain_constants g (place_of e) (peeked_local b) (type_of b) os ws bs ks)
@@ -380,12 +395,16 @@ mutual
       subst ItemsHaveWords (sym (eq ∙ ap (λ k. typed.MoreItems k ks) is_j)) (statement_constants g s w t h, items_constants (behind g s) is ws ks hs)
   items_constants g (MoreItems (Local t x v) is) (w, ws) js (j, (u, ku, (c, kc, (y, is_j))), (ks, hs, (z, eq))) =
       subst ItemsHaveWords (sym (eq ∙ ap (λ k. typed.MoreItems k ks) is_j)) (initial_constants g t x v c w kc, items_constants (behind_item g (Local t x v) j) is ws ks hs)
-  items_constants g (MoreItems (Region r h None) is) w js (j, (k, is_j), (ks, hs, (z, eq))) = subst ItemsHaveWords (sym (eq ∙ ap (λ k. typed.MoreItems k ks) is_j)) tt
-  items_constants g (MoreItems (Region r h (Some k)) is) w js (j, (u, ku, d), (ks, hs, (z, eq))) =
-      let (o, l, is_j) = opened_shape g r h (meaning_of g k) k.place j d in subst ItemsHaveWords (sym (eq ∙ ap (λ k. typed.MoreItems k ks) is_j)) tt
-  items_constants g (MoreItems (Alias r t x y) is) w js (j, (u, ku, (v, kv, d)), (ks, hs, (z, eq))) =
-      let (of_type, l, is_j) = aliased_shape g r x t (meaning_of g y) y.place j d in subst ItemsHaveWords (sym (eq ∙ ap (λ k. typed.MoreItems k ks) is_j)) tt
-  items_constants g (MoreItems (DynamicRegion r k) is) w js (j, (kept, is_j), (ks, hs, (z, eq))) = subst ItemsHaveWords (sym (eq ∙ ap (λ k. typed.MoreItems k ks) is_j)) tt
+  items_constants g (MoreItems (Region r h None) is) (w, ws) js (j, (k, is_j), (ks, hs, (z, eq))) =
+      subst ItemsHaveWords (sym (eq ∙ ap (λ k. typed.MoreItems k ks) is_j)) (items_constants (behind_item g (Region r h None) j) is ws ks hs)
+  items_constants g (MoreItems (Region r h (Some k)) is) (w, ws) js (j, (u, ku, d), (ks, hs, (z, eq))) =
+      let (o, l, is_j) = opened_shape g r h (meaning_of g k) k.place j d in
+      subst ItemsHaveWords (sym (eq ∙ ap (λ k. typed.MoreItems k ks) is_j)) (items_constants (behind_item g (Region r h (Some k)) j) is ws ks hs)
+  items_constants g (MoreItems (Alias r t x y) is) (w, ws) js (j, (u, ku, (v, kv, d)), (ks, hs, (z, eq))) =
+      let (of_type, l, is_j) = aliased_shape g r x t (meaning_of g y) y.place j d in
+      subst ItemsHaveWords (sym (eq ∙ ap (λ k. typed.MoreItems k ks) is_j)) (items_constants (behind_item g (Alias r t x y) j) is ws ks hs)
+  items_constants g (MoreItems (DynamicRegion r k) is) (w, ws) js (j, (kept, is_j), (ks, hs, (z, eq))) =
+      subst ItemsHaveWords (sym (eq ∙ ap (λ k. typed.MoreItems k ks) is_j)) (items_constants (behind_item g (DynamicRegion r k) j) is ws ks hs)
 
 -- ---- from the rules: programs
 
@@ -439,8 +458,8 @@ mutual
   built_words (typed.Store d c t) i (w, ws) =
       let (place, more) = and_parts (is_built_place d) (is_built_converted c && is_built_value_type t) i in
       (built_cell d place w, built_converted c (and_parts (is_built_converted c) (is_built_value_type t) more).0 ws)
-  built_words (typed.New typed.OnHeap m t) i w = built_initial m (and_parts (is_built_initial m) (is_built_type t) i).0 w
-  built_words (typed.New typed.AsUnique m t) i w = built_initial m (and_parts (is_built_initial m) (is_built_type t) i).0 w
+  built_words (typed.New typed.OnHeap m t) i (placed, w) = built_initial m (and_parts (is_built_initial m) (is_built_type t) i).0 w
+  built_words (typed.New typed.AsUnique m t) i (placed, w) = built_initial m (and_parts (is_built_initial m) (is_built_type t) i).0 w
   built_words a i w = absurd (cc)
 
   built_cell : (d : typed.Dereference) → is_built_place d ≡ true → CellHasWords d → IsOfWordsCell d

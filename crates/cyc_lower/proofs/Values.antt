@@ -43,7 +43,7 @@ use Rattle.cyc_meaning.specs.Pointers.{takes_kind, followed, result_kind as oper
 use Rattle.cyc_meaning.specs.Places.{arrives, member_of}
 use Rattle.cyc_meaning.specs.Conversion.{conversion}
 use Rattle.cyc_meaning.specs.Allocation.{makes_by}
-use Rattle.cyc_meaning.specs.State.{Region, World, Environment, with_local, made, variable, written, region_at, Awaiting, ConvertTo, Operate, Chain, Apply, ApplyPointer, Follow, Decide, Store, Pass, MakePlain, MakeFields, MakeArray, FillElement, Initialise, Choose, Test, Return, Entry, Needs, Discard, Rest, Join, Loop, Focus, Evaluating, Given, GivenPlace, Executing, Proceeding, Calling, Returning, Throwing, State, Running, cell_at, FollowMember, StoreCell, calls_in, FreeObject, ThrowWith, CountElements, Index, Advance, InRegion, PlaceBy, BesideHandle, CloseByKey}
+use Rattle.cyc_meaning.specs.State.{Region, World, Environment, with_local, made, variable, written, region_at, Awaiting, ConvertTo, Operate, Chain, Apply, ApplyPointer, Follow, Decide, Store, Pass, MakePlain, MakeFields, MakeArray, FillElement, Initialise, Choose, Test, Return, Entry, Needs, Discard, Rest, Join, Loop, Focus, Evaluating, Given, GivenPlace, Executing, Proceeding, Calling, Returning, Throwing, State, Running, cell_at, FollowMember, StoreCell, calls_in, FreeObject, ThrowWith, CountElements, Index, Advance, InRegion, PlaceBy, BesideHandle, CloseByKey, OpenBy, AliasOf}
 use Rattle.cyc_meaning.specs.Step.{leads_to, wrong, object_of, computed, stored_at, declared, passes, tested, awaits_right, chosen, looped, step}
 use Rattle.cyc_meaning.specs.Allocation.{makes_by}
 use Rattle.cyc_meaning.specs.State.{status_of}
@@ -70,7 +70,7 @@ use Rattle.cyc_lower.proofs.CellWrites.{cell_is_there, saves_there, shared_saved
 use Rattle.cyc_lower.proofs.Weights.{weight}
 use Rattle.cyc_lower.proofs.Relation.{types_on, starts_on, StatementStack}
 use Rattle.cyc_lower.proofs.Matched.{IsMatched, silently, by_one, by_two, by_three, shared_way, shared_within, by_two_known, output_way}
-use Rattle.cyc_lower.proofs.Handling.{leaving, record_left, raised}
+use Rattle.cyc_lower.proofs.Handling.{leaving, shared_leaving, record_left, raised}
 use Rattle.cyc_lower.proofs.PointerSteps.{applies_pointers, right_follows}
 use Rattle.cyc_lower.proofs.UniqueBlocks.{frees_value}
 use Rattle.cyc_lower.proofs.Keys.{closes_by_key}
@@ -84,6 +84,7 @@ use Rattle.cyc_lower.proofs.Arrays.{array_sized, array_filled}
 use Rattle.cyc_lower.proofs.Evaluations.{IsStep, landed_word, landed_moved, lands_at, passes_related, passes_weight, object_of_same, made_of, lands_made}
 use Rattle.cyc_lower.proofs.Paths.{Link, IsPath, end_of, by_path}
 use Rattle.cyc_lower.proofs.GlobalSteps.{stored_globals, stored_elsewhere, stored_is, global_links, is_stored_by, by_links}
+use Rattle.cyc_lower.proofs.RegionSteps.{opened_given, aliased_given}
 use Rattle.cyc_lower.proofs.StoredWords.{with_saved}
 
 -- an operand of a kind, and an int
@@ -1285,9 +1286,9 @@ module _ (source : Program) (pages calls : ℕ) where
       chooses s t v (operand_word c.active.slots o == 0) comparisons.Equal o (operands.Word 0) k e w c (zero_is shared.tables v c.active.slots o (λ none. well (ap (λ x. status_in (status_of (chosen x s t k e w))) none)) is) refl shared facts stack
   stands_given v o (Needs (Test a s) ∷ k) e w c of_words words well (shared, facts, is, holds) stack =
       loops a s v (operand_word c.active.slots o == 0) comparisons.Equal o (operands.Word 0) k e w c (zero_is shared.tables v c.active.slots o (λ none. well (ap (λ x. status_in (status_of (looped x a s k e w))) none)) is) refl shared facts stack
-  stands_given v o (Needs Return ∷ k) e w c of_words words well (shared, facts, is, holds) (exits, q, s, r, there, leave, here, single, stack) =
-      leaving source pages calls false (Given v) (Returning (Some v)) (Needs Return ∷ k) k e w c exits.first_record r refl shared (omega arith) (record_left source c.active.function exits q c.frames k stack).1 leave facts.1
-      (λ handlers stand. (shared, (facts.0, stand), (exits, q, s, here, subst (IsIn shared.tables v c.active.slots) there is, single, stack)))
+  stands_given v o (Needs Return ∷ k) e w c of_words words well (shared, facts, is, holds) (exits, q, s, r, there, (u, closing, marks), here, single, stack) =
+      leaving source pages calls false (Given v) (Returning (Some v)) (Needs Return ∷ k) k e w c exits.in_function u r refl shared (omega arith) (record_left source c.active.function exits q c.frames k stack).1 closing marks facts.1
+      (λ handlers stand marks_there marked. (shared_leaving source pages calls false k e w c shared, (facts.0, stand), r, marks_there, marked, (exits, q, s, here, subst (IsIn shared.tables v c.active.slots) there is, single, stack)))
   stands_given v o (Needs (ThrowWith tag) ∷ k) e w c of_words words well stands stack = throws_with tag v.kind v.value o k e w c well stands stack
   stands_given v o (Needs FreeObject ∷ k) e w c of_words words well (shared, facts, is, holds) stack = frees_value source pages calls v.kind v.value o k e w c well shared facts is stack
   stands_given v o (Needs CloseByKey ∷ k) e w c of_words words well (shared, facts, is, holds) stack = closes_by_key source pages calls v.kind v.value o k e w c well shared facts is stack
@@ -1296,11 +1297,12 @@ module _ (source : Program) (pages calls : ℕ) where
   stands_given v o (Needs (Advance peek target base) ∷ k) e w c of_words words well (shared, facts, is, (is_base, holds)) (q, sum, reached, place) =
       advances_pointer source pages calls peek target base v.kind v.value k e w c well shared facts (top source c.active.function k, o, q, is, is_base, omega arith, holds, (sum, reached, place))
   stands_given v o (Needs (FollowMember pointer fields field) ∷ k) e w c of_words words well stands stack = follows_member pointer fields field v.kind v.value o k e w c well stands stack
+  stands_given v o (Needs (OpenBy number lent js) ∷ k) e w c of_words words well (shared, facts, is, holds) stack = opened_given source pages calls v.kind v.value o number lent js k e w c well shared facts is stack
+  stands_given v o (Needs (AliasOf number lent js) ∷ k) e w c of_words words well (shared, facts, is, holds) stack = aliased_given source pages calls v o number lent js k e w c shared facts is stack
   stands_given v o (Discard ∷ k) e w c of_words words well (shared, facts, is, holds) (exits, stack) =
       silently source pages calls (Running (Given v) (Discard ∷ k) e w) (Running Proceeding k e w) (plain.Running c) refl
       (shared, behind_statement exits facts stack)
       (omega arith)
-  stands_given v o (Needs a ∷ k) e w c of_words words well stands stack = absurd stack
   stands_given v o (entry ∷ k) e w c of_words words well stands stack = absurd (well refl)
 
   dropped_given : (v : Kinded) (k : List Entry) (e : Environment) (w : World) (c : Configuration) → (shared : SharedAt source pages calls k e w c) → DataIn source shared.tables c.active.slots k e w c

@@ -13,9 +13,9 @@ use Rattle.cyc_types.specs.declared.typed.PointerOperator.TheVariants as pointer
 use Rattle.cyc_types.specs.declared.typed.LogicalOperator.{LogicalOperator}
 use Rattle.cyc_types.specs.declared.typed.LogicalOperator.TheVariants as logical
 use Rattle.cyc_types.specs.Types.{Ty, words_of, ValueType, Void, Null, Value}
-use Rattle.cyc_types.specs.TypedTrees.{Counter, Load, New, OnHeap, AsUnique, ByHandle, Initial, Plain, Fields, Array, Dereference, Target, type_of_place, Lvalue, Local, Global, Expression, Number, NullPointer, Copy, Call, Unary, Binary, Assign, Converted, Convert, Arguments, NoArguments, MoreArguments, Operations, NoOperations, ThenCompute, ThenTest, ThenPointer, type_of, Statement, Block, Empty, Evaluate, If, While, Return, Break, Continue, Items, NoItems, MoreItems, Execute, Declare, GlobalVariable, Signature, StructType, Function, Program, Move, Peek, ThenPointerPeek, AddressOfCell, Store, Member, FreeUnique, Side, VariableSide, CellSide, Swap, Throw, Try, Clauses, NoClauses, Default, Case, NumberOfElements, Element, HeapRegion, FreeKey}
+use Rattle.cyc_types.specs.TypedTrees.{Counter, Load, New, OnHeap, AsUnique, ByHandle, Initial, Plain, Fields, Array, Dereference, Target, type_of_place, Lvalue, Local, Global, Expression, Number, NullPointer, Copy, Call, Unary, Binary, Assign, Converted, Convert, Arguments, NoArguments, MoreArguments, Operations, NoOperations, ThenCompute, ThenTest, ThenPointer, type_of, Statement, Block, Empty, Evaluate, If, While, Return, Break, Continue, Items, NoItems, MoreItems, Execute, Declare, Signature, StructType, Function, Program, Move, Peek, ThenPointerPeek, AddressOfCell, Store, Member, FreeUnique, Side, VariableSide, CellSide, Swap, Throw, Try, Clauses, NoClauses, Default, Case, NumberOfElements, Element, HeapRegion, FreeKey, DeclareRegion, OpenRegion, DeclareAlias, DeclareKey}
 use Rattle.cyc_types.specs.typing.WellTyped.{signature_of}
-use Rattle.cyc_types.specs.Numbered.{Numbering, argument_count, signatures_of, numbering_of}
+use Rattle.cyc_types.specs.Numbered.{Numbering, signatures_of, numbering_of}
 use Rattle.cyc_plain.specs.declared.instruction.Comparison.{Comparison}
 use Rattle.cyc_plain.specs.declared.instruction.Comparison.TheVariants as comparisons
 use Rattle.cyc_plain.specs.declared.instruction.BinaryOperator.{BinaryOperator as PlainBinary}
@@ -28,7 +28,7 @@ use Rattle.cyc_plain.specs.Program.{Routine, Program as PlainProgram, no_routine
 use Rattle.cyc_plain.specs.declared.limits.TheConstants.{MOST_GLOBALS, RECORD_WORDS}
 use Rattle.cyc_plain.specs.WellFormed.{IsOperand, IsInRange, IsRoutine, IsWellFormed, leaves, is_return}
 use Rattle.std.specs.Prelude.{unwrap_or, ◌==◌, max, if◌then◌else◌}
-use Rattle.std.proofs.lemmas.Bool.{eqb-true, eq-eqb}
+use Rattle.std.proofs.lemmas.Bool.{eqb-true}
 use Rattle.cyc_meaning.specs.Operators.{null_exception, division_by_zero, array_bounds}
 use Rattle.cyc_store.specs.declared.range.TheConstants.{HEAP, UNIQUE}
 use Rattle.cyc_meaning.specs.Values.{kind_of, words_of_kind, is_thin, is_kind}
@@ -38,7 +38,7 @@ use Rattle.cyc_meaning.specs.Pointers.{result_kind as operator_kind}
 use Rattle.cyc_objects.proofs.NumberLemmas.{slice_get-there}
 use Rattle.cyc_lower.proofs.Counters.{found_last}
 use Rattle.cyc_lower.specs.Slots.{counted, starts_of, slot_of, Types, global_of, global_types}
-use Rattle.cyc_lower.specs.Lowering.{begun_code, filled_code, ended_code, elements_code, counter_operand, types_of, spare_slots, are_as_wide, converts_there, passed_words, all_passed, source_of, source_slot, moved_by, move_of, unary_operator, binary_operator, operand_of, operand_or, code_unless, slot_or, code_unless_slot, left_with, left_of, value_slot, next_slot, slot_with, left_slot, value_operand, converted_operand, printed_operand, check_code, conversion_code, divisor_code, checked_code, operator_code, truth_code, load_code, low_byte, test_code, is_in, copy_code, expression_code, arguments_code, converted_code, converted_operand_code, printed_code, initial_code, assignment_code, operations_code, discarded_code, failing_comparison, compared_or, first_operand, first_code, second_code, pair_code, condition_code, condition_of, failing_jump, break_target, continue_target, return_code, declaration_code, statement_code, items_code, first_temporary, results_of, lower_function, lower_global, lower_program, pointer_operator, left_kind, behind_left, pointer_code, outside_loops, inside_loop, index_code, pointer_instructions, stores_code, object_code, made_code, place_operand, place_offset, place_code, address_code, addressed_by, store_address_code, store_code, guard_code, blocks, free_code, right_slot, side_code, read_side, write_side, exchange_code, swap_code, leave_code, tag_operand, other_jump, goes_on, clause_code, thrown_code, thrown_operand, caught_code, clauses_code, count_code, span_of, null_of, tested_code, widened_code, conversion_by, tested_by, saved_code, loaded_code, bounds_code, stepped_code, bounded_code, past_bounded, thinned_code, reached_code, followed_code, followed_operand, span_in, pointer_of, pointer_slot, reached_operand, word_by_word, load_word, store_word, global_code, globals_of, lower_globals, load_at, opened_code, closed_code, named_code, dynamic_code, scopes_code, scopes_code_in, handlers_code, marks_code, kept_code, kept_code_in, restored_code, restored_code_in, behind_record, behind_record_in, handled_code, inside_try, inside_region, outermost, scopes_of, scopes_if, scopes_words, may_open, closing_code}
+use Rattle.cyc_lower.specs.Lowering.{begun_code, filled_code, ended_code, elements_code, counter_operand, types_of, spare_slots, are_as_wide, converts_there, passed_words, all_passed, source_of, source_slot, moved_by, move_of, unary_operator, binary_operator, operand_of, operand_or, code_unless, slot_or, code_unless_slot, left_with, left_of, value_slot, next_slot, slot_with, left_slot, value_operand, converted_operand, printed_operand, check_code, conversion_code, divisor_code, checked_code, operator_code, truth_code, load_code, low_byte, test_code, is_in, copy_code, expression_code, arguments_code, converted_code, converted_operand_code, printed_code, initial_code, assignment_code, operations_code, discarded_code, failing_comparison, compared_or, first_operand, first_code, second_code, pair_code, condition_code, condition_of, failing_jump, break_target, continue_target, return_code, declaration_code, statement_code, items_code, first_temporary, results_of, lower_function, lower_program, pointer_operator, left_kind, behind_left, pointer_code, outside_loops, inside_loop, index_code, pointer_instructions, stores_code, object_code, made_code, place_operand, place_offset, place_code, address_code, addressed_by, store_address_code, store_code, guard_code, blocks, free_code, right_slot, side_code, read_side, write_side, exchange_code, swap_code, leave_code, tag_operand, clause_code, thrown_code, thrown_operand, caught_code, clauses_code, count_code, span_of, null_of, tested_code, widened_code, conversion_by, saved_code, loaded_code, bounds_code, stepped_code, bounded_code, thinned_code, reached_code, followed_code, followed_operand, span_in, pointer_of, pointer_slot, reached_operand, word_by_word, load_word, store_word, global_code, globals_of, lower_globals, load_at, opened_code, closed_code, named_code, dynamic_code, scopes_code, scopes_code_in, handlers_code, marks_code, kept_code, kept_code_in, restored_code, restored_code_in, behind_record, behind_record_in, inside_try, inside_region, outermost, scopes_of, scopes_if, scopes_words, may_open, closing_code}
 use Rattle.cyc_lower.proofs.Widths.{kind_positive, kind_few, type_words, kind_of_result, result_kind, given, passed_kind, words_in, chain_kind, made_kind, wide_kind, same_kind, more_words, HasGlobal, HasRoom}
 use Rattle.cyc_lower.proofs.Fitting.{FitsPlace, FitsCell, Fits, FitsConverted, FitArguments, FitOperations, FitsReturn, FitsInitial, FitsStatement, FitItems, AreFitting, IsFitting, FitsObject, FitsSide, FitsThrown, FitsCaught, FitClauses}
 use Rattle.cyc_lower.specs.Words.{AreOfWordsItems, AreOfWordsFunctions, IsOfWordsProgram}
@@ -48,7 +48,6 @@ use Rattle.cyc_lower.proofs.Lengths.{body_long, past_long}
 use Rattle.cyc_types.specs.typing.Expressions.{type_of_side}
 use Rattle.cyc_lower.proofs.Values.{as_wide}
 use Rattle.cyc_lower.proofs.Slots.{words_positive, slot-room, slot_types-many, slots-few, global-room, global-inside, globals_counted}
-use Rattle.std.proofs.lemmas.List.{length-replicate}
 use Rattle.cyc_lower.specs.declared.statements.Opened.{Opened}
 
 -- ---- lists
@@ -1341,7 +1340,28 @@ module _ (program : PlainProgram) (r : Routine) (b : Numbering) (types : Types) 
         let long = length-append front back in
         append program r b types locals levels globals called results behind front back (declaration_in n v p t within numbered (omega (arith, few)) (omega (arith, short, long)))
         (items_in js in_loop (p + length front) exits t rest around outside (omega (arith, few)) (omega (arith, short, long)))
-    items_in js in_loop p exits t numbered around outside few short = absurd numbered
+    items_in (MoreItems (DeclareRegion region n) js) in_loop p exits t (counting, within, room, rest) around outside few short =
+        let front = opened_code (starts_of types) n t in
+        let inner = items_code (starts_of types) js (p + length front) (inside_region exits t) (t + 1) in
+        let back = closed_code (starts_of types) t in
+        let long = length-append front (inner ++ back) in
+        let long_inner = length-append inner back in
+        append program r b types locals levels globals called results behind front (inner ++ back) (opened_in n t within room (omega (arith, few)))
+        (append program r b types locals levels globals called results behind inner back (items_in js in_loop (p + length front) (inside_region exits t) (t + 1) rest around (exits_behind exits t outside (omega (arith, few))) (omega (arith, few)) (omega (arith, short, long, long_inner)))
+        (closed_in t (omega (arith, few))))
+    items_in (MoreItems (OpenRegion region n w k) js) in_loop p exits t (within, room, key_within, key_room, rest) around outside few short =
+        let key = operands.Slot (slot_of (starts_of types) k) in
+        append program r b types locals levels globals called results behind (named_code (starts_of types) 1 n key) (items_code (starts_of types) js (p + 1) exits t) (named_in kinds.Handle n key within room (omega (arith, locals k key_within, key_room)))
+        (items_in js in_loop (p + 1) exits t rest around outside (omega (arith, few)) (omega (arith, short)))
+    items_in (MoreItems (DeclareAlias region n ty w m) js) in_loop p exits t (within, room, lent_within, lent_room, rest) around outside few short =
+        let lent = operands.Slot (slot_of (starts_of types) m) in
+        append program r b types locals levels globals called results behind (named_code (starts_of types) (words_of ty) n lent) (items_code (starts_of types) js (p + 1) exits t)
+        (subst (λ words. AreIn program r b types locals levels globals called results behind (named_code (starts_of types) words n lent)) (type_words ty) (named_in (kind_of ty) n lent within room (omega (arith, locals m lent_within, lent_room))))
+        (items_in js in_loop (p + 1) exits t rest around outside (omega (arith, few)) (omega (arith, short)))
+    items_in (MoreItems (DeclareKey region n) js) in_loop p exits t (within, room, rest) around outside few short =
+        let front = dynamic_code (starts_of types) n t in
+        let back = items_code (starts_of types) js (p + length front) exits t in
+        append program r b types locals levels globals called results behind front back (dynamic_in n t within room (omega (arith, few))) (items_in js in_loop (p + length front) exits t rest around outside (omega (arith, few)) (omega (arith, short, length-append front back)))
 
     clauses_in : (cs : Clauses) (in_loop : Bool) (p out : ℕ) (exits : Exits) (t : ℕ) → FitClauses b types in_loop cs → (in_loop ≡ true → exits.head + 2 < length r.code) → HasExits exits
         → t + kept_by_clauses cs + clauses_need cs + spare_slots ≤ r.slots → out < length r.code → p + length (clauses_code (starts_of types) cs p out exits t) < length r.code → AreIn program r b types locals levels globals called results behind (clauses_code (starts_of types) cs p out exits t)

@@ -1,5 +1,5 @@
 -- Each run of the plain program is one of the source.
-use Rattle.std.proofs.Common.{◌≡◌, ℕ, zero, suc, ◌≤◌, ◌<◌, Bool, true, false, List, [], ◌∷◌, length, map, Option, None, Some, slice_get, slice_index, refl, sym, ap, subst, ◌∙◌, arith, inl, inr, ◌+◌, ◌-◌}
+use Rattle.std.proofs.Common.{◌≡◌, ℕ, zero, suc, ◌≤◌, ◌<◌, Bool, true, false, List, [], ◌∷◌, length, map, Option, None, Some, slice_get, slice_index, refl, sym, ap, subst, ◌∙◌, arith, inl, inr, ◌+◌, ◌-◌, ◌++◌}
 use Rattle.std.specs.Prelude.{◌==◌, if◌then◌else◌}
 use Rattle.std.proofs.lemmas.Bool.{le-leb, and_from}
 use Rattle.std.proofs.lemmas.Option.{same_Some, none-some}
@@ -11,8 +11,8 @@ use Rattle.cyc_types.specs.Types.{Ty, words_of}
 use Rattle.cyc_types.specs.Types as types
 use Rattle.cyc_types.specs.typing.WellTyped.{IsWellTypedGlobal, AreWellTypedGlobals}
 use Rattle.cyc_words.specs.Simulation as simulation
-use Rattle.cyc_words.specs.Simulation.{Failed, Matching, NeverFails, Follows, Steps}
-use Rattle.cyc_store.specs.State.{StoreState, sizes_in}
+use Rattle.cyc_words.specs.Simulation.{Failed, Matching, Steps}
+use Rattle.cyc_store.specs.State.{StoreState}
 use Rattle.cyc_store.specs.New.{IsNew}
 use Rattle.cyc_store.specs.declared.range.TheConstants.{MOST_PAGES}
 use Rattle.cyc_store.proofs.NewStores.{new_demand}
@@ -23,25 +23,28 @@ use Rattle.cyc_plain.proofs.RunLaws.{lawful}
 use Rattle.cyc_plain.proofs.WordLaws.{words_stay, words_at_start}
 use Rattle.cyc_plain.specs.WellFormed.{HasWords}
 use Rattle.cyc_store.specs.State as stores
-use Rattle.std.specs.List.{AllByRecursion}
+use Rattle.std.specs.List.{AllByRecursion, list_any}
 use Rattle.cyc_words.proofs.Simulation.{simulates}
 use Rattle.cyc_meaning.specs.Values.{Int, Null, Operand as Kinded, kind_of, words_of_kind}
 use Rattle.cyc_meaning.specs.State.{World, Environment, no_locals, constant_value, global_object, first_world, Entry, Main, Focus, Evaluating, Locating, Given, GivenPlace, Executing, Proceeding, Calling, Entering, Binding, Writing, Beginning, Repeating, Breaking, Continuing, Returning, Throwing, State, Running, Ended, Dead, Wrong, output_of, input_of, status_of, Swapping, Naming, Catching}
 use Rattle.cyc_meaning.specs.Step.{wrong, called, step}
 use Rattle.cyc_meaning.specs.Run.{start, is_within, limited_step}
-use Rattle.cyc_lower.specs.Lowering.{initial_word, lower_global, lower_program, lower_globals}
+use Rattle.cyc_lower.specs.Lowering.{initial_word, lower_global, lower_program, lower_globals, scopes_of, scopes_if, scopes_words, may_open}
 use Rattle.cyc_lower.specs.Lowered.{FollowsSource}
 use Rattle.cyc_meaning.specs.SourceMachine.{status_in}
+use Rattle.cyc_meaning.specs.Nesting.{IsNested, Nests}
+use Rattle.cyc_meaning.proofs.Nested.{nests_start}
+use Rattle.cyc_lower.proofs.Scoped.{nests_kept}
 use Rattle.cyc_objects.specs.Tables.{Variable, Tables, first_tables, without_addresses}
 use Rattle.cyc_objects.specs.Related as objects
 use Rattle.cyc_objects.proofs.Start.{start-related, none-placed}
-use Rattle.cyc_lower.proofs.Relation.{IsWord, silent, contents, Related, Matches, types_at, starts_at}
+use Rattle.cyc_lower.proofs.Relation.{IsWord, silent, contents, Related, Matches, types_at, starts_at, IsTold}
 use Rattle.cyc_lower.proofs.Fitting.{IsFitting}
 use Rattle.cyc_lower.proofs.Data.{no_locals_hold, IsWord-is}
 use Rattle.cyc_lower.proofs.Accesses.{IsWell}
 use Rattle.cyc_lower.proofs.Matched.{IsMatched, above, below, matching}
 use Rattle.cyc_lower.proofs.Evaluations.{evaluating, locating}
-use Rattle.cyc_lower.proofs.Keeping.{keeping, stepped_keeping}
+use Rattle.cyc_lower.proofs.Keeping.{keeping, stepped_keeping, keeping_above, stepped_above}
 use Rattle.cyc_lower.proofs.Allocations.{writing}
 use Rattle.cyc_lower.proofs.Arrays.{beginning, repeating}
 use Rattle.cyc_lower.proofs.Values.{given}
@@ -52,9 +55,10 @@ use Rattle.cyc_lower.proofs.ExceptionSteps.{naming, throwing, catching}
 use Rattle.cyc_lower.proofs.Calls.{FunctionsStand, calling, entering, binding, entered}
 use Rattle.cyc_lower.proofs.Bridge.{functions_stand}
 use Rattle.cyc_lower.specs.Slots.{slot_in, global_of, global_types}
-use Rattle.cyc_lower.proofs.Widths.{words_in, type_words}
-use Rattle.cyc_lower.proofs.Slots.{words_positive, globals-are}
-use Rattle.std.proofs.lemmas.List.{length-replicate, get_or-append_right}
+use Rattle.cyc_lower.proofs.Widths.{words_in, type_words, kind_positive}
+use Rattle.cyc_lower.proofs.Slots.{words_positive, globals-are, global-room, globals_counted}
+use Rattle.std.proofs.lemmas.List.{length-replicate, get_or-append_right, get_or_append_left}
+use Rattle.cyc_meaning.specs.FrameCount.{words_of_all}
 use Rattle.cyc_objects.proofs.Inside.{start-inside}
 
 -- ---- the globals at the start
@@ -98,6 +102,20 @@ globals_start t (g ∷ gs) (suc number) v (well, rest) has =
     ∙ ap (λ (n : ℕ). slice_index (lower_globals gs) n) (let e : words_of g.of_type + behind - words_of g.of_type ≡ behind = omega arith in e) in
     (subst (IsWord t v.kind v.value) (sym next) is, room)
 
+-- The same in all words of the program, of which one may stand behind those of the globals. That tells that no lexical region is open.
+globals_there : (source : Program) (n : ℕ) → n < words_of_all (global_types source.globals) → slice_index (lower_program source).globals n ≡ slice_index (lower_globals source.globals) n
+globals_there source n few = get_or_append_left (lower_globals source.globals) (scopes_words (scopes_of source)) 0 n (omega (arith, few, globals_counted source.globals))
+
+none_open : (source : Program) → IsTold (scopes_of source) (λ global. slice_index (lower_program source).globals global) 0
+none_open source = by (list_any may_open source.functions)
+  where
+    xs : List ℕ
+    xs = lower_globals source.globals
+
+    by : (may : Bool) → IsTold (scopes_if may (length xs)) (λ global. slice_index (xs ++ scopes_words (scopes_if may (length xs))) global) 0
+    by true = get_or-append_right xs (0 ∷ []) (length xs) (length xs) 0 refl (omega arith) ∙ ap (slice_index (0 ∷ [])) (let e : length xs - length xs ≡ 0 = omega arith in e)
+    by false = refl
+
 -- each global is a variable
 globals_rows : (gs : List GlobalVariable) (number : ℕ) → number < length (global_types gs) → slice_get (map (λ (g : GlobalVariable). Variable) gs) number ≡ Some Variable
 globals_rows [] number few = absurd (omega (arith, few))
@@ -111,28 +129,28 @@ globals_many (g ∷ gs) = omega (arith, globals_many gs)
 module _ (source : Program) (pages calls : ℕ) (well_typed : AreWellTypedGlobals source.globals) (stand : FunctionsStand source pages calls) (of_words : HasWords (lower_program source)) where
   -- ---- all steps
 
-  stepping : (focus : Focus) (k : List Entry) (e : Environment) (w : World) (c : Configuration) → IsWell (step source (Running focus k e w)) → plain.HoldsWords (plain.Running c) → Related source pages calls focus k e w c
+  stepping : (focus : Focus) (k : List Entry) (e : Environment) (w : World) (c : Configuration) → IsWell (step source (Running focus k e w)) → IsNested k e w → plain.HoldsWords (plain.Running c) → Related source pages calls focus k e w c
       → IsMatched source pages calls (Running focus k e w) (plain.Running c)
-  stepping (Evaluating a) k e w c well words related = evaluating source pages calls a k e w c well related
-  stepping (Locating x) k e w c well words related = locating source pages calls x k e w c well related
-  stepping (Given v) k e w c well words related = given source pages calls v k e w c of_words words well related
-  stepping (Executing s) k e w c well words related = executing source pages calls s k e w c well related
-  stepping Proceeding k e w c well words related = proceeding source pages calls k e w c well related
-  stepping (Calling f before) k e w c well words related = calling source pages calls stand f before k e w c well related
-  stepping (Entering h arguments) k e w c well words related = entering source pages calls h arguments k e w c well related
-  stepping (Binding n types arguments body) k e w c well words related = binding source pages calls n types arguments body k e w c well related
-  stepping Breaking k e w c well words related = breaking source pages calls k e w c well related
-  stepping Continuing k e w c well words related = continuing source pages calls k e w c well related
-  stepping (Returning v) k e w c well words related = returning source pages calls v k e w c well related
-  stepping (Throwing tag value) k e w c well words related = throwing source pages calls tag value k e w c well related
-  stepping (Catching tag value handler) k e w c well words related = catching source pages calls tag value handler k e w c well related
-  stepping (Naming n v js) k e w c well words related = naming source pages calls n v js k e w c well related
-  stepping (GivenPlace place) k e w c well words related = given_place source pages calls place k e w c well related
-  stepping (Writing writes (Some pointer)) k e w c well words related = writing source pages calls writes pointer k e w c words well related
-  stepping (Writing writes None) k e w c well words related = writing_sides source pages calls writes k e w c words well related
-  stepping (Beginning owner count level wanted element) k e w c well words related = beginning source pages calls owner count level wanted element k e w c well related
-  stepping (Repeating object count index level wanted element) k e w c well words related = repeating source pages calls object count index level wanted element k e w c well related
-  stepping (Swapping kind left right before) k e w c well words related = swapping source pages calls kind left right before k e w c well related
+  stepping (Evaluating a) k e w c well nested words related = evaluating source pages calls a k e w c well related
+  stepping (Locating x) k e w c well nested words related = locating source pages calls x k e w c well related
+  stepping (Given v) k e w c well nested words related = given source pages calls v k e w c of_words words well related
+  stepping (Executing s) k e w c well nested words related = executing source pages calls s k e w c well related
+  stepping Proceeding k e w c well nested words related = proceeding source pages calls k e w c nested well related
+  stepping (Calling f before) k e w c well nested words related = calling source pages calls stand f before k e w c well related
+  stepping (Entering h arguments) k e w c well nested words related = entering source pages calls h arguments k e w c well related
+  stepping (Binding n types arguments body) k e w c well nested words related = binding source pages calls n types arguments body k e w c well related
+  stepping Breaking k e w c well nested words related = breaking source pages calls k e w c nested well related
+  stepping Continuing k e w c well nested words related = continuing source pages calls k e w c nested well related
+  stepping (Returning v) k e w c well nested words related = returning source pages calls v k e w c nested well related
+  stepping (Throwing tag value) k e w c well nested words related = throwing source pages calls tag value k e w c nested well related
+  stepping (Catching tag value handler) k e w c well nested words related = catching source pages calls tag value handler k e w c well related
+  stepping (Naming n v js) k e w c well nested words related = naming source pages calls n v js k e w c well related
+  stepping (GivenPlace place) k e w c well nested words related = given_place source pages calls place k e w c well related
+  stepping (Writing writes (Some pointer)) k e w c well nested words related = writing source pages calls writes pointer k e w c words well related
+  stepping (Writing writes None) k e w c well nested words related = writing_sides source pages calls writes k e w c words well related
+  stepping (Beginning owner count level wanted element) k e w c well nested words related = beginning source pages calls owner count level wanted element k e w c well related
+  stepping (Repeating object count index level wanted element) k e w c well nested words related = repeating source pages calls object count index level wanted element k e w c well related
+  stepping (Swapping kind left right before) k e w c well nested words related = swapping source pages calls kind left right before k e w c well related
 
   -- what fails is within all limits
   failed_within : (s : State) → status_in (status_of s) ≡ Failed → is_within pages calls s ≡ true
@@ -153,15 +171,20 @@ module _ (source : Program) (pages calls : ℕ) (well_typed : AreWellTypedGlobal
   abbrev matching_words : Matching (above source pages calls) (below source pages calls)
   matching_words = keeping (above source pages calls) (below source pages calls) (matching source pages calls) plain.HoldsWords words_kept
 
-  steps : Steps (above source pages calls) (below source pages calls) matching_words
-  steps (Running focus k e w) (plain.Running c) (related, words) running never =
-      stepped_keeping (above source pages calls) (below source pages calls) (matching source pages calls) plain.HoldsWords words_kept (Running focus k e w) (plain.Running c) words
-      (stepping focus k e w c (goes_well (Running focus k e w) never) words related)
-  steps (Running focus k e w) (plain.Ended ending output input) (related, words) running never = absurd related
-  steps (Running focus k e w) (plain.Stuck output input) (related, words) running never = absurd related
+  -- and of which the source's regions nest
+  abbrev matching_nested : Matching (above source pages calls) (below source pages calls)
+  matching_nested = keeping_above (above source pages calls) (below source pages calls) matching_words Nests (nests_kept source pages calls)
+
+  steps : Steps (above source pages calls) (below source pages calls) matching_nested
+  steps (Running focus k e w) (plain.Running c) ((related, words), nested) running never =
+      stepped_above (above source pages calls) (below source pages calls) matching_words Nests (nests_kept source pages calls) (Running focus k e w) (plain.Running c) nested
+      (stepped_keeping (above source pages calls) (below source pages calls) (matching source pages calls) plain.HoldsWords words_kept (Running focus k e w) (plain.Running c) words
+      (stepping focus k e w c (goes_well (Running focus k e w) never) nested words related))
+  steps (Running focus k e w) (plain.Ended ending output input) ((related, words), nested) running never = absurd related
+  steps (Running focus k e w) (plain.Stuck output input) ((related, words), nested) running never = absurd related
   steps (Ended ending output input) t related running never = absurd (let f : simulation.Ended ending ≡ simulation.Running = running in cc)
-  steps (Dead output input) t (related, words) running never = absurd related
-  steps (Wrong output input) t (related, words) running never = absurd related
+  steps (Dead output input) t ((related, words), nested) running never = absurd related
+  steps (Wrong output input) t ((related, words), nested) running never = absurd related
 
   -- ---- the start
 
@@ -170,7 +193,7 @@ module _ (source : Program) (pages calls : ℕ) (well_typed : AreWellTypedGlobal
   start_related h base store input there new some_page few_pages some_call =
       let t = first_tables (without_addresses source) in
       let w = first_world source input in
-      let words : ℕ → ℕ = λ global. slice_index (lower_globals source.globals) global in
+      let words : ℕ → ℕ = λ global. slice_index (lower_program source).globals global in
       let slots : ℕ → ℕ = λ slot. 0 in
       entered source pages calls stand source.main base h [] (Main ∷ []) w slots words [] [] store [] input there
       (record {
@@ -184,7 +207,7 @@ module _ (source : Program) (pages calls : ℕ) (well_typed : AreWellTypedGlobal
         variables = (refl, tt);
         few_pages = omega (arith, new_demand pages store new, some_page);
         fits = omega (arith, some_call);
-        counters = tt;
+        counters = (tt, none_open source);
       }) (
         (
           length w.objects,
@@ -195,7 +218,10 @@ module _ (source : Program) (pages calls : ℕ) (well_typed : AreWellTypedGlobal
             globals_rows source.globals number few,
             λ v has.
                 let (is, room) = globals_start t source.globals number v well_typed has in
-                (IsWord-is t v.kind v.value (words (slot_in (global_types source.globals) number)) words (global_of (starts_at source source.main) number) (ap words (globals-are (types_at source source.main) number few)) is, room),
+                let first = global_of (starts_at source source.main) number in
+                let first_is = globals-are (types_at source source.main) number few in
+                let there = globals_there source first (omega (arith, room, kind_positive v.kind, global-room (types_at source source.main) number few)) in
+                (IsWord-is t v.kind v.value (slice_index (lower_globals source.globals) (slot_in (global_types source.globals) number)) words first (there ∙ ap (slice_index (lower_globals source.globals)) first_is) is, room),
           ),
         ),
         (refl, tt),
@@ -220,11 +246,14 @@ module _ (source : Program) (pages calls : ℕ) (well_typed : AreWellTypedGlobal
   follows_source : (base : ℕ) (store : StoreState) (input : List ℕ) → IsNew pages store → 1 ≤ pages → pages ≤ MOST_PAGES → 1 ≤ calls → AllByRecursion (λ b. b < 256) input → FollowsSource source (lower_program source) pages calls base store input
   follows_source base store input new some_page few_pages some_call bytes never =
       let (h, starts, there) = from_start (slice_get source.functions source.main) input refl some_call (never 0 (start source input) refl) in
-      simulates (above source pages calls) (below source pages calls) matching_words steps (lawful (lower_program source) pages calls) [] (start source input) never
+      simulates (above source pages calls) (below source pages calls) matching_nested steps (lawful (lower_program source) pages calls) [] (start source input) never
       (plain_step.start (lower_program source) base store input)
       (ap (λ s. status_in (status_of s)) starts) (
-        subst (λ s. Matches source pages calls s (plain_step.start (lower_program source) base store input)) (sym starts) (start_related h base store input there new some_page few_pages some_call),
-        words_at_start (lower_program source) base store input of_words (subst (λ (s : StoreState). stores.AreWords s.memory) (sym new.2) new.1) bytes,
+        (
+          subst (λ s. Matches source pages calls s (plain_step.start (lower_program source) base store input)) (sym starts) (start_related h base store input there new some_page few_pages some_call),
+          words_at_start (lower_program source) base store input of_words (subst (λ (s : StoreState). stores.AreWords s.memory) (sym new.2) new.1) bytes,
+        ),
+        nests_start source input,
       )
 
 -- The lowered program of one that fits does what that does.

@@ -3,15 +3,15 @@
 use Rattle.std.specs.Prelude.{◌≡◌, ℕ, ◌<◌, Bool, true, false, not, ◌&&◌, List, [], ◌∷◌, Option, Some, None, length, slice_get, ◌≤◌, if◌then◌else◌}
 use Rattle.cyc_types.specs.declared.typed.PointerOperator.{PointerOperator}
 use Rattle.cyc_types.specs.declared.typed.PointerOperator.TheVariants as pointers
-use Rattle.cyc_types.specs.Types.{Ty, words_of}
-use Rattle.cyc_types.specs.TypedTrees.{type_of_place, Array, Counter, Load, New, OnHeap, ByHandle, Initial, Plain, Fields, Dereference, Target, Lvalue, Local, Global, Expression, Number, NullPointer, HeapRegion, FreeKey, Copy, Call, Unary, Binary, Assign, Converted, Convert, Arguments, NoArguments, MoreArguments, Operations, NoOperations, ThenCompute, ThenTest, ThenPointer, Statement, Block, Empty, Evaluate, If, While, Return, Break, Continue, Items, NoItems, MoreItems, Execute, Declare, Signature, Function, Program, Move, Peek, ThenPointerPeek, AddressOfCell, Store, Member, AsUnique, FreeUnique, Side, VariableSide, CellSide, Swap, Throw, Try, Clauses, NoClauses, Default, Case, NumberOfElements, Element}
+use Rattle.cyc_types.specs.Types.{Ty}
+use Rattle.cyc_types.specs.TypedTrees.{Array, Counter, Load, New, OnHeap, ByHandle, Initial, Plain, Fields, Dereference, Target, Local, Expression, Number, NullPointer, HeapRegion, FreeKey, Copy, Call, Unary, Binary, Assign, Converted, Convert, Arguments, NoArguments, MoreArguments, Operations, NoOperations, ThenCompute, ThenTest, ThenPointer, Statement, Block, Empty, Evaluate, If, While, Return, Break, Continue, Items, NoItems, MoreItems, Execute, Declare, DeclareRegion, OpenRegion, DeclareAlias, DeclareKey, Signature, Function, Program, Move, Peek, ThenPointerPeek, AddressOfCell, Store, Member, AsUnique, FreeUnique, Side, VariableSide, CellSide, Swap, Throw, Try, Clauses, NoClauses, Default, Case, NumberOfElements, Element}
 use Rattle.cyc_words.specs.Word.{IsWord}
 use Rattle.cyc_types.specs.declared.typed.Kind.{Kind}
 use Rattle.cyc_types.specs.declared.typed.Kind.TheVariants as kinds
 use Rattle.cyc_types.specs.typing.Scopes.{signature_of_ints}
 use Rattle.cyc_types.specs.Numbered.{Numbering, IsSignature, IsWithin, argument_count, numbering_of, signatures_of}
 use Rattle.cyc_store.specs.declared.range.TheConstants.{MOST_BLOCK_WORDS}
-use Rattle.cyc_meaning.specs.Values.{is_thin, words_of_kind, is_kind}
+use Rattle.cyc_meaning.specs.Values.{is_thin, is_kind}
 use Rattle.cyc_lower.specs.Lowering.{are_as_wide, all_passed}
 
 -- pointers are compared, with one another or with `NULL`
@@ -134,7 +134,10 @@ abbrev mutual
   AreLowerableItems b l NoItems = Unit {0}
   AreLowerableItems b l (MoreItems (Execute s) js) = IsLowerableStatement b l s × AreLowerableItems b l js
   AreLowerableItems b l (MoreItems (Declare n t v) js) = (n < b.locals) × IsLowerableInitial b v × AreLowerableItems b l js
-  AreLowerableItems b l js = ⊥
+  AreLowerableItems b l (MoreItems (DeclareRegion r n) js) = (n < b.locals) × AreLowerableItems b l js
+  AreLowerableItems b l (MoreItems (OpenRegion r n w k) js) = (n < b.locals) × (k < b.locals) × AreLowerableItems b l js
+  AreLowerableItems b l (MoreItems (DeclareAlias r n t w m) js) = (n < b.locals) × (m < b.locals) × AreLowerableItems b l js
+  AreLowerableItems b l (MoreItems (DeclareKey r n) js) = (n < b.locals) × AreLowerableItems b l js
 
   pub AreLowerableClauses : Numbering → Bool → Clauses → Type 0
   AreLowerableClauses b l NoClauses = Unit {0}

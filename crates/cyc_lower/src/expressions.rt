@@ -250,7 +250,13 @@ impl Emitter {
                 Placement::ByHandle { handle } => {
                     self.lower_expression(starts, handle, free, free)?;
                     let behind = slot_behind(free, Kind::Handle)?;
-                    self.lower_object(starts, initial, Operand::Slot { number: free }, slot, behind)
+                    self.lower_object(
+                        starts,
+                        initial,
+                        Operand::Slot { number: free },
+                        slot,
+                        behind,
+                    )
                 }
             },
             Expr::Move {

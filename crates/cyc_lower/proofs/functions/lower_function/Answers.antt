@@ -45,18 +45,19 @@ returns c =
     let h = view_function f in
     let structs = map view_struct c.args.structs.now in
     let globals = c.args.globals.now in
+    let scopes = c.args.scopes in
     let free = c.in_ok-locals.free in
     let raises = c.place-raises.result in
     let parameters : c.words_of_all.result ≡ words_of_all h.parameters = c.words_of_all.ensures ∙ ap (λ (ts : List Ty). words_of_all (map view_ty ts)) c.deref-3.ensures.value in
     let body = ap (λ (js : List Item). items_need (items_of js)) c.deref-5.ensures.value in
     let kept = ap (λ (js : List Item). kept_by_items (items_of js)) c.deref-4.ensures.value in
     let slots : free + c.kept_by_items.result + c.items_need.result + 3 ≡ first_temporary h + kept_by_items h.body + items_need h.body + 3 = omega (arith, c.in_ok-locals.ensures.1, c.kept_by_items.ensures, kept, c.items_need.ensures, body) in
-    let code : c.lower_blocks.new.self.code.items ≡ function_code structs globals h =
-    function_made structs globals h c.in_ok-locals.locals.items free raises c.in_ok-lower_body.field-0.code.items c.in_ok-emitter.emitter.code.items c.emit.new.self.code.items c.lower_blocks.new.self.code.items
+    let code : c.lower_blocks.new.self.code.items ≡ function_code structs globals scopes h =
+    function_made structs globals scopes h c.in_ok-locals.locals.items free raises c.in_ok-lower_body.field-0.code.items c.in_ok-emitter.emitter.code.items c.emit.new.self.code.items c.lower_blocks.new.self.code.items
     c.in_ok-locals.ensures.0 c.in_ok-locals.ensures.1
-    (c.in_ok-lower_body.ensures ∙ ap (λ (l : List ℕ). items_code (record { locals = l; structs = structs; raises = 0; counters = []; globals = globals }) h.body 0 (outside_loops free) free) c.deref.ensures.value)
+    (c.in_ok-lower_body.ensures ∙ ap (λ (l : List ℕ). items_code (record { locals = l; structs = structs; raises = 0; counters = []; globals = globals; scopes = scopes }) h.body 0 outside_loops free) c.deref.ensures.value)
     c.place-raises.ensures
-    (c.in_ok-emitter.ensures ∙ ap (λ (l : List ℕ). items_code (record { locals = l; structs = structs; raises = raises; counters = []; globals = globals }) h.body 0 (outside_loops free) free) c.deref-2.ensures.value)
+    (c.in_ok-emitter.ensures ∙ ap (λ (l : List ℕ). items_code (record { locals = l; structs = structs; raises = raises; counters = []; globals = globals; scopes = scopes }) h.body 0 outside_loops free) c.deref-2.ensures.value)
     c.in_ok-emit.ensures c.in_ok-lower_blocks.ensures in
     λ i. record {
       name = span_of_place h.place;

@@ -5,4 +5,4 @@ use Rattle.cyc_lower.specs.Lowering.{lower_function}
 use Rattle.cyc_lower.proofs.functions.lower_functions.Given as goal
 
 abbrev pub invariant-loop-function : goal.invariant-loop-function
-invariant-loop-function l = map routine_of l.lowered.items ≡ map (lower_function (map view_struct l.structs) l.globals) (map view_function (take l.function-index l.functions))
+invariant-loop-function l = map routine_of l.lowered.items ≡ map (lower_function (map view_struct l.structs) l.globals l.scopes) (map view_function (take l.function-index l.functions))

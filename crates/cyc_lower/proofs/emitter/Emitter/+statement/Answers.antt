@@ -1,30 +1,33 @@
 use borrow.Author.Rules.{rules, get_or_read}
-use Rattle.std.proofs.Common.{◌≡◌, ℕ, ◌+◌, List, [], ◌∷◌, ◌++◌, length, set, Option, ◌∙◌, refl, sym, ap, arith}
+use Rattle.std.proofs.Common.{ℕ, List, [], ◌∷◌, ◌++◌, length, set, Option, ◌∙◌, refl, ap, arith}
 use Rattle.std.proofs.lemmas.Result.{on_ok_weaker}
 use Rattle.cyc_types.specs.declared.ty.Ty.TheFolds as types
 use Rattle.cyc_types.specs.declared.typed.Item.{Item}
 use Rattle.cyc_types.specs.declared.typed.Item.TheFolds as statements
 use Rattle.cyc_types.specs.declared.typed.Body.{Body}
-use Rattle.cyc_types.specs.TypedTreeView.{view_expression, view_statement, items_of, clauses_of, default_of}
+use Rattle.cyc_types.specs.TypedTreeView.{view_expression, view_statement, items_of, default_of}
 use Rattle.cyc_meaning.specs.FrameCount.{kept_by_items, kept_by_clauses}
 use Rattle.cyc_plain.specs.declared.instruction.Instruction.{Instruction}
 use Rattle.cyc_plain.specs.declared.instruction.Instruction.TheVariants.{Jump, Leave}
-use Rattle.cyc_lower.specs.Lowering.{items_code, clauses_code, other_jump, statement_code, inside_try}
+use Rattle.cyc_lower.specs.Lowering.{items_code, other_jump, statement_code, inside_try}
 use Rattle.cyc_lower.specs.declared.statements.Exits.{Exits}
+use Rattle.cyc_lower.specs.declared.statements.Opened.{Opened}
 use Rattle.cyc_lower.specs.Emission.{view_starts}
 use Rattle.cyc_lower.proofs.Branching.{made_block, made_if, made_loop, item_room, more_items, closes_begin, closes_next, closes_end}
 use Rattle.cyc_lower.proofs.Handlers.{kept_of_clause, made_clause, made_clauses, more_clauses, made_handler, record_room, clauses_longer, body_longer}
 use Rattle.cyc_lower.proofs.Emitting.{no_shorter_than}
-use Rattle.std.proofs.lemmas.List.{length-append}
 use Rattle.cyc_lower.proofs.NeedsFound.{block_keeps, try_keeps}
 use Rattle.cyc_lower.proofs.emitter.Emitter.+statement.Goals as goal
 
 pub lower_loop-returns : goal.lower_loop-returns
 lower_loop-returns t c =
+    let code = c.emit.new.self.code.items in
     made_loop (view_starts c.args.starts.now) (view_expression c.args.condition.now) (view_statement c.args.body.now) c.args.exits c.args.free c.in_ok-condition.condition c.in_ok-condition.ensures.0 c.args.self.now.code.items (Jump 0)
     c.lower_continue.new.self.code.items c.reserve.new.self.code.items c.lower_condition.new.self.code.items c.emit.new.self.code.items c.lower_statement.new.self.code.items c.lower_continue-2.new.self.code.items c.jump_here.new.self.code.items
     c.place-head.result c.in_ok-leaving.leaving c.place-head.ensures
-    c.in_ok-lower_continue.ensures c.in_ok-leaving.ensures.0 c.in_ok-leaving.ensures.1 c.in_ok-condition.ensures.1 (c.in_ok-emit.ensures ∙ ap (λ (i : Instruction). c.lower_condition.new.self.code.items ++ i ∷ []) c.failing_jump.ensures) c.in_ok-lower_statement.ensures c.in_ok-lower_continue-2.ensures c.jump_here.ensures
+    c.in_ok-lower_continue.ensures c.in_ok-leaving.ensures.0 c.in_ok-leaving.ensures.1 c.in_ok-condition.ensures.1 (c.in_ok-emit.ensures ∙ ap (λ (i : Instruction). c.lower_condition.new.self.code.items ++ i ∷ []) c.failing_jump.ensures)
+    (c.in_ok-lower_statement.ensures ∙ ap (λ (o : Opened). code ++ statement_code (view_starts c.args.starts.now) (view_statement c.args.body.now) (length code) (record { head = c.place-head.result; in_loop = o; in_function = c.args.exits.in_function }) c.args.free) c.nothing_opened.ensures)
+    c.in_ok-lower_continue-2.ensures c.jump_here.ensures
 
 pub lower_statement-returns-in-Block : goal.lower_statement-returns-in-Block
 lower_statement-returns-in-Block t c =
@@ -86,17 +89,17 @@ lower_items-lower_item-requires t c = (
   ),
 )
 
-pub lower_items-free_behind-requires : goal.lower_items-free_behind-requires
-lower_items-free_behind-requires t c =
+pub lower_items-free_behind-behind-requires : goal.lower_items-free_behind-behind-requires
+lower_items-free_behind-behind-requires t c =
     item_room (view_starts c.args.starts.now) c.args.self.now.code.items c.args.items.now c.args.exits c.args.free c.loop-item.item-index c.loop-item.self.code.items c.loop-item.inside c.loop-item.behind c.item-item.result c.loop-item-test.true c.item-item.is c.loop-item.invariant
 
 pub lower_items-loop-item-preserved : goal.lower_items-loop-item-preserved
 lower_items-loop-item-preserved t c =
     more_items (view_starts c.args.starts.now) c.args.self.now.code.items c.args.items.now c.args.exits c.args.free c.loop-item.item-index c.loop-item.self.code.items c.loop-item.inside c.loop-item.behind c.item-item.result
-    c.lower_item.new.self.code.items c.exits_behind.result c.free_behind.result c.loop-item-test.true c.item-item.is c.in_ok-lower_item.ensures c.exits_behind.ensures c.free_behind.ensures c.loop-item.invariant
+    c.lower_item.new.self.code.items c.exits_behind-inside.result c.free_behind-behind.result c.loop-item-test.true c.item-item.is c.in_ok-lower_item.ensures c.exits_behind-inside.ensures c.free_behind-behind.ensures c.loop-item.invariant
 
-pub lower_items-loop-behind-before : goal.lower_items-loop-behind-before
-lower_items-loop-behind-before t c =
+pub lower_items-loop-behind-init : goal.lower_items-loop-behind-init
+lower_items-loop-behind-init t c =
     closes_begin (view_starts c.args.starts.now) c.args.self.now.code.items c.args.items.now c.args.exits c.args.free c.loop-item.item-index c.loop-item.self.code.items c.loop-item.inside c.loop-item.behind c.loop-item-test.false c.loop-item.invariant
 
 pub lower_items-loop-behind-preserved : goal.lower_items-loop-behind-preserved

@@ -10,14 +10,14 @@ use Rattle.cyc_lower.proofs.Handlers.{all_clauses}
 use Rattle.cyc_lower.proofs.emitter.Emitter.+statement.Given as goal
 
 abbrev pub invariant-lower_items-loop-item : goal.invariant-lower_items-loop-item
-invariant-lower_items-loop-item l = ItemsRemain (view_starts l.starts) l.fn.self.code.items l.items l.exits l.free l.item-index l.self.code.items l.inside l.behind
+invariant-lower_items-loop-item l = ItemsRemain (view_starts l.starts) l.fn.self.code.items l.items l.fn.exits l.free l.item-index l.self.code.items l.inside l.behind
 
 abbrev pub decreases-lower_items-loop-behind : goal.decreases-lower_items-loop-behind
 decreases-lower_items-loop-behind l = l.behind
 
 abbrev pub invariant-lower_items-loop-behind : goal.invariant-lower_items-loop-behind
 invariant-lower_items-loop-behind l =
-    ClosesLeft (view_starts l.starts) (l.fn.self.code.items ++ items_code (view_starts l.starts) (items_of l.items) (length l.fn.self.code.items) l.exits l.free) l.self.code.items l.free l.behind
+    ClosesLeft (view_starts l.starts) (l.fn.self.code.items ++ items_code (view_starts l.starts) (items_of l.items) (length l.fn.self.code.items) l.fn.exits l.free) l.self.code.items l.free l.behind
 
 abbrev pub invariant-lower_clauses-loop-clause : goal.invariant-lower_clauses-loop-clause
 invariant-lower_clauses-loop-clause l =

@@ -1,0 +1,40 @@
+-- The lexical regions that are open, as entries end them: how many the store has.
+use Rattle.std.proofs.Common.{◌≡◌, ℕ, suc, ◌+◌, ◌≤◌, List, [], ◌∷◌, length, Option, Some, refl, sym, ap, subst, ◌∙◌, arith}
+use Rattle.std.specs.Prelude.{◌%◌, ◌^◌}
+use Rattle.cyc_types.specs.TypedTrees.{Program}
+use Rattle.cyc_store.specs.State.{StoreState, lexical_count}
+use Rattle.cyc_plain.specs.State.{Words, put, Frame}
+use Rattle.cyc_plain.proofs.SlotLaws.{put-other}
+use Rattle.cyc_meaning.specs.State.{Object, World, Environment, Entry, CloseLexical, State}
+use Rattle.cyc_meaning.specs.Nesting.{lexicals_of, IsNested, Nests}
+use Rattle.cyc_meaning.specs.Step.{step}
+use Rattle.cyc_meaning.specs.Run.{limited_step}
+use Rattle.cyc_meaning.proofs.RunLaws.{limited_either}
+use Rattle.cyc_meaning.proofs.Nested.{nests_step}
+use Rattle.cyc_objects.specs.Tables.{Tables}
+use Rattle.cyc_objects.specs.Related as objects
+use Rattle.cyc_objects.specs.Related.{scopes}
+use Rattle.cyc_objects.proofs.Closing.{scopes-same}
+use Rattle.cyc_objects.proofs.Scopes.{scopes-counted, lexicals-within}
+use Rattle.cyc_lower.specs.Lowering.{scopes_of}
+use Rattle.cyc_lower.proofs.Slots.{scopes_behind}
+use Rattle.cyc_lower.proofs.Relation.{silent, scopes_in, Waiting, DataAt}
+use Rattle.cyc_lower.proofs.Data.{data_behind}
+
+-- ---- of the source
+
+module _ (t : Tables) (w : World) (s : StoreState) (related : objects.Related t (silent w) s) where
+  -- the store has as many as entries close
+  pub scopes_there : (k : List Entry) (e : Environment) → IsNested k e w → lexical_count s.regions ≡ scopes_in k
+  scopes_there k e nested = scopes-same related.regions ∙ scopes-counted k e w nested
+
+  -- they are few, so that one more is told by a word
+  pub scopes_small : (k : List Entry) (e : Environment) → IsNested k e w → (scopes_in k + 1) % 2 ^ 32 ≡ suc (scopes_in k)
+  scopes_small k e nested =
+      let few : scopes_in k ≤ 65536 = omega (arith, scopes_there k e nested, lexicals-within s related.sound, related.few) in
+      omega (arith, few)
+
+-- what the source keeps at each step, also where it is full
+pub nests_kept : (source : Program) (pages calls : ℕ) (old new : State) → Nests old → new ≡ limited_step source pages calls old → Nests new
+nests_kept source pages calls old new nests is =
+    subst Nests (sym is) (limited_either Nests pages calls old (step source old) (λ within. nests_step source old nests) (λ full. tt))
