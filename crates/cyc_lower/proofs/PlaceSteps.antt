@@ -23,7 +23,6 @@ use Rattle.cyc_meaning.specs.Step.{wrong, read, loaded, target_by}
 use Rattle.cyc_objects.specs.Tables.{Tables}
 use Rattle.cyc_objects.specs.Words.{words_from, Points, Is, IsContent}
 use Rattle.cyc_objects.specs.Related as objects
-use Rattle.cyc_objects.proofs.Cells.{found-alive, cell-live, cell-read}
 use Rattle.cyc_lower.specs.Lowering.{is_in, move_of, source_of, source_slot, lower_program, right_slot}
 use Rattle.cyc_lower.proofs.Widths.{kind_positive, same_kind, wide_kind, Outside}
 use Rattle.cyc_lower.proofs.Moves.{put_elsewhere}
@@ -39,6 +38,7 @@ use Rattle.cyc_lower.proofs.Matched.{IsMatched, silently, by_one}
 use Rattle.cyc_lower.proofs.Paths.{is_quiet, by_path}
 use Rattle.cyc_lower.proofs.Evaluations.{IsStep, sources, landed}
 use Rattle.cyc_lower.proofs.Values.{of_kind, landed_there}
+use Rattle.cyc_plain.proofs.MemoryLaws.{memory-stored}
 
 -- ---- a cell is read
 
@@ -216,7 +216,7 @@ module _ (source : Program) (pages calls : ℕ) where
       let (there, stands) = word_read shared.related shared.inside object offset word found.at found.value found.there points (ap words_of_kind found.same ∙ eqb-true (words_of_kind kind) 1 narrow) found.has in
       let after = put c.active.slots d (c.store.memory word) in
       by_one source pages calls found.gives shared load
-      (λ choice. subst (λ x. Matches source pages calls (Running (Given v) k e w) (loads c d x)) (sym there)
+      (λ choice. subst (λ x. Matches source pages calls (Running (Given v) k e w) (loads c d x)) (sym (memory-stored (lower_program source) c word (c.store.memory word) there))
       (landed source pages calls v after d k e w c q shared
       (subst (λ i. Is shared.tables i found.value after d) found.same (stands after d (put-same c.active.slots d (c.store.memory word))))
       (λ m out. put_elsewhere c.active.slots d (c.store.memory word) (words_of_kind kind) m (kind_positive kind) out) facts holds end lands))
