@@ -22,7 +22,7 @@ use Rattle.cyc_plain.specs.declared.instruction.Instruction.TheVariants as instr
 use Rattle.cyc_plain.specs.declared.instruction.Request.{Request}
 use Rattle.cyc_plain.specs.declared.instruction.Request.TheVariants as requests
 use Rattle.cyc_plain.specs.State as plain
-use Rattle.cyc_plain.specs.State.{Words, put, Configuration, with_memory}
+use Rattle.cyc_plain.specs.State.{Words, put, Configuration}
 use Rattle.cyc_plain.specs.Step.{Choice, advanced, operand_word, served_to, performed}
 use Rattle.cyc_plain.specs.Step as plain_step
 use Rattle.cyc_plain.specs.Requests as plain_requests
@@ -57,6 +57,7 @@ use Rattle.cyc_lower.proofs.WideCells.{store_links, store_path, store_last, shar
 use Rattle.cyc_lower.proofs.CellWrites.{SameVariables, data_beside, cell_is_there, saves_there, shared_saved, data_saved}
 use Rattle.cyc_lower.proofs.Matched.{IsMatched, below, silently, by_places, by_one, shared_way, shared_within, place_in, known, Executes}
 use Rattle.cyc_lower.proofs.Evaluations.{IsStep, made_moved}
+use Rattle.cyc_objects.proofs.Inside.{inside-more, made-inside}
 
 -- a sum that does not wrap
 add_is : (a b : ℕ) → a + b < 4294967296 → add_of a b ≡ a + b
@@ -204,6 +205,7 @@ module _ (source : Program) (pages calls : ℕ) where
       tables = grown;
       same_output = shared.same_output ∙ sym makes.output;
       same_input = shared.same_input ∙ sym makes.input;
+      inside = inside-more shared.tables (Placed choice.address (kinds_of cells)) shared.inside (made-inside shared.related handle cells choice free served.allowed);
       same_pages = makes.pages choice ∙ shared.same_pages;
       related = related_made;
       globals = shared.globals;

@@ -25,7 +25,7 @@ use Rattle.cyc_plain.specs.declared.instruction.Request.{Request}
 use Rattle.cyc_plain.specs.declared.instruction.Request.TheVariants as requests
 use Rattle.cyc_plain.specs.Operators.{truth}
 use Rattle.cyc_plain.specs.State as plain
-use Rattle.cyc_plain.specs.State.{Words, put, Configuration, with_memory}
+use Rattle.cyc_plain.specs.State.{Words, put, Configuration}
 use Rattle.cyc_plain.specs.Step.{Choice, operand_word, with_slots, at, advanced, served_to, performed}
 use Rattle.cyc_plain.specs.Step as plain_step
 use Rattle.cyc_plain.specs.Straight.{At}
@@ -69,6 +69,8 @@ use Rattle.cyc_lower.proofs.Handling.{raised}
 use Rattle.cyc_lower.proofs.Allocations.{Makes, made_for}
 use Rattle.cyc_lower.proofs.Asking.{past_pages, by_asking, by_full}
 use Rattle.cyc_words.proofs.WordLemmas.{IsWord-add_of, IsWord-mul_of, IsWord-shl_of}
+use Rattle.cyc_objects.proofs.Inside.{inside-more, made-inside}
+use Rattle.cyc_lower.proofs.StoredWords.{with_saved}
 
 -- ---- words
 
@@ -318,6 +320,7 @@ module _ (source : Program) (pages calls : ℕ) where
       tables = grown;
       same_output = shared.same_output ∙ sym makes.output;
       same_input = shared.same_input ∙ sym makes.input;
+      inside = inside-more shared.tables (Placed choice.address (kinds_of cells)) shared.inside (made-inside shared.related handle cells choice free served.allowed);
       same_pages = makes.pages choice ∙ shared.same_pages;
       related = makes.related choice free served.allowed;
       globals = shared.globals;
@@ -503,6 +506,7 @@ module _ (source : Program) (pages calls : ℕ) where
             tables = shared.tables;
             same_output = shared.same_output;
             same_input = shared.same_input;
+            inside = shared.inside;
             same_pages = shared.same_pages;
             related = shared.related;
             globals = shared.globals;
@@ -638,6 +642,7 @@ module _ (source : Program) (pages calls : ℕ) where
           tables = shared.tables;
           same_output = shared.same_output;
           same_input = shared.same_input;
+          inside = shared.inside;
           related = related;
           same_pages = same_pages;
           globals = shared.globals;
@@ -703,9 +708,9 @@ module _ (source : Program) (pages calls : ℕ) where
         = subst (λ i. IsWord shared.tables i v.value word) (fits ∙ sym same)
         (subst (IsWord shared.tables v.kind v.value) (sym word_is) (one_word shared.tables v.kind v.value slots (free + 3) (ap words_of_kind fits ∙ one) is)) in
         let machine : IsMachineWord word = subst IsMachineWord (sym word_is) (words.0 (free + 3)) in
-        let kept : SharedAt source pages calls k e new (advanced (with_memory c2 address word)) = shared_saved source pages calls k e w c2 shared object index address word cell v.value found there value machine in
+        let kept : SharedAt source pages calls k e new (advanced (with_saved c2 address word)) = shared_saved source pages calls k e w c2 shared object index address word cell v.value found there value machine in
         let saves_it = saves_there source pages calls k e w c2 shared object index address word cell v.value found there value machine in
-        goes_on m (saved c2.store address word) (record { instruction = instructions.Store (operands.Slot z) 0 (operands.Slot (free + 3)); behind = advanced (with_memory c2 address word) } ∷ [])
+        goes_on m (saved c2.store address word) (record { instruction = instructions.Store (operands.Slot z) 0 (operands.Slot (free + 3)); behind = advanced (with_saved c2 address word) } ∷ [])
         (ap (reached (saved c2.store address word)) last)
         (store, (λ choice. saves_it), omega arith, record { output = refl; demand = ap demand (saved_there source pages calls k e w c2 shared object index address word cell v.value found there value machine); frames = refl }, tt)
         count_up jump (shared_saved source pages calls k e w c2 shared object index address word cell v.value found there value machine).related kept.same_pages kept.few_pages

@@ -59,6 +59,7 @@ module _ (source : Program) (pages calls : ℕ) where
       let shared_read : SharedAt source pages calls k e next read = record {
         same_output = shared.same_output;
         same_input = ap (drop 1) shared.same_input;
+        inside = shared.inside;
         same_pages = shared.same_pages;
         few_pages = shared.few_pages;
         tables = shared.tables;
@@ -79,6 +80,7 @@ module _ (source : Program) (pages calls : ℕ) where
   shared_printed a x k e w c shared is = record {
     same_output = ap (λ (l : List ℕ). l ++ x % 256 ∷ []) shared.same_output ∙ ap (λ y. w.output ++ y % 256 ∷ []) is;
     same_input = shared.same_input;
+    inside = shared.inside;
     same_pages = shared.same_pages;
     few_pages = shared.few_pages;
     tables = shared.tables;
@@ -215,14 +217,14 @@ module _ (source : Program) (pages calls : ℕ) where
       ∙ sym (ap (λ (f : Option Function). kind_of_result (bounds_in source f).result) there)
 
   -- a function has been called, with its arguments in the first slots
-  pub entered : FunctionsStand → (n : ℕ) (h : Function) (arguments : List Kinded) (k : List Entry) (w : World) (slots globals : Words) (handlers : List Handler) (frames : List Frame) (store : StoreState) (output input : List ℕ)
+  pub entered : FunctionsStand → (n base : ℕ) (h : Function) (arguments : List Kinded) (k : List Entry) (w : World) (slots globals : Words) (handlers : List Handler) (frames : List Frame) (store : StoreState) (output input : List ℕ)
       → slice_get source.functions n ≡ Some h
       → (shared : Shared pages calls w (no_locals.home ∷ homes k) (CountsBy source None no_locals k globals store (scopes w.regions)) output input store (length frames))
       → DataAt source shared.tables n w.objects (λ (number : ℕ). None) (callers k) slots globals frames × HandlersStand source n slots handlers frames k → floor source n k ≡ base_of source n
       → HoldsFrom shared.tables slots 0 arguments → ((m : ℕ) → At (code_of source n) m (instructions.Finish (base_of source n)) → StatementStack source n outside_loops m frames k)
       → Related source pages calls (Entering h arguments) k no_locals w
-      (record { active = record { function = n; next = 0; slots = slots; handlers = handlers }; frames = frames; globals = globals; store = store; output = output; input = input })
-  entered stand n h arguments k w slots globals handlers frames store output input there shared facts least holds stack =
+      (record { active = record { function = n; next = 0; base = base; slots = slots; handlers = handlers }; frames = frames; globals = globals; store = store; output = output; input = input })
+  entered stand n base h arguments k w slots globals handlers frames store output input there shared facts least holds stack =
       let (m, items, end) = stand n h there in
       let g = code_of source n in (
         shared,
@@ -296,10 +298,11 @@ module _ (source : Program) (pages calls : ℕ) where
                 by_one source pages calls does shared here
                 (λ choice.
                 let slots = copied c.active.slots d (words_held before) choice.contents 0 in
-                entered stand n h (reverse before) (Caller e ∷ k) w slots c.globals [] (frame ∷ c.frames) c.store c.output c.input there
+                entered stand n choice.base h (reverse before) (Caller e ∷ k) w slots c.globals [] (frame ∷ c.frames) c.store c.output c.input there
                 (record {
                   same_output = shared.same_output;
                   same_input = shared.same_input;
+                  inside = shared.inside;
                   same_pages = shared.same_pages;
                   few_pages = shared.few_pages;
                   tables = shared.tables;

@@ -2,18 +2,19 @@
 use Rattle.std.proofs.Common.{◌≡◌, ℕ, zero, suc, ◌+◌, ◌*◌, ◌<◌, List, [], ◌∷◌, Option, Some, refl, sym, ap, ◌∙◌, arith}
 use Rattle.cyc_words.specs.Word.{add_of}
 use Rattle.cyc_types.specs.TypedTrees.{Program}
-use Rattle.cyc_store.specs.State.{word_at}
 use Rattle.cyc_plain.specs.declared.instruction.Operand.TheVariants as operands
 use Rattle.cyc_plain.specs.declared.instruction.Instruction.TheVariants as instructions
 use Rattle.cyc_plain.specs.State.{put, Configuration}
 use Rattle.cyc_plain.specs.Step.{Choice, with_slots, advanced, at, loads}
 use Rattle.cyc_plain.proofs.SlotLaws.{put-other}
 use Rattle.cyc_objects.specs.Words.{words_from}
-use Rattle.cyc_lower.specs.Lowering.{load_at}
+use Rattle.cyc_lower.specs.Lowering.{load_at, lower_program}
 use Rattle.cyc_lower.proofs.Stands.{EachAt}
 use Rattle.cyc_lower.proofs.Relation.{code_of}
 use Rattle.cyc_lower.proofs.Paths.{Link, is_quiet, end_of, IsPath}
 use Rattle.cyc_lower.proofs.GlobalSteps.{each_put}
+use Rattle.cyc_plain.specs.Memory.{memory_at}
+use Rattle.cyc_plain.proofs.MemoryLaws.{store_word, memory-stored}
 
 abbrev with_read : Configuration → (address index d : ℕ) → Configuration
 with_read c address index d = advanced (with_slots c (put c.active.slots d (words_from c.store.memory address index)))
@@ -33,7 +34,7 @@ word_end c address (suc many) index s d =
     ∙ ap (λ (n : ℕ). advanced (with_slots (at c n) (each_put (words_from c.store.memory address) c.active.slots (suc (suc many)) index d))) (let e : c.active.next + 1 + many ≡ c.active.next + suc many = omega arith in e)
 
 pub word_path : (source : Program) (c : Configuration) (address many index s d q : ℕ) → c.active.slots s ≡ address → s < d
-    → ((j : ℕ) → j < index + many → word_at c.store (add_of address (4 * j)) ≡ Some (words_from c.store.memory address j))
+    → ((j : ℕ) → j < index + many → store_word c.store (add_of address (4 * j)) ≡ Some (words_from c.store.memory address j))
     → EachAt (code_of source c.active.function) (load_at s) many index d c.active.next q → IsPath source c (word_links c address many index s d) × (c.active.next + many ≡ q)
 word_path source c address zero index s d q same before there end = (tt, omega (arith, end))
 word_path source c address (suc many) index s d q same before there (here, rest) =
@@ -42,7 +43,8 @@ word_path source c address (suc many) index s d q same before there (here, rest)
     let (path, end) = word_path source next address many (suc index) s (suc d) q stays (omega (arith, before)) (λ j below. there j (omega (arith, below))) rest in (
       (
         here,
-        (λ choice. ap (λ (a : ℕ). loads c d (word_at c.store (add_of a (4 * index)))) same ∙ ap (loads c d) (there index (omega arith))),
+        (λ choice. ap (λ (a : ℕ). loads c d (memory_at (lower_program source) c (add_of a (4 * index)))) same
+        ∙ ap (loads c d) (memory-stored (lower_program source) c (add_of address (4 * index)) (words_from c.store.memory address index) (there index (omega arith)))),
         omega arith,
         is_quiet c next.active,
         path,

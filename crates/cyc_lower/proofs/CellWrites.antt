@@ -4,11 +4,11 @@ use Rattle.std.specs.Prelude.{if◌then◌else◌}
 use Rattle.cyc_words.specs.Word as words
 use Rattle.cyc_lower.specs.Slots.{Types}
 use Rattle.cyc_types.specs.TypedTrees.{Program}
-use Rattle.cyc_store.specs.State.{Memory, put, StoreState, demand, word_at, saved}
+use Rattle.cyc_store.specs.State.{Memory, put, StoreState, demand, saved}
 use Rattle.cyc_store.proofs.LookupLemmas.{when_equal, when_other}
 use Rattle.cyc_store.proofs.WordLemmas.{words-put}
 use Rattle.cyc_plain.specs.State as plain
-use Rattle.cyc_plain.specs.State.{Words, Frame, Configuration, memory_at, with_memory}
+use Rattle.cyc_plain.specs.State.{Words, Frame, Configuration}
 use Rattle.cyc_plain.specs.Step.{advanced, saves}
 use Rattle.cyc_meaning.specs.Values.{Value, Operand as Kinded, is_kind}
 use Rattle.cyc_meaning.specs.State.{Object, World, Access, Found, Closed, Missing, Located, cell_at, written, Environment, Entry, Focus, Running}
@@ -16,11 +16,16 @@ use Rattle.cyc_meaning.specs.Step.{wrong, stored}
 use Rattle.cyc_objects.specs.Tables.{Variable, Tables}
 use Rattle.cyc_objects.specs.Words.{words_from, Points}
 use Rattle.cyc_objects.specs.Related as objects
-use Rattle.cyc_objects.proofs.Cells.{not-placed, found-alive, cell-live, related-written, saved-is}
+use Rattle.cyc_objects.proofs.Cells.{not-placed, related-written, saved-is}
 use Rattle.cyc_lower.proofs.Widths.{same_kind, kind_positive}
 use Rattle.cyc_lower.proofs.Relation.{IsWord, content_of, contents, Waiting, LocalsHold, GlobalsHold, FramesHold, DataAt, DataIn, SharedAt, callers, silent, types_at}
 use Rattle.cyc_lower.proofs.Data.{IsWord-is, get_set_other, locals_raised}
 use Rattle.cyc_lower.proofs.Accesses.{IsWell, is_fitting}
+use Rattle.cyc_plain.specs.Memory.{memory_at}
+use Rattle.cyc_plain.proofs.MemoryLaws.{store_word, stored-word}
+use Rattle.cyc_objects.proofs.Inside.{found-alive}
+use Rattle.cyc_lower.specs.Lowering.{lower_program}
+use Rattle.cyc_lower.proofs.StoredWords.{cell-stored, with_saved, saves-stored}
 
 -- ---- variables
 
@@ -84,22 +89,22 @@ cell_is_there Missing number offset v focus k e w well = absurd (well refl)
 module _ (source : Program) (pages calls : ℕ) (k : List Entry) (e : Environment) (w : World) (c : Configuration) (shared : SharedAt source pages calls k e w c)
     (object offset address word : ℕ) (at : Located) (v : Value) (found : cell_at w object offset ≡ Found at) (points : Points shared.tables object offset address)
     (is : IsWord shared.tables at.cell.kind v word) (fits : words.IsWord word) where
-  there : word_at c.store address ≡ Some (c.store.memory address)
+  there : store_word c.store address ≡ Some (c.store.memory address)
   there =
-      let (h, alive, cell) = found-alive shared.related object offset address at found points in
-      subst (λ n. word_at c.store n ≡ Some (c.store.memory n)) (let e : address + 4 * 0 ≡ address = omega arith in e)
-      (cell-live shared.related alive points cell 0 (kind_positive at.cell.kind))
+      let (h, alive, cell) = found-alive shared.related shared.inside object offset address at found points in
+      subst (λ n. store_word c.store n ≡ Some (c.store.memory n)) (let e : address + 4 * 0 ≡ address = omega arith in e)
+      (cell-stored shared.related alive points cell 0 (kind_positive at.cell.kind))
 
   -- the instruction goes on
-  pub saves_there : saves c address word (memory_at c address) ≡ plain.Running (advanced (with_memory c address word))
-  saves_there = ap (saves c address word) there
+  pub saves_there : saves (lower_program source) c address word (memory_at (lower_program source) c address) ≡ plain.Running (advanced (with_saved c address word))
+  saves_there = saves-stored source c address word (c.store.memory address) there
 
   pub saved_there : saved c.store address word ≡ record c.store { memory = put c.store.memory address word }
-  saved_there = saved-is c.store address word (c.store.memory address) there
+  saved_there = saved-is c.store address word (c.store.memory address) (stored-word c.store address (c.store.memory address) there)
 
   pub related_saved : objects.Related shared.tables (silent (written w object offset at v)) (saved c.store address word)
   related_saved =
-      let (h, alive, cell) = found-alive shared.related object offset address at found points in
+      let (h, alive, cell) = found-alive shared.related shared.inside object offset address at found points in
       let m : Memory = put c.store.memory address word in
       let zero_far : address + 4 * 0 ≡ address = omega arith in
       subst (objects.Related shared.tables (silent (written w object offset at v))) (sym saved_there)
@@ -107,11 +112,12 @@ module _ (source : Program) (pages calls : ℕ) (k : List Entry) (e : Environmen
       (λ y other. when_other y address word (c.store.memory y) (λ same. other 0 (kind_positive at.cell.kind) (same ∙ sym zero_far)))
       (IsWord-is shared.tables at.cell.kind v word (words_from m address) 0 (ap m zero_far ∙ when_equal address address word (c.store.memory address) refl) is))
 
-  abbrev pub shared_saved : SharedAt source pages calls k e (written w object offset at v) (advanced (with_memory c address word))
+  abbrev pub shared_saved : SharedAt source pages calls k e (written w object offset at v) (advanced (with_saved c address word))
   shared_saved = record {
     tables = shared.tables;
     same_output = shared.same_output;
     same_input = shared.same_input;
+    inside = shared.inside;
     same_pages = ap (λ (s : StoreState). s.pages) saved_there ∙ shared.same_pages;
     related = related_saved;
     globals = shared.globals;
@@ -122,7 +128,7 @@ module _ (source : Program) (pages calls : ℕ) (k : List Entry) (e : Environmen
   }
 
   -- and so do the data of all calls, whose objects are variables
-  pub data_saved : DataIn source shared.tables c.active.slots k e w c → DataIn source shared.tables c.active.slots k e (written w object offset at v) (advanced (with_memory c address word))
+  pub data_saved : DataIn source shared.tables c.active.slots k e w c → DataIn source shared.tables c.active.slots k e (written w object offset at v) (advanced (with_saved c address word))
   data_saved (facts, handlers) =
       let more : length w.objects ≡ length (written w object offset at v).objects = sym (objects_many) in (
         data_beside shared.tables source c.active.function w.objects (written w object offset at v).objects e.locals (callers k) c.active.slots c.globals c.frames

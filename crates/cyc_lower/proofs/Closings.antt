@@ -159,6 +159,7 @@ module _ (source : Program) (pages calls : ℕ) where
     tables = s.tables;
     same_output = s.same_output;
     same_input = s.same_input;
+    inside = s.inside;
     same_pages = pages_same closing leaving s.same_pages;
     related = behind closing leaving s.related;
     globals = s.globals;
@@ -204,6 +205,7 @@ module _ (source : Program) (pages calls : ℕ) where
     tables = s.tables;
     same_output = s.same_output;
     same_input = s.same_input;
+    inside = s.inside;
     same_pages = s.same_pages;
     related =
         closed-at_once many choice s.counters.1.1 (subst (λ n. Related s.tables (silent w) (closed_to c.store n)) now s.related) (refusal-close_to c.store many (omega (arith, now, s.counters.1.2))) allowed;

@@ -99,7 +99,7 @@ program body others = record {
 }
 
 abbrev after : ℕ → Program → List ℕ → State
-after steps p input = run (lower_program p) 3 9 zeros steps (start (lower_program p) (stores.start 3 (λ (address : ℕ). 0)) input)
+after steps p input = run (lower_program p) 3 9 zeros steps (start (lower_program p) 0x7ffff000 (stores.start 3 (λ (address : ℕ). 0)) input)
 
 abbrev ends : ℕ → Program → List ℕ → Status
 ends steps p input = status_of (after steps p input)

@@ -72,6 +72,7 @@ module _ (source : Program) (pages calls : ℕ) where
       tables = shared.tables;
       same_output = shared.same_output;
       same_input = shared.same_input;
+      inside = shared.inside;
       same_pages = shared.same_pages;
       related = closed-dynamic shared.related region word r choice opens.0 opens.1 dynamic entry served.allowed;
       globals = shared.globals;

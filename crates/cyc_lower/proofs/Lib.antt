@@ -30,6 +30,7 @@ pub mod UniqueBlocks
 pub mod Keys
 pub mod PlaceWords
 pub mod CellLoads
+pub mod StoredWords
 mod CellReads
 pub mod AddressSteps
 pub mod SwapSteps

@@ -133,6 +133,7 @@ module _ (source : Program) (pages calls : ℕ) where
       tables = grown;
       same_output = shared.same_output;
       same_input = shared.same_input;
+      inside = shared.inside;
       same_pages = shared.same_pages;
       related = opened-lexical shared.related choice free served_it.allowed;
       globals = grows.handles globals_number None shared.globals;
@@ -277,6 +278,7 @@ module _ (source : Program) (pages calls : ℕ) where
               tables = grown;
               same_output = shared.same_output;
               same_input = shared.same_input;
+              inside = shared.inside;
               same_pages = shared.same_pages;
               related = opened-dynamic shared.related choice free served_it.allowed;
               globals = grows.handles globals_number None shared.globals;

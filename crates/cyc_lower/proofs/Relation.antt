@@ -47,6 +47,7 @@ use Rattle.cyc_lower.specs.Slots.{Types, Starts, starts_of, slot_of, global_of, 
 use Rattle.cyc_lower.specs.Lowering.{unary_operator, failing_comparison, operand_of, move_of, low_byte, converts_there, all_passed, compared_of, break_target, continue_target, results_of, lower_program, outside_loops, slot_types, raises_of, right_slot, tag_operand, followed_operand, reached_operand, globals_of, scopes_of, nothing_opened, with_handler, with_mark, inside_try, inside_region, behind_record_in}
 use Rattle.cyc_lower.proofs.Widths.{kind_of_result, given, called_kind, HasRoom, Outside, chain_kind, HasGlobal, made_kind}
 use Rattle.cyc_lower.proofs.Stands.{BegunAt, ElementsAt, CheckAt, ConversionAt, PlaceAt, OperatorAt, TruthAt, CopyAt, ExpressionAt, ArgumentsAt, OperationsAt, ValueAt, ConditionAt, FailingAt, ComparesAt, DiscardedAt, StatementAt, ItemsAt, PointerAt, StoresAt, ObjectAt, AddressAt, ConvertedOperandAt, FreedAt, HasSide, SideAt, ReadAt, WriteAt, ExchangeAt, LeaveAt, ClausesAt, CountAt, SavedAt, LoadedAt, FollowedAt, ReachedAt, GlobalAt, ClosedAt, MarksAt, RestoredAt, MadeAt, NamedAt}
+use Rattle.cyc_objects.proofs.Inside.{AreInside}
 
 -- ---- values in slots
 
@@ -317,6 +318,8 @@ pub record Shared (pages calls : ℕ) (w : World) (regions : List ℕ) (counting
   pub same_output : plain_output ≡ w.output
   pub same_input : plain_input ≡ w.input
   pub related : objects.Related tables (silent w) store
+  -- no variable stands anywhere
+  pub inside : AreInside tables
   pub same_pages : store.pages ≡ pages
   -- the region of the globals is of variables, and so are these
   pub globals : slice_get tables.handles globals_number ≡ Some None

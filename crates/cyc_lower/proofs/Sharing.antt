@@ -19,6 +19,7 @@ use Rattle.cyc_lower.proofs.Relation.{homes, IsTold, HasScopes, SharedAt, Shared
 use Rattle.cyc_lower.specs.Lowering.{scopes_of}
 use Rattle.cyc_lower.proofs.Counters.{counted_less}
 use Rattle.cyc_lower.proofs.Data.{append_seam, variables_grow}
+use Rattle.cyc_objects.proofs.Inside.{inside-more}
 
 module _ (source : Program) (pages calls : ℕ) (k : List Entry) (e : Environment) (w : World) (c : Configuration) (s : SharedAt source pages calls k e w c) where
   -- a variable is declared
@@ -28,8 +29,9 @@ module _ (source : Program) (pages calls : ℕ) (k : List Entry) (e : Environmen
     tables = with_row s.tables Variable;
     same_output = s.same_output;
     same_input = s.same_input;
+    inside = inside-more s.tables Variable s.inside tt;
     same_pages = s.same_pages;
-    related = declared s.related e.home r kind content there s.variables.0;
+    related = declared s.related e.home r kind content Variable there s.variables.0 tt tt;
     globals = s.globals;
     variables = variables_grow s.tables (with_row s.tables Variable) (Grows-row s.tables Variable) (e.home ∷ homes k) s.variables;
     few_pages = s.few_pages;
@@ -48,6 +50,7 @@ module _ (source : Program) (pages calls : ℕ) (k : List Entry) (e : Environmen
     tables = s.tables;
     same_output = s.same_output;
     same_input = s.same_input;
+    inside = s.inside;
     same_pages = s.same_pages;
     related = assigned s.related object 0 at.object at.cell v there cell row;
     globals = s.globals;
@@ -63,6 +66,7 @@ module _ (source : Program) (pages calls : ℕ) (k : List Entry) (e : Environmen
     tables = s.tables;
     same_output = s.same_output;
     same_input = s.same_input;
+    inside = s.inside;
     same_pages = s.same_pages;
     related = s.related;
     globals = s.globals;
@@ -78,6 +82,7 @@ module _ (source : Program) (pages calls : ℕ) (k : List Entry) (e : Environmen
     tables = with_handle s.tables None;
     same_output = s.same_output;
     same_input = s.same_input;
+    inside = s.inside;
     same_pages = s.same_pages;
     related = opened-variables s.related Stack refl;
     globals = (Grows-handle s.tables None).handles globals_number None s.globals;
@@ -97,6 +102,7 @@ shared_closed source closing pages calls k e w c number home r there s = record 
   tables = s.tables;
   same_output = s.same_output;
   same_input = s.same_input;
+  inside = s.inside;
   same_pages = subst (λ now. (store_by closing c.store now).pages ≡ pages) same s.same_pages;
   related = subst (λ now. Related s.tables (silent (closed w number r)) (store_by closing c.store now)) same after;
   globals = s.globals;
@@ -119,6 +125,7 @@ shared_ahead source closing pages calls k e w c known s = record {
   tables = s.tables;
   same_output = s.same_output;
   same_input = s.same_input;
+  inside = s.inside;
   same_pages = pages_same closing ∙ s.same_pages;
   related = ahead closing;
   globals = s.globals;
@@ -151,6 +158,7 @@ shared_left source closing pages calls k e outer w c s = record {
   tables = s.tables;
   same_output = s.same_output;
   same_input = s.same_input;
+  inside = s.inside;
   same_pages = s.same_pages;
   related = s.related;
   globals = s.globals;
@@ -167,6 +175,7 @@ shared_less source closing pages calls a k e w c s = record {
   tables = s.tables;
   same_output = s.same_output;
   same_input = s.same_input;
+  inside = s.inside;
   same_pages = s.same_pages;
   related = s.related;
   globals = s.globals;

@@ -60,6 +60,7 @@ module _ (source : Program) (pages calls : ℕ) where
     tables = s.tables;
     same_output = s.same_output;
     same_input = s.same_input;
+    inside = s.inside;
     same_pages = s.same_pages;
     related = s.related;
     globals = s.globals;

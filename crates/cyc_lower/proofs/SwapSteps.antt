@@ -3,7 +3,6 @@ use Rattle.std.proofs.Common.{◌≡◌, ℕ, zero, suc, ◌+◌, ◌*◌, ◌�
 use Rattle.std.specs.Prelude.{◌==◌, if◌then◌else◌}
 use Rattle.std.proofs.lemmas.Bool.{eqb-true}
 use Rattle.std.proofs.lemmas.Option.{same_Some}
-use Rattle.cyc_store.specs.State.{word_at}
 use Rattle.cyc_words.specs.Word.{add_of}
 use Rattle.cyc_types.specs.declared.typed.Kind.{Kind}
 use Rattle.cyc_types.specs.declared.typed.Kind.TheVariants as kinds
@@ -13,7 +12,7 @@ use Rattle.cyc_plain.specs.declared.instruction.Operand.TheVariants as operands
 use Rattle.cyc_plain.specs.declared.instruction.Instruction.{Instruction}
 use Rattle.cyc_plain.specs.declared.instruction.Instruction.TheVariants as instructions
 use Rattle.cyc_plain.specs.State as plain
-use Rattle.cyc_plain.specs.State.{Words, put, Configuration, with_memory}
+use Rattle.cyc_plain.specs.State.{Words, put, Configuration}
 use Rattle.cyc_plain.specs.Step.{Choice, with_slots, advanced, at, loads, performed}
 use Rattle.cyc_plain.specs.Straight.{At}
 use Rattle.cyc_plain.proofs.SlotLaws.{put-same, put-other}
@@ -46,6 +45,7 @@ use Rattle.cyc_lower.proofs.AddressSteps.{Brought, in_slot, by_word}
 use Rattle.cyc_lower.proofs.Matched.{IsMatched, silently, by_one}
 use Rattle.cyc_lower.proofs.Evaluations.{IsStep, object_of_same}
 use Rattle.cyc_lower.proofs.CellReads.{cell_words}
+use Rattle.cyc_plain.proofs.MemoryLaws.{store_word}
 
 -- ---- what is read
 
@@ -138,7 +138,7 @@ module _ (source : Program) (pages calls : ℕ) where
 
   -- those of a cell, whose address is in slot s
   reads_cell : (t : Tables) (kind : Kind) (v : Value) (address s d q words : ℕ) (c : Configuration) → 1 ≤ words → words_of_kind kind ≡ words → c.active.slots s ≡ address → s < d
-      → ((j : ℕ) → j < words → word_at c.store (add_of address (4 * j)) ≡ Some (words_from c.store.memory address j)) → Is t kind v (words_from c.store.memory address) 0
+      → ((j : ℕ) → j < words → store_word c.store (add_of address (4 * j)) ≡ Some (words_from c.store.memory address j)) → Is t kind v (words_from c.store.memory address) 0
       → EachAt (code_of source c.active.function) (load_at s) words 0 d c.active.next q → IsSideRead t kind v d q c
   reads_cell t kind v address s d q zero c some wide same before there is here = absurd (omega (arith, some))
   reads_cell t kind v address s d q (suc words) c some wide same before there is here =
@@ -185,8 +185,8 @@ module _ (source : Program) (pages calls : ℕ) where
       let g = c.active.function in
       let address = c.active.slots s in
       reads_cell shared.tables kind v address s d q (words_of_kind kind) c (kind_positive kind) refl refl before
-      (λ j below. word_there shared.related found points j there (omega (arith, below, ap words_of_kind same)))
-      (subst (λ i. Is shared.tables i v (words_from c.store.memory address) 0) same (cell_words shared.related object offset address found v there points has)) here
+      (λ j below. word_there shared.related shared.inside found points j there (omega (arith, below, ap words_of_kind same)))
+      (subst (λ i. Is shared.tables i v (words_from c.store.memory address) 0) same (cell_words shared.related shared.inside object offset address found v there points has)) here
 
   -- ---- both sides are read
 

@@ -28,7 +28,7 @@ use Rattle.cyc_plain.specs.declared.instruction.UnaryOperator.TheVariants as pla
 use Rattle.cyc_plain.specs.Operators.{truth, compares}
 use Rattle.cyc_plain.specs.Operators as plain_operators
 use Rattle.cyc_plain.specs.State as plain
-use Rattle.cyc_plain.specs.State.{Words, put, Frame, Configuration, with_memory}
+use Rattle.cyc_plain.specs.State.{Words, put, Frame, Configuration}
 use Rattle.cyc_plain.specs.Step.{Choice, operand_word, with_slots, at, advanced, gives, performed}
 use Rattle.cyc_plain.specs.Step as plain_step
 use Rattle.cyc_plain.specs.Program.{CodePlace, no_routine}
@@ -85,6 +85,7 @@ use Rattle.cyc_lower.proofs.Evaluations.{IsStep, landed_word, landed_moved, land
 use Rattle.cyc_lower.proofs.Paths.{Link, IsPath, end_of, by_path}
 use Rattle.cyc_lower.proofs.GlobalSteps.{stored_globals, stored_elsewhere, stored_is, global_links, is_stored_by, by_links}
 use Rattle.cyc_lower.proofs.RegionSteps.{opened_given, aliased_given}
+use Rattle.cyc_lower.proofs.StoredWords.{with_saved}
 
 -- an operand of a kind, and an int
 abbrev pub of_kind : Kind → Value → Kinded
@@ -920,7 +921,7 @@ module _ (source : Program) (pages calls : ℕ) where
       let (at, found, same, gives) = cell_is_there (cell_at w object offset) object offset v (Given v) k e w well in
       let is_word = subst (λ i. IsWord shared.tables i v.value word) (sym same) (tells shared.tables is) in
       let fits = stored_word c of_words words c.active.next (operands.Slot free) 0 o here in
-      let after : Configuration = advanced (with_memory c address word) in
+      let after : Configuration = advanced (with_saved c address word) in
       let next = written w object offset at v.value in
       let saved = saves_there source pages calls k e w c shared object offset address word at v.value found points is_word fits in
       let kept : SharedAt source pages calls k e next after = shared_saved source pages calls k e w c shared object offset address word at v.value found points is_word fits in

@@ -35,9 +35,9 @@ use Rattle.cyc_meaning.specs.SourceMachine.{status_in}
 use Rattle.cyc_meaning.specs.Nesting.{IsNested, Nests}
 use Rattle.cyc_meaning.proofs.Nested.{nests_start}
 use Rattle.cyc_lower.proofs.Scoped.{nests_kept}
-use Rattle.cyc_objects.specs.Tables.{Variable, Tables, first_tables}
+use Rattle.cyc_objects.specs.Tables.{Variable, Tables, first_tables, without_addresses}
 use Rattle.cyc_objects.specs.Related as objects
-use Rattle.cyc_objects.proofs.Start.{start-related}
+use Rattle.cyc_objects.proofs.Start.{start-related, none-placed}
 use Rattle.cyc_lower.proofs.Relation.{IsWord, silent, contents, Related, Matches, types_at, starts_at, IsTold}
 use Rattle.cyc_lower.proofs.Fitting.{IsFitting}
 use Rattle.cyc_lower.proofs.Data.{no_locals_hold, IsWord-is}
@@ -59,6 +59,7 @@ use Rattle.cyc_lower.proofs.Widths.{words_in, type_words, kind_positive}
 use Rattle.cyc_lower.proofs.Slots.{words_positive, globals-are, global-room, globals_counted}
 use Rattle.std.proofs.lemmas.List.{length-replicate, get_or-append_right, get_or_append_left}
 use Rattle.cyc_meaning.specs.FrameCount.{words_of_all}
+use Rattle.cyc_objects.proofs.Inside.{start-inside}
 
 -- ---- the globals at the start
 
@@ -187,20 +188,21 @@ module _ (source : Program) (pages calls : ℕ) (well_typed : AreWellTypedGlobal
 
   -- ---- the start
 
-  start_related : (h : Function) (store : StoreState) (input : List ℕ) → slice_get source.functions source.main ≡ Some h → IsNew pages store → 1 ≤ pages → pages ≤ MOST_PAGES → 1 ≤ calls
-      → Matches source pages calls (Running (Entering h []) (Main ∷ []) no_locals (first_world source input)) (plain_step.start (lower_program source) store input)
-  start_related h store input there new some_page few_pages some_call =
-      let t = first_tables source in
+  start_related : (h : Function) (base : ℕ) (store : StoreState) (input : List ℕ) → slice_get source.functions source.main ≡ Some h → IsNew pages store → 1 ≤ pages → pages ≤ MOST_PAGES → 1 ≤ calls
+      → Matches source pages calls (Running (Entering h []) (Main ∷ []) no_locals (first_world source input)) (plain_step.start (lower_program source) base store input)
+  start_related h base store input there new some_page few_pages some_call =
+      let t = first_tables (without_addresses source) in
       let w = first_world source input in
       let words : ℕ → ℕ = λ global. slice_index (lower_program source).globals global in
       let slots : ℕ → ℕ = λ slot. 0 in
-      entered source pages calls stand source.main h [] (Main ∷ []) w slots words [] [] store [] input there
+      entered source pages calls stand source.main base h [] (Main ∷ []) w slots words [] [] store [] input there
       (record {
         tables = t;
         same_output = refl;
         same_input = refl;
+        inside = start-inside source;
         same_pages = ap (λ (s : StoreState). s.pages) new.2;
-        related = subst (objects.Related t (silent w)) (sym new.2) (start-related source [] pages new.0 new.1 some_page few_pages);
+        related = subst (objects.Related t (silent w)) (sym new.2) (start-related source (without_addresses source) (none-placed source) [] pages new.0 new.1 some_page few_pages);
         globals = refl;
         variables = (refl, tt);
         few_pages = omega (arith, new_demand pages store new, some_page);
@@ -241,21 +243,21 @@ module _ (source : Program) (pages calls : ℕ) (well_typed : AreWellTypedGlobal
         is,
       )
 
-  follows_source : (store : StoreState) (input : List ℕ) → IsNew pages store → 1 ≤ pages → pages ≤ MOST_PAGES → 1 ≤ calls → AllByRecursion (λ b. b < 256) input → FollowsSource source (lower_program source) pages calls store input
-  follows_source store input new some_page few_pages some_call bytes never =
+  follows_source : (base : ℕ) (store : StoreState) (input : List ℕ) → IsNew pages store → 1 ≤ pages → pages ≤ MOST_PAGES → 1 ≤ calls → AllByRecursion (λ b. b < 256) input → FollowsSource source (lower_program source) pages calls base store input
+  follows_source base store input new some_page few_pages some_call bytes never =
       let (h, starts, there) = from_start (slice_get source.functions source.main) input refl some_call (never 0 (start source input) refl) in
       simulates (above source pages calls) (below source pages calls) matching_nested steps (lawful (lower_program source) pages calls) [] (start source input) never
-      (plain_step.start (lower_program source) store input)
+      (plain_step.start (lower_program source) base store input)
       (ap (λ s. status_in (status_of s)) starts) (
         (
-          subst (λ s. Matches source pages calls s (plain_step.start (lower_program source) store input)) (sym starts) (start_related h store input there new some_page few_pages some_call),
-          words_at_start (lower_program source) store input of_words (subst (λ (s : StoreState). stores.AreWords s.memory) (sym new.2) new.1) bytes,
+          subst (λ s. Matches source pages calls s (plain_step.start (lower_program source) base store input)) (sym starts) (start_related h base store input there new some_page few_pages some_call),
+          words_at_start (lower_program source) base store input of_words (subst (λ (s : StoreState). stores.AreWords s.memory) (sym new.2) new.1) bytes,
         ),
         nests_start source input,
       )
 
 -- The lowered program of one that fits does what that does.
-pub follows : (source : Program) → IsFitting source → HasWords (lower_program source) → (pages calls : ℕ) (store : StoreState) (input : List ℕ) → IsNew pages store → 1 ≤ pages → pages ≤ MOST_PAGES → 1 ≤ calls → AllByRecursion (λ b. b < 256) input
-    → FollowsSource source (lower_program source) pages calls store input
-follows source fitting of_words pages calls store input new some_page few_pages some_call bytes =
-    follows_source source pages calls fitting.globals (functions_stand source pages calls fitting) of_words store input new some_page few_pages some_call bytes
+pub follows : (source : Program) → IsFitting source → HasWords (lower_program source) → (pages calls base : ℕ) (store : StoreState) (input : List ℕ) → IsNew pages store → 1 ≤ pages → pages ≤ MOST_PAGES → 1 ≤ calls → AllByRecursion (λ b. b < 256) input
+    → FollowsSource source (lower_program source) pages calls base store input
+follows source fitting of_words pages calls base store input new some_page few_pages some_call bytes =
+    follows_source source pages calls fitting.globals (functions_stand source pages calls fitting) of_words base store input new some_page few_pages some_call bytes

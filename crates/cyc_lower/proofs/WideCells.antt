@@ -20,15 +20,19 @@ use Rattle.cyc_meaning.specs.State.{Object, World, Found, Located, cell_at, writ
 use Rattle.cyc_objects.specs.Tables.{Tables}
 use Rattle.cyc_objects.specs.Words.{words_from, Points, Is}
 use Rattle.cyc_objects.specs.Related as objects
-use Rattle.cyc_objects.proofs.Cells.{not-placed, found-alive, cell-live, related-written, saved-is}
+use Rattle.cyc_objects.proofs.Cells.{not-placed, related-written, saved-is}
 use Rattle.cyc_lower.specs.Lowering.{lower_program}
 use Rattle.cyc_lower.proofs.Widths.{Outside}
 use Rattle.cyc_lower.proofs.Moves.{put_elsewhere}
-use Rattle.cyc_lower.proofs.PlaceWords.{there_still, three_put, three_words, three_elsewhere, three_written, three_loaded, word_there}
+use Rattle.cyc_lower.proofs.PlaceWords.{stored_still, three_put, three_words, three_elsewhere, three_written, three_loaded, word_there}
 use Rattle.cyc_lower.proofs.Relation.{content_of, SharedAt, DataIn, callers, silent, code_of}
 use Rattle.cyc_lower.proofs.Data.{Is-same, get_set_other}
 use Rattle.cyc_lower.proofs.CellWrites.{SameVariables, data_beside}
 use Rattle.cyc_lower.proofs.Paths.{Link, IsQuiet, is_quiet, IsPath}
+use Rattle.cyc_objects.proofs.Inside.{AreInside, found-alive}
+use Rattle.cyc_plain.proofs.MemoryLaws.{store_word, stored-word, memory-stored}
+use Rattle.cyc_plain.specs.Memory.{memory_at}
+use Rattle.cyc_lower.proofs.StoredWords.{cell-stored, saves-stored}
 
 -- on the way: with this memory, at this place
 abbrev pub stage : Configuration → Memory → (next : ℕ) → Configuration
@@ -60,17 +64,18 @@ module _ (source : Program) (pages calls : ℕ) (k : List Entry) (e : Environmen
   all_put = three_put c.store.memory address (slots n) (slots (suc n)) (slots (suc (suc n)))
 
   -- each word is there, also once others were written
-  there : (m : Memory) (j : ℕ) → j < 3 → word_at (record c.store { memory = m }) (address + 4 * j) ≡ Some (m (address + 4 * j))
+  there : (m : Memory) (j : ℕ) → j < 3 → store_word (record c.store { memory = m }) (address + 4 * j) ≡ Some (m (address + 4 * j))
   there m j below =
-      let (h, alive, at_cell) = found-alive shared.related object offset address cell found points in
-      there_still c.store m (address + 4 * j) (c.store.memory (address + 4 * j)) (cell-live shared.related alive points at_cell j (omega (arith, below, ap words_of_kind fat)))
+      let (h, alive, at_cell) = found-alive shared.related shared.inside object offset address cell found points in
+      stored_still c.store m (address + 4 * j) (c.store.memory (address + 4 * j)) (cell-stored shared.related alive points at_cell j (omega (arith, below, ap words_of_kind fat)))
 
   stores_word : (m : Memory) (i more from j : ℕ) (choice : Choice) → j < 3 → add_of (slots a) more ≡ address + 4 * j
       → performed (lower_program source) choice (stage c m i) (instructions.Store (operands.Slot a) more (operands.Slot from)) ≡ plain.Running (stage c (put m (address + 4 * j) (slots from)) (i + 1))
   stores_word m i more from j choice below same =
-      ap (λ x. saves (stage c m i) x (slots from) (word_at (record c.store { memory = m }) x)) same
-      ∙ (ap (saves (stage c m i) (address + 4 * j) (slots from)) (there m j below)
-      ∙ ap (λ (s : StoreState). plain.Running (record c { store = s; active = record c.active { next = i + 1 } })) (saved-is (record c.store { memory = m }) (address + 4 * j) (slots from) (m (address + 4 * j)) (there m j below)))
+      ap (λ x. saves (lower_program source) (stage c m i) x (slots from) (memory_at (lower_program source) (stage c m i) x)) same
+      ∙ (saves-stored source (stage c m i) (address + 4 * j) (slots from) (m (address + 4 * j)) (there m j below)
+      ∙ ap (λ (s : StoreState). plain.Running (record c { store = s; active = record c.active { next = i + 1 } }))
+      (saved-is (record c.store { memory = m }) (address + 4 * j) (slots from) (m (address + 4 * j)) (stored-word (record c.store { memory = m }) (address + 4 * j) (m (address + 4 * j)) (there m j below))))
 
   abbrev pub store_links : List Link
   store_links =
@@ -131,7 +136,7 @@ module _ (source : Program) (pages calls : ℕ) (k : List Entry) (e : Environmen
 
   pub related_stored : objects.Related shared.tables (silent (written w object offset cell v)) (record c.store { memory = all_put })
   related_stored =
-      let (h, alive, at_cell) = found-alive shared.related object offset address cell found points in
+      let (h, alive, at_cell) = found-alive shared.related shared.inside object offset address cell found points in
       related-written shared.related alive points at_cell all_put v
       (three_words c.store.memory address (slots n) (slots (suc n)) (slots (suc (suc n))) shared.related.sound.words (words.0 n) (words.0 (suc n)) (words.0 (suc (suc n))))
       (λ y other. three_elsewhere c.store.memory address (slots n) (slots (suc n)) (slots (suc (suc n))) y (λ j below same. other j (omega (arith, below, ap words_of_kind fat)) same))
@@ -143,6 +148,7 @@ module _ (source : Program) (pages calls : ℕ) (k : List Entry) (e : Environmen
     tables = shared.tables;
     same_output = shared.same_output;
     same_input = shared.same_input;
+    inside = shared.inside;
     same_pages = shared.same_pages;
     related = related_stored;
     globals = shared.globals;
@@ -168,7 +174,7 @@ module _ (source : Program) (pages calls : ℕ) (k : List Entry) (e : Environmen
 -- ---- three loads
 
 -- into the slots from d on, by the address in slot s, which may be the first of them
-module _ (source : Program) (t : Tables) (w : World) (c : Configuration) (related : objects.Related t (silent w) c.store)
+module _ (source : Program) (t : Tables) (w : World) (c : Configuration) (related : objects.Related t (silent w) c.store) (inside : AreInside t)
     (object offset d s : ℕ) (apart : (s ≤ d) ⊎ (d + 3 ≤ s)) (cell : Located) (v : Value) (found : cell_at (silent w) object offset ≡ Found cell) (points : Points t object offset (c.active.slots s))
     (fat : cell.cell.kind ≡ kinds.Fat) (is : Is t kinds.Fat v (words_from c.store.memory (c.active.slots s)) 0) where
   abbrev address : ℕ
@@ -192,9 +198,10 @@ module _ (source : Program) (t : Tables) (w : World) (c : Configuration) (relate
   loads_word : (slots : Words) (i x more j : ℕ) (choice : Choice) → j < 3 → slots s ≡ address → more ≡ 4 * j
       → performed (lower_program source) choice (with_words slots i) (instructions.Load x (operands.Slot s) more) ≡ plain.Running (with_words (put slots x (word j)) (i + 1))
   loads_word slots i x more j choice below same offset_is =
-      ap (λ (y : ℕ). loads (with_words slots i) x (word_at c.store (add_of y more))) same
-      ∙ (ap (λ (y : ℕ). loads (with_words slots i) x (word_at c.store (add_of address y))) offset_is
-      ∙ ap (loads (with_words slots i) x) (word_there related cell points j found (omega (arith, below, ap words_of_kind fat))))
+      ap (λ (y : ℕ). loads (with_words slots i) x (memory_at (lower_program source) (with_words slots i) (add_of y more))) same
+      ∙ (ap (λ (y : ℕ). loads (with_words slots i) x (memory_at (lower_program source) (with_words slots i) (add_of address y))) offset_is
+      ∙ ap (loads (with_words slots i) x) (memory-stored (lower_program source) (with_words slots i) (add_of address (4 * j)) (word j)
+      (word_there related inside cell points j found (omega (arith, below, ap words_of_kind fat)))))
 
   abbrev pub load_links : List Link
   load_links =
