@@ -29,7 +29,7 @@ use Rattle.cyc_objects.specs.Words.{Is}
 use Rattle.cyc_objects.specs.Related as objects
 use Rattle.cyc_objects.proofs.Pointers.{not-null, part-not-null, ThinIs, thin_null, thin_cell, fat-moved}
 use Rattle.cyc_objects.proofs.Comparing.{thin-compared}
-use Rattle.cyc_lower.specs.Lowerable.{is_comparison}
+use Rattle.cyc_types.specs.Texts.{is_comparison}
 use Rattle.cyc_lower.specs.Lowering.{left_kind, behind_left, pointer_operator, lower_program}
 use Rattle.cyc_lower.proofs.Widths.{same_kind, Outside}
 use Rattle.cyc_lower.proofs.Moves.{copied_elsewhere}

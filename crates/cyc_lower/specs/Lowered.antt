@@ -69,7 +69,7 @@ pub record IsLowered (source : Program) (lowered : PlainProgram) : Type 0 where
   pub follows : (pages calls base : ℕ) (store : StoreState) (input : List ℕ) → IsNew pages store → 1 ≤ pages → pages ≤ MOST_PAGES → 1 ≤ calls → AllByRecursion (λ b. b < 256) input
       → IsBelow lowered lowered.main base slots_end → FollowsSource source lowered pages calls base store input
 
--- What is asked of the typed tree. That of a text that is built has it all: its forms are lowered and its numbers name what is there, its
+-- What is asked of the typed tree. That of a text has it all: its forms are lowered and its numbers name what is there, its
 -- constants are words, and its globals have no more words than it has tokens. One global more has room.
 pub record CanBeLowered (source : Program) : Type 0 where
   pub lowerable : IsLowerableProgram source
