@@ -8,7 +8,6 @@ use Rattle.cyc_words.specs.Simulation.{IsDistinct}
 use Rattle.cyc_types.specs.TypedTrees.{Program}
 use Rattle.cyc_store.specs.Services as services
 use Rattle.cyc_store.specs.Services.{refusal}
-use Rattle.cyc_plain.specs.declared.instruction.Instruction.{Instruction}
 use Rattle.cyc_plain.specs.declared.instruction.Instruction.TheVariants as instructions
 use Rattle.cyc_plain.specs.declared.instruction.Request.{Request}
 use Rattle.cyc_plain.specs.Program.{CodePlace, places_of}

@@ -1,6 +1,6 @@
 -- The steps of lexical and dynamic regions, of keys and of aliases.
-use Rattle.std.proofs.Common.{◌≡◌, ◌≢◌, ℕ, zero, suc, ◌+◌, ◌≤◌, ◌<◌, Bool, true, false, List, [], ◌∷◌, length, Option, None, Some, slice_get, refl, sym, ap, subst, ◌∙◌, inl, inr, arith}
-use Rattle.std.specs.Prelude.{nat_lt, ◌%◌, ◌^◌, if◌then◌else◌}
+use Rattle.std.proofs.Common.{◌≡◌, ◌≢◌, ℕ, suc, ◌+◌, ◌≤◌, ◌<◌, Bool, true, List, [], ◌∷◌, length, Option, None, Some, slice_get, refl, sym, ap, subst, ◌∙◌, inl, inr, arith}
+use Rattle.std.specs.Prelude.{nat_lt, if◌then◌else◌}
 use Rattle.std.proofs.lemmas.Bool.{cases_Bool}
 use Rattle.cyc_words.specs.Word.{add_of}
 use Rattle.cyc_types.specs.declared.typed.Kind.TheVariants as kinds
@@ -13,18 +13,15 @@ use Rattle.cyc_plain.specs.declared.instruction.Operand.{Operand}
 use Rattle.cyc_plain.specs.declared.instruction.Operand.TheVariants as operands
 use Rattle.cyc_plain.specs.declared.instruction.Request.TheVariants as requests
 use Rattle.cyc_plain.specs.declared.instruction.BinaryOperator.TheVariants as plain_binary
-use Rattle.cyc_plain.specs.declared.instruction.Instruction.{Instruction}
 use Rattle.cyc_plain.specs.declared.instruction.Instruction.TheVariants as instructions
-use Rattle.cyc_plain.specs.Program.{CodePlace}
 use Rattle.cyc_plain.specs.State as plain
 use Rattle.cyc_plain.specs.State.{Words, put, Configuration}
-use Rattle.cyc_plain.specs.Step.{Choice, at, with_slots, advanced, served_to, performed}
+use Rattle.cyc_plain.specs.Step.{Choice, at, with_slots, advanced, served_to}
 use Rattle.cyc_plain.specs.Step as plain_step
-use Rattle.cyc_plain.specs.Straight.{At}
 use Rattle.cyc_plain.proofs.SlotLaws.{put-same, put-other}
 use Rattle.cyc_meaning.specs.Values.{Handle, Operand as Kinded, Value, Key, kind_of}
 use Rattle.cyc_meaning.specs.Effects.{pages_of}
-use Rattle.cyc_meaning.specs.State.{Lexical, Dynamic, World, opened_as, globals_number, Environment, Entry, Rest, CloseLexical, Focus, Proceeding, Naming, State, Running, closed, EndLoan, Region, Access, Found, Closed, Missing, region_at, Needs, OpenBy, AliasOf, Given}
+use Rattle.cyc_meaning.specs.State.{Lexical, Dynamic, World, opened_as, globals_number, Environment, Entry, Rest, CloseLexical, Proceeding, Naming, Running, closed, EndLoan, Region, Access, Found, Closed, Missing, region_at, Needs, OpenBy, AliasOf, Given}
 use Rattle.cyc_meaning.specs.Nesting.{IsNested}
 use Rattle.cyc_meaning.specs.Step.{step, wrong}
 use Rattle.cyc_objects.specs.Tables.{Tables, with_handle, Grows}
@@ -33,14 +30,14 @@ use Rattle.cyc_objects.proofs.Values.{Grows-handle}
 use Rattle.cyc_objects.proofs.Variables.{handle-made}
 use Rattle.cyc_objects.proofs.Services.{opened-lexical, refusal-lexical, opened-dynamic, refusal-dynamic}
 use Rattle.cyc_lower.specs.declared.statements.Exits.{Exits}
-use Rattle.cyc_lower.specs.Lowering.{lower_program, inside_region, scopes_of}
+use Rattle.cyc_lower.specs.Lowering.{inside_region, scopes_of}
 use Rattle.cyc_lower.proofs.Slots.{slot_types-many}
 use Rattle.cyc_lower.proofs.Widths.{Outside}
 use Rattle.cyc_lower.proofs.Stands.{NamedAt, ClosedAt, ItemsAt}
-use Rattle.cyc_lower.proofs.Relation.{silent, homes, callers, scopes_in, IsTold, DataAt, HandlersStand, SharedAt, StatementStack, Related, Matches, DataIn, code_of, bounds_in, bounds_at, types_in, types_at, floor, behind_statement, IsIn, contents, starts_at, in_operand, ValueStack, HasScopes}
+use Rattle.cyc_lower.proofs.Relation.{homes, callers, scopes_in, IsTold, DataAt, SharedAt, StatementStack, Matches, DataIn, code_of, bounds_in, bounds_at, types_in, types_at, floor, behind_statement, IsIn, contents, starts_at, in_operand, ValueStack, HasScopes}
 use Rattle.cyc_lower.proofs.Data.{data_written, data_grows, variables_grow}
 use Rattle.cyc_lower.proofs.Matched.{IsMatched, silently, shared_within, known, inside_by}
-use Rattle.cyc_lower.proofs.Paths.{Link, is_quiet, runs}
+use Rattle.cyc_lower.proofs.Paths.{is_quiet, runs}
 use Rattle.cyc_lower.proofs.Asking.{past_pages, asks_then, by_full}
 use Rattle.cyc_lower.proofs.Scoped.{scopes_there, scopes_small}
 use Rattle.cyc_objects.proofs.Closing.{scopes-same, scopes-closed}

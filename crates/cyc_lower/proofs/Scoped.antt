@@ -1,25 +1,19 @@
 -- The lexical regions that are open, as entries end them: how many the store has.
-use Rattle.std.proofs.Common.{◌≡◌, ℕ, suc, ◌+◌, ◌≤◌, List, [], ◌∷◌, length, Option, Some, refl, sym, ap, subst, ◌∙◌, arith}
+use Rattle.std.proofs.Common.{◌≡◌, ℕ, suc, ◌+◌, ◌≤◌, List, sym, subst, ◌∙◌, arith}
 use Rattle.std.specs.Prelude.{◌%◌, ◌^◌}
 use Rattle.cyc_types.specs.TypedTrees.{Program}
 use Rattle.cyc_store.specs.State.{StoreState, lexical_count}
-use Rattle.cyc_plain.specs.State.{Words, put, Frame}
-use Rattle.cyc_plain.proofs.SlotLaws.{put-other}
-use Rattle.cyc_meaning.specs.State.{Object, World, Environment, Entry, CloseLexical, State}
-use Rattle.cyc_meaning.specs.Nesting.{lexicals_of, IsNested, Nests}
+use Rattle.cyc_meaning.specs.State.{World, Environment, Entry, State}
+use Rattle.cyc_meaning.specs.Nesting.{IsNested, Nests}
 use Rattle.cyc_meaning.specs.Step.{step}
 use Rattle.cyc_meaning.specs.Run.{limited_step}
 use Rattle.cyc_meaning.proofs.RunLaws.{limited_either}
 use Rattle.cyc_meaning.proofs.Nested.{nests_step}
 use Rattle.cyc_objects.specs.Tables.{Tables}
 use Rattle.cyc_objects.specs.Related as objects
-use Rattle.cyc_objects.specs.Related.{scopes}
 use Rattle.cyc_objects.proofs.Closing.{scopes-same}
 use Rattle.cyc_objects.proofs.Scopes.{scopes-counted, lexicals-within}
-use Rattle.cyc_lower.specs.Lowering.{scopes_of}
-use Rattle.cyc_lower.proofs.Slots.{scopes_behind}
-use Rattle.cyc_lower.proofs.Relation.{silent, scopes_in, Waiting, DataAt}
-use Rattle.cyc_lower.proofs.Data.{data_behind}
+use Rattle.cyc_lower.proofs.Relation.{silent, scopes_in}
 
 -- ---- of the source
 

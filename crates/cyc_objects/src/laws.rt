@@ -14,8 +14,8 @@ ghost use Rattle.cyc_meaning.specs.Values.{Value, Int, is_thin, words_of_kind, C
 ghost use Rattle.cyc_meaning.specs.Operators.{Gives, truth};
 ghost use Rattle.cyc_meaning.specs.Pointers.{moved, null_test};
 ghost use Rattle.cyc_meaning.specs.Conversion.{conversion};
-ghost use Rattle.cyc_meaning.specs.State.{Lexical, Dynamic, Stack, Region, Unique, Object, World, Found, Located, region_at, cell_at, opened_as, closed, variable, made, written, first_world};
-ghost use Rattle.cyc_meaning.specs.Nesting.{is_scope};
+ghost use Rattle.cyc_meaning.specs.State.{Lexical, Dynamic, Stack, Region, Unique, Object, World, Environment, Entry, CloseLexical, Found, Located, region_at, cell_at, opened_as, closed, variable, made, written, first_world};
+ghost use Rattle.cyc_meaning.specs.Nesting.{lexicals_of, is_scope, IsNested};
 ghost use Rattle.cyc_meaning.specs.Objects.{compared, made_in, made_unique, freed};
 ghost use Rattle.cyc_meaning.specs.Allocation.{blanks};
 ghost use Rattle.cyc_meaning.specs.Effects.{pages_of};
@@ -158,7 +158,7 @@ pub fn regions_open_and_close()
 {}
 
 /// Where several lexical regions are left, the source closes one a step, newest first, and the store all of them at the end, by one
-/// close to a mark.
+/// close to a mark. In a run as many are open as entries of the control stack end, and the newest entry ends the newest region.
 pub fn regions_close_at_once()
     ensures begins { (t : Tables) (w : World) (s : StoreState) → Related t w s → Related t w (closed_to s (scopes w.regions)) }
     ensures behind { (t : Tables) (w : World) (s : StoreState) (mark number : ℕ) (r : Region) → Related t w (closed_to s (suc mark))
@@ -166,4 +166,7 @@ pub fn regions_close_at_once()
         → Related t (closed w number r) (closed_to s mark) }
     ensures at_once { (t : Tables) (w : World) (s : StoreState) (mark : ℕ) (c : Choice) → IsSound s → Related t w (closed_to s mark)
         → refusal s (CloseTo mark) ≡ None → IsAllowed s (CloseTo mark) c → Related t w (served s (CloseTo mark) c) }
+    ensures counted { (stack : List Entry) (e : Environment) (w : World) → IsNested stack e w → scopes w.regions ≡ length (lexicals_of stack) }
+    ensures newest { (number : ℕ) (stack : List Entry) (e : Environment) (w : World) → IsNested (CloseLexical number ∷ stack) e w
+        → IsNewest w.regions number }
 {}

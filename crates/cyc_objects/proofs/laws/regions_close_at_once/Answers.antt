@@ -1,5 +1,6 @@
 -- Several regions that are left.
 use Rattle.cyc_objects.proofs.Closing.{related-unclosed, closed-behind, closed-at_once}
+use Rattle.cyc_objects.proofs.Scopes.{ends-newest, scopes-counted}
 use Rattle.cyc_objects.proofs.laws.regions_close_at_once.Goals as goal
 
 pub returns-clause-begins : goal.returns-clause-begins
@@ -10,3 +11,9 @@ returns-clause-behind c = λ t w s mark number r related count there scope newes
 
 pub returns-clause-at_once : goal.returns-clause-at_once
 returns-clause-at_once c = λ t w s mark choice sound related none allowed. closed-at_once mark choice sound related none allowed
+
+pub returns-clause-counted : goal.returns-clause-counted
+returns-clause-counted c = scopes-counted
+
+pub returns-clause-newest : goal.returns-clause-newest
+returns-clause-newest c = λ number stack e w nested. (ends-newest number stack e w nested).newest
