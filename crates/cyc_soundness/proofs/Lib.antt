@@ -5,6 +5,7 @@ mod FlowLemmas
 mod RegionLemmas
 mod RuleLemmas
 mod WorldLemmas
+mod Hands
 mod StackLemmas
 mod ValueLemmas
 mod Cells
