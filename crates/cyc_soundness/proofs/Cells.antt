@@ -134,7 +134,7 @@ stored_part g object x (Struct n ls) offset v has is = absurd has
 
 -- ---- keys
 
-keyless_at : (ts : List RunTy) (i : ℕ) (t : RunTy) → AreKeyless ts → slice_get ts i ≡ Some t → IsKeyless t
+pub keyless_at : (ts : List RunTy) (i : ℕ) (t : RunTy) → AreKeyless ts → slice_get ts i ≡ Some t → IsKeyless t
 keyless_at [] i t are found = absurd (let k : None ≡ Some t = found in cc)
 keyless_at (u ∷ ts) zero t (is, are) found = subst (λ z. IsKeyless z) (some_same u t found) is
 keyless_at (u ∷ ts) (suc i) t (is, are) found = keyless_at ts i t are found

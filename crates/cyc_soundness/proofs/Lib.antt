@@ -3,6 +3,7 @@ mod Numbers
 mod TypeLemmas
 mod FlowLemmas
 mod RegionLemmas
+mod Sharing
 mod RuleLemmas
 mod WorldLemmas
 mod Hands

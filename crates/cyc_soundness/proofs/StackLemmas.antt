@@ -223,7 +223,7 @@ waits_whole (stacks.indexes c t r f h stands evaluates target alive) peek e = pa
 waits_whole (stacks.advances {peek = o} t r f target alive) peek e = part_whole o peek e
 waits_whole (stacks.counts_elements seen t l f) peek e = part_whole None peek e
 waits_whole (stacks.places_by c m t r f h stands makes alive) peek e = part_whole None peek e
-waits_whole (stacks.makes_plain t r f plain shared alive owner kind) peek e = part_whole None peek e
+waits_whole (stacks.makes_plain t r f keyless alive owner kind) peek e = part_whole None peek e
 waits_whole (stacks.makes_fields c done t ts n ls r f h alive owner stands passes fields) peek e = part_whole None peek e
 waits_whole (stacks.makes_array c t r f alive owner stands repeats) peek e = part_whole None peek e
 waits_whole (stacks.fills cs c t r f h same alive stands repeats i) peek e = part_whole None peek e
@@ -545,7 +545,7 @@ void_waits {bs = bs} (stacks.indexes {peek} c t r f h stands evaluates target al
 void_waits (stacks.advances t r f target alive) e = value_void e
 void_waits (stacks.counts_elements seen t l f) e = value_void (looked_void seen (Value (lives.Pointer marks.Fat t l)) e)
 void_waits (stacks.places_by c m t r f h stands makes alive) e = value_void e
-void_waits (stacks.makes_plain t r f plain shared alive owner kind) e = value_void e
+void_waits (stacks.makes_plain t r f keyless alive owner kind) e = value_void e
 void_waits (stacks.makes_fields c done t ts n ls r f h alive owner stands passes fields) e = value_void e
 void_waits (stacks.makes_array c t r f alive owner stands repeats) e = value_void e
 void_waits (stacks.fills cs c t r f h same alive stands repeats i) e = value_void e
@@ -911,7 +911,7 @@ waits_within {bs = bs} (stacks.indexes c t r f h stands evaluates target alive) 
 waits_within {bs = bs} (stacks.advances t r f target alive) = itself bs
 waits_within {bs = bs} (stacks.counts_elements seen t l f) = itself bs
 waits_within {bs = bs} (stacks.places_by c m t r f h stands makes alive) = itself bs
-waits_within {bs = bs} (stacks.makes_plain t r f plain shared alive owner kind) = itself bs
+waits_within {bs = bs} (stacks.makes_plain t r f keyless alive owner kind) = itself bs
 waits_within {bs = bs} (stacks.makes_fields c done t ts n ls r f h alive owner stands passes fields) = itself bs
 waits_within {bs = bs} (stacks.makes_array c t r f alive owner stands repeats) = itself bs
 waits_within (stacks.fills {level = level} cs c t r f h same alive stands repeats i) = subst (λ z. Within cs z) (sym same) (older (Level level) cs cs tt (itself cs))

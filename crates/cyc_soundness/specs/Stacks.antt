@@ -35,7 +35,7 @@ use Rattle.cyc_meaning.specs.Allocation.{writes_from}
 use Rattle.cyc_meaning.specs.Parts.{target_of, target_of_value}
 use Rattle.cyc_soundness.specs.Lives.{Life, Owned, RunTy, RunValue, Value, Seen, Into, looked, at, value_at, heap_life, lives_of, as_heap, Reading, AllIn, IsKnown}
 use Rattle.cyc_soundness.specs.Lives as lives
-use Rattle.cyc_soundness.specs.Worlds.{OfLocal, Thing, Holder, Hand, Lent, pointer_at, thing_of, Owns, Claims, ClaimsPart, ClaimsBy, IsHere, ObjectType, Typing, AgreesWith, variable_type, IsFilled, IsFull, HasType, IsResult, AreOperands, IsOwner, AreKeyless, IsTyped}
+use Rattle.cyc_soundness.specs.Worlds.{OfLocal, Thing, Holder, Hand, Lent, pointer_at, thing_of, Owns, Claims, ClaimsPart, ClaimsBy, IsHere, ObjectType, Typing, AgreesWith, variable_type, IsFilled, IsFull, HasType, IsResult, AreOperands, IsNewOwner, IsKeyless, AreKeyless, IsTyped}
 use Rattle.cyc_soundness.specs.Classes.{Relied, frees_of, and_looked, IsSpared, HasLoans, HasAliases, HasFrees, IsShared, LeadsToShared, InExpression, InPlace, InSide, InInitial, InArguments, InOperations, InStatement, InItems, InClauses, IsDeclarable, Source}
 use Rattle.cyc_soundness.specs.Frames.{IsAmong, Bound, InScope, Variable, Level, Names, Instance, Home, frees_in, life_named, lives_in, read, read_value, IsThere, IsScope, AreBelow, IsBound, AreVariables, LiveIn, Within, IsSet, IsFullIn, Holds, Implies, LoopExit, Exits, HasResult, around, lending, relying, AreFullAt, AreBreaks, is_loop, Stand, IsHome, IsContext, lives_among, KnowsProgram}
 
@@ -308,12 +308,12 @@ pub data Waits (p : Source) (x : Exits) (q : Relied) (bs : List InScope) : Await
   counts_elements : (peek : Option ℕ) (t : RunTy) (l : Life) (f : flow.State) → Waits p x q bs CountElements [] (looked peek (Value (lives.Pointer marks.Fat t l))) f bs (Val (Value lives.Int) f)
   places_by : {i : Initial} (c : Context) (m : PointerKind) (t : Ty) (r : Region) (f h : flow.State) → IsContext p x bs c → Makes p.reading q c i m t f h → IsThere bs r
       → Waits p x q bs (PlaceBy i) [] (Value (lives.Handle (lives_in bs r))) f bs (Val (Value (lives.Pointer m (read bs t) (lives_in bs r))) h)
-  makes_plain : {owner : Owner} {kind : Kind} (t : Ty) (r : Region) (f : flow.State) → is_key t ≡ false → IsShared p.reading t → IsThere bs r → IsOwner (lives_in bs r) owner → kind ≡ kind_of t
+  makes_plain : {owner : Owner} {kind : Kind} (t : Ty) (r : Region) (f : flow.State) → IsKeyless (read bs t) → IsThere bs r → IsNewOwner (lives_in bs r) owner → kind ≡ kind_of t
       → Waits p x q bs (MakePlain owner kind) [] (Value (read bs t)) f bs (Val (Value (lives.Pointer marks.NonNull (read bs t) (lives_in bs r))) f)
   makes_fields : {owner : Owner} {before : List Operand} {rest : Arguments} (c : Context) (done : List RunTy) (t : Ty) (ts : List Ty) (n : ℕ) (ls : List Life) (r : Region) (f h : flow.State)
-      → IsThere bs r → IsOwner (lives_in bs r) owner → IsContext p x bs c → Passes p.reading q c ts rest f h → AreFields p n ls (turned (read bs t ∷ done) (map (read bs) ts))
+      → IsThere bs r → IsNewOwner (lives_in bs r) owner → IsContext p x bs c → Passes p.reading q c ts rest f h → AreFields p n ls (turned (read bs t ∷ done) (map (read bs) ts))
       → Waits p x q bs (MakeFields owner before rest) done (Value (read bs t)) f bs (Val (Value (lives.Pointer marks.NonNull (lives.Struct n ls) (lives_in bs r))) h)
-  makes_array : {owner : Owner} {level : ℕ} {kind : Kind} {element : Expression} (c : Context) (t : Ty) (r : Region) (f : flow.State) → IsThere bs r → IsOwner (lives_in bs r) owner → IsContext p x bs c
+  makes_array : {owner : Owner} {level : ℕ} {kind : Kind} {element : Expression} (c : Context) (t : Ty) (r : Region) (f : flow.State) → IsThere bs r → IsNewOwner (lives_in bs r) owner → IsContext p x bs c
       → Repeats p.reading q c level kind element t f
       → Waits p x q bs (MakeArray owner level kind element) [] (Value lives.Int) f bs (Val (Value (lives.Pointer marks.Fat (read bs t) (lives_in bs r))) f)
   fills : {object count index level : ℕ} {kind : Kind} {element : Expression} (cs : List InScope) (c : Context) (t : Ty) (r : Region) (f h : flow.State) → (bs ≡ Level level ∷ cs) → IsThere cs r → IsContext p x cs c
@@ -544,7 +544,7 @@ IsFocus p g x bs (Writing writes None) k = (f : flow.State) × Holds g f bs × A
 IsFocus p g x bs (Swapping kind left right before) k =
     (t : Ty) × (f : flow.State) × Holds g f bs × (kind ≡ values.kind_of t) × (is_struct t ≡ false) × IsByType (read bs t) × IsSpot p g bs t f left × IsSpot p g bs t f right × IsRead g (read bs t) before × IsStack p g x bs (Go f) k
 IsFocus p g x bs (Beginning owner count level kind element) k =
-    (c : Context) × (t : Ty) × (r : Region) × (f : flow.State) × IsContext p x bs c × Holds g f bs × IsThere bs r × IsOwner (lives_in bs r) owner × Repeats p.reading (relied_at x.relied k) c level kind element t f
+    (c : Context) × (t : Ty) × (r : Region) × (f : flow.State) × IsContext p x bs c × Holds g f bs × IsThere bs r × IsNewOwner (lives_in bs r) owner × Repeats p.reading (relied_at x.relied k) c level kind element t f
     × IsStack p g x bs (Val (Value (lives.Pointer marks.Fat (read bs t) (lives_in bs r))) f) k
 IsFocus p g x bs (Repeating object count index level kind element) k =
     (c : Context) × (t : Ty) × (r : Region) × (f : flow.State) × IsContext p x bs c × Holds g f bs × IsThere bs r × Repeats p.reading (relied_at x.relied k) c level kind element t f

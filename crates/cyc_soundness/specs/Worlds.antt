@@ -189,6 +189,12 @@ IsOwner Owned (Unique live) = Unit {0}
 IsOwner (Kept region) (InRegion number) = region ≡ number
 IsOwner l o = ⊥
 
+-- and is so where an object is made
+abbrev pub IsNewOwner : Life → Owner → Type 0
+IsNewOwner l (Unique false) = ⊥
+IsNewOwner l (Unique true) = IsOwner l (Unique true)
+IsNewOwner l (InRegion number) = IsOwner l (InRegion number)
+
 -- no cell that a pointer may lead to has what only one may have
 abbrev pub IsKeyless : RunTy → Type 0
 IsKeyless (Key (Kept region)) = ⊥
