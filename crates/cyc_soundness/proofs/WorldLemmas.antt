@@ -128,7 +128,7 @@ longer xs ys x y same =
 abbrev pub with_variable : Typing → ObjectType → (filled : ℕ) → (here : ℕ → Bool) → Typing
 with_variable g t n here = record (with_object g t n) { here = here }
 
-beyond : {A : Type 0} (xs : List A) (n : ℕ) (x : A) → slice_get xs n ≡ Some x → n ≡ length xs → ⊥
+pub beyond : {A : Type 0} (xs : List A) (n : ℕ) (x : A) → slice_get xs n ≡ Some x → n ≡ length xs → ⊥
 beyond [] n x found same = absurd (let e : None ≡ Some x = found in cc)
 beyond (y ∷ xs) zero x found same = absurd (omega (arith, same))
 beyond (y ∷ xs) (suc n) x found same = beyond xs n x found (let e : n ≡ length xs = omega (arith, same) in e)

@@ -246,6 +246,7 @@ pub record Repeats (m : Reading) (q : Relied) (c : Context) (level : ℕ) (kind 
   pub level_is : level ≡ c.counters
   pub kind_is : kind ≡ kind_of t
   pub each : Evaluates m q (with_counter c) element f (types.Value t) now
+  pub taken : seen_by element each.typed ≡ None
   pub back : Implies now f
   pub plain : is_key t ≡ false
   pub shared : IsShared m t
