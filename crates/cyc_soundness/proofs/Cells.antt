@@ -1,6 +1,7 @@
 -- CELLS that a step reads and writes: those of variables, and those that a pointer leads to.
 use Rattle.std.proofs.Common.{◌≡◌, ◌≢◌, set, Option, ℕ, zero, suc, ◌≤◌, ◌<◌, Bool, true, false, List, [], ◌∷◌, Some, None, slice_get, refl, sym, ap, subst, ◌∙◌, arith}
 use Rattle.std.specs.Prelude.{if◌then◌else◌}
+use Rattle.cyc_syntax.specs.declared.tree.PointerKind.{PointerKind}
 use Rattle.cyc_types.specs.declared.typed.Kind.{Kind}
 use Rattle.cyc_types.specs.Types.{Ty}
 use Rattle.cyc_types.specs.Types as types
@@ -16,7 +17,7 @@ use Rattle.cyc_soundness.specs.Lives.{Life, OfRegion, OfObject, Never, Owned, Ke
 use Rattle.cyc_soundness.specs.Lives.{at as at'}
 use Rattle.cyc_soundness.specs.Worlds.{Thing, Holder, Nobody, Hand, At, IsHeld, pointer_at, Owns, Claims, ClaimsPart, ClaimsBy, IsHad, AreOwned, IsOpenObject, IsKeyless, AreKeyless, Stays, ObjectType, Typing, IsOpenIn, Outlasts, alike, heap as for_ever, globals as with_globals, stays, encloses, IsFilled, IsPart, IsTarget, HasType, IsResult, IsTyped, IsOpenLife}
 use Rattle.cyc_soundness.specs.Frames.{InScope, IsBound, AreVariables, LiveIn, Holds, Exits, KnowsProgram, IsLasting}
-use Rattle.cyc_soundness.specs.Stacks.{IsCommonLife, Val, operands_in, IsStack, IsFocus, IsWell}
+use Rattle.cyc_soundness.specs.Stacks.{IsCommonLife, IsByType, Val, operands_in, IsStack, IsFocus, IsWell}
 use Rattle.cyc_soundness.proofs.Numbers.{slice_get-set_same, some_same}
 use Rattle.cyc_soundness.proofs.TypeLemmas.{is_kind_same}
 use Rattle.cyc_soundness.proofs.WorldLemmas.{typed_cell, cell_there, live_object, risen, risen_past, with_filled, written_grows, cell_written, cells_own, globals_grown}
@@ -177,6 +178,21 @@ keyless_claims own h (Pointer k t l) v is = pointer_claims l v is
     pointer_claims (Kept region) (values.Fat o s c i) is = (tt, tt)
     pointer_claims (Kept region) (values.Handle n) is = (tt, tt)
     pointer_claims (Kept region) (values.Key n) is = (tt, tt)
+
+pointer_keyless : (k : PointerKind) (t : RunTy) (l : Life) → IsCommonLife l → IsKeyless (Pointer k t l)
+pointer_keyless k t (OfRegion number ns us) common = tt
+pointer_keyless k t (OfObject object) common = tt
+pointer_keyless k t Never common = tt
+pointer_keyless k t (Kept region) common = tt
+pointer_keyless k t Owned common = absurd common
+
+-- what their type tells, all values of a type claim
+pub by_type_claims : (own : Thing → Holder) (h : Holder) (t : RunTy) (u v : values.Value) → IsByType t → Claims own h t u → Claims own h t v
+by_type_claims own h Int u v by is = (tt, tt)
+by_type_claims own h (Handle l) u v by is = (tt, tt)
+by_type_claims own h (Struct n ls) u v by is = (tt, tt)
+by_type_claims own h (Key l) u v by is = (is.0, tt)
+by_type_claims own h (Pointer k t l) u v by is = keyless_claims own h (Pointer k t l) v (pointer_keyless k t l by)
 
 -- nor does what others may reach
 pub shared_claims : (g : Typing) (w : World) (number offset : ℕ) (y : ObjectType) (t : RunTy) → IsTyped g w.regions w.objects → slice_get g.objects number ≡ Some y → y.is_hidden ≡ false → slice_get y.cells offset ≡ Some t → (h : Holder) (v : values.Value) → Claims g.own h t v

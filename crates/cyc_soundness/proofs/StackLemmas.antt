@@ -242,8 +242,8 @@ place_whole : {p : Source} {x : Exits} {q : Relied} {bs : List InScope} {a : Awa
 place_whole (stacks.loads_from seen t r f alive plain kind) peek e = part_whole None peek e
 place_whole (stacks.takes_address seen t l f common) peek e = part_whole None peek e
 place_whole (stacks.stores_to c v t r f h alive stands evaluates conv from to) peek e = part_whole None peek e
-place_whole (stacks.swaps_left through c t r f h alive common by_type stands kind plain finds) peek e = (h, refl)
-place_whole (stacks.swaps_right through t r f alive common by_type kind) peek e = (f, refl)
+place_whole (stacks.swaps_left through c t r f h alive none stands kind plain finds) peek e = (h, refl)
+place_whole (stacks.swaps_right through t r f alive none kind) peek e = (f, refl)
 
 goes_relied : (p : Source) (g : Typing) (x : Exits) (bs : List InScope) (next : Want) (k : List Entry) (q : Relied) → (h : flow.State) × (next ≡ Go h) → IsStack p g x bs next k → relied_at q k ≡ q
 goes_relied p g x bs next k q (h, same) is = statement_relied p g x bs h k q (subst (λ z. IsStack p g x bs z k) same is)

@@ -349,9 +349,9 @@ pub data WaitsPlace (p : Source) (x : Exits) (q : Relied) (bs : List InScope) : 
   takes_address : (peek : Option ℕ) (t : RunTy) (l : Life) (f : flow.State) → IsCommonLife l → WaitsPlace p x q bs TakeAddress peek t l f (Val (Value (lives.Pointer marks.NonNull t l)) f)
   stores_to : {peek : Option ℕ} {from to : Kind} {a : Expression} (c : Context) (v : ValueType) (t : Ty) (r : Region) (f h : flow.State) → IsThere bs r → IsContext p x bs c → (is_reached f ≡ true → Evaluates p.reading (and_looked peek q) c a f v h)
       → Converts c v t → from ≡ kind_of_value v → to ≡ kind_of t → WaitsPlace p x q bs (StoreTo peek (Convert from to a)) peek (read bs t) (lives_in bs r) f (Val (read_value bs (assigned_type t)) h)
-  swaps_left : {kind : Kind} {peek : Option ℕ} {right : Side} (through : Option ℕ) (c : Context) (t : Ty) (r : Region) (f h : flow.State) → IsThere bs r → IsCommonLife (lives_in bs r) → IsByType (read bs t) → IsContext p x bs c → kind ≡ values.kind_of t → is_struct t ≡ false
+  swaps_left : {kind : Kind} {peek : Option ℕ} {right : Side} (through : Option ℕ) (c : Context) (t : Ty) (r : Region) (f h : flow.State) → IsThere bs r → frees_in bs ≡ false → IsContext p x bs c → kind ≡ values.kind_of t → is_struct t ≡ false
       → (is_reached f ≡ true → Finds p.reading (and_looked peek x.relied) c right f t h) → WaitsPlace p x q bs (SwapLeft kind peek right) through (read bs t) (lives_in bs r) f (Go h)
-  swaps_right : {kind : Kind} {peek : Option ℕ} {is_cell : Bool} {left : values.Value} (through : Option ℕ) (t : Ty) (r : Region) (f : flow.State) → IsThere bs r → IsCommonLife (lives_in bs r) → IsByType (read bs t) → kind ≡ values.kind_of t
+  swaps_right : {kind : Kind} {peek : Option ℕ} {is_cell : Bool} {left : values.Value} (through : Option ℕ) (t : Ty) (r : Region) (f : flow.State) → IsThere bs r → frees_in bs ≡ false → kind ≡ values.kind_of t
       → WaitsPlace p x q bs (SwapRight kind peek is_cell left) through (read bs t) (lives_in bs r) f (Go f)
 
 -- ---- arrays
