@@ -179,7 +179,7 @@ keyless_claims own h (Pointer k t l) v is = pointer_claims l v is
     pointer_claims (Kept region) (values.Handle n) is = (tt, tt)
     pointer_claims (Kept region) (values.Key n) is = (tt, tt)
 
-pointer_keyless : (k : PointerKind) (t : RunTy) (l : Life) → IsCommonLife l → IsKeyless (Pointer k t l)
+pub pointer_keyless : (k : PointerKind) (t : RunTy) (l : Life) → IsCommonLife l → IsKeyless (Pointer k t l)
 pointer_keyless k t (OfRegion number ns us) common = tt
 pointer_keyless k t (OfObject object) common = tt
 pointer_keyless k t Never common = tt

@@ -67,58 +67,78 @@ left_typed m q well c a v (ThenPointer o b os) kept is = inl is
 left_typed m q well c a v (ThenPointerPeek n o b os) kept is = inr is.0
 
 -- a local whose address is taken is there as long as the region of its block
-owned_made : (frees : Bool) → IsOwner (lives.owned_life frees) (Unique true)
-owned_made true = refl
+owned_made : (frees : Bool) → IsNewOwner (lives.owned_life frees) (Unique true)
+owned_made true = tt
 owned_made false = (refl, refl)
 
 homed : (m : Reading) (these : Lives) (region : ℕ) (l : Life) → HasScopes m → IsHomed m these region l → l ≡ these (regions.Variable region)
 homed AsHeap these region l scopes is = absurd scopes
 homed (ByScope lends frees) these region l scopes is = is
 
--- a global is no key, and what is copied or only looked at neither
-heap_comes : (g : Typing) (i : ℕ) (frees : Bool) (t : Ty) → Claims g.own (Hand i) (lives.at (as_heap frees) t)
-heap_comes g i frees types.Int = tt
-heap_comes g i frees (types.Pointer k t r) = tt
-heap_comes g i frees (types.Handle r) = tt
-heap_comes g i frees (types.Key regions.Heap) = tt
-heap_comes g i true (types.Key regions.Unique) = tt
-heap_comes g i false (types.Key regions.Unique) = tt
-heap_comes g i frees (types.Key (regions.Variable n)) = tt
-heap_comes g i frees (types.Struct n rs) = tt
+-- a conversion leads into the same object
+null_thing : (k : PointerKind) (t : RunTy) (l : Life) (z : values.Value) → conversion (tests.kind_of_mark k) values.Null ≡ Gives z → z ≡ values.Null
+null_thing marks.Nullable t l z same = sym (gives_same values.Null z same)
+null_thing marks.NonNull t l z same = absurd (let k : Raises null_exception ≡ Gives z = same in cc)
+null_thing marks.Fat t l z same = sym (gives_same values.Null z same)
 
-copied_comes : (g : Typing) (i : ℕ) (n : Lives) (t : Ty) → is_moved t ≡ false → Claims g.own (Hand i) (lives.at n t)
-copied_comes g i n types.Int plain = tt
-copied_comes g i n (types.Pointer k t r) plain = tt
-copied_comes g i n (types.Handle r) plain = tt
-copied_comes g i n (types.Key r) plain = absurd (let k : true ≡ false = plain in cc)
-copied_comes g i n (types.Struct s rs) plain = tt
+thin_claims : (own : Thing → Holder) (h : Holder) (k m : PointerKind) (t : RunTy) (l : Life) (object offset : ℕ) (z : values.Value) → conversion (tests.kind_of_mark m) (values.Thin object offset) ≡ Gives z → Claims own h (lives.Pointer k t l) (values.Thin object offset)
+    → Claims own h (lives.Pointer m t l) z
+thin_claims own h k marks.Nullable t l object offset z same is = subst (λ v. Claims own h (lives.Pointer marks.Nullable t l) v) (gives_same (values.Thin object offset) z same) is
+thin_claims own h k marks.NonNull t l object offset z same is = subst (λ v. Claims own h (lives.Pointer marks.NonNull t l) v) (gives_same (values.Thin object offset) z same) is
+thin_claims own h k marks.Fat t l object offset z same is = subst (λ v. Claims own h (lives.Pointer marks.Fat t l) v) (gives_same (values.Fat object offset 1 0) z same) is
 
-pub unique_comes : (g : Typing) (i : ℕ) (n : Lives) (t : Ty) → tests.is_unique t ≡ true → Claims g.own (Hand i) (lives.at n t)
-unique_comes g i n types.Int unique = tt
-unique_comes g i n (types.Pointer k t r) unique = tt
-unique_comes g i n (types.Handle r) unique = tt
-unique_comes g i n (types.Key r) unique = absurd (let k : false ≡ true = unique in cc)
-unique_comes g i n (types.Struct s rs) unique = tt
+-- what stands at the start stands there in another form
+start_sum : (l : Life) (start index : ℕ) → AtStart l start index → AtStart l (start + index) 0
+start_sum (OfRegion number ns us) start index at = tt
+start_sum (OfObject object) start index at = tt
+start_sum Never start index at = tt
+start_sum (Kept region) start index at = tt
+start_sum Owned start index (first, second) = ((let e : start + index ≡ 0 = omega (arith, first, second) in e), refl)
 
--- what is converted is a key where it was one
-converted_claims : (g : Typing) (i : ℕ) (n : Lives) (c : Context) (s : ValueType) (t : Ty) → Converts c s t → ClaimsBy g.own (Hand i) (lives.value_at n s) → Claims g.own (Hand i) (lives.at n t)
-converted_claims g i n c s types.Int conv is = tt
-converted_claims g i n c s (types.Pointer k t r) conv is = tt
-converted_claims g i n c s (types.Handle r) conv is = tt
-converted_claims g i n c s (types.Struct m rs) conv is = tt
-converted_claims g i n c (types.Value (types.Key r)) (types.Key s) conv is = subst (λ z. Claims g.own (Hand i) (lives.Key (n z))) conv is
-converted_claims g i n c s (types.Key r) conv is = absurd conv
+thinned_claims : (own : Thing → Holder) (h : Holder) (m : PointerKind) (t : RunTy) (l : Life) (object start count index : ℕ) (z : values.Value) → thinned object start count index ≡ Gives z → is_thin_mark m ≡ true → Claims own h (lives.Pointer marks.Fat t l) (values.Fat object start count index)
+    → Claims own h (lives.Pointer m t l) z
+thinned_claims own h m t l object start count index z same thin (is, at) = go (nat_lt index count) same
+  where
+    go : (b : Bool) → (if b then Gives (values.Thin object (start + index)) else Raises array_bounds) ≡ Gives z → Claims own h (lives.Pointer m t l) z
+    go true same = subst (λ v. Claims own h (lives.Pointer m t l) v) (gives_same (values.Thin object (start + index)) z same) (is, start_sum l start index at)
+    go false same = absurd (let k : Raises array_bounds ≡ Gives z = same in cc)
 
--- an operand of pointers is none
-pointer_claims : {c : Context} {o : PointerOperator} {t : Ty} {v w : ValueType} (g : Typing) (i : ℕ) (n : Lives) → PointerOperation c o (types.Value t) v w → Claims g.own (Hand i) (lives.at n t)
-pointer_claims g i n (adds t r other) = tt
-pointer_claims g i n (subtracts t r other) = tt
-pointer_claims g i n (equals k l t r s one two here there) = tt
-pointer_claims g i n (differs k l t r s one two here there) = tt
-pointer_claims g i n (thin_null k t r thin) = tt
-pointer_claims g i n (thin_there k t r thin) = tt
-pointer_claims g i n (fat_null k t r fat) = tt
-pointer_claims g i n (fat_there k t r fat) = tt
+fat_claims : (own : Thing → Holder) (h : Holder) (m : PointerKind) (t : RunTy) (l : Life) (object start count index : ℕ) (z : values.Value) → conversion (tests.kind_of_mark m) (values.Fat object start count index) ≡ Gives z
+    → Claims own h (lives.Pointer marks.Fat t l) (values.Fat object start count index) → Claims own h (lives.Pointer m t l) z
+fat_claims own h marks.Nullable t l object start count index z same is = thinned_claims own h marks.Nullable t l object start count index z same refl is
+fat_claims own h marks.NonNull t l object start count index z same is = thinned_claims own h marks.NonNull t l object start count index z same refl is
+fat_claims own h marks.Fat t l object start count index z same is = subst (λ v. Claims own h (lives.Pointer marks.Fat t l) v) (gives_same (values.Fat object start count index) z same) is
+
+pointer_claims : (g : Typing) (own : Thing → Holder) (h : Holder) (k m : PointerKind) (t : RunTy) (l : Life) (v z : values.Value) → HasType g (lives.Pointer k t l) v → conversion (tests.kind_of_mark m) v ≡ Gives z → Claims own h (lives.Pointer k t l) v → Claims own h (lives.Pointer m t l) z
+pointer_claims g own h k m t l values.Null z has same is = subst (λ v. Claims own h (lives.Pointer m t l) v) (sym (null_thing m t l z same)) (tt, tt)
+pointer_claims g own h marks.Nullable m t l (values.Thin object offset) z has same is = thin_claims own h marks.Nullable m t l object offset z same is
+pointer_claims g own h marks.NonNull m t l (values.Thin object offset) z has same is = thin_claims own h marks.NonNull m t l object offset z same is
+pointer_claims g own h marks.Fat m t l (values.Fat object start count index) z has same is = fat_claims own h m t l object start count index z same is
+pointer_claims g own h k m t l v z has same is = absurd has
+
+-- what is converted is this holder's, where it was so
+life_claims : (own : Thing → Holder) (h : Holder) (m : PointerKind) (t : RunTy) (l n : Life) (z : values.Value) → (n ≡ Owned → l ≡ Owned) → Claims own h (lives.Pointer m t l) z → Claims own h (lives.Pointer m t n) z
+life_claims own h m t l n z keeps is = go n refl
+  where
+    go : (n' : Life) → n ≡ n' → Claims own h (lives.Pointer m t n) z
+    go Owned same = subst (λ e. Claims own h (lives.Pointer m t e) z) (keeps same ∙ sym same) is
+    go (OfRegion number ns us) same = keyless_claims own h (lives.Pointer m t n) z (pointer_keyless m t n (subst (λ e. IsCommonLife e) (sym same) tt))
+    go (OfObject object) same = keyless_claims own h (lives.Pointer m t n) z (pointer_keyless m t n (subst (λ e. IsCommonLife e) (sym same) tt))
+    go Never same = keyless_claims own h (lives.Pointer m t n) z (pointer_keyless m t n (subst (λ e. IsCommonLife e) (sym same) tt))
+    go (Kept region) same = keyless_claims own h (lives.Pointer m t n) z (pointer_keyless m t n (subst (λ e. IsCommonLife e) (sym same) tt))
+
+converted_claims : (g : Typing) (i : ℕ) (n : Lives) (c : Context) (s : ValueType) (t : Ty) (v : Operand) (z : values.Value) → KeepsUnique c.regions n → Converts c s t → IsResult g (lives.value_at n s) v → conversion (tests.kind_of t) v.value ≡ Gives z
+    → ClaimsBy g i (lives.value_at n s) v.value → Claims g.own (Hand i) (lives.at n t) z
+converted_claims g i n c s types.Int v z keeps conv is same comes = (tt, tt)
+converted_claims g i n c s (types.Handle r) v z keeps conv is same comes = (tt, tt)
+converted_claims g i n c s (types.Struct m rs) v z keeps conv is same comes = (tt, tt)
+converted_claims g i n c (types.Value (types.Key r)) (types.Key q) v z keeps conv is same comes = subst (λ o. Claims g.own (Hand i) (lives.Key (n o)) z) conv (comes.0, tt)
+converted_claims g i n c (types.Value (types.Pointer k t r)) (types.Pointer m u q) v z keeps conv is same comes =
+    subst (λ o. Claims g.own (Hand i) (lives.Pointer m (lives.at n o) (n q)) z) conv.0
+    (life_claims g.own (Hand i) m (lives.at n t) (n r) (n q) z (λ e. keeps r q conv.1 e) (pointer_claims g g.own (Hand i) k m (lives.at n t) (n r) v.value z is.1 same comes))
+converted_claims g i n c types.Null (types.Pointer m u q) v z keeps conv is same comes =
+    subst (λ e. Claims g.own (Hand i) (lives.Pointer m (lives.at n u) (n q)) e) (sym (null_thing m (lives.at n u) (n q) z (ap (λ e. conversion (tests.kind_of_mark m) e) (sym is.1) ∙ same))) (tt, tt)
+converted_claims g i n c s t v z keeps conv is same comes = absurd conv
 
 -- ---- what is known of a local that is moved
 
@@ -139,36 +159,60 @@ used_full f n set free = full_of (fullness f n) (not_true (is_vacant (fullness f
 -- ---- a local is read
 
 module _ (p : Source) (g : Typing) (x : Exits) (bs : List InScope) (e : Environment) (w : World) (typed : IsTyped g w.regions w.objects) (globals : KnowsProgram g p) (bound : IsBound e.locals e.counters bs) (variables : AreVariables g bs) where
-  pub open_local : (k : List Entry) (b : Bound) → AreOpen w.regions (ends_of k) → LiveIn k bs → IsAmong (Variable b) bs → IsOpenLife w.regions b.life
-  open_local k b opens live among = lasting_open w.regions (ends_of k) b.life opens typed.heap
-      (kept_open g w.regions w.objects b.life typed (object_known g w.regions w.objects b.object (variable_type b.of_type b.life b.is_hidden) typed (among_variable g among variables)) (among_open g among variables)) (among_live (ends_of k) among live.0)
+  pub open_local : (k : List Entry) (b : Bound) → AreOpen w.regions (ends_of k) → LiveIn k bs → IsAmong (Variable b) bs → IsOpenObject g w.regions b.object b.life
+  open_local k b opens live among =
+      let lasts = among_live (ends_of k) among live.0 in
+      open_object g w.regions b.object b.life (lasting_common (ends_of k) b.life lasts) (lasting_open w.regions (ends_of k) b.life opens typed.heap
+      (kept_open g w.regions w.objects b.life typed (object_known g w.regions w.objects b.object (local_type g.depth b) typed (among_variable g among variables)) (among_open g among variables)) lasts)
+
+  -- what it holds
+  abbrev pub Held : Bound → Kind → Type 0
+  Held b kind = Content p g x bs e w typed globals bound variables kind b.object 0 b.of_type
+
+  pub held_in : (k : List Entry) (u : Ty) (b : Bound) → AreOpen w.regions (ends_of k) → LiveIn k bs → IsAmong (Variable b) bs → b.of_type ≡ read bs u → IsFull g b.object → Held b (values.kind_of u)
+  held_in k u b opens live among of_type full = content_of p g x bs e w typed globals bound variables (values.kind_of u) b.object 0 b.of_type (local_type g.depth b) (among_variable g among variables) refl (open_local k b opens live among) full
+      (ap kind_at of_type ∙ kind_meant (lives_in bs) u)
+
+  -- it is its variable's
+  pub its_own : (b : Bound) (kind : Kind) (c : Held b kind) → IsAmong (Variable b) bs → IsHere g g.depth b.number b.object → Claims g.own (At b.object) b.of_type c.value
+  its_own b kind c among here = typed.owned b.object (local_type g.depth b) c.object here.0 (among_variable g among variables) c.there 0 b.of_type c.cell c.value refl c.at c.content
 
   -- its value, for what waits
   pub from_bound : (k : List Entry) (n : ℕ) (u : Ty) (b : Bound) (h : flow.State) (r : RunValue) → AreOpen w.regions (ends_of k) → LiveIn k bs → Holds g h bs → IsAmong (Variable b) bs → b.number ≡ n → b.of_type ≡ read bs u → IsFull g b.object
-      → ((v : values.Value) → HasType g b.of_type v → IsResult g r (record { kind = values.kind_of u; value = v })) → stacks.Comes g r k → IsStack p g x bs (Val r h) k → IsWell p (loaded_from (values.kind_of u) (e.locals n) k e w)
+      → ((v : values.Value) → HasType g b.of_type v → IsResult g r (record { kind = values.kind_of u; value = v })) → ((c : Held b (values.kind_of u)) → ClaimsBy g (stacks.operands_in k) r c.value) → IsStack p g x bs (Val r h) k → IsWell p (loaded_from (values.kind_of u) (e.locals n) k e w)
   from_bound k n u b h r opens live holds among number of_type full fits comes stack =
       let there : e.locals n ≡ Some b.object = ap e.locals (sym number) ∙ among_bound e among bound in
       subst (λ o. IsWell p (loaded_from (values.kind_of u) o k e w)) (sym there)
-      (reads p g x bs e w typed globals bound variables k (values.kind_of u) b.object 0 b.of_type (variable_type b.of_type b.life b.is_hidden) h live holds
+      (reads p g x bs e w typed globals bound variables k (values.kind_of u) b.object 0 b.of_type (local_type g.depth b) h live holds
       (among_variable g among variables) refl (open_local k b opens live among) full (ap kind_at of_type ∙ kind_meant (lives_in bs) u) r fits comes stack)
 
-module _ (p : Source) (g : Typing) (x : Exits) (bs : List InScope) (e : Environment) (w : World) (typed : IsTyped g w.regions w.objects) (globals : KnowsProgram g p) (bound : IsBound e.locals e.counters bs) (variables : AreVariables g bs) where
   -- a local's value goes to an operand
   pub moves : (k : List Entry) (c : Context) (n : ℕ) (u : Ty) (f : flow.State) → AreOpen w.regions (ends_of k) → LiveIn k bs → IsContext p x bs c → Holds g f bs → (r : ℕ) × HasLocal c.locals n u r → IsFullIn f n → IsSpared (relied_at x.relied k) n
       → IsStack p g x bs (Val (Value (read bs u)) (with_fullness Vacant f n)) k → IsWell p (loaded_from (values.kind_of u) (e.locals n) k e w)
   moves k c n u f opens live stands holds (r, has) full spared stack =
       let (b, among, number, of_type) = bound_of p.reading (lives_in bs) c.locals bs n u r stands.scope has in
       let full_here : IsFullIn f b.number = subst (λ i. IsFullIn f i) (sym number) full in
-      let t = read bs u in
-      let old = In g.depth n in
-      let h = giving g t (Hand (stacks.operands_in k)) in
+      let there : e.locals n ≡ Some b.object = ap e.locals (sym number) ∙ among_bound e among bound in
+      let here : IsHere g g.depth b.number b.object = among_own g f among holds.1 full_here in
+      let slot : IsSlot g g.depth n b.object = subst (λ i. IsSlot g g.depth i b.object) number here.1 in
+      let v = held_in k u b opens live among of_type (among_set g f among holds.1 (full_set (fullness f b.number) full_here)) in
+      let claims : Claims g.own (At b.object) (read bs u) v.value = subst (λ t. Claims g.own (At b.object) t v.value) of_type (its_own b (values.kind_of u) v among here) in
+      let o = thing_of (read bs u) v.value in
+      let hand = Hand (stacks.operands_in k) in
+      let h = handing g o hand b.object false in
+      let changed : Changed (At b.object) g h = handing_changed g o (At b.object) hand b.object false claims.0 (λ same. refl) in
       let f1 = with_fullness Vacant f n in
-      let claims : Claims g.own old t = subst (λ i. Claims g.own (In g.depth i) t) number (subst (λ z. Claims g.own (In g.depth b.number) z) of_type (among_own g f among holds.1 full_here)) in
-      from_bound p h x bs e w (given_typed g t old (Hand (stacks.operands_in k)) w.regions w.objects claims tt typed) (given_globals p g t (Hand (stacks.operands_in k)) globals) bound
-      (variables_other g t old (Hand (stacks.operands_in k)) bs claims refl variables) k n u b f1 (Value t) opens live
-      (holds_other t old (Hand (stacks.operands_in k)) g f1 bs claims (λ m s. emptied_other g Vacant f n m refl holds.0 s) (holds_implied g f f1 bs (vacant_implied f n) holds)) among number of_type
-      (among_set g f among holds.1 (full_set (fullness f b.number) full_here)) (λ v is. (sym (kind_meant (lives_in bs) u), subst (λ z. HasType h z v) of_type is)) (given_now g t (Hand (stacks.operands_in k)))
-      (stack_other t old (Hand (stacks.operands_in k)) p g x bs (Val (Value t) f1) k claims (inl (refl, spared)) stack)
+      subst (λ i. IsWell p (loaded_from (values.kind_of u) i k e w)) (sym there)
+      (subst (λ s. IsWell p s) (sym (v.loads k e))
+      (running p h x bs e w (taken_typed g o b.object hand w.regions w.objects claims.0 typed) (hands_globals p g (given o hand g.own) (marked b.object false g.here) globals) bound (variables_kept (At b.object) g h changed bs refl variables)
+      (Given (record { kind = values.kind_of u; value = v.value })) k live (
+        Value (read bs u),
+        f1,
+        holds_kept (At b.object) g h changed f1 bs (λ m other s its. emptied_other g Vacant f n m b.object other refl holds.0 s slot its.1) (holds_implied g f f1 bs (vacant_implied f n) holds),
+        (sym (kind_meant (lives_in bs) u), type_grown g h changed.grows (read bs u) v.value (subst (λ t. HasType g t v.value) of_type v.has)),
+        (given_now g.own o hand, claims.1),
+        stack_changed p (At b.object) g h x bs (Val (Value (read bs u)) f1) k changed (g.depth, n, slot, inl (refl, spared)) stack,
+      )))
 
 module _ (p : Source) where
   -- what is called takes and gives this, where its region variables stand for what is put in their place
@@ -191,10 +235,10 @@ module _ (p : Source) where
     on focus k live stands = running p g x bs e w typed globals bound variables focus k live stands
 
     -- a value is handed on
-    pub hands : (k : List Entry) (r s : RunValue) (v : Operand) (f h : flow.State) → LiveIn k bs → Holds g f bs → h ≡ f → r ≡ s → IsResult g s v → stacks.Comes g s k → IsStack p g x bs (Val r h) k
+    pub hands : (k : List Entry) (r s : RunValue) (v : Operand) (f h : flow.State) → LiveIn k bs → Holds g f bs → h ≡ f → r ≡ s → IsResult g s v → stacks.Comes g s v k → IsStack p g x bs (Val r h) k
         → IsWell p (Running (Given v) k e w)
     hands k r s v f h live holds same_flow same_type is comes stack =
-        on (Given v) k live (r, h, subst (λ z. Holds g z bs) (sym same_flow) holds, subst (λ z. IsResult g z v) (sym same_type) is, subst (λ z. stacks.Comes g z k) (sym same_type) comes, stack)
+        on (Given v) k live (r, h, subst (λ z. Holds g z bs) (sym same_flow) holds, subst (λ z. IsResult g z v) (sym same_type) is, subst (λ z. stacks.Comes g z v k) (sym same_type) comes, stack)
 
     -- ---- variables
 
@@ -206,14 +250,37 @@ module _ (p : Source) where
         let (at, full, closed) = globals.globals n u there in
         (there, global_means p.reading c.regions bs u stands.regions closed)
 
-    pub from_local : (k : List Entry) (c : Context) (n : ℕ) (u : Ty) (t : ValueType) (f h : flow.State) → AreOpen w.regions (ends_of k) → LiveIn k bs → IsContext p x bs c → Holds g f bs
-        → (r : ℕ) × HasLocal c.locals n u r → IsSet f n → Implies f h → t ≡ types.Value u → stacks.Comes g (Value (read bs u)) k → IsStack p g x bs (Val (read_value bs t) h) k
-        → IsWell p (loaded_from (values.kind_of u) (e.locals n) k e w)
-    from_local k c n u t f h opens live stands holds (r, has) is_set implies same comes stack =
-        let (b, among, number, of_type) = bound_of p.reading (lives_in bs) c.locals bs n u r stands.scope has in
+    -- a local that is read, and keeps what it holds
+    from_local : (k : List Entry) (c : Context) (n : ℕ) (u : Ty) (f h : flow.State) (r : RunValue) → AreOpen w.regions (ends_of k) → LiveIn k bs → IsContext p x bs c → Holds g f bs
+        → (i : ℕ) × HasLocal c.locals n u i → IsSet f n → Implies f h → ((v : values.Value) → HasType g (read bs u) v → IsResult g r (record { kind = values.kind_of u; value = v }))
+        → ((b : Bound) (v : values.Value) → b.number ≡ n → (IsHere g g.depth b.number b.object → Claims g.own (At b.object) (read bs u) v) → IsAmong (Variable b) bs → ClaimsBy g (stacks.operands_in k) r v)
+        → IsStack p g x bs (Val r h) k → IsWell p (loaded_from (values.kind_of u) (e.locals n) k e w)
+    from_local k c n u f h r opens live stands holds (i, has) is_set implies fits comes stack =
+        let (b, among, number, of_type) = bound_of p.reading (lives_in bs) c.locals bs n u i stands.scope has in
         let full : IsFull g b.object = among_set g f among holds.1 (subst (λ m. IsSet f m) (sym number) is_set) in
-        from_bound p g x bs e w typed globals bound variables k n u b h (Value (read bs u)) opens live (holds_implied g f h bs implies holds) among number of_type full
-        (λ v is. (sym (kind_meant (lives_in bs) u), subst (λ z. HasType g z v) of_type is)) comes (subst (λ z. IsStack p g x bs (Val z h) k) (ap (read_value bs) same) stack)
+        from_bound p g x bs e w typed globals bound variables k n u b h r opens live (holds_implied g f h bs implies holds) among number of_type full
+        (λ v is. fits v (subst (λ z. HasType g z v) of_type is))
+        (λ v. comes b v.value number (λ here. subst (λ t. Claims g.own (At b.object) t v.value) of_type (its_own p g x bs e w typed globals bound variables b (values.kind_of u) v among here)) among) stack
+
+    -- a value that is copied
+    pub copies : (k : List Entry) (c : Context) (n : ℕ) (u : Ty) (t : ValueType) (f h : flow.State) → AreOpen w.regions (ends_of k) → LiveIn k bs → IsContext p x bs c → Holds g f bs
+        → (i : ℕ) × HasLocal c.locals n u i → IsSet f n → is_moved u ≡ false → Implies f h → t ≡ types.Value u → IsStack p g x bs (Val (read_value bs t) h) k → IsWell p (loaded_from (values.kind_of u) (e.locals n) k e w)
+    copies k c n u t f h opens live stands holds has is_set plain implies same stack =
+        from_local k c n u f h (Value (read bs u)) opens live stands holds has is_set implies (λ v is. (sym (kind_meant (lives_in bs) u), is))
+        (λ b v number own among. keyless_claims g.own (Hand (stacks.operands_in k)) (read bs u) v (plain_read g bs variables u plain)) (subst (λ z. IsStack p g x bs (Val z h) k) (ap (read_value bs) same) stack)
+
+    -- and one that is looked at
+    looked_at : (n object : ℕ) (o : Option Thing) → IsHere g g.depth n object → Owns g.own (At object) o → IsLookedAt g n o
+    looked_at n object None here is = tt
+    looked_at n object (Some a) here is = (object, here, is)
+
+    peeks : (k : List Entry) (c : Context) (n : ℕ) (u : Ty) (t : ValueType) (f h : flow.State) → AreOpen w.regions (ends_of k) → LiveIn k bs → IsContext p x bs c → Holds g f bs
+        → (i : ℕ) × HasLocal c.locals n u i → IsFullIn f n → Implies f h → t ≡ types.Value u → IsStack p g x bs (Val (looked (Some n) (read_value bs t)) h) k → IsWell p (loaded_from (values.kind_of u) (e.locals n) k e w)
+    peeks k c n u t f h opens live stands holds has full implies same stack =
+        from_local k c n u f h (Into (Some n) (read bs u)) opens live stands holds has (full_set (fullness f n) full) implies (λ v is. (sym (kind_meant (lives_in bs) u), is))
+        (λ b v number own among. (let here = among_own g f among holds.1 (subst (λ i. IsFullIn f i) (sym number) full) in
+        looked_at n b.object (thing_of (read bs u) v) (subst (λ i. IsHere g g.depth i b.object) number here) (own here).0))
+        (subst (λ z. IsStack p g x bs (Val (looked (Some n) (read_value bs z)) h) k) same stack)
 
     from_global : (k : List Entry) (c : Context) (n : ℕ) (u : Ty) (t : ValueType) (f : flow.State) → AreOpen w.regions (ends_of k) → LiveIn k bs → IsContext p x bs c → Holds g f bs
         → slice_get c.globals n ≡ Some u → t ≡ types.Value u → IsStack p g x bs (Val (read_value bs t) f) k
@@ -221,13 +288,15 @@ module _ (p : Source) where
     from_global k c n u t f opens live stands holds has same stack =
         let (there, means) = global_there n u c stands has in
         let (at, full, closed) = globals.globals n u there in
-        reads p g x bs e w typed globals bound variables k (values.kind_of u) n 0 (lives.at (as_heap (frees_of p.reading)) u) (global_type (lives.at (as_heap (frees_of p.reading)) u)) f live holds at refl (open_of w.regions (globals_among k) opens) full (kind_meant (as_heap (frees_of p.reading)) u)
-        (Value (lives.at (as_heap (frees_of p.reading)) u)) (λ v is. (sym (kind_meant (as_heap (frees_of p.reading)) u), is)) (heap_comes g (stacks.operands_in k) (frees_of p.reading) u) (subst (λ z. IsStack p g x bs (Val z f) k) (ap (read_value bs) same ∙ ap Value means) stack)
+        let z = lives.at (as_heap (frees_of p.reading)) u in
+        reads p g x bs e w typed globals bound variables k (values.kind_of u) n 0 z (global_type z) f live holds at refl (open_of w.regions (globals_among k) opens) full (kind_meant (as_heap (frees_of p.reading)) u)
+        (Value z) (λ v is. (sym (kind_meant (as_heap (frees_of p.reading)) u), is)) (λ v. shared_claims g w n 0 (global_type z) z typed at refl refl (Hand (stacks.operands_in k)) v.value)
+        (subst (λ z. IsStack p g x bs (Val z f) k) (ap (read_value bs) same ∙ ap Value means) stack)
 
     -- ---- arguments
 
     pub pass_on : (k : List Entry) (callee : Callee) (before : List Operand) (done : List RunTy) (as' : Arguments) (ts : List Ty) (c : Context) (r : ValueType) (f h : flow.State) (q : List ℕ)
-        → LiveIn k bs → IsContext p x bs c → Holds g f bs → ArePassed c ts as' → Derives (rule_arguments q as' f) h → InArguments p.reading (relied_at x.relied k) as' → AreOperands g done before → stacks.AreClaimed g.own (stacks.operands_in k) done
+        → LiveIn k bs → IsContext p x bs c → Holds g f bs → ArePassed c ts as' → Derives (rule_arguments q as' f) h → InArguments p.reading (relied_at x.relied k) as' → AreOperands g done before → stacks.AreClaimed g.own (stacks.operands_in k) done before
         → IsCalled p bs callee (turned done (map (read bs) ts)) (read_value bs r) → IsStack p g x bs (Val (read_value bs r) h) k → IsWell p (passes callee before as' k e w)
     pass_on k callee before done NoArguments [] c r f h q live stands holds passed (u, same) kept operands claims called stack =
         on (Calling callee before) k live (done, read_value bs r, h, subst (λ z. Holds g z bs) (sym same) holds, called, operands, claims, stack)
@@ -246,7 +315,7 @@ module _ (p : Source) where
             [],
             bs,
             Val (Value (read bs t)) f1,
-            stacks.converts c v t f1 (agrees_of p x bs c stands) conv from_is to_is (target_typed c a v (inl well)),
+            stacks.converts c v t f1 (agrees_of p x bs c stands) (keeps_by g bs variables p.reading c.regions stands.regions) conv from_is to_is (target_typed c a v (inl well)),
             tt,
             (done, bs, Val (read_value bs r) h, stacks.passes c done t ts r f1 h stands (record { waiting = q; typed = passed; flows = ds; kept = kept }) called, keeps_passed g (stacks.operands_in k) callee before as' done operands claims, stack),
           ),
@@ -255,7 +324,7 @@ module _ (p : Source) where
     -- ---- expressions
 
     pub evaluate : (a : Expression) (k : List Entry) (c : Context) (t : ValueType) (f h : flow.State) (q : List ℕ) → AreOpen w.regions (ends_of k) → LiveIn k bs → IsContext p x bs c → Holds g f bs
-        → WellTyped c a t ⊎ IsPeek c a t → Derives (rule q a f) h → InExpression p.reading (relied_at x.relied k) a → IsStack p g x bs (Val (read_value bs t) h) k → IsWell p (step_evaluating a k e w)
+        → (well : WellTyped c a t ⊎ IsPeek c a t) → Derives (rule q a f) h → InExpression p.reading (relied_at x.relied k) a → IsStack p g x bs (Val (looked (stacks.seen_by a well) (read_value bs t)) h) k → IsWell p (step_evaluating a k e w)
     evaluate (Number n) k c t f h q opens live stands holds (inl is) (u, same) kept stack =
         hands k (read_value bs t) (Value lives.Int) (record { kind = kinds.Int; value = values.Int n }) f h live holds same (ap (read_value bs) is) (refl, tt) tt stack
     evaluate NullPointer k c t f h q opens live stands holds (inl is) (u, same) kept stack =
@@ -346,7 +415,7 @@ module _ (p : Source) where
             [],
             bs,
             Val (Value (read bs v)) f1,
-            stacks.converts c s v f1 (agrees_of p x bs c stands) conv from_is to_is (target_typed c a s (inl well)),
+            stacks.converts c s v f1 (agrees_of p x bs c stands) (keeps_by g bs variables p.reading c.regions stands.regions) conv from_is to_is (target_typed c a s (inl well)),
             tt,
             (
               [],
@@ -371,7 +440,7 @@ module _ (p : Source) where
             [],
             bs,
             Val (Value (read bs v)) f1,
-            stacks.converts c s v f1 (agrees_of p x bs c stands) conv from_is to_is (target_typed c a s (inl well)),
+            stacks.converts c s v f1 (agrees_of p x bs c stands) (keeps_by g bs variables p.reading c.regions stands.regions) conv from_is to_is (target_typed c a s (inl well)),
             tt,
             (
               [],

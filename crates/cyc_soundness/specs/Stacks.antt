@@ -53,6 +53,10 @@ pub record Evaluates (m : Reading) (q : Relied) (c : Context) (a : Expression) (
   pub flows : Derives (rule waiting a f) h
   pub kept : InExpression m q a
 
+-- one whose value is taken
+abbrev pub EvaluatesWhole : Reading → Relied → Context → Expression → flow.State → ValueType → flow.State → Type 0
+EvaluatesWhole m q c a f t h = (evaluates : Evaluates m q c a f t h) × (seen_by a evaluates.typed ≡ None)
+
 pub record Computes (m : Reading) (q : Relied) (c : Context) (left : ValueType) (os : Operations) (f : flow.State) (t : Ty) (h : flow.State) : Type 0 where
   pub waiting : List ℕ
   pub typed : IsChain c left os t
@@ -302,7 +306,7 @@ pub data Waits (p : Source) (x : Exits) (q : Relied) (bs : List InScope) : Await
   follows_member : {k : Kind} {fields : List Kind} {field : ℕ} (peek : Option ℕ) (m : PointerKind) (n : ℕ) (ls : List Life) (s : StructType) (t : Ty) (u : RunTy) (r : Region) (f : flow.State) → k ≡ kind_of_mark m
       → slice_get p.program.structs n ≡ Some s → fields ≡ map values.kind_of s.fields → slice_get s.fields field ≡ Some t → (length ls ≡ s.parameters → at (lives_among (frees_of p.reading) ls) t ≡ u) → IsThere bs r
       → Waits p x q bs (FollowMember k fields field) [] (looked peek (Value (lives.Pointer m (lives.Struct n ls) (lives_in bs r)))) f bs (PlaceOf peek u (lives_in bs r) f)
-  indexes : {peek : Option ℕ} {target : Option Kind} {index : Expression} (c : Context) (t : Ty) (r : Region) (f h : flow.State) → IsContext p x bs c → (is_reached f ≡ true → Evaluates p.reading (and_looked peek q) c index f (types.Value types.Int) h)
+  indexes : {peek : Option ℕ} {target : Option Kind} {index : Expression} (c : Context) (t : Ty) (r : Region) (f h : flow.State) → IsContext p x bs c → (is_reached f ≡ true → EvaluatesWhole p.reading (and_looked peek q) c index f (types.Value types.Int) h)
       → target ≡ target_of t → IsThere bs r → Waits p x q bs (Index peek target index) [] (looked peek (Value (lives.Pointer marks.Fat (read bs t) (lives_in bs r)))) f bs (PlaceOf peek (read bs t) (lives_in bs r) h)
   advances : {peek : Option ℕ} {target : Option Kind} {base : Operand} (t : Ty) (r : Region) (f : flow.State) → target ≡ target_of t → IsThere bs r
       → Waits p x q bs (Advance peek target base) (lives.Pointer marks.Fat (read bs t) (lives_in bs r) ∷ []) (Value lives.Int) f bs (PlaceOf peek (read bs t) (lives_in bs r) f)
@@ -347,7 +351,7 @@ pub data WaitsPlace (p : Source) (x : Exits) (q : Relied) (bs : List InScope) : 
   loads_from : {kind : Kind} (peek : Option ℕ) (t : Ty) (r : Region) (f : flow.State) → IsThere bs r → is_struct t ≡ false → kind ≡ values.kind_of t
       → WaitsPlace p x q bs (LoadFrom kind) peek (read bs t) (lives_in bs r) f (Val (Value (read bs t)) f)
   takes_address : (peek : Option ℕ) (t : RunTy) (l : Life) (f : flow.State) → IsCommonLife l → WaitsPlace p x q bs TakeAddress peek t l f (Val (Value (lives.Pointer marks.NonNull t l)) f)
-  stores_to : {peek : Option ℕ} {from to : Kind} {a : Expression} (c : Context) (v : ValueType) (t : Ty) (r : Region) (f h : flow.State) → IsThere bs r → IsContext p x bs c → (is_reached f ≡ true → Evaluates p.reading (and_looked peek q) c a f v h)
+  stores_to : {peek : Option ℕ} {from to : Kind} {a : Expression} (c : Context) (v : ValueType) (t : Ty) (r : Region) (f h : flow.State) → IsThere bs r → IsContext p x bs c → (is_reached f ≡ true → EvaluatesWhole p.reading (and_looked peek q) c a f v h)
       → Converts c v t → from ≡ kind_of_value v → to ≡ kind_of t → WaitsPlace p x q bs (StoreTo peek (Convert from to a)) peek (read bs t) (lives_in bs r) f (Val (read_value bs (assigned_type t)) h)
   swaps_left : {kind : Kind} {peek : Option ℕ} {right : Side} (through : Option ℕ) (c : Context) (t : Ty) (r : Region) (f h : flow.State) → IsThere bs r → frees_in bs ≡ false → IsContext p x bs c → kind ≡ values.kind_of t → is_struct t ≡ false
       → (is_reached f ≡ true → Finds p.reading (and_looked peek x.relied) c right f t h) → WaitsPlace p x q bs (SwapLeft kind peek right) through (read bs t) (lives_in bs r) f (Go h)
