@@ -21,7 +21,7 @@ use Rattle.cyc_soundness.specs.Stacks.{IsCommonLife, IsByType, Val, operands_in,
 use Rattle.cyc_soundness.proofs.Numbers.{slice_get-set_same, some_same}
 use Rattle.cyc_soundness.proofs.TypeLemmas.{is_kind_same}
 use Rattle.cyc_soundness.proofs.WorldLemmas.{typed_cell, cell_there, live_object, risen, risen_past, with_filled, written_grows, cell_written, cells_own, globals_grown}
-use Rattle.cyc_soundness.proofs.Hands.{Changed, variables_kept}
+use Rattle.cyc_soundness.proofs.Hands.{Raises, raises_changed, variables_kept}
 use Rattle.cyc_soundness.proofs.StackLemmas.{open_of, globals_among, kept_open, object_known, open_outlasting, IsPresent, outlasting_open}
 use Rattle.cyc_soundness.specs.Classes.{Source}
 
@@ -248,7 +248,7 @@ module _ (p : Source) (g : Typing) (x : Exits) (bs : List InScope) (e : Environm
     pub writes_marking : LiveIn k bs → slice_get g.objects number ≡ Some y → slice_get y.cells offset ≡ Some t → IsOpenObject g w.regions number y.life → slice_get g.filled number ≡ Some m → offset ≤ m
         → IsResult g (Value t) v → ((object : ℕ) → object ≢ number → here object ≡ true → g.here object ≡ true) → ((object : ℕ) → g.here object ≡ true → here object ≡ true)
         → (here number ≡ true → (z : Object) (d : Cell) → slice_get w.objects number ≡ Some z → slice_get z.cells offset ≡ Some d → AreOwned g.own number y.cells (set z.cells offset (record d { content = Some v.value })))
-        → (Changed Nobody g written_typing → IsFilled written_typing number (suc offset) → IsFocus p written_typing x bs focus k)
+        → (Raises g written_typing → IsFilled written_typing number (suc offset) → IsFocus p written_typing x bs focus k)
         → IsWell p (stored (cell_at w number offset) number offset v focus k e w)
     writes_marking live at cells opens flag few is before raises own goes =
         let c = cell_there g w number offset t y typed at cells opens in
@@ -256,23 +256,23 @@ module _ (p : Source) (g : Typing) (x : Exits) (bs : List InScope) (e : Environm
         let few_too : offset ≤ c.filled = omega (arith, count, few) in
         let h : Typing = record (with_filled g number (risen offset c.filled)) { here = here } in
         let grows = written_grows g w number offset y t v.value typed at cells c few_too is.1 in
-        let changed : Changed Nobody g h = record {
+        let changed : Raises g h = record {
           grows = record { objects = grows.objects; filled = grows.filled; fields = grows.fields; kept = grows.kept };
-          own = λ a apart. refl;
-          here = λ object old apart. raises object old;
+          own = refl;
+          here = raises;
           depth = refl;
           loans = refl;
         } in
         let past : suc offset ≤ risen offset c.filled = risen_past offset c.filled few_too in
         let now : IsFilled h number (suc offset) = (risen offset c.filled, slice_get-set_same g.filled number c.filled (risen offset c.filled) c.flag, past) in
-        let goes_on = subst (λ n. Changed Nobody g (record (with_filled g number (risen offset n)) { here = here }) → IsFilled (record (with_filled g number (risen offset n)) { here = here }) number (suc offset)
+        let goes_on = subst (λ n. Raises g (record (with_filled g number (risen offset n)) { here = here }) → IsFilled (record (with_filled g number (risen offset n)) { here = here }) number (suc offset)
         → IsFocus p (record (with_filled g number (risen offset n)) { here = here }) x bs focus k) count goes in
         subst (λ a. IsWell p (stored a number offset v focus k e w)) (sym c.found)
         (subst (λ (b : Bool). IsWell p (if b then Running focus k e (written w number offset (record { object = c.object; cell = c.of.cell }) v.value) else wrong w))
         (sym (is_kind_same c.of.cell.kind v.kind (c.of.kind ∙ sym is.0)))
         (running p h x bs e (written w number offset (record { object = c.object; cell = c.of.cell }) v.value)
         (cell_written g w number offset y t v.value typed at cells c few_too is.1 here before (λ now. own now c.object c.of.cell c.there c.of.at))
-        (globals_grown g h changed.grows p (λ n ls. refl) globals.keys globals) bound (variables_kept Nobody g h changed bs refl variables) focus k live (goes_on changed now)))
+        (globals_grown g h changed.grows p (λ n ls. refl) globals.keys globals) bound (variables_kept Nobody g h (raises_changed g h changed) bs refl variables) focus k live (goes_on changed now)))
 
   -- of which nobody learns more than that
   pub writes : (v : Operand) (focus : Focus) (k : List Entry) (number offset m : ℕ) (t : RunTy) (y : ObjectType) → LiveIn k bs

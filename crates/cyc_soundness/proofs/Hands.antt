@@ -199,6 +199,35 @@ module _ (old : Holder) (g h : Typing) (changed : Changed old g h) where
 
 -- ---- nothing changes hands
 
+-- but variables may have more in them
+pub record Raises (g h : Typing) : Type 0 where
+  pub grows : Grows g h
+  pub own : h.own ≡ g.own
+  pub here : (object : ℕ) → g.here object ≡ true → h.here object ≡ true
+  pub depth : h.depth ≡ g.depth
+  pub loans : h.loans ≡ g.loans
+
+pub raises_changed : (g h : Typing) → Raises g h → Changed Nobody g h
+raises_changed g h raises = record { grows = raises.grows; own = λ a apart. ap (λ f. f a) raises.own; here = λ object is apart. raises.here object is; depth = raises.depth; loans = raises.loans }
+
+pub changed_raised : (old : Holder) (g h i : Typing) → Changed old g h → Raises h i → Changed old g i
+changed_raised old g h i changed raises = record {
+  grows = record {
+    objects = λ n t is. raises.grows.objects n t (changed.grows.objects n t is);
+    filled = λ n count is. raises.grows.filled n count (changed.grows.filled n count is);
+    fields = λ n ls ts is. raises.grows.fields n ls ts (changed.grows.fields n ls ts is);
+    kept = λ n is. raises.grows.kept n (changed.grows.kept n is);
+  };
+  own = λ a apart. ap (λ f. f a) raises.own ∙ changed.own a apart;
+  here = λ object is apart. raises.here object (changed.here object is apart);
+  depth = raises.depth ∙ changed.depth;
+  loans = raises.loans ∙ changed.loans;
+}
+
+-- a variable that has more in it
+pub marked_keeps : (object : ℕ) (here : ℕ → Bool) (n : ℕ) → here n ≡ true → marked object true here n ≡ true
+marked_keeps object here n is = by_test (n == object) (here n) true true (λ e. refl) (λ e. is)
+
 module _ (g h : Typing) (stays : Stays g h) where
   abbrev still : Changed Nobody g h
   still = stays_changed Nobody g h stays

@@ -259,12 +259,16 @@ pub record Repeats (m : Reading) (q : Relied) (c : Context) (level : ℕ) (kind 
 abbrev pub KeepsUnique : RegionContext → (Region → Life) → Type 0
 KeepsUnique c n = (a b : Region) → OutlivesIn c a b → n b ≡ Owned → n a ≡ Owned
 
--- what is left of a chain may stand behind a peek of this local
-abbrev pub IsChained : Option ℕ → Operations → Type 0
-IsChained None os = Unit {0}
-IsChained (Some n) (ThenTest o a os) = Unit {0}
-IsChained (Some n) (ThenPointerPeek m o a os) = n ≡ m
-IsChained (Some n) os = ⊥
+-- nothing that only one may have is given
+abbrev pub IsPlainValue : RunValue → Type 0
+IsPlainValue (Value t) = IsKeyless t
+IsPlainValue r = Unit {0}
+
+-- What is left of a chain may stand behind a peek of this local where it is looked at.
+abbrev pub IsChained : Option ℕ → RunValue → Operations → Type 0
+IsChained peek r (ThenTest o a os) = Unit {0}
+IsChained peek r (ThenPointerPeek n o a os) = (peek ≡ Some n) ⊎ ((peek ≡ None) × IsPlainValue r)
+IsChained peek r os = peek ≡ None
 
 -- a pointer through which a place is reached, of this type
 abbrev pub IsThrough : Option ℕ → RunTy → RunValue → Type 0
@@ -287,7 +291,7 @@ pub data Waits (p : Source) (x : Exits) (q : Relied) (bs : List InScope) : Await
   negates : (f : flow.State) → Waits p x q bs (Operate unary.Negate) [] (Value lives.Int) f bs (Val (Value lives.Int) f)
   complements : (f : flow.State) → Waits p x q bs (Operate unary.Complement) [] (Value lives.Int) f bs (Val (Value lives.Int) f)
   denies : (peek : Option ℕ) (v : ValueType) (f : flow.State) → is_tested v ≡ true → Waits p x q bs (Operate unary.Not) [] (looked peek (read_value bs v)) f bs (Val (Value lives.Int) f)
-  chains : {os : Operations} (peek : Option ℕ) (c : Context) (v : ValueType) (t : Ty) (f h : flow.State) → IsContext p x bs c → Computes p.reading q c v os f t h → IsChained peek os
+  chains : {os : Operations} (peek : Option ℕ) (c : Context) (v : ValueType) (t : Ty) (f h : flow.State) → IsContext p x bs c → Computes p.reading q c v os f t h → IsChained peek (read_value bs v) os
       → Waits p x q bs (Chain os) [] (looked peek (read_value bs v)) f bs (Val (Value (read bs t)) h)
   applies : {o : Operator} {left : Operand} (f : flow.State) → Waits p x q bs (Apply o left) (lives.Int ∷ []) (Value lives.Int) f bs (Val (Value lives.Int) f)
   decides : (peek : Option ℕ) (v : ValueType) (f h : flow.State) → is_tested v ≡ true → Implies f h → Waits p x q bs Decide [] (looked peek (read_value bs v)) f bs (Val (Value lives.Int) h)
