@@ -9,11 +9,11 @@ use Rattle.cyc_meaning.specs.Values as values
 use Rattle.cyc_meaning.specs.State.{Dynamic, new_region, Region, Unique, Object, heap_number, is_open}
 use Rattle.cyc_meaning.proofs.ListLemmas.{slice_get-end, slice_get-set_other}
 use Rattle.cyc_soundness.specs.Lives.{Life, OfRegion, OfObject, Never, Owned, Kept, RunTy, Int, Pointer, Handle, Key, Struct, RunValue, Void, Null, Value, Seen, Into}
-use Rattle.cyc_soundness.specs.Worlds.{IsAmong, first as newest, later as behind, OfLocal, ObjectType, Thing, KeyOf, PointerTo, Holder, Nobody, Hand, At, Lent, Typing, IsHeld, same_thing, thing_of, Owns, Claims, ClaimsPart, ClaimsBy, IsLookedAt, IsSlot, IsHere, IsHad, given, giving, marked, handing, AreOwned, IsUniqueObject, is_lent_by, lent_now, IsOpenIn, Stays, IsKnownLife, IsDynamic, IsFull, IsOwner, IsObject, IsTyped, Grows}
+use Rattle.cyc_soundness.specs.Worlds.{IsAmong, first as newest, later as behind, Slot, ObjectType, variable_type, Thing, KeyOf, PointerTo, Holder, Nobody, Hand, At, Lent, Typing, IsHeld, same_thing, thing_of, Owns, Claims, ClaimsPart, ClaimsBy, IsLookedAt, IsSlot, IsHere, IsHad, given, giving, marked, handing, AreOwned, IsUniqueObject, is_lent_by, lent_now, IsOpenIn, Stays, IsKnownLife, IsDynamic, IsFull, IsOwner, IsObject, IsTyped, Grows}
 use Rattle.cyc_soundness.specs.Frames.{InScope, Variable, Names, Instance, IsOfVariable, local_type, HoldsIts, IsFullIn, AreVariables, AreSet, Holds, KnowsProgram}
 use Rattle.cyc_soundness.specs.Classes.{Source}
 use Rattle.cyc_soundness.proofs.Numbers.{same_or_other, slice_get-set_same, some_same}
-use Rattle.cyc_soundness.proofs.WorldLemmas.{life_grown, object_grown, globals_grown, opened_typed, typed_beside}
+use Rattle.cyc_soundness.proofs.WorldLemmas.{typed_cell, life_grown, object_grown, globals_grown, opened_typed, typed_beside}
 
 -- ---- who has what
 
@@ -388,10 +388,15 @@ freed_typed g object i x regions objects has stands typed =
       | inr apart ↦ now.owned n u z here found (sym (slice_get-set_other objects object n gone apart) ∙ is)
     ]
 
--- what a variable of a local has is in hand for its reader: the value of its cell
-pub here_claims : (g : Typing) (regions : List Region) (objects : List Object) (object : ℕ) (t : ObjectType) (x : Object) → IsTyped g regions objects → g.here object ≡ true → slice_get g.objects object ≡ Some t → slice_get objects object ≡ Some x
-    → AreOwned g.own object t.cells x.cells
-here_claims g regions objects object t x typed here there stands = typed.owned object t x here there stands
+-- a variable that has what is in it has something
+pub here_claims : (g : Typing) (regions : List Region) (objects : List Object) (object : ℕ) (t : RunTy) (l : Life) (hidden : Bool) (s : Slot) → IsTyped g regions objects → g.here object ≡ true → slice_get g.objects object ≡ Some (variable_type t l hidden s) → IsFull g object
+    → (v : values.Value) × Claims g.own (At object) t v
+here_claims g regions objects object t l hidden s typed here there (m, flag, enough) =
+    let (x, k, stands, filled, is) = typed.each object (variable_type t l hidden s) there in
+    let c = typed_cell g (t ∷ []) x.cells k 0 t is.cells refl in
+    let same : m ≡ k = some_same m k (sym flag ∙ filled) in
+    let (v, content, has) = c.content (let less : 0 < k = omega (arith, same, enough) in less) in
+    (v, typed.owned object (variable_type t l hidden s) x here there stands 0 t c.cell v refl c.at content)
 
 -- ---- a call or a loan more or less
 
