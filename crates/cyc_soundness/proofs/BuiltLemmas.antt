@@ -3,6 +3,7 @@ use Rattle.std.proofs.Common.{◌≡◌, ℕ, suc, ◌+◌, true, false, List, [
 use Rattle.std.specs.Prelude.{Bool, ◌&&◌}
 use Rattle.std.specs.List.{list_all}
 use Rattle.cyc_types.specs.Types.{Ty}
+use Rattle.cyc_types.specs.Types as types
 use Rattle.cyc_types.specs.TypedTrees.{Expression, Number, NullPointer, Counter, Copy, Move, Peek, Load, AddressOfCell, NumberOfElements, FreeUnique, Call, Unary, Binary, Assign, Store, New, Dereference, Target, Member, Element, Placement, OnHeap, AsUnique, Initial, Plain, Fields, Array, Converted, Convert, Arguments, NoArguments, MoreArguments, Operations, NoOperations, ThenCompute, ThenTest, ThenPointer, ThenPointerPeek, Side, VariableSide, CellSide, Statement, Block, Empty, Evaluate, Swap, If, While, Return, Break, Continue, Throw, Try, Items, NoItems, MoreItems, Execute, Declare, Clauses, NoClauses, Default, Case, Function, Program}
 use Rattle.cyc_types.specs.Declarations.{declared_regions, item_regions}
 use Rattle.cyc_types.specs.Numbered.{argument_count}
@@ -10,7 +11,7 @@ use Rattle.cyc_types.specs.Built.{is_built_type, is_built_result, is_built_value
 use Rattle.cyc_types.specs.typing.WellTyped.{IsWellTypedProgram}
 use Rattle.cyc_types.specs.flow.Programs.{IsAllowedProgram}
 use Rattle.cyc_soundness.specs.Lives.{AsHeap}
-use Rattle.cyc_soundness.specs.Classes.{InExpression, InPlace, InPlacement, InInitial, InConverted, InArguments, InOperations, InValue, InThrown, InSide, InStatement, InItems, InClauses, InFunctions, IsOfTheHeap}
+use Rattle.cyc_soundness.specs.Classes.{LeadsToShared, InExpression, InPlace, InPlacement, InInitial, InConverted, InArguments, InOperations, InValue, InThrown, InSide, InStatement, InItems, InClauses, InFunctions, IsOfTheHeap}
 use Rattle.cyc_soundness.specs.Frees.{expression_frees_none, place_frees_none, placement_frees_none, initial_frees_none, converted_frees_none, arguments_free_none, operations_free_none, value_frees_none, thrown_frees_none, side_frees_none, statement_frees_none, items_free_none, clauses_free_none, function_frees_none, frees_no_object}
 use Rattle.cyc_soundness.specs.Sound.{IsSound}
 use Rattle.cyc_soundness.proofs.Numbers.{both_true}
@@ -30,6 +31,14 @@ placement_kept : (w : Placement) → is_built_placement w ≡ true → InPlaceme
 placement_kept OnHeap built = tt
 placement_kept AsUnique built = tt
 placement_kept w built = refused built
+
+-- read as the heap, all cells are shared
+leads_shared : (t : Ty) → LeadsToShared AsHeap t
+leads_shared types.Int = tt
+leads_shared (types.Pointer k t r) = tt
+leads_shared (types.Handle r) = tt
+leads_shared (types.Key r) = tt
+leads_shared (types.Struct n rs) = tt
 
 mutual
   expression_kept : (a : Expression) → is_built_expression a ≡ true → expression_frees_none a ≡ true → InExpression AsHeap [] a
@@ -54,7 +63,7 @@ mutual
       (place_kept d each.0 each.2, converted_kept c (both_true (is_built_converted c) (is_built_value_type t) each.1).0 each.3)
   expression_kept (New w i t) built frees =
       let each = halves (is_built_placement w) (is_built_initial i && is_built_type t) (placement_frees_none w) (initial_frees_none i) built frees in
-      (placement_kept w each.0, initial_kept i (both_true (is_built_initial i) (is_built_type t) each.1).0 each.3)
+      (leads_shared t, placement_kept w each.0, initial_kept i (both_true (is_built_initial i) (is_built_type t) each.1).0 each.3)
   expression_kept a built frees = refused built
 
   place_kept : (d : Dereference) → is_built_place d ≡ true → place_frees_none d ≡ true → InPlace AsHeap [] d
@@ -116,7 +125,7 @@ mutual
   statement_kept n (Evaluate a) built frees = expression_kept a built frees
   statement_kept n (Swap x y) built frees =
       let each = halves (is_built_side x) (is_built_side y) (side_frees_none x) (side_frees_none y) built frees in
-      (side_kept x each.0 each.2, side_kept y each.1 each.3)
+      (tt, side_kept x each.0 each.2, side_kept y each.1 each.3)
   statement_kept n (If a s t) built frees =
       let each = halves (is_built_expression a) (is_built_statement s && is_built_statement t) (expression_frees_none a) (statement_frees_none s && statement_frees_none t) built frees in
       let ways = halves (is_built_statement s) (is_built_statement t) (statement_frees_none s) (statement_frees_none t) each.1 each.3 in

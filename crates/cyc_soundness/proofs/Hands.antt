@@ -9,7 +9,7 @@ use Rattle.cyc_meaning.specs.Values as values
 use Rattle.cyc_meaning.specs.State.{Dynamic, new_region, Region, Unique, Object, heap_number, is_open}
 use Rattle.cyc_meaning.proofs.ListLemmas.{slice_get-end, slice_get-set_other}
 use Rattle.cyc_soundness.specs.Lives.{Life, OfRegion, OfObject, Never, Owned, Kept, RunTy, Int, Pointer, Handle, Key, Struct, RunValue, Void, Null, Value, Seen, Into}
-use Rattle.cyc_soundness.specs.Worlds.{IsAmong, first as newest, later as behind, Slot, ObjectType, variable_type, Thing, KeyOf, PointerTo, Holder, Nobody, Hand, At, Lent, Typing, IsHeld, same_thing, thing_of, Owns, Claims, ClaimsPart, ClaimsBy, IsLookedAt, IsSlot, IsHere, IsHad, given, giving, marked, handing, AreOwned, IsUniqueObject, is_lent_by, lent_now, IsOpenIn, Stays, IsKnownLife, IsDynamic, IsFull, IsOwner, IsObject, IsTyped, Grows}
+use Rattle.cyc_soundness.specs.Worlds.{IsAmong, first as newest, later as behind, Slot, ObjectType, variable_type, Thing, KeyOf, PointerTo, Holder, Nobody, Hand, At, Lent, Typing, IsHeld, same_thing, thing_of, Owns, Claims, ClaimsPart, ClaimsBy, ClaimsAlone, IsLookedAt, IsSlot, IsHere, IsHad, given, giving, marked, handing, AreOwned, IsUniqueObject, is_lent_by, lent_now, IsOpenIn, Stays, IsKnownLife, IsDynamic, IsFull, IsOwner, IsObject, IsTyped, Grows}
 use Rattle.cyc_soundness.specs.Frames.{InScope, Variable, Names, Instance, IsOfVariable, local_type, HoldsIts, IsFullIn, AreVariables, AreSet, Holds, KnowsProgram}
 use Rattle.cyc_soundness.specs.Classes.{Source}
 use Rattle.cyc_soundness.proofs.Numbers.{same_or_other, slice_get-set_same, some_same}
@@ -160,6 +160,13 @@ module _ (old : Holder) (g h : Typing) (changed : Changed old g h) where
   pub part_kept : (i : ℕ) (peek : Option ℕ) (o : Option Thing) → Hand i ≢ old → ((n object : ℕ) → peek ≡ Some n → IsHere g g.depth n object → At object ≢ old) → ClaimsPart g i peek o → ClaimsPart h i peek o
   part_kept i None o apart other is = owns_kept (Hand i) o apart is
   part_kept i (Some n) o apart other is = looked_kept n o (λ object. other n object refl) is
+
+  pub alone_kept : (i : ℕ) (r : RunValue) (v : values.Value) → Hand i ≢ old → ClaimsAlone g.own i r v → ClaimsAlone h.own i r v
+  alone_kept i (Value t) v apart is = claims_kept (Hand i) t v apart is
+  alone_kept i (Into peek t) v apart is = is
+  alone_kept i Void v apart is = tt
+  alone_kept i Null v apart is = tt
+  alone_kept i (Seen t) v apart is = tt
 
   lent_kept : (region : ℕ) → is_lent_by g.loans old ≡ false → lent_now g region ≡ true → lent_now h region ≡ true
   lent_kept region none e =
@@ -397,6 +404,13 @@ here_claims g regions objects object t l hidden s typed here there (m, flag, eno
     let same : m ≡ k = some_same m k (sym flag ∙ filled) in
     let (v, content, has) = c.content (let less : 0 < k = omega (arith, same, enough) in less) in
     (v, typed.owned object (variable_type t l hidden s) x here there stands 0 t c.cell v refl c.at content)
+
+pub alone_comes : (g : Typing) (i : ℕ) (r : RunValue) (v : values.Value) → ClaimsAlone g.own i r v → ClaimsBy g i r v
+alone_comes g i (Value t) v is = is
+alone_comes g i (Into peek t) v is = absurd is
+alone_comes g i Void v is = tt
+alone_comes g i Null v is = tt
+alone_comes g i (Seen t) v is = tt
 
 -- ---- a call or a loan more or less
 

@@ -32,7 +32,7 @@ use Rattle.cyc_meaning.proofs.ListLemmas.{slice_get-end}
 use Rattle.cyc_meaning.proofs.NestingLemmas.{home_found}
 use Rattle.cyc_soundness.specs.Lives.{Life, OfRegion, OfObject, Never, Kept, Reading, Lives, at, AsHeap, ByScope, RunTy, RunValue, Value, kind_at}
 use Rattle.cyc_soundness.specs.Lives as lives
-use Rattle.cyc_soundness.specs.Worlds.{OfLocal, Thing, Holder, Hand, At, pointer_at, thing_of, Owns, Claims, ClaimsBy, IsHere, giving, marked, AreOwned, IsOpenIn, ObjectType, IsKnownLife, IsNumber, IsOwner, Typing, IsFilled, variable_type, HasType, IsResult, AreCells, IsObject, IsTyped, Grows}
+use Rattle.cyc_soundness.specs.Worlds.{OfLocal, Thing, Holder, Hand, At, pointer_at, thing_of, Owns, Claims, ClaimsBy, ClaimsAlone, IsHere, giving, marked, AreOwned, IsOpenIn, ObjectType, IsKnownLife, IsNumber, IsOwner, Typing, IsFilled, variable_type, HasType, IsResult, AreCells, IsObject, IsTyped, Grows}
 use Rattle.cyc_soundness.specs.Worlds.{given as given_to}
 use Rattle.cyc_soundness.specs.Frames.{later, Bound, InScope, Variable, Level, life_named, lives_in, read, read_value, IsThere, IsHomed, AreBelow, IsBound, AreVariables, IsLasting, home_in, LiveIn, Within, itself, older, Holds, Implies, LoopExit, Exits, IsHome, IsContext, KnowsProgram}
 use Rattle.cyc_soundness.specs.Stacks.{Executes, Continues, IsLoop, Repeats, IsArray, IsNew, Want, Val, Go, operands_in, Comes, Keeps, inside, Waits, IsReturn, IsStack, IsFocus, IsWell, relied_at}
@@ -340,7 +340,7 @@ module _ (p : Source) (g : Typing) (x : Exits) (bs : List InScope) (e : Environm
       let (b, at_zero) = zero_is g (lives_in bs) s v loop.tested (looked_result g seen (read_value bs s) v is) in
       subst (λ z. IsWell p (looped z condition body k e w)) (sym at_zero) (looped_on b condition body k l s f h live holds loop stack)
   given v k nests live holds is comes (stacks.returns t u f h result gives_so) are stack =
-      on (Returning (Some v)) k live (h, subst (λ z. IsReturn g (operands_in k) z x.gives (Some v)) (sym result) (subst (λ z. IsResult g z v) gives_so is, subst (λ z. ClaimsBy g (operands_in k) z v.value) gives_so (comes_alone g k (Value u) v.value comes)), stack)
+      on (Returning (Some v)) k live (h, subst (λ z. IsReturn g (operands_in k) z x.gives (Some v)) (sym result) (subst (λ z. IsResult g z v) gives_so is, subst (λ z. ClaimsAlone g.own (operands_in k) z v.value) gives_so (comes_alone g k (Value u) v.value comes)), stack)
   given v k nests live holds is comes (stacks.frees_object m t f) are stack = frees_on p g x bs e w typed globals bound variables m t v.value k f live holds is.1 (comes_alone g k (Value (lives.Pointer m t lives.Owned)) v.value comes) stack
   given v k nests live holds is comes (stacks.closes_by_key r f) are stack = closes_on p g x bs e w typed globals bound variables v.value k r f live holds is.1 (comes_alone g k (Value (lives.Key (lives_in bs r))) v.value comes) stack
   given v k nests live holds is comes (stacks.throws {tag} f h) are stack = thrown_on tag v.value k h live is.1 stack

@@ -299,6 +299,12 @@ ClaimsBy g i (Value t) v = Claims g.own (Hand i) t v
 ClaimsBy g i (Into peek t) v = ClaimsPart g i peek (thing_of t v)
 ClaimsBy g i r v = Unit {0}
 
+-- also where a call is left
+abbrev pub ClaimsAlone : (own : Thing → Holder) → (hand : ℕ) → RunValue → values.Value → Type 0
+ClaimsAlone own i (Value t) v = Claims own (Hand i) t v
+ClaimsAlone own i (Into peek t) v = ⊥
+ClaimsAlone own i r v = Unit {0}
+
 -- each cell's value is this object's
 abbrev pub AreOwned : (own : Thing → Holder) → (object : ℕ) → List RunTy → List Cell → Type 0
 AreOwned own object ts cs = (i : ℕ) (t : RunTy) (c : Cell) (v : values.Value) → slice_get ts i ≡ Some t → slice_get cs i ≡ Some c → c.content ≡ Some v → Claims own (At object) t v
