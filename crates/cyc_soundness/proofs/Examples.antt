@@ -104,7 +104,7 @@ fields : Ends (check_of texts (
     (MoreItems (Execute (Evaluate (Assign (field 4) (New (at 10) (Plain (Number (at 11) 3))))))
     (MoreItems (Execute (Return (at 12) (Some (plus (field 3) (Prefixed (at 13) prefixes.Dereference (field 4)))))) NoItems)))
     ∷ [])) (HasEnded (Returned (pos 7)))
-fields = (refl, ((tt, (tt, (tt, (tt, tt))), ((tt, (tt, tt)), ((tt, (tt, tt)), tt))), tt), refl)
+fields = (refl, ((tt, (tt, tt, (tt, (tt, tt))), ((tt, (tt, tt, tt)), ((tt, (tt, tt)), tt))), tt), refl)
 
 -- int main(){ int ?p = new {for i < 3 : i * i}; return p[2] + numelts(p + 1); }
 elements : Ends (check_of texts (
@@ -112,7 +112,7 @@ elements : Ends (check_of texts (
     MoreItems (Local (written Int (marks.Fat ∷ [])) (named 2 5) (Some (New (at 6) (Array (at 7) (named 5 8) (Number (at 9) 3) (Binary (Variable (named 5 10)) (ThenOperation operators.Multiply (at 11) (Variable (named 5 12)) NoOperations))))))
     (MoreItems (Execute (Return (at 13) (Some (plus (Chained (Variable (named 2 14)) (ThenIndex (Number (at 15) 2) NoPostfixes)) (NumberOfElements (at 16) (plus (Variable (named 2 17)) (Number (at 18) 1))))))) NoItems))
     ∷ [])) (HasEnded (Returned (pos 6)))
-elements = (refl, ((tt, (tt, (tt, (tt, (tt, tt)))), (((tt, tt), ((tt, (tt, tt)), tt)), tt)), tt), refl)
+elements = (refl, ((tt, (tt, tt, (tt, (tt, (tt, tt)))), (((tt, tt), ((tt, (tt, tt)), tt)), tt)), tt), refl)
 
 -- struct S { int x; int n; }; int main(){ struct S @p = new S{1, 5}; p->x :=: p->n; return p->x; }
 swapped : Ends (check_of texts (
@@ -122,7 +122,7 @@ swapped : Ends (check_of texts (
     (MoreItems (Execute (Swap (field 3) (field 4)))
     (MoreItems (Execute (Return (at 12) (Some (field 3)))) NoItems)))
     ∷ [])) (HasEnded (Returned (pos 5)))
-swapped = (refl, ((tt, (tt, (tt, (tt, tt))), ((tt, tt), (tt, tt))), tt), refl)
+swapped = (refl, ((tt, (tt, tt, (tt, (tt, tt))), ((tt, tt, tt), (tt, tt))), tt), refl)
 
 -- int main(){ int @`U p = rnew(unique_region) 5; return *p; }
 unique : Ends (check_of texts (
@@ -130,7 +130,7 @@ unique : Ends (check_of texts (
     MoreItems (Local (into 6) (named 2 5) (Some (RegionNew (at 6) (UniqueRegion (at 7)) (Plain (Number (at 8) 5)))))
     (MoreItems (Execute (Return (at 9) (Some (Prefixed (at 10) prefixes.Dereference (Variable (named 2 11)))))) NoItems))
     ∷ [])) (HasEnded (Returned (pos 5)))
-unique = (refl, ((tt, (tt, tt), (tt, tt)), tt), refl)
+unique = (refl, ((tt, (tt, tt, tt), (tt, tt)), tt), refl)
 
 -- int main(){ int *p = NULL; try return *p; catch { default: return 9; } }
 caught : Ends (check_of texts (
@@ -157,7 +157,7 @@ by_handle : Ends (check_of texts (
     (MoreItems (Execute (Return (at 9) (Some (Prefixed (at 10) prefixes.Dereference (Variable (named 2 11)))))) NoItems)) (at 12))
     ∷ main (MoreItems (Execute (Return (at 13) (Some (Call (named 7 14) (MoreExpressions (HeapRegion (at 15)) NoExpressions))))) NoItems)
     ∷ [])) (HasEnded (Returned (pos 6)))
-by_handle = (refl, ((tt, (tt, tt), (tt, tt)), (((tt, tt), tt), tt)), refl)
+by_handle = (refl, ((tt, (tt, tt, tt), (tt, tt)), (((tt, tt), tt), tt)), refl)
 
 -- ---- texts that are built
 
@@ -261,7 +261,7 @@ lexical : EndsByScope (check_of texts (
     (returned (behind 2))) (at 12))
     ∷ main (MoreItems (Region (named 8 13) (named 9 14) None) (returned (Call (named 7 15) (MoreExpressions (Variable (named 9 16)) NoExpressions))))
     ∷ [])) (HasEnded (Returned (pos 6)))
-lexical = (refl, ((((tt, less 1), (tt, tt), (tt, tt)), ((tt, ((tt, tt), tt)), tt)), tt, tt), refl)
+lexical = (refl, ((((tt, less 1), (tt, tt, tt), (tt, tt)), ((tt, ((tt, tt), tt)), tt)), tt, tt), refl)
 
 -- int main(){ int n = 0; while (n < 6) { region<`r> h; int @p = rnew(h) 3; n = n + *p; } return n; }
 opened_again : EndsByScope (check_of texts (
@@ -274,7 +274,7 @@ opened_again : EndsByScope (check_of texts (
     (returned (Variable (named 4 21)))))
     ∷ [])) (HasEnded (Returned (pos 6)))
 unfolding slt_of
-opened_again = (refl, (((tt, tt, (((tt, (tt, tt)), (tt, ((tt, less 2), (tt, tt), ((tt, (tt, tt)), tt)))), (tt, tt))), tt), tt, tt), refl)
+opened_again = (refl, (((tt, tt, (((tt, (tt, tt)), (tt, ((tt, less 2), (tt, tt, tt), ((tt, (tt, tt)), tt)))), (tt, tt))), tt), tt, tt), refl)
 
 -- int main(){ try { region<`r> h; int *p = NULL; return *p; } catch { default: return 9; } }
 left_by_exception : EndsByScope (check_of texts (
@@ -309,7 +309,7 @@ opened_twice : EndsWithLoans (check_of texts (
     (block (opened (assigned (Variable (named 2 9)) (RegionNew (at 10) (Variable (named 9 11)) (Plain (Number (at 12) 4))) NoItems))
     (block (opened (returned (behind 2))) NoItems))))
     ∷ [])) (HasEnded (Returned (pos 4)))
-opened_twice = (refl, (((refl, ((tt, less 1), tt, ((refl, tt, ((tt, tt), tt)), ((refl, tt, (tt, tt)), tt)))), tt), tt, tt), refl)
+opened_twice = (refl, (((refl, ((tt, less 1), tt, ((refl, tt, ((tt, tt, tt), tt)), ((refl, tt, (tt, tt)), tt)))), tt), tt, tt), refl)
 
 -- int main(){ int @`U p = rnew(unique_region) 5; { let alias <`r> int @`r x = p; *x = *x + 1; } return *p; }
 shared : EndsWithLoans (check_of texts (
@@ -318,7 +318,7 @@ shared : EndsWithLoans (check_of texts (
     (block (MoreItems (Alias (named 8 9) (into 8) (named 3 10) (named 2 11)) (assigned (behind 3) (plus (behind 3) (Number (at 12) 1)) NoItems))
     (returned (behind 2))))
     ∷ [])) (HasEnded (Returned (pos 6)))
-shared = (refl, ((((tt, tt), (tt, tt), (((refl, refl), tt, ((tt, (tt, (tt, tt))), tt)), (tt, tt))), tt), tt, tt), refl)
+shared = (refl, ((((tt, tt), (tt, tt, tt), (((refl, refl), tt, ((tt, (tt, (tt, tt))), tt)), (tt, tt))), tt), tt, tt), refl)
 
 -- int main(){ let NewDynamicRegion{<`r> i} = new_ukey(); while (1) { region<`r> h = open(i); break; } { region<`r> h = open(i); int @`r p = rnew(h) 3; return *p; } }
 left_by_break : EndsWithLoans (check_of texts (
@@ -327,7 +327,7 @@ left_by_break : EndsWithLoans (check_of texts (
     MoreItems (Execute (While (at 7) (Number (at 8) 1) (Block (Braces (at 9) (opened (MoreItems (Execute (Break (at 10))) NoItems)) (at 11)))))
     (block (opened (MoreItems (Local (into 8) (named 2 12) (Some (RegionNew (at 13) (Variable (named 9 14)) (Plain (Number (at 15) 3))))) (returned (behind 2)))) NoItems)))
     ∷ [])) (HasEnded (Returned (pos 3)))
-left_by_break = (refl, (((refl, ((tt, (refl, tt, (tt, tt))), ((refl, tt, ((tt, (let few : 1 < 4 = omega arith in few)), (tt, tt), (tt, tt))), tt))), tt), tt, tt), refl)
+left_by_break = (refl, (((refl, ((tt, (refl, tt, (tt, tt))), ((refl, tt, ((tt, (let few : 1 < 4 = omega arith in few)), (tt, tt, tt), (tt, tt))), tt))), tt), tt, tt), refl)
 
 -- int f(region_key_t<`r> i){ region<`r> h = open(i); int *p = NULL; return *p; } int main(){ let NewDynamicRegion{<`r> i} = new_ukey(); try return f(i); catch { default: return 8; } }
 left_by_exception_in_a_call : EndsWithLoans (check_of texts (
@@ -349,7 +349,7 @@ given_back : EndsWithLoans (check_of texts (
     block (opened (MoreItems (Local (into 8) (named 2 7) (Some (RegionNew (at 8) (Variable (named 9 9)) (Plain (Number (at 10) 4))))) NoItems))
     (freed (returned (Number (at 11) 3)))))
     ∷ [])) (HasEnded (Returned (pos 3)))
-given_back = (refl, (((refl, ((refl, tt, ((tt, (let few : 1 < 3 = omega arith in few)), (tt, tt), tt)), ((refl, tt), (tt, tt)))), tt), tt, tt), refl)
+given_back = (refl, (((refl, ((refl, tt, ((tt, (let few : 1 < 3 = omega arith in few)), (tt, tt, tt), tt)), ((refl, tt), (tt, tt)))), tt), tt, tt), refl)
 
 -- int f(region_key_t<`r> i){ free_ukey(i); return 2; } int main(){ let NewDynamicRegion{<`r> i} = new_ukey(); return f(i); }
 given_back_by_a_call : EndsWithLoans (check_of texts (
@@ -381,4 +381,4 @@ given_back_in_a_loop : EndsWithLoans (check_of texts (
     ∷ [])) (HasEnded (Returned (pos 6)))
 unfolding slt_of
 given_back_in_a_loop =
-    (refl, (((tt, tt, (((tt, (tt, tt)), (refl, ((refl, tt, ((tt, (let few : 2 < 4 = omega arith in few)), (tt, tt), ((tt, (tt, tt)), tt))), ((refl, tt), tt)))), (tt, tt))), tt), tt, tt), refl)
+    (refl, (((tt, tt, (((tt, (tt, tt)), (refl, ((refl, tt, ((tt, (let few : 2 < 4 = omega arith in few)), (tt, tt, tt), ((tt, (tt, tt)), tt))), ((refl, tt), tt)))), (tt, tt))), tt), tt, tt), refl)

@@ -15,7 +15,7 @@ ghost use Rattle.cyc_soundness.specs.Lives.{RunTy, Lives, at, value_at};
 ghost use Rattle.cyc_soundness.specs.Worlds.{Typing, AgreesWith, HasType, IsResult, Fits, Grows, Stays};
 ghost use Rattle.cyc_soundness.specs.Frames.{InScope, Exits};
 ghost use Rattle.cyc_soundness.specs.Stacks.{Want, IsStack};
-ghost use Rattle.cyc_soundness.specs.Classes.{IsOfTheHeap, IsOfScopes, FreesNoObject, Source};
+ghost use Rattle.cyc_soundness.specs.Classes.{IsOfTheHeap, IsOfScopes, FreesNoObject, FreesLocals, Source};
 ghost use Rattle.cyc_soundness.specs.Frees.{frees_no_object};
 ghost use Rattle.cyc_soundness.specs.Sound.{IsSound};
 
@@ -52,6 +52,13 @@ pub fn scoped_programs_are_sound()
 /// aliases share what unique pointers lead to, to the end of a block.
 pub fn programs_that_free_no_object_are_sound()
     ensures { (p : Program) → IsWellTypedProgram p → IsAllowedProgram p → FreesNoObject p → IsSound p }
+{}
+
+/// No run of a program is ever dead or wrong that gives back unique objects, where the typing rules and the flow rules accept
+/// it, if the pointers to them are in locals, arguments and results alone. What is given back is reached by nobody then, as
+/// no other has the pointer to it.
+pub fn programs_that_free_what_locals_have_are_sound()
+    ensures { (p : Program) → IsWellTypedProgram p → IsAllowedProgram p → FreesLocals p → IsSound p }
 {}
 
 /// No run of a program that is built and gives no object back is ever dead or wrong, where the typing rules and the flow rules
