@@ -25,6 +25,8 @@ mod Unwinding
 pub mod Whole
 -- what is built
 mod BuiltLemmas
+-- what is computed of a program that gives objects back
+pub mod FreesLemmas
 -- texts, and programs that the rules accept and refuse
 mod Examples
 mod LaterRegions

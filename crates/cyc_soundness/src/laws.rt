@@ -17,6 +17,7 @@ ghost use Rattle.cyc_soundness.specs.Frames.{InScope, Exits};
 ghost use Rattle.cyc_soundness.specs.Stacks.{Want, IsStack};
 ghost use Rattle.cyc_soundness.specs.Classes.{IsOfTheHeap, IsOfScopes, FreesNoObject, FreesLocals, Source};
 ghost use Rattle.cyc_soundness.specs.Frees.{frees_no_object};
+ghost use Rattle.cyc_soundness.specs.FreesLocals.{frees_locals};
 ghost use Rattle.cyc_soundness.specs.Sound.{IsSound};
 
 /// What is known of a world only grows, and what was typed stays so: a value keeps its type for good, and a control stack
@@ -56,9 +57,10 @@ pub fn programs_that_free_no_object_are_sound()
 
 /// No run of a program is ever dead or wrong that gives back unique objects, where the typing rules and the flow rules accept
 /// it, if the pointers to them are in locals, arguments and results alone. What is given back is reached by nobody then, as
-/// no other has the pointer to it.
+/// no other has the pointer to it. Which programs these are is computed.
 pub fn programs_that_free_what_locals_have_are_sound()
-    ensures { (p : Program) → IsWellTypedProgram p → IsAllowedProgram p → FreesLocals p → IsSound p }
+    ensures class { (p : Program) → IsWellTypedProgram p → IsAllowedProgram p → FreesLocals p → IsSound p }
+    ensures computed { (p : Program) → IsWellTypedProgram p → IsAllowedProgram p → frees_locals p ≡ true → IsSound p }
 {}
 
 /// No run of a program that is built and gives no object back is ever dead or wrong, where the typing rules and the flow rules
