@@ -23,9 +23,11 @@ use Rattle.cyc_meaning.specs.State.{Status, HasEnded, status_of}
 use Rattle.cyc_meaning.specs.Run.{run}
 use Rattle.cyc_soundness.specs.Classes.{IsOfTheHeap, IsOfScopes, FreesNoObject}
 use Rattle.cyc_soundness.specs.Frees.{frees_no_object}
+use Rattle.cyc_soundness.specs.FreesLocals.{frees_locals}
 use Rattle.cyc_soundness.specs.Sound.{IsSound}
 use Rattle.cyc_soundness.proofs.Whole.{heap_sound, lending_sound, scopes_sound}
 use Rattle.cyc_soundness.proofs.BuiltLemmas.{built_sound}
+use Rattle.cyc_soundness.proofs.FreesLemmas.{locals_freed_sound}
 
 -- ---- what is said of a text
 
@@ -161,16 +163,20 @@ by_handle = (refl, ((tt, (tt, tt, tt), (tt, tt)), (((tt, tt), tt), tt)), refl)
 
 -- ---- texts that are built
 
--- what is built and gives no object back, and what is built and has an `ufree`
+-- what is built and gives no object back, and what is built and gives back what locals have
 abbrev KeepsObjects : typed.Program → Type 0
 KeepsObjects p = (is_built p ≡ true) × (frees_no_object p ≡ true)
 
 abbrev FreesObjects : typed.Program → Type 0
-FreesObjects p = (is_built p ≡ true) × (frees_no_object p ≡ false)
+FreesObjects p = (is_built p ≡ true) × (frees_locals p ≡ true)
 
 pub never_dead_built : (texts : List (List ℕ)) (tree : List Declaration) (s : Status) → EndsIn KeepsObjects (check_of texts tree) s
     → (p : typed.Program) × IsTypedProgram texts tree p × IsSound p × (status_of (run p [] 200) ≡ s)
 never_dead_built texts tree s ends = never_dead_in KeepsObjects (λ p well allowed kept. built_sound p well allowed kept.0 kept.1) texts tree s ends
+
+pub never_dead_freeing : (texts : List (List ℕ)) (tree : List Declaration) (s : Status) → EndsIn FreesObjects (check_of texts tree) s
+    → (p : typed.Program) × IsTypedProgram texts tree p × IsSound p × (status_of (run p [] 200) ≡ s)
+never_dead_freeing texts tree s ends = never_dead_in FreesObjects (λ p well allowed kept. locals_freed_sound p well allowed kept.1) texts tree s ends
 
 -- int main(){ int @`U p = rnew(unique_region) 5; int ?n = new {for i < 3 : i * i}; *p :=: n[2]; return *p + numelts(n); }
 objects_kept : EndsIn KeepsObjects (check_of texts (
@@ -204,6 +210,41 @@ freed_in_a_clause : EndsIn FreesObjects (check_of texts (
     NoItems))
     ∷ [])) (HasEnded (Returned (pos 9)))
 freed_in_a_clause = (refl, (refl, refl), refl)
+
+-- int f(int @`U p){ int x = *p; ufree(p); return x; } int main(){ return f(rnew(unique_region) 3); }
+freed_by_a_call : EndsIn FreesObjects (check_of texts (
+    Function (Some (written Int [])) (named 7 1) (record { list = Listed (record { of_type = into 6; name = named 2 3 } ∷ []); effect = None; constraints = [] }) (Braces (at 4) (
+    MoreItems (Local (written Int []) (named 3 5) (Some (Prefixed (at 6) prefixes.Dereference (Variable (named 2 7)))))
+    (MoreItems (Execute (Evaluate (FreeUnique (at 8) (Variable (named 2 9)))))
+    (MoreItems (Execute (Return (at 10) (Some (Variable (named 3 11))))) NoItems))) (at 12))
+    ∷ main (MoreItems (Execute (Return (at 14) (Some (Call (named 7 15) (MoreExpressions (RegionNew (at 16) (UniqueRegion (at 17)) (Plain (Number (at 18) 3))) NoExpressions))))) NoItems)
+    ∷ [])) (HasEnded (Returned (pos 3)))
+freed_by_a_call = (refl, (refl, refl), refl)
+
+-- int main(){ int ?`U p = rnew(unique_region) {for i < 3 : i * i}; int x = p[2]; p[x - 3] = 1; ufree(p); return x; }
+elements_freed : EndsIn FreesObjects (check_of texts (
+    main (
+    MoreItems (Local (record { place = at 1; base = Int; marks = record { kind = marks.Fat; region = Some (named 6 3) } ∷ [] }) (named 2 5) (Some (RegionNew (at 6) (UniqueRegion (at 7))
+    (Array (at 8) (named 5 9) (Number (at 10) 3) (Binary (Variable (named 5 11)) (ThenOperation operators.Multiply (at 12) (Variable (named 5 13)) NoOperations))))))
+    (MoreItems (Local (written Int []) (named 3 14) (Some (Chained (Variable (named 2 15)) (ThenIndex (Number (at 16) 2) NoPostfixes))))
+    (MoreItems (Execute (Evaluate (Assign (Chained (Variable (named 2 17)) (ThenIndex (Binary (Variable (named 3 18)) (ThenOperation operators.Subtract (at 19) (Number (at 20) 3) NoOperations)) NoPostfixes)) (Number (at 21) 1))))
+    (MoreItems (Execute (Evaluate (FreeUnique (at 22) (Variable (named 2 23)))))
+    (MoreItems (Execute (Return (at 24) (Some (Variable (named 3 25))))) NoItems)))))
+    ∷ [])) (HasEnded (Returned (pos 4)))
+elements_freed = (refl, (refl, refl), refl)
+
+-- int main(){ int n = 0; while (n < 6) { int @`U p = rnew(unique_region) 3; n = n + *p; ufree(p); } return n; }
+freed_in_a_loop : EndsIn FreesObjects (check_of texts (
+    main (
+    MoreItems (Local (written Int []) (named 4 5) (Some (Number (at 6) 0)))
+    (MoreItems (Execute (While (at 7) (Binary (Variable (named 4 8)) (ThenOperation operators.Less (at 9) (Number (at 10) 6) NoOperations)) (Block (Braces (at 11) (
+    MoreItems (Local (into 6) (named 2 12) (Some (RegionNew (at 13) (UniqueRegion (at 14)) (Plain (Number (at 15) 3)))))
+    (MoreItems (Execute (Evaluate (Assign (Variable (named 4 16)) (plus (Variable (named 4 17)) (Prefixed (at 18) prefixes.Dereference (Variable (named 2 19)))))))
+    (MoreItems (Execute (Evaluate (FreeUnique (at 20) (Variable (named 2 21))))) NoItems))) (at 22)))))
+    (MoreItems (Execute (Return (at 23) (Some (Variable (named 4 24))))) NoItems)))
+    ∷ [])) (HasEnded (Returned (pos 6)))
+unfolding slt_of
+freed_in_a_loop = (refl, (refl, refl), refl)
 
 -- ---- texts of the class by scope
 
