@@ -575,15 +575,15 @@ module _ (p : Source) where
           (
             Val (read_value bs (assigned_type v)) h,
             subst (λ o. stacks.WaitsPlace p x (relied_at x.relied k) bs (StoreTo (peeked d) (Convert from to a)) o (read bs v) (lives_in bs r) f1 (Val (read_value bs (assigned_type v)) h)) (peeked_so d)
-            (stacks.stores_to c s v r f1 h (there_of p x bs c stands r (cell_live c d v r cell)) stands (λ reached. (
-              record {
-                waiting = and_peeked (peek_behind d) q;
-                typed = inl well;
-                flows = dc;
-                kept = subst (λ o. InExpression p.reading (and_looked o (relied_at x.relied k)) a) (sym (peeked_so d)) (looked_converted p.reading (relied_at x.relied k) (peek_behind d) (Convert from to a) q f1 h reached dc kc);
-              },
-              refl,
-            )) conv from_is to_is),
+                (stacks.stores_to c s v r f1 h (there_of p x bs c stands r (cell_live c d v r cell)) stands (λ reached. (
+                  record {
+                    waiting = and_peeked (peek_behind d) q;
+                    typed = inl well;
+                    flows = dc;
+                    kept = subst (λ o. InExpression p.reading (and_looked o (relied_at x.relied k)) a) (sym (peeked_so d)) (looked_converted p.reading (relied_at x.relied k) (peek_behind d) (Convert from to a) q f1 h reached dc kc);
+                  },
+                  refl,
+                )) conv from_is to_is),
             tt,
             subst (λ z. IsStack p g x bs (Val (read_value bs z) h) k) (same ∙ gives_u) stack,
           ),
@@ -648,9 +648,23 @@ module _ (p : Source) where
     null_on {o} peek kind value b os k c v w' f f1 live kind_is value_is stands holds op evaluates stack =
         subst (λ z. IsWell p (Running (Evaluating b) (Needs (ApplyPointer peek o (record { kind = z; value = value })) ∷ Needs (Chain os) ∷ k) e w)) (sym kind_is)
         (subst (λ z. IsWell p (Running (Evaluating b) (Needs (ApplyPointer peek o (record { kind = kinds.Nullable; value = z })) ∷ Needs (Chain os) ∷ k) e w)) (sym value_is)
-        (on (Evaluating b) (Needs (ApplyPointer peek o null) ∷ Needs (Chain os) ∷ k) live
-        (c, v, f, f1, stands, holds, evaluates, (lives.Pointer marks.Nullable lives.Int heap_life ∷ [], bs, Val (read_value bs w') f1, stacks.null_points (stacks.seen_by b evaluates.typed) c v w' f1 op,
-        (((refl, tt), tt), part_none g (stacks.operands_in (Needs (Chain os) ∷ k)) peek), stack))))
+        (on (Evaluating b) (Needs (ApplyPointer peek o null) ∷ Needs (Chain os) ∷ k) live (
+          c,
+          v,
+          f,
+          f1,
+          stands,
+          holds,
+          evaluates,
+          (
+            lives.Pointer marks.Nullable lives.Int heap_life ∷ [],
+            bs,
+            Val (read_value bs w') f1,
+            stacks.null_points (stacks.seen_by b evaluates.typed) c v w' f1 op,
+            (((refl, tt), tt), part_none g (stacks.operands_in (Needs (Chain os) ∷ k)) peek),
+            stack,
+          ),
+        )))
 
     pointed : (o : PointerOperator) (peek : Option ℕ) (left : Operand) (b : Expression) (os : Operations) (k : List Entry) (c : Context) (s v w' : ValueType) (f f1 : flow.State) → LiveIn k bs → IsContext p x bs c → Holds g f bs
         → IsResult g (read_value bs s) left → ((t : Ty) → s ≡ types.Value t → ClaimsPart g (0 + stacks.operands_in k) peek (thing_of (read bs t) left.value)) → PointerOperation c o s v w' → Evaluates p.reading (and_looked peek (relied_at x.relied k)) c b f v f1

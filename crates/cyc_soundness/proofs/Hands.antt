@@ -8,8 +8,8 @@ use Rattle.cyc_meaning.specs.Values.{Operand}
 use Rattle.cyc_meaning.specs.Values as values
 use Rattle.cyc_meaning.specs.State.{Dynamic, new_region, Region, Unique, Object, heap_number, is_open}
 use Rattle.cyc_meaning.proofs.ListLemmas.{slice_get-end, slice_get-set_other}
-use Rattle.cyc_soundness.specs.Lives.{Life, OfRegion, OfObject, Never, Owned, Kept, RunTy, Int, Pointer, Handle, Key, Struct, RunValue, Void, Null, Value, Seen, Into}
-use Rattle.cyc_soundness.specs.Worlds.{IsAmong, first as newest, later as behind, Slot, ObjectType, variable_type, Thing, KeyOf, PointerTo, Holder, Nobody, Hand, At, Lent, Typing, IsHeld, same_thing, thing_of, Owns, Claims, ClaimsPart, ClaimsBy, ClaimsAlone, IsLookedAt, IsSlot, IsHere, IsHad, given, giving, marked, handing, AreOwned, IsUniqueObject, is_lent_by, lent_now, IsOpenIn, Stays, IsKnownLife, IsDynamic, IsFull, IsOwner, IsObject, IsTyped, Grows}
+use Rattle.cyc_soundness.specs.Lives.{Life, OfRegion, OfObject, Never, Owned, Kept, RunTy, RunValue, Void, Null, Value, Seen, Into}
+use Rattle.cyc_soundness.specs.Worlds.{IsAmong, first as newest, later as behind, Slot, ObjectType, variable_type, Thing, KeyOf, PointerTo, Holder, Nobody, Hand, At, Lent, Typing, IsHeld, same_thing, thing_of, Owns, Claims, ClaimsPart, ClaimsBy, ClaimsAlone, IsLookedAt, IsSlot, IsHere, given, giving, marked, handing, AreOwned, IsUniqueObject, is_lent_by, lent_now, IsOpenIn, Stays, IsDynamic, IsFull, IsOwner, IsObject, IsTyped, Grows}
 use Rattle.cyc_soundness.specs.Frames.{InScope, Variable, Names, Instance, IsOfVariable, local_type, HoldsIts, IsFullIn, AreVariables, AreSet, Holds, KnowsProgram}
 use Rattle.cyc_soundness.specs.Classes.{Source}
 use Rattle.cyc_soundness.proofs.Numbers.{same_or_other, slice_get-set_same, some_same}
@@ -376,8 +376,8 @@ freed_typed g object i x regions objects has stands typed =
         subst (λ k. slice_get (set objects object gone) k ≡ Some gone) (sym same) gone_there,
         flag,
         (let type_is : t ≡ u = some_same t u (sym there ∙ ap (λ k. slice_get g.objects k) (sym same) ∙ found) in
-        let same_z : z ≡ x = some_same z x (sym at ∙ ap (λ k. slice_get objects k) same ∙ stands) in
-        gone_is m u x (ap (λ (k : ObjectType). k.life) (sym type_is) ∙ life) (subst (λ k. IsObject h m u k) same_z is)),
+            let same_z : z ≡ x = some_same z x (sym at ∙ ap (λ k. slice_get objects k) same ∙ stands) in
+            gone_is m u x (ap (λ (k : ObjectType). k.life) (sym type_is) ∙ life) (subst (λ k. IsObject h m u k) same_z is)),
       )
       | inr apart ↦ (z, m, slice_get-set_other objects object n gone apart ∙ at, flag, is)
     ]

@@ -12,7 +12,6 @@ use Rattle.cyc_types.specs.declared.typed.PointerOperator.{PointerOperator}
 use Rattle.cyc_types.specs.declared.typed.PointerOperator.TheVariants as operators
 use Rattle.cyc_types.specs.Types.{Ty, ValueType, substituted_ty}
 use Rattle.cyc_types.specs.Types as types
-use Rattle.cyc_types.specs.declared.region.Region.TheVariants as regions
 use Rattle.cyc_types.specs.TypedTrees.{Expression, Peek, Dereference, Target, Member, Element, peeked, StructType}
 use Rattle.cyc_types.specs.Rules.{Derives}
 use Rattle.cyc_types.specs.typing.Tests.{is_struct, is_thin_mark}
@@ -324,21 +323,21 @@ module _ (p : Source) (g : Typing) (x : Exits) (bs : List InScope) (e : Environm
         record { waiting = q; typed = well; flows = d; kept = ka },
         subst (λ o. IsStack p g x bs (Val (looked o (Value (lives.Pointer marks.Fat (read bs u) (lives_in bs r)))) f1) (Needs (Index (peeked (Element a i u)) (target_of u) i) ∷ k))
             (peeked_so (Element a i u) ∙ sym (seen_so c a (types.Value (types.Pointer marks.Fat u r)) well)) (
-          [],
-          bs,
-          PlaceOf (peeked (Element a i u)) (read bs u) (lives_in bs r) h,
-          stacks.indexes c u r f1 h stands (λ reached. (
-            record {
-              waiting = and_peeked (peek_of a) q;
-              typed = inl index;
-              flows = di;
-              kept = subst (λ o. InExpression p.reading (and_looked o (relied_at x.relied k)) i) (sym (peeked_so (Element a i u))) (looked_expression p.reading (relied_at x.relied k) (peek_of a) i q f1 h reached di ki);
-            },
-            refl,
-          )) refl (there_of p x bs c stands r alive),
-          tt,
-          subst (λ o. IsStack p g x bs (PlaceOf o (read bs u) (lives_in bs r) h) k) (sym (peeked_so (Element a i u))) (subst (λ z. IsStack p g x bs (PlaceOf (peek_of a) (read bs z) (lives_in bs r) h) k) same stack),
-        ),
+              [],
+              bs,
+              PlaceOf (peeked (Element a i u)) (read bs u) (lives_in bs r) h,
+              stacks.indexes c u r f1 h stands (λ reached. (
+                record {
+                  waiting = and_peeked (peek_of a) q;
+                  typed = inl index;
+                  flows = di;
+                  kept = subst (λ o. InExpression p.reading (and_looked o (relied_at x.relied k)) i) (sym (peeked_so (Element a i u))) (looked_expression p.reading (relied_at x.relied k) (peek_of a) i q f1 h reached di ki);
+                },
+                refl,
+              )) refl (there_of p x bs c stands r alive),
+              tt,
+              subst (λ o. IsStack p g x bs (PlaceOf o (read bs u) (lives_in bs r) h) k) (sym (peeked_so (Element a i u))) (subst (λ z. IsStack p g x bs (PlaceOf (peek_of a) (read bs z) (lives_in bs r) h) k) same stack),
+            ),
       )
 
   arrived : (peek : Option ℕ) (m : PointerKind) (t : RunTy) (l : Life) (v : values.Value) (k : List Entry) (f : flow.State) → LiveIn k bs → Holds g f bs → HasType g (lives.Pointer m t l) v → ClaimsPart g (stacks.operands_in k) peek (thing_of (lives.Pointer m t l) v)
@@ -420,9 +419,17 @@ module _ (p : Source) (g : Typing) (x : Exits) (bs : List InScope) (e : Environm
       let is = looked_result g peek (Value u) base is' in
       let (now, whole) = evaluates holds.0 in
       subst (λ (b : Bool). IsWell p (if b then Running (Evaluating index) (Needs (Advance peek target base) ∷ k) e w else wrong w)) (sym (is_kind_same base.kind kinds.Fat is.0))
-      (on (Evaluating index) (Needs (Advance peek target base) ∷ k) live
-      (c, types.Value types.Int, f, h, stands, holds, now, subst (λ o. IsStack p g x bs (Val (looked o (Value lives.Int)) h) (Needs (Advance peek target base) ∷ k)) (sym whole)
-      (u ∷ [], bs, PlaceOf peek (read bs t) (lives_in bs r) h, stacks.advances t r h same alive, ((is, tt), looked_part g (stacks.operands_in k) peek u base.value comes), stack)))
+      (on (Evaluating index) (Needs (Advance peek target base) ∷ k) live (
+        c,
+        types.Value types.Int,
+        f,
+        h,
+        stands,
+        holds,
+        now,
+        subst (λ o. IsStack p g x bs (Val (looked o (Value lives.Int)) h) (Needs (Advance peek target base) ∷ k)) (sym whole)
+            (u ∷ [], bs, PlaceOf peek (read bs t) (lives_in bs r) h, stacks.advances t r h same alive, ((is, tt), looked_part g (stacks.operands_in k) peek u base.value comes), stack),
+      ))
 
   pub advance_on : (peek : Option ℕ) (t : Ty) (r : Named) (target : Option Kind) (base index : Operand) (k : List Entry) (f : flow.State) → LiveIn k bs → Holds g f bs → target ≡ target_of t → IsThere bs r → IsResult g (Value (lives.Pointer marks.Fat (read bs t) (lives_in bs r))) base
       → ClaimsPart g (stacks.operands_in k) peek (thing_of (lives.Pointer marks.Fat (read bs t) (lives_in bs r)) base.value) → IsResult g (Value lives.Int) index → IsStack p g x bs (PlaceOf peek (read bs t) (lives_in bs r) f) k → IsWell p (advances target base index k e w)

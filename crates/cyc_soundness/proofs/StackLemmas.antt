@@ -22,8 +22,8 @@ use Rattle.cyc_meaning.specs.Nesting.{ends_of, IsFound, AreOpen, IsHome, IsNeste
 use Rattle.cyc_meaning.specs.Nesting as nesting
 use Rattle.cyc_soundness.specs.Lives.{Life, OfRegion, OfObject, Never, Owned, Kept, heap_life, RunTy, RunValue, Void, Null, Value, Seen, Into, looked, Lives, at, value_at, Reading}
 use Rattle.cyc_soundness.specs.Lives as lives
-use Rattle.cyc_soundness.specs.Worlds.{OfLocal, KeyOf, IsHeld, Holder, Nobody, Hand, At, Lent, pointer_at, thing_of, Claims, ClaimsBy, IsSlot, IsHere, is_lent_by, lent_now, Stays, IsOpenIn, AreOperands, ObjectType, Typing, IsTyped, IsFull, variable_type, IsEndOf, whole, behind, Outlasts, alike, heap as for_ever, globals as with_globals, stays, encloses, IsOpenLife, Grows, IsKnownOwner}
-use Rattle.cyc_soundness.specs.Frames.{IsAmong, first, later, Bound, InScope, Variable, Level, Home, lives_in, read, IsThere, home_of, IsHomed, IsScope, AreBelow, IsBound, AreVariables, IsLasting, AreLiveIn, home_in, LiveIn, IsInner, Within, itself, older, IsSet, AreSet, IsFullIn, HoldsIts, Holds, IsFullAt, AreFullAt, Exits, relying, frees_in, life_named, read_value, local_type}
+use Rattle.cyc_soundness.specs.Worlds.{OfLocal, KeyOf, IsHeld, Holder, Nobody, Hand, At, Lent, pointer_at, thing_of, Claims, ClaimsBy, IsSlot, IsHere, is_lent_by, Stays, IsOpenIn, AreOperands, ObjectType, Typing, IsTyped, IsFull, variable_type, IsEndOf, whole, behind, Outlasts, alike, heap as for_ever, globals as with_globals, stays, encloses, IsOpenLife, Grows, IsKnownOwner}
+use Rattle.cyc_soundness.specs.Frames.{IsAmong, first, later, Bound, InScope, Variable, Level, Home, lives_in, read, IsThere, home_of, IsHomed, IsScope, AreBelow, IsBound, AreVariables, IsLasting, AreLiveIn, home_in, LiveIn, IsInner, Within, itself, older, IsSet, AreSet, IsFullIn, Holds, IsFullAt, AreFullAt, Exits, relying, frees_in, life_named, read_value, local_type}
 use Rattle.cyc_soundness.specs.Classes.{is_full, Relied, only, and_looked, IsSparedBy, IsSpared, InOperations, Source}
 use Rattle.cyc_soundness.specs.Stacks.{IsAccepted, Part, Whole, PartOf, part, part_of_place, relied_by, relied_at, WaitsPlace, Want, Nothing, Val, PlaceOf, Go, held, Waits, place_operand, count_held, IsThrough, IsArray, IsArrayOf, AreClaimed, IsHeldPart, operands_in, Keeps, IsSpot, of_local, of_global, of_cell, KeepsPlace, AreSwapped, IsStack}
 use Rattle.cyc_soundness.specs.Stacks as stacks

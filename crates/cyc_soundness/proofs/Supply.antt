@@ -9,7 +9,6 @@ use Rattle.cyc_syntax.specs.declared.tree.PointerKind.TheVariants as marks
 use Rattle.cyc_types.specs.typing.Tests.{is_moved}
 use Rattle.cyc_types.specs.declared.typed.Kind.TheVariants as kinds
 use Rattle.cyc_types.specs.Types.{Ty, ValueType}
-use Rattle.cyc_types.specs.Types as types
 use Rattle.cyc_types.specs.TypedTrees.{Expression, Initial, Statement, Items}
 use Rattle.cyc_types.specs.Rules.{Derives}
 use Rattle.cyc_types.specs.typing.WellTyped.{Context, IsMade, with_local, in_body}

@@ -31,7 +31,7 @@ use Rattle.cyc_soundness.proofs.TypeLemmas.{is_kind_same, kind_meant, place_type
 use Rattle.cyc_soundness.proofs.FlowLemmas.{not_vacant}
 use Rattle.cyc_soundness.proofs.WorldLemmas.{cell_there}
 use Rattle.cyc_soundness.proofs.Hands.{holds_grown}
-use Rattle.cyc_soundness.proofs.Sharing.{life_common, by_type_read}
+use Rattle.cyc_soundness.proofs.Sharing.{by_type_read}
 use Rattle.cyc_soundness.proofs.StackLemmas.{stack_grown, swapped_grown, bound_of, place_local, among_bound, among_variable, among_live, among_set, open_of, globals_among, lasting_open, kept_open, object_known, among_open, IsPresent, there_present}
 use Rattle.cyc_soundness.proofs.RegionLemmas.{there_of, cell_live, global_means}
 use Rattle.cyc_soundness.proofs.Cells.{running, life_of, lasting_common, open_object, common_had, by_type_claims, shared_claims, value_part, content_of, writes}
