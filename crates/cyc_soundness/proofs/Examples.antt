@@ -216,7 +216,7 @@ freed_by_a_call : EndsIn FreesObjects (check_of texts (
     (MoreItems (Execute (Return (at 10) (Some (Variable (named 3 11))))) NoItems))) (at 12))
     ∷ main (MoreItems (Execute (Return (at 14) (Some (Call (named 7 15) (MoreExpressions (RegionNew (at 16) (UniqueRegion (at 17)) (Plain (Number (at 18) 3))) NoExpressions))))) NoItems)
     ∷ [])) (HasEnded (Returned (pos 3)))
-freed_by_a_call = (refl, (refl, refl), refl)
+freed_by_a_call = (refl, refl, refl)
 
 -- int main(){ int ?`U p = rnew(unique_region) {for i < 3 : i * i}; int x = p[2]; p[x - 3] = 1; ufree(p); return x; }
 elements_freed : EndsIn FreesObjects (check_of texts (
@@ -228,7 +228,7 @@ elements_freed : EndsIn FreesObjects (check_of texts (
     (MoreItems (Execute (Evaluate (FreeUnique (at 22) (Variable (named 2 23)))))
     (MoreItems (Execute (Return (at 24) (Some (Variable (named 3 25))))) NoItems)))))
     ∷ [])) (HasEnded (Returned (pos 4)))
-elements_freed = (refl, (refl, refl), refl)
+elements_freed = (refl, refl, refl)
 
 -- int main(){ int n = 0; while (n < 6) { int @`U p = rnew(unique_region) 3; n = n + *p; ufree(p); } return n; }
 freed_in_a_loop : EndsIn FreesObjects (check_of texts (
@@ -241,7 +241,7 @@ freed_in_a_loop : EndsIn FreesObjects (check_of texts (
     (MoreItems (Execute (Return (at 23) (Some (Variable (named 4 24))))) NoItems)))
     ∷ [])) (HasEnded (Returned (pos 6)))
 unfolding slt_of
-freed_in_a_loop = (refl, (refl, refl), refl)
+freed_in_a_loop = (refl, refl, refl)
 
 -- ---- texts of the class by scope
 
